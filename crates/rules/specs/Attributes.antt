@@ -1,0 +1,52 @@
+-- What the steps leave beside the rows: paint attributes, layer attributes, filter paints; their limits (answer 9) and their words.
+use Prim.Native.Nat.{ℕ}
+use mathlib.Core.Bool.{Bool, _||_}
+use mathlib.Core.List.{List, [], _∷_}
+use lib.ListN.{length}
+use lib.Dec.{ltb}
+use lib.IntN.{ℤ}
+use Rattle.rules.specs.Blends.{Blend}
+
+-- rule 3
+pub record PaintAttr : Type 0 where
+  pub paint : ℕ
+  pub blend : Blend
+  pub mask : ℕ
+  pub id : ℕ
+  pub thread : ℕ
+  pub origin-x : ℕ
+  pub origin-y : ℕ
+
+-- rule 9. opacity: the bits of an f32
+pub record LayerAttr : Type 0 where
+  pub blend : Blend
+  pub opacity : ℕ
+  pub mask : ℕ
+  pub id : ℕ
+  pub thread : ℕ
+
+-- rule 11: flag 0, the pixmap, and the shift
+pub record FilterPaint : Type 0 where
+  pub pixmap : ℕ
+  pub shift-x : ℤ
+  pub shift-y : ℤ
+
+pub record Attrs : Type 0 where
+  pub paints : List PaintAttr
+  pub layers : List LayerAttr
+  pub filters : List FilterPaint
+
+abbrev pub no-attrs : Attrs
+no-attrs = record { paints = []; layers = []; filters = [] }
+
+-- answer 9
+abbrev pub attrs-full : Attrs → Bool
+attrs-full a = ltb 1024 (length (a .paints)) || ltb 1024 (length (a .layers)) || ltb 256 (length (a .filters))
+
+-- eight words of a paint attribute, five of a layer attribute, whose opacity stands apart
+abbrev pub paint-attr-words : PaintAttr → List ℕ
+paint-attr-words a =
+    a .paint ∷ a .blend .mix ∷ a .blend .compose ∷ a .mask ∷ a .id ∷ a .thread ∷ a .origin-x ∷ a .origin-y ∷ []
+
+abbrev pub layer-attr-words : LayerAttr → List ℕ
+layer-attr-words a = a .blend .mix ∷ a .blend .compose ∷ a .mask ∷ a .id ∷ a .thread ∷ []

@@ -1,0 +1,93 @@
+-- What the steps take: paints, draws, clips, layers, filters, each with its bounds (answer 4).
+use Prim.Native.Nat.{ℕ}
+use mathlib.Core.Bool.{Bool, true, _&&_, _||_, not}
+use mathlib.Core.List.{List}
+use mathlib.Core.Option.{Option, none, some}
+use lib.ListN.{length, getD}
+use lib.Dec.{leb, ltb, eqb}
+use Rattle.rules.specs.Lists.{is-none, slice}
+use Rattle.rules.specs.Boxes.{Box, good-box, good-dest}
+use Rattle.rules.specs.Blends.{Blend, is-default, good-blend}
+use Rattle.rules.specs.Segments.{Segment}
+
+-- masks and pixmaps are handles; 0 says none
+abbrev pub good-handle : ℕ → Bool
+good-handle h = ltb h 2147483648
+
+abbrev pub good-thread : ℕ → Bool
+good-thread t = ltb t 256
+
+-- places start to end of a list of n
+abbrev pub good-range : ℕ → ℕ → ℕ → Bool
+good-range a b n = leb a b && leb b n
+
+-- a paint record's opaque flag and handle. Its two shifts are free, and no rule reads them
+pub record Paint : Type 0 where
+  pub opaque : ℕ
+  pub handle : ℕ
+
+abbrev pub good-paint : Paint → Bool
+good-paint p = leb (p .opaque) 1 && good-handle (p .handle)
+
+-- a draw: places start to end of a segment list, and a place of a paint list
+pub record Draw : Type 0 where
+  pub thread : ℕ
+  pub start : ℕ
+  pub end : ℕ
+  pub paint : ℕ
+  pub blend : Blend
+  pub mask : ℕ
+
+abbrev pub draw-segments : List Segment → Draw → List Segment
+draw-segments ss d = slice (d .start) (d .end) ss
+
+abbrev pub draw-paint : List Paint → Draw → Paint
+draw-paint ps d = getD ps (d .paint) (record { opaque = 0; handle = 0 })
+
+abbrev pub good-draw : List Paint → List Segment → Draw → Bool
+good-draw ps ss d =
+    good-thread (d .thread)
+    && good-range (d .start) (d .end) (length ss)
+    && ltb (d .paint) (length ps)
+    && good-paint (draw-paint ps d)
+    && good-blend (d .blend)
+    && good-handle (d .mask)
+
+-- a clip's segments are places start to end of the list lent to the pop
+pub record Clip : Type 0 where
+  pub bounds : Box
+  pub start : ℕ
+  pub end : ℕ
+  pub thread : ℕ
+
+abbrev pub good-clip : Clip → Bool
+good-clip c = good-box (c .bounds) && leb (c .start) (c .end) && good-thread (c .thread)
+
+-- a layer's properties. opacity: the bits of an f32
+pub record Props : Type 0 where
+  pub blend : Blend
+  pub opacity : ℕ
+  pub mask : ℕ
+  pub clip : Option Clip
+
+abbrev pub all-good : Option Clip → Bool
+all-good none = true
+all-good (some c) = good-clip c
+
+abbrev pub good-props : Props → Bool
+good-props p = good-blend (p .blend) && good-handle (p .mask) && all-good (p .clip)
+
+-- rule 2: a filter layer that needs a buffer. 1065353216 are the bits of 1.0, and no other f32 is equal to 1.0
+abbrev pub needs-buffer : Props → Bool
+needs-buffer p =
+    not (is-default (p .blend)) || not (eqb (p .opacity) 1065353216) || not (eqb (p .mask) 0) || not (is-none (p .clip))
+
+-- what a filter layer draws: its pixmap and its placement
+pub record Filter : Type 0 where
+  pub pixmap : ℕ
+  pub dest : Box
+  pub source-x : ℕ
+  pub source-y : ℕ
+
+abbrev pub good-filter : Filter → Bool
+good-filter f = good-handle (f .pixmap) && good-dest (f .dest) && leb (f .source-x) 32768 && leb (f .source-y) 32768

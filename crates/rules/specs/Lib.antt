@@ -23,3 +23,6 @@ pub mod Calls
 pub mod Computing
 pub mod KnownPoints
 pub mod WorkedExample
+pub mod Samples
+pub mod Cases
+pub mod Refusals

@@ -1,0 +1,306 @@
+-- Directed cases: a recording, and what `rowlist` and `rowdump` print of it, by computation.
+use Prim.Native.Nat.{ℕ}
+use mathlib.Core.Path.{_≡_, refl}
+use mathlib.Core.Bool.{Bool, true, _&&_}
+use mathlib.Core.List.{List, [], _∷_}
+use mathlib.Core.Option.{none, some}
+use Rattle.rules.specs.Lists.{every, slice}
+use Rattle.rules.specs.Spans.{span}
+use Rattle.rules.specs.Boxes.{box}
+use Rattle.rules.specs.Recording.{Recording, file}
+use Rattle.rules.specs.Lines.{Line, header, row, D, P, L, B, E, refused, rowlist-words}
+use Rattle.rules.specs.Details.{Detail, paint-attributes, A, layer-attributes, Y, filter-paints, F, painted, p, l, rowdump-words}
+use Rattle.rules.specs.Picture.{same-picture}
+use Rattle.rules.specs.Computing.{computing}
+use Rattle.rules.specs.Samples.{solid, alpha, draw, full, a-nan, layer, composed, clipped, filtered, filter, node, rec, minus}
+
+-- An alpha segment cut at the left: the screen begins at tile 4, so its index moves by 4 x 16.
+abbrev pub left-cut : Recording
+left-cut = rec (box 16 0 144 4) (alpha 0 0 20 160 ∷ []) (draw 0 1 ∷ []) [] (node 0 1 0 ∷ []) 0 1
+
+pub left-cut-lines : rowlist-words (file left-cut) ≡ header 1 1 1 ∷ row 0 0 1 ∷ P 0 16 (some 224) 0 ∷ []
+unfolding computing
+left-cut-lines = refl
+
+-- A closing clip is cut by the parent's box, tiles 0 to 16, and not by its own, tiles 8 to 16: so L 0 16.
+abbrev pub parent-cut : Recording
+parent-cut =
+    rec (box 0 0 256 4)
+    (solid 0 0 64 ∷ solid 0 0 40 ∷ [])
+    (draw 0 1 ∷ [])
+    (clipped (box 0 0 64 4) 1 2 1 2 ∷ clipped (box 32 0 256 4) 1 2 2 3 ∷ [])
+    (node 0 0 1 ∷ node 0 0 2 ∷ node 0 1 0 ∷ [])
+    0
+    1
+
+pub parent-cut-lines :
+    rowlist-words (file parent-cut) ≡
+    header 1 2 3
+    ∷ row 0 0 7
+    ∷ B (some (span 0 40))
+    ∷ B (some (span 0 16))
+    ∷ P 8 16 none 0
+    ∷ L 0 16 none 0
+    ∷ E
+    ∷ L 0 40 none 1
+    ∷ E
+    ∷ []
+unfolding computing
+parent-cut-lines = refl
+
+-- The clip covers rows 0 and 1, the contents reach row 0 only: row 1 gets nothing.
+abbrev pub unreached : Recording
+unreached =
+    rec (box 0 0 256 8)
+    (solid 0 0 40 ∷ solid 0 4 30 ∷ alpha 1 4 30 0 ∷ [])
+    (draw 0 1 ∷ [])
+    (clipped (box 0 0 200 8) 1 3 1 2 ∷ [])
+    (node 0 0 1 ∷ node 0 1 0 ∷ [])
+    0
+    1
+
+pub unreached-lines :
+    rowlist-words (file unreached) ≡
+    header 2 2 2 ∷ row 0 0 4 ∷ B (some (span 0 40)) ∷ P 0 40 none 0 ∷ L 4 30 none 0 ∷ E ∷ row 1 0 0 ∷ []
+unfolding computing
+unreached-lines = refl
+
+-- A nested layer's fills count for the nested PushBuf only, and the outer clip leaves row 0 out: its PushBuf has no span.
+abbrev pub no-span : Recording
+no-span =
+    rec (box 0 0 256 8)
+    (solid 0 3 9 ∷ solid 1 0 64 ∷ [])
+    (draw 0 1 ∷ [])
+    (clipped (box 0 0 256 8) 1 2 1 2 ∷ layer 2 3 ∷ [])
+    (node 0 0 1 ∷ node 0 0 2 ∷ node 0 1 0 ∷ [])
+    0
+    1
+
+pub no-span-lines :
+    rowlist-words (file no-span) ≡
+    header 2 2 3
+    ∷ row 0 0 6
+    ∷ B none
+    ∷ B (some (span 0 64))
+    ∷ P 3 9 none 0
+    ∷ L 0 64 none 0
+    ∷ E
+    ∷ E
+    ∷ row 1 0 0
+    ∷ []
+unfolding computing
+no-span-lines = refl
+
+-- A destructive push touches each row of its box, with nothing drawn.
+abbrev pub destructive-push : Recording
+destructive-push = rec (box 0 0 64 8) [] [] (composed 5 0 0 ∷ []) (node 0 0 1 ∷ []) 0 1
+
+pub destructive-lines :
+    rowlist-words (file destructive-push) ≡
+    header 2 1 1
+    ∷ row 0 0 3
+    ∷ B (some (span 0 16))
+    ∷ L 0 16 none 0
+    ∷ E
+    ∷ row 1 0 3
+    ∷ B (some (span 0 16))
+    ∷ L 0 16 none 0
+    ∷ E
+    ∷ []
+unfolding computing
+destructive-lines = refl
+
+-- A filter fill whose shift is negative on each axis, on the rows 1 and 2 that its box meets.
+abbrev pub shifted : Recording
+shifted = rec (box 0 0 128 16) [] [] (filtered full 0 (filter 5 (box 20 6 60 9) 1 2) ∷ []) (node 0 0 1 ∷ []) 0 1
+
+pub shifted-lines :
+    rowlist-words (file shifted) ≡
+    header 4 1 1 ∷ row 0 0 0 ∷ row 1 0 1 ∷ P 5 15 none 0 ∷ row 2 0 1 ∷ P 5 15 none 0 ∷ row 3 0 0 ∷ []
+unfolding computing
+shifted-lines = refl
+
+pub shifted-details :
+    rowdump-words (file shifted) ≡
+    paint-attributes 1
+    ∷ A 1 0 3 0 1 0 0 0
+    ∷ layer-attributes 0
+    ∷ filter-paints 1
+    ∷ F 0 5 (minus 19) (minus 4)
+    ∷ painted 0 0
+    ∷ painted 1 1
+    ∷ p 0 5 15 none 0
+    ∷ painted 2 1
+    ∷ p 0 5 15 none 0
+    ∷ painted 3 0
+    ∷ []
+unfolding computing
+shifted-details = refl
+
+-- A filter with NaN opacity needs a buffer, and the pattern is kept.
+abbrev pub nan-filter : Recording
+nan-filter = rec (box 0 0 64 4) [] [] (filtered a-nan 0 (filter 5 (box 0 0 32 4) 0 0) ∷ []) (node 0 0 1 ∷ []) 0 1
+
+pub nan-lines :
+    rowlist-words (file nan-filter) ≡
+    header 1 1 2 ∷ row 0 0 4 ∷ B (some (span 0 16)) ∷ P 0 8 none 0 ∷ L 0 16 none 0 ∷ E ∷ []
+unfolding computing
+nan-lines = refl
+
+pub nan-details :
+    rowdump-words (file nan-filter) ≡
+    paint-attributes 1
+    ∷ A 1 0 3 0 1 0 0 0
+    ∷ layer-attributes 1
+    ∷ Y 0 3 a-nan 0 2 0
+    ∷ filter-paints 1
+    ∷ F 0 5 (minus 0) (minus 0)
+    ∷ painted 0 2
+    ∷ p 0 0 8 none 1
+    ∷ l 0 0 16 none 1
+    ∷ []
+unfolding computing
+nan-details = refl
+
+-- A filter with pixmap 0 draws nothing; with a mask it is still pushed and popped, which takes an id.
+abbrev pub no-pixmap : Recording
+no-pixmap =
+    rec (box 0 0 64 4) [] []
+    (filtered full 0 (filter 0 (box 0 0 32 4) 0 0) ∷ filtered full 2 (filter 0 (box 0 0 32 4) 0 0) ∷ [])
+    (node 0 0 1 ∷ node 0 0 2 ∷ [])
+    0
+    2
+
+pub no-pixmap-lines : rowlist-words (file no-pixmap) ≡ header 1 1 1 ∷ row 0 0 0 ∷ []
+unfolding computing
+no-pixmap-lines = refl
+
+-- A layer that reaches itself: 6 at the 17th push.
+pub cyclic-lines : rowlist-words (file (rec (box 0 0 64 4) [] [] (layer 0 1 ∷ []) (node 0 0 1 ∷ []) 0 1)) ≡ refused 6 ∷ []
+unfolding computing
+cyclic-lines = refl
+
+-- A bad order in a draw that no node has: 5.
+pub unreachable-order :
+    rowlist-words (file (rec (box 0 0 64 4) (solid 0 0 9 ∷ solid 0 8 12 ∷ []) (draw 0 2 ∷ []) [] [] 0 0)) ≡ refused 5 ∷ []
+unfolding computing
+unreachable-order = refl
+
+-- 4 before 5: besides, a segment that no list has is empty.
+pub record-before-order :
+    rowlist-words (file (rec (box 0 0 64 4) (solid 0 0 9 ∷ solid 0 8 12 ∷ solid 0 5 5 ∷ []) (draw 0 2 ∷ []) [] [] 0 0)) ≡
+    refused 4 ∷ []
+unfolding computing
+record-before-order = refl
+
+-- Touching is no overlap.
+pub touching-order :
+    rowlist-words (file (rec (box 0 0 64 4) (solid 0 0 9 ∷ solid 0 9 12 ∷ []) (draw 0 2 ∷ []) [] [] 0 0)) ≡
+    header 1 1 0 ∷ row 0 0 0 ∷ []
+unfolding computing
+touching-order = refl
+
+-- The screen ends at tile 50, in the middle of its last bucket: that bucket is no depth fill, and nothing is hidden in it.
+abbrev pub last-bucket : Recording
+last-bucket =
+    rec (box 0 0 200 4) (solid 0 0 8192 ∷ alpha 0 20 60 32 ∷ []) (draw 1 2 ∷ draw 0 1 ∷ []) [] (node 0 2 0 ∷ []) 0 1
+
+pub last-bucket-lines :
+    rowlist-words (file last-bucket) ≡
+    header 1 2 2 ∷ row 0 1 2 ∷ D 0 1 1 ∷ P 20 50 (some 32) 0 ∷ P 32 50 none 1 ∷ []
+unfolding computing
+last-bucket-lines = refl
+
+pub last-bucket-details :
+    rowdump-words (file last-bucket) ≡
+    paint-attributes 2
+    ∷ A 0 0 3 0 1 0 0 0
+    ∷ A 0 0 3 0 2 0 0 0
+    ∷ layer-attributes 0
+    ∷ filter-paints 0
+    ∷ painted 0 3
+    ∷ p 1 0 32 none 0
+    ∷ p 0 32 50 (some 224) 0
+    ∷ p 1 32 50 none 0
+    ∷ []
+unfolding computing
+last-bucket-details = refl
+
+-- A viewport that begins at 128, 64: rows and tiles count from there, the clip box stops at its edge, and attributes name its origin.
+abbrev pub away : Recording
+away =
+    rec (box 128 64 384 72)
+    (solid 15 0 100 ∷ solid 16 20 100 ∷ solid 17 40 70 ∷ [])
+    (draw 0 2 ∷ draw 2 3 ∷ [])
+    (clipped (box 0 0 256 68) 0 2 1 2 ∷ [])
+    (node 0 1 1 ∷ node 0 2 0 ∷ [])
+    0
+    1
+
+pub away-lines :
+    rowlist-words (file away) ≡
+    header 2 2 4
+    ∷ row 0 1 4
+    ∷ D 0 2 0
+    ∷ B (some (span 0 64))
+    ∷ P 0 32 none 1
+    ∷ L 0 64 none 0
+    ∷ E
+    ∷ row 1 0 0
+    ∷ []
+unfolding computing
+away-lines = refl
+
+-- A panel over a banner: the newer depth fill is painted first, and hides the alpha fill that came before it in its bucket.
+abbrev pub panel : Recording
+panel =
+    rec (box 0 0 512 4)
+    (solid 0 0 128 ∷ alpha 0 20 90 320 ∷ solid 0 40 100 ∷ [])
+    (draw 0 1 ∷ draw 1 2 ∷ draw 2 3 ∷ [])
+    []
+    (node 0 3 0 ∷ [])
+    0
+    1
+
+pub panel-lines :
+    rowlist-words (file panel) ≡
+    header 1 4 3 ∷ row 0 2 3 ∷ D 0 4 0 ∷ D 2 3 2 ∷ P 20 90 (some 320) 1 ∷ P 40 64 none 2 ∷ P 96 100 none 2 ∷ []
+unfolding computing
+panel-lines = refl
+
+pub panel-details :
+    rowdump-words (file panel) ≡
+    paint-attributes 3
+    ∷ A 0 0 3 0 1 0 0 0
+    ∷ A 0 0 3 0 2 0 0 0
+    ∷ A 0 0 3 0 3 0 0 0
+    ∷ layer-attributes 0
+    ∷ filter-paints 0
+    ∷ painted 0 6
+    ∷ p 2 64 96 none 0
+    ∷ p 0 0 64 none 0
+    ∷ p 0 96 128 none 0
+    ∷ p 1 20 64 (some 320) 0
+    ∷ p 2 40 64 none 0
+    ∷ p 2 96 100 none 0
+    ∷ []
+unfolding computing
+panel-details = refl
+
+-- Painting gives each tile of each accepted case what plain draw order gives it: one test.
+pub same-pictures :
+    every (same-picture 32)
+    (left-cut
+    ∷ parent-cut
+    ∷ unreached
+    ∷ no-span
+    ∷ destructive-push
+    ∷ shifted
+    ∷ nan-filter
+    ∷ no-pixmap
+    ∷ last-bucket
+    ∷ away
+    ∷ panel
+    ∷ []) ≡ true
+unfolding computing
+same-pictures = refl

@@ -1,0 +1,180 @@
+-- Each answer number, from calls at the rules' own rows, on both sides of its edge: one table with one computed test.
+use Prim.Native.Nat.{ℕ, _+_}
+use mathlib.Core.Path.{_≡_, refl}
+use mathlib.Core.Bool.{Bool, true, false}
+use mathlib.Core.List.{List, [], _∷_, _++_}
+use mathlib.Core.Option.{none, some}
+use lib.ListN.{replicate}
+use lib.Dec.{eqb}
+use Rattle.rules.specs.Lists.{every}
+use Rattle.rules.specs.Answers.{Answer, Done, BadArena, BadViewport, BadRecord, BadOrder, Deep, NoLayer, Ids, FullAttrs, FullRow, FullDepth, BadRun, Open, NoRoom}
+use Rattle.rules.specs.Boxes.{Box, box}
+use Rattle.rules.specs.Spans.{Span, span}
+use Rattle.rules.specs.Split.{split-answer}
+use Rattle.rules.specs.Blends.{default-blend}
+use Rattle.rules.specs.Segments.{Segment}
+use Rattle.rules.specs.Inputs.{Paint, Draw, Props, Clip, Filter}
+use Rattle.rules.specs.Attributes.{PaintAttr, LayerAttr, FilterPaint, Attrs, no-attrs}
+use Rattle.rules.specs.Rows.{fresh-row}
+use Rattle.rules.specs.Plans.{Frame, Layer, State, Step, a-fill, a-push, a-pop, a-filter}
+use Rattle.rules.specs.Steps.{Screen}
+use Rattle.rules.specs.Walk.{Arenas, needed}
+use Rattle.rules.specs.Calls.{Canvas, Given, fresh-canvas, reset-call, step-call, begin-call, paint-call, unset-call, visible-call, write-call, can-skip-call}
+use Rattle.rules.specs.Samples.{solid, alpha, opaque-paint, full, filter, minus}
+use Rattle.rules.specs.Computing.{computing}
+
+-- a screen of one row and two buckets, with room for one command and one depth fill
+abbrev frame : Frame
+frame = record { viewport = box 0 0 256 4; c = 1; d = 1 }
+
+abbrev start : Canvas
+start = fresh-canvas 32 frame
+
+abbrev with-state : ℕ → Attrs → List Layer → Canvas
+with-state n a ls =
+    record {
+      screen = record { state = record { frame = frame; next = n; attrs = a; layers = ls }; rows = fresh-row ∷ [] };
+      begun = false;
+      painters = start .painters;
+    }
+
+abbrev next-id : ℕ → Canvas
+next-id n = with-state n no-attrs []
+
+-- reset to a viewport, with C and D, lent what a frame needs, and some more render words
+abbrev resets : Box → ℕ → ℕ → ℕ → ℕ
+resets v c d more =
+    let f : Frame = record { viewport = v; c = c; d = d } in
+    let a = needed 32 f in
+    reset-call 32 f (record { render = a .render + more; fills = a .fills; depth = a .depth }) start .number
+
+abbrev steps : Step → Canvas → ℕ
+steps x k = step-call 32 x k .number
+
+-- a fill of all the segments of a list with an opaque paint
+abbrev fills : List Segment → ℕ → Step
+fills ss n = a-fill (opaque-paint ∷ []) ss (record { thread = 0; start = 0; end = n; paint = 0; blend = default-blend; mask = 0 })
+
+abbrev plain-props : Props
+plain-props = record { blend = default-blend; opacity = full; mask = 0; clip = none }
+
+abbrev open-layer : Layer
+open-layer = record { props = plain-props; bounds = box 0 0 256 4 }
+
+abbrev attr : PaintAttr
+attr = record { paint = 0; blend = default-blend; mask = 0; id = 1; thread = 0; origin-x = 0; origin-y = 0 }
+
+abbrev layer-attr : LayerAttr
+layer-attr = record { blend = default-blend; opacity = full; mask = 0; id = 1; thread = 0 }
+
+abbrev filter-one : FilterPaint
+filter-one = record { pixmap = 1; shift-x = minus 0; shift-y = minus 0 }
+
+abbrev attrs : ℕ → ℕ → ℕ → Attrs
+attrs a b c = record { paints = replicate a attr; layers = replicate b layer-attr; filters = replicate c filter-one }
+
+-- the canvas after a step, and after beginning to paint
+abbrev after : Step → Canvas → Canvas
+after x k = step-call 32 x k .value
+
+abbrev begun : Canvas → Canvas
+begun k = begin-call 32 k .value
+
+-- one depth fill on the row, painting begun
+abbrev painting : Canvas
+painting = begun (after (fills (solid 0 0 64 ∷ []) 1) start)
+
+-- a piece of one tile at the start of bucket 0 and one of bucket 1, with bucket 0 closed between them by a direct writing run
+abbrev apart : Canvas
+apart = write-call 32 9 0 2 (span 0 1) start .canvas
+
+-- what a call answered, and what it has to answer
+pub record Told : Type 0 where
+  pub got : ℕ
+  pub due : ℕ
+
+infixl 70 _is_
+abbrev _is_ : ℕ → ℕ → Told
+_is_ a b = record { got = a; due = b }
+
+abbrev pub answers : List Told
+answers =
+    -- 2, then 1
+    resets (box 0 0 4096 2048) 1 1024 0 is Done
+    ∷ resets (box 0 0 4100 2048) 1 1 0 is BadViewport
+    ∷ resets (box 0 0 4096 2052) 1 1 0 is BadViewport
+    ∷ resets (box 2 0 4 4) 1 1 0 is BadViewport
+    ∷ resets (box 0 0 0 0) 1 1 0 is Done
+    ∷ resets (box 0 0 4 4) 0 1 0 is BadArena
+    ∷ resets (box 0 0 4 4) 1 1025 0 is BadArena
+    ∷ resets (box 0 0 4 4) 1 1 1 is BadArena
+    ∷ resets (box 2 0 4 4) 0 1 1 is BadViewport
+    -- 4, then 5
+    ∷ steps (fills (solid 0 5 5 ∷ []) 1) start is BadRecord
+    ∷ steps (fills (solid 0 5 6 ∷ []) 2) start is BadRecord
+    ∷ steps (fills (alpha 0 0 1 4294967279 ∷ []) 1) start is Done
+    ∷ steps (fills (alpha 0 0 1 4294967280 ∷ []) 1) start is BadRecord
+    ∷ steps (fills (solid 0 5 6 ∷ solid 0 5 7 ∷ []) 2) start is BadOrder
+    ∷ steps (fills (solid 0 5 6 ∷ solid 0 5 7 ∷ []) 1) start is Done
+    ∷ steps (a-filter 4096 (filter 1 (box 0 0 4 4) 0 0)) start is Done
+    ∷ steps (a-filter 4097 (filter 1 (box 0 0 4 4) 0 0)) start is BadRecord
+    ∷ steps (a-filter 0 (filter 0 (box 2 0 4 4) 0 0)) start is BadRecord
+    -- 6 and 7
+    ∷ steps (a-push plain-props) (with-state 1 no-attrs (replicate 15 open-layer)) is Done
+    ∷ steps (a-push plain-props) (with-state 1 no-attrs (replicate 16 open-layer)) is Deep
+    ∷ steps (a-pop []) start is NoLayer
+    ∷ steps (a-pop []) (with-state 1 no-attrs (open-layer ∷ [])) is Done
+    -- 8: the last id; what takes none is done even when none remains
+    ∷ steps (fills [] 0) (next-id 1048576) is Done
+    ∷ steps (fills [] 0) (next-id 1048577) is Ids
+    ∷ steps (a-filter 0 (filter 1 (box 0 0 0 0) 0 0)) (next-id 1048577) is Done
+    ∷ steps (a-filter 0 (filter 0 (box 0 0 4 4) 0 0)) (next-id 1048577) is Done
+    -- 9: a fill without segments adds no attribute, one whose segments are cut away does
+    ∷ steps (fills (solid 9 0 1 ∷ []) 1) (with-state 1 (attrs 1023 0 0) []) is Done
+    ∷ steps (fills (solid 9 0 1 ∷ []) 1) (with-state 1 (attrs 1024 0 0) []) is FullAttrs
+    ∷ steps (fills [] 0) (with-state 1 (attrs 1024 0 0) []) is Done
+    ∷ steps (a-pop []) (with-state 1 (attrs 0 1024 0) (open-layer ∷ [])) is FullAttrs
+    ∷ steps (a-filter 0 (filter 1 (box 0 0 4 4) 0 0)) (with-state 1 (attrs 0 0 256) []) is FullAttrs
+    ∷ steps (a-filter 0 (filter 1 (box 0 0 4 4) 0 0)) (with-state 1 (attrs 0 0 255) []) is Done
+    ∷ steps (fills (solid 9 0 1 ∷ []) 1) (with-state 1048577 (attrs 1024 0 0) []) is Ids
+    -- 10 and 11
+    ∷ steps (fills (solid 0 0 1 ∷ []) 1) start is Done
+    ∷ steps (fills (solid 0 0 1 ∷ solid 0 1 2 ∷ []) 2) start is FullRow
+    ∷ steps (fills (solid 0 0 64 ∷ []) 1) start is Done
+    ∷ steps (fills (solid 0 0 32 ∷ solid 0 32 64 ∷ []) 2) start is FullDepth
+    ∷ steps (fills (solid 0 0 33 ∷ solid 0 33 64 ∷ []) 2) start is FullRow
+    -- 13: painting with a layer open, or not begun since the last done building step or direct writing run
+    ∷ begin-call 32 (after (a-push plain-props) start) .number is Open
+    ∷ begin-call 32 start .number is Done
+    ∷ paint-call 32 0 9 start .number is Open
+    ∷ paint-call 32 0 9 painting .number is Done
+    ∷ paint-call 32 0 9 (after (fills [] 0) painting) .number is Open
+    ∷ paint-call 32 0 9 (write-call 32 1 0 9 (span 0 1) painting .canvas) .number is Open
+    ∷ paint-call 32 0 9 (unset-call 32 0 9 (span 0 1) painting .canvas) .number is Done
+    -- 12, then 14
+    ∷ paint-call 32 1 0 start .number is BadRun
+    ∷ paint-call 32 0 0 painting .number is NoRoom
+    ∷ paint-call 32 0 1 painting .number is Done
+    ∷ unset-call 32 0 9 (span 0 8192) start .number is Done
+    ∷ unset-call 32 0 9 (span 0 8193) start .number is BadRun
+    ∷ unset-call 32 0 9 (span 6 5) start .number is BadRun
+    ∷ unset-call 32 1 9 (span 0 1) start .number is BadRun
+    ∷ unset-call 32 0 0 (span 5 5) start .number is Done
+    ∷ unset-call 32 0 0 (span 5 6) start .number is NoRoom
+    ∷ unset-call 32 0 0 (span 31 32) apart .number is Done
+    ∷ visible-call 32 8 0 0 (span 31 32) apart .number is Done
+    ∷ visible-call 32 9 0 0 (span 31 32) apart .number is NoRoom
+    ∷ write-call 32 0 0 9 (span 0 1) start .number is BadRun
+    ∷ write-call 32 1 0 9 (span 0 2) start .number is Done
+    ∷ write-call 32 1 0 9 (span 0 3) start .number is BadRun
+    ∷ write-call 32 1 0 0 (span 0 2) start .number is NoRoom
+    ∷ can-skip-call 32 0 (span 0 8192) 1 start .number is Done
+    ∷ can-skip-call 32 0 (span 0 8193) 1 start .number is BadRun
+    ∷ split-answer 32 (span 0 8192) .number is Done
+    ∷ split-answer 32 (span 0 8193) .number is BadRun
+    ∷ split-answer 32 (span 6 5) .number is BadRun
+    ∷ []
+
+pub all-due : every (λ (t : Told). eqb (t .got) (t .due)) answers ≡ true
+unfolding computing
+all-due = refl

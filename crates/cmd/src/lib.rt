@@ -2,6 +2,8 @@
 ghost use mathlib.Core.Path.{_≡_};
 ghost use Rattle.cmd.specs.Answers.{number-of};
 
+pub mod blend;
+
 // Document 01's answers. `number` gives each its number.
 pub enum Answer {
     Done,

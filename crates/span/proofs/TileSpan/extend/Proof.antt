@@ -9,7 +9,7 @@ larger-requires : tie.Need-larger-requires
 larger-requires c κs = search needs
 
 returns : tie.Need-returns
-returns c = cc
+returns c = rw (c .before .smaller .ensures, c .larger .ensures)
 
 pub extend-spec : {M : Type 1} → statement M
 extend-spec = tie.close (tie.spec smaller-requires larger-requires returns)

@@ -1,0 +1,15 @@
+use Rattle.cmd.proofs.blend.Blend.is_default.Statement.{statement}
+use Rattle.cmd.proofs.blend.Blend.is_default.Tie as tie
+use Rattle.cmd.proofs.blend.Blend.is_default.Reads as reads
+use Rattle.cmd.proofs.blend.Blend.is_default.Lts as lts
+
+-- src/blend.rt:18:5
+returns : tie.Need-returns
+returns c = ?
+
+-- src/blend.rt:18:5
+returns-2 : tie.Need-returns-2
+returns-2 c = ?
+
+pub is-default-spec : {M : Type 1} → statement M
+is-default-spec = tie.close (tie.spec returns returns-2)

@@ -1,0 +1,15 @@
+use Rattle.cmd.proofs.blend.Blend.is_good.Statement.{statement}
+use Rattle.cmd.proofs.blend.Blend.is_good.Tie as tie
+use Rattle.cmd.proofs.blend.Blend.is_good.Reads as reads
+use Rattle.cmd.proofs.blend.Blend.is_good.Lts as lts
+
+-- src/blend.rt:28:5
+returns : tie.Need-returns
+returns c = ?
+
+-- src/blend.rt:28:5
+returns-2 : tie.Need-returns-2
+returns-2 c = ?
+
+pub is-good-spec : {M : Type 1} → statement M
+is-good-spec = tie.close (tie.spec returns returns-2)

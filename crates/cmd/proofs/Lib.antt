@@ -1,1 +1,3 @@
 pub mod Blends
+pub mod Tests
+pub mod Commands

@@ -3,6 +3,7 @@ ghost use mathlib.Core.Path.{_≡_};
 ghost use Rattle.cmd.specs.Answers.{number-of};
 
 pub mod blend;
+pub mod command;
 
 // Document 01's answers. `number` gives each its number.
 pub enum Answer {

@@ -1,14 +1,10 @@
 use borrow.Author.Tests.{eq-eqb, ne-eqb}
 use Rattle.cmd.proofs.blend.Blend.is_default.Statement.{statement}
 use Rattle.cmd.proofs.blend.Blend.is_default.Tie as tie
-use Rattle.cmd.proofs.blend.Blend.is_default.Reads as reads
-use Rattle.cmd.proofs.blend.Blend.is_default.Lts as lts
 
--- src/blend.rt:18:5
 returns : tie.Need-returns
 returns c = rw (eq-eqb _ _ (c .before .if1 .taken))
 
--- src/blend.rt:18:5
 returns-2 : tie.Need-returns-2
 returns-2 c = rw (ne-eqb _ _ (c .if1 .left))
 

@@ -1,14 +1,10 @@
 use borrow.Author.Tests.{le-leb, lt-leb}
 use Rattle.cmd.proofs.blend.Blend.is_good.Statement.{statement}
 use Rattle.cmd.proofs.blend.Blend.is_good.Tie as tie
-use Rattle.cmd.proofs.blend.Blend.is_good.Reads as reads
-use Rattle.cmd.proofs.blend.Blend.is_good.Lts as lts
 
--- src/blend.rt:28:5
 returns : tie.Need-returns
 returns c = rw (le-leb _ _ (c .before .if1 .taken))
 
--- src/blend.rt:28:5
 returns-2 : tie.Need-returns-2
 returns-2 c = rw (lt-leb _ _ (c .if1 .left))
 

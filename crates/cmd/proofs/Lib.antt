@@ -1,3 +1,5 @@
 pub mod Blends
 pub mod Tests
 pub mod Commands
+pub mod BothWays
+pub mod RoundTrip

@@ -4,6 +4,7 @@ ghost use Rattle.cmd.specs.Answers.{number-of};
 
 pub mod blend;
 pub mod command;
+pub mod depth_fill;
 
 // Document 01's answers. `number` gives each its number.
 pub enum Answer {

@@ -3,20 +3,14 @@ use Rattle.rules.specs.Commands.{depth-fill-of}
 use borrow.Author.Needs.{needs}
 use Rattle.cmd.proofs.depth_fill.DepthWords.read.Statement.{statement}
 use Rattle.cmd.proofs.depth_fill.DepthWords.read.Tie as tie
-use Rattle.cmd.proofs.depth_fill.DepthWords.read.Reads as reads
-use Rattle.cmd.proofs.depth_fill.DepthWords.read.Lts as lts
-use Rattle.cmd.proofs.command.good_span_word.Reads as good-span-word-reads
 
--- src/depth_fill.rt:45:12
 good-span-word-requires : tie.Need-good-span-word-requires
 good-span-word-requires c κs = search needs
 
--- src/depth_fill.rt:42:5
 returns : tie.Need-returns
 unfolding depth-fill-of
 returns c = rw (sym (c .before .before .before .good-span-word .ensures) ∙ c .before .before .if1 .taken)
 
--- src/depth_fill.rt:42:5
 returns-2 : tie.Need-returns-2
 unfolding depth-fill-of
 returns-2 c = rw (sym (c .before .good-span-word .ensures) ∙ c .if1 .left)

@@ -1,0 +1,109 @@
+use Rattle.cmd.proofs.Tables.{stored}
+use Prim.Native.Nat.{_*_}
+use mathlib.Core.List.{[], _∷_}
+use native.Mathlib.Omega.{arith}
+use lib.ListN.{length-set}
+use borrow.Author.Needs.{needs}
+use Rattle.cmd.proofs.attrs.put_layer_attrs.Statement.{statement}
+use Rattle.cmd.proofs.attrs.put_layer_attrs.Tie as tie
+
+mul-at : tie.Need-mul-at
+mul-at c = search needs
+
+mul-table : tie.Need-mul-table
+mul-table c = search needs
+
+slice-write-table : tie.Need-slice-write-table
+slice-write-table c = search needs
+
+add-table : tie.Need-add-table
+add-table c = search needs
+
+mul-table-2 : tie.Need-mul-table-2
+mul-table-2 c = search needs
+
+slice-write-table-2 : tie.Need-slice-write-table-2
+slice-write-table-2 c = simp length-set (omega arith)
+
+add-table-2 : tie.Need-add-table-2
+add-table-2 c = search needs
+
+mul-table-3 : tie.Need-mul-table-3
+mul-table-3 c = search needs
+
+slice-write-table-3 : tie.Need-slice-write-table-3
+slice-write-table-3 c = simp length-set (omega arith)
+
+add-table-3 : tie.Need-add-table-3
+add-table-3 c = search needs
+
+mul-table-4 : tie.Need-mul-table-4
+mul-table-4 c = search needs
+
+slice-write-table-4 : tie.Need-slice-write-table-4
+slice-write-table-4 c = simp length-set (omega arith)
+
+add-table-4 : tie.Need-add-table-4
+add-table-4 c = search needs
+
+mul-table-5 : tie.Need-mul-table-5
+mul-table-5 c = search needs
+
+slice-write-table-5 : tie.Need-slice-write-table-5
+slice-write-table-5 c = simp length-set (omega arith)
+
+add-table-5 : tie.Need-add-table-5
+add-table-5 c = search needs
+
+mul-table-6 : tie.Need-mul-table-6
+mul-table-6 c = search needs
+
+slice-write-table-6 : tie.Need-slice-write-table-6
+slice-write-table-6 c = simp length-set (omega arith)
+
+add-opacities : tie.Need-add-opacities
+add-opacities c = search needs
+
+mul-opacities : tie.Need-mul-opacities
+mul-opacities c = search needs
+
+slice-write-opacities : tie.Need-slice-write-opacities
+slice-write-opacities c = search needs
+
+same-length : tie.Need-same-length
+same-length c = search needs
+
+same-length-2 : tie.Need-same-length-2
+same-length-2 c = search needs
+
+returns : tie.Need-returns
+returns c = rw (stored (c .before .args .table .now) (6 * c .before .args .i) (c .before .args .a .blend .mix) (c .before .args .a .blend .compose ∷ c .before .args .a .mask ∷ c .before .args .a .«draw_id» ∷ c .before .args .a .«thread_idx» ∷ c .before .args .a .nan ∷ []) (omega arith))
+
+pub put-layer-attrs-spec : {M : Type 1} → statement M
+put-layer-attrs-spec =
+    tie.close
+    (tie.spec
+    mul-at
+    mul-table
+    slice-write-table
+    add-table
+    mul-table-2
+    slice-write-table-2
+    add-table-2
+    mul-table-3
+    slice-write-table-3
+    add-table-3
+    mul-table-4
+    slice-write-table-4
+    add-table-4
+    mul-table-5
+    slice-write-table-5
+    add-table-5
+    mul-table-6
+    slice-write-table-6
+    add-opacities
+    mul-opacities
+    slice-write-opacities
+    same-length
+    same-length-2
+    returns)

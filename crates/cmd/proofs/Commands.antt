@@ -1,12 +1,12 @@
 -- Reading a command's words, tag by tag.
-use mathlib.Core.Path.{_≡_, refl, sym, _∙_}
-use mathlib.Core.Bool.{Bool, true, false, _&&_}
-use mathlib.Core.Option.{Option, none, some}
-use Prim.Native.Nat.{ℕ, _≤_, _<_, _+_, _-_, _*_, _/_, _%_}
+use mathlib.Core.Path.{_≡_}
+use mathlib.Core.Bool.{Bool, true, _&&_}
+use mathlib.Core.Option.{none, some}
+use Prim.Native.Nat.{ℕ, _≤_, _-_, _*_, _/_, _%_}
 use native.Mathlib.Omega.{arith}
-use lib.Dec.{leb, ltb, eqb}
+use lib.Dec.{leb, eqb}
 use borrow.Author.Tests.{leb-true, ne-eqb}
-use Rattle.rules.specs.Commands.{Command, paint-fill, layer-fill, push-buf, pop-buf, word-span, good-span-word, good-alpha, only-if, command-of}
+use Rattle.rules.specs.Commands.{paint-fill, layer-fill, push-buf, pop-buf, word-span, good-span-word, good-alpha, only-if, command-of}
 use Rattle.cmd.proofs.Tests.{and-left, and-right, sum-test}
 
 -- a good word's numbers are in order, and end at the limit at the latest

@@ -9,7 +9,6 @@ use Rattle.rules.specs.Spans.{Span}
 use Rattle.rules.specs.Commands as rule
 use Rattle.rules.specs.Commands.{Command, paint-fill, layer-fill, push-buf, pop-buf, command-words, depth-words}
 use Rattle.span.specs.declared.TileSpan.{TileSpan}
-use Rattle.span.specs.declared.BucketRange.{BucketRange}
 use Rattle.span.specs.declared.Alpha.{Alpha}
 use Rattle.span.specs.declared.Alpha.the-variants.{Solid, At}
 use Rattle.span.specs.Spans.{alpha}
@@ -27,7 +26,7 @@ use Rattle.cmd.specs.declared.«depth_fill».ReadDepth.{ReadDepth}
 use Rattle.cmd.specs.declared.«depth_fill».ReadDepth.the-variants as read-depth
 use Rattle.cmd.specs.Commands.{command, recorded-of, words-of, read-of, read-words, Narrow, NarrowPush, NarrowCmd}
 use Rattle.cmd.specs.DepthFills.{depth-fill, depth-words-of, read-depth-of, read-depth-words}
-use Rattle.cmd.specs.Good.{GoodSpan, GoodAlpha, GoodPush, GoodCommand, GoodDepthFill}
+use Rattle.cmd.specs.Good.{GoodSpan, GoodPush, GoodCommand, GoodDepthFill}
 use Rattle.cmd.proofs.BothWays.{read-list, reads-back, writes-back, read-depth-list, depth-reads-back, depth-writes-back}
 
 -- the rules' commands as the code's again

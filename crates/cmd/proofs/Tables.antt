@@ -3,7 +3,7 @@ use mathlib.Core.Path.{_≡_, refl, sym, ap, _∙_}
 use mathlib.Core.List.{List, [], _∷_, _++_}
 use Prim.Native.Nat.{ℕ, suc, _≤_, _<_, _+_, _-_}
 use native.Mathlib.Omega.{arith}
-use lib.ListN.{length, take, drop, set, getD, length-append, length-take, length-drop, List·getD-append}
+use lib.ListN.{length, take, drop, set, getD, length-append, length-drop, List·getD-append}
 use lib.Seq.{sets, sets-eq, length-take-le, getD-append-add, getD-take, getD-drop}
 use Rattle.cmd.specs.Attrs.{words-at}
 

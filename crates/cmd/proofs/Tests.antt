@@ -17,12 +17,6 @@ and-right false y h = let z : _≡_ {A = ℕ} 0 1 = cc in absurd (omega arith)
 pub both : (x y : Bool) → x ≡ true → y ≡ true → (x && y) ≡ true
 both x y p q = rw (p, q)
 
-pub first-false : (x y : Bool) → x ≡ false → (x && y) ≡ false
-first-false x y p = rw p
-
-pub second-false : (x y : Bool) → x ≡ true → y ≡ false → (x && y) ≡ false
-second-false x y p q = rw (p, q)
-
 -- that a sum is below a limit, tested without the sum
 module _ (a x n : ℕ) (h : x ≤ n) where
   below : a ≤ n - x → a + x < n + 1

@@ -1,6 +1,6 @@
 -- The words of attributes and filter paints, and where they stand in their tables.
-use Prim.Native.Nat.{ℕ, _+_, _*_}
 use mathlib.Core.List.{List, [], _∷_, _++_}
+use Prim.Native.Nat.{ℕ, _+_, _*_}
 use lib.ListN.{length, take, drop, set}
 use lib.IntN.{ℤ, pos}
 use lib.Ieee.{Float}

@@ -1,12 +1,11 @@
 -- The code's commands, depth fills and words as the rules'.
-use Prim.Native.Nat.{ℕ, _/_, _%_, _<_}
 use mathlib.Core.List.{List, [], _∷_}
 use mathlib.Core.Option.{Option, none, some}
+use Prim.Native.Nat.{ℕ, _/_, _%_, _<_}
 use Rattle.rules.specs.Spans.{Span, span}
-use Rattle.rules.specs.Commands as rule
 use Rattle.rules.specs.Commands.{Command, paint-fill, layer-fill, push-buf, pop-buf, command-of}
 use Rattle.span.specs.declared.Alpha.{Alpha}
-use Rattle.span.specs.Spans.{tiles, buckets, alpha}
+use Rattle.span.specs.Spans.{tiles, alpha}
 use Rattle.cmd.specs.declared.command.Recorded.{Recorded}
 use Rattle.cmd.specs.declared.command.Recorded.the-variants as recorded
 use Rattle.cmd.specs.declared.command.Fill.{Fill}

@@ -1,7 +1,7 @@
 -- The code's depth fills and their words as the rules'.
-use Prim.Native.Nat.{ℕ}
 use mathlib.Core.List.{List, [], _∷_}
 use mathlib.Core.Option.{Option, none, some}
+use Prim.Native.Nat.{ℕ}
 use Rattle.rules.specs.Commands as rule
 use Rattle.rules.specs.Commands.{depth-fill-of}
 use Rattle.span.specs.Spans.{buckets}

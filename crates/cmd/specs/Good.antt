@@ -1,6 +1,6 @@
 -- Commands and depth fills that words can stand for: spans in order and within their limit, alpha indices that can be moved over their span.
-use Prim.Native.Nat.{ℕ, _+_, _-_, _*_, _≤_, _<_}
 use mathlib.Core.Option.{Option, none, some}
+use Prim.Native.Nat.{ℕ, _+_, _-_, _*_, _≤_, _<_}
 use Rattle.rules.specs.Spans.{Span}
 use Rattle.rules.specs.Commands.{Command, paint-fill, layer-fill, push-buf, pop-buf, DepthFill}
 

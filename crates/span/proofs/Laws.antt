@@ -1,11 +1,11 @@
 -- Laws of meetings and cuts, for this crate and its callers.
 use mathlib.Core.Path.{_≡_, refl}
 use mathlib.Core.Bool.{Bool, true, false, cond}
-use mathlib.Core.Option.{Option, none, some}
+use mathlib.Core.Option.{none, some}
 use Prim.Native.Nat.{ℕ, _≤_, _<_, _-_, min, max}
 use native.Mathlib.Omega.{arith}
-use borrow.Author.Tests.{lt-ltb, le-ltb, ltb-true}
 use lib.Dec.{ltb}
+use borrow.Author.Tests.{lt-ltb, le-ltb, ltb-true}
 use Rattle.rules.specs.Spans as rule
 use Rattle.rules.specs.Spans.{Span, span, common, meeting, moved, cut-to}
 use Rattle.span.specs.declared.Alpha.{Alpha}

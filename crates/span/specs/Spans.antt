@@ -1,6 +1,6 @@
 -- The code's spans, alpha indices and stretches as the rules'.
-use Prim.Native.Nat.{ℕ, _+_, _-_, _*_, _<_}
 use mathlib.Core.Option.{Option, none, some}
+use Prim.Native.Nat.{ℕ, _+_, _-_, _*_, _<_}
 use Rattle.rules.specs.Spans as rule
 use Rattle.rules.specs.Spans.{Span, span}
 use Rattle.span.specs.declared.TileSpan.{TileSpan}

@@ -1,12 +1,12 @@
-use Rattle.cmd.proofs.Tables.{stored}
-use Prim.Native.Nat.{_*_}
 use mathlib.Core.List.{[], _∷_}
+use Prim.Native.Nat.{_*_}
 use native.Mathlib.Omega.{arith}
 use lib.ListN.{length-set}
 use lib.IntN.{pos}
 use mir.Syntax.{w32}
 use mir.Facts.{toZ-ofZ, toZ-pos}
 use borrow.Author.Needs.{needs}
+use Rattle.cmd.proofs.Tables.{stored}
 use Rattle.cmd.proofs.attrs.put_filter_paint.Statement.{statement}
 use Rattle.cmd.proofs.attrs.put_filter_paint.Tie as tie
 
@@ -53,7 +53,17 @@ same-length : tie.Need-same-length
 same-length c = search needs
 
 returns : tie.Need-returns
-returns c = let x = toZ-ofZ {w = w32} {z = c .before .before .before .args .p .«shift_x»} (record { sfits = c .before .struct-told .given .1 .0 .1 }) in let y = toZ-ofZ {w = w32} {z = c .before .before .before .args .p .«shift_y»} (record { sfits = c .before .struct-told .given .1 .1 .0 .1 }) in rw (toZ-pos w32 {n = c .before .before .before .args .p .pixmap} (c .before .before .before .pre .2), x, y) (stored (c .before .before .before .args .table .now) (4 * c .before .before .before .args .i) (pos 0) (pos (c .before .before .before .args .p .pixmap) ∷ c .before .before .before .args .p .«shift_x» ∷ c .before .before .before .args .p .«shift_y» ∷ []) (omega arith))
+returns c =
+    let s = c .before .before .before in
+    let xs = s .args .table .now in
+    let p = s .args .p in
+    let given = c .before .struct-told .given in
+    rw (
+      toZ-pos w32 {n = p .pixmap} (s .pre .2),
+      toZ-ofZ {w = w32} {z = p .«shift_x»} (record { sfits = given .1 .0 .1 }),
+      toZ-ofZ {w = w32} {z = p .«shift_y»} (record { sfits = given .1 .1 .0 .1 }),
+    )
+    (stored xs (4 * s .args .i) (pos 0) (pos (p .pixmap) ∷ p .«shift_x» ∷ p .«shift_y» ∷ []) (omega arith))
 
 pub put-filter-paint-spec : {M : Type 1} → statement M
 put-filter-paint-spec =

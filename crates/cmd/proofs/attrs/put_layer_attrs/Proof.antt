@@ -1,9 +1,9 @@
-use Rattle.cmd.proofs.Tables.{stored}
-use Prim.Native.Nat.{_*_}
 use mathlib.Core.List.{[], _∷_}
+use Prim.Native.Nat.{_*_}
 use native.Mathlib.Omega.{arith}
 use lib.ListN.{length-set}
 use borrow.Author.Needs.{needs}
+use Rattle.cmd.proofs.Tables.{stored}
 use Rattle.cmd.proofs.attrs.put_layer_attrs.Statement.{statement}
 use Rattle.cmd.proofs.attrs.put_layer_attrs.Tie as tie
 
@@ -77,7 +77,12 @@ same-length-2 : tie.Need-same-length-2
 same-length-2 c = search needs
 
 returns : tie.Need-returns
-returns c = rw (stored (c .before .args .table .now) (6 * c .before .args .i) (c .before .args .a .blend .mix) (c .before .args .a .blend .compose ∷ c .before .args .a .mask ∷ c .before .args .a .«draw_id» ∷ c .before .args .a .«thread_idx» ∷ c .before .args .a .nan ∷ []) (omega arith))
+returns c =
+    let xs = c .before .args .table .now in
+    let a = c .before .args .a in
+    rw
+    (stored xs (6 * c .before .args .i) (a .blend .mix)
+    (a .blend .compose ∷ a .mask ∷ a .«draw_id» ∷ a .«thread_idx» ∷ a .nan ∷ []) (omega arith))
 
 pub put-layer-attrs-spec : {M : Type 1} → statement M
 put-layer-attrs-spec =

@@ -1,9 +1,9 @@
-use Rattle.cmd.proofs.Tables.{stored}
-use Prim.Native.Nat.{_*_}
 use mathlib.Core.List.{[], _∷_}
+use Prim.Native.Nat.{_*_}
 use native.Mathlib.Omega.{arith}
 use lib.ListN.{length-set}
 use borrow.Author.Needs.{needs}
+use Rattle.cmd.proofs.Tables.{stored}
 use Rattle.cmd.proofs.attrs.put_paint_attrs.Statement.{statement}
 use Rattle.cmd.proofs.attrs.put_paint_attrs.Tie as tie
 
@@ -83,7 +83,11 @@ same-length : tie.Need-same-length
 same-length c = search needs
 
 returns : tie.Need-returns
-returns c = stored (c .before .args .table .now) (8 * c .before .args .i) (c .before .args .a .paint) (c .before .args .a .blend .mix ∷ c .before .args .a .blend .compose ∷ c .before .args .a .mask ∷ c .before .args .a .«draw_id» ∷ c .before .args .a .«thread_idx» ∷ c .before .args .a .«origin_x» ∷ c .before .args .a .«origin_y» ∷ []) (omega arith)
+returns c =
+    let xs = c .before .args .table .now in
+    let a = c .before .args .a in
+    stored xs (8 * c .before .args .i) (a .paint)
+    (a .blend .mix ∷ a .blend .compose ∷ a .mask ∷ a .«draw_id» ∷ a .«thread_idx» ∷ a .«origin_x» ∷ a .«origin_y» ∷ []) (omega arith)
 
 pub put-paint-attrs-spec : {M : Type 1} → statement M
 put-paint-attrs-spec =

@@ -1,6 +1,4 @@
-use mathlib.Core.Path.{refl}
 use native.Mathlib.Omega.{arith}
-use Rattle.span.specs.Spans.{Moves}
 use borrow.Author.Needs.{needs}
 use Rattle.span.proofs.Alpha.moved.Statement.{statement}
 use Rattle.span.proofs.Alpha.moved.Tie as tie

@@ -1,10 +1,9 @@
 use mathlib.Core.Path.{_≡_, sym, ap, _∙_}
-use native.Mathlib.Omega.{arith}
 use mathlib.Core.Option.{some}
+use borrow.Author.Needs.{needs}
 use Rattle.rules.specs.Spans.{meeting}
 use Rattle.span.specs.Spans.{meeting-of, tiles}
-use Rattle.span.proofs.Laws.{Within, within, moves-within, cut-none, cut-some}
-use borrow.Author.Needs.{needs}
+use Rattle.span.proofs.Laws.{within, moves-within, cut-none, cut-some}
 use Rattle.span.proofs.Stretch.cut_to.Statement.{statement}
 use Rattle.span.proofs.Stretch.cut_to.Tie as tie
 

@@ -1,5 +1,5 @@
-use Rattle.span.proofs.Laws.{meeting-some, meeting-none}
 use borrow.Author.Needs.{needs}
+use Rattle.span.proofs.Laws.{meeting-some, meeting-none}
 use Rattle.span.proofs.TileSpan.intersect.Statement.{statement}
 use Rattle.span.proofs.TileSpan.intersect.Tie as tie
 

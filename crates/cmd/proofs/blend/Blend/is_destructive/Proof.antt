@@ -1,4 +1,3 @@
-use native.Mathlib.Omega.{arith}
 use Rattle.cmd.proofs.Blends.{low, below-5, from-5, from-8, ten}
 use Rattle.cmd.proofs.blend.Blend.is_destructive.Statement.{statement}
 use Rattle.cmd.proofs.blend.Blend.is_destructive.Tie as tie

@@ -1,6 +1,6 @@
-use mathlib.Core.Path.{sym, ap, _∙_}
-use Rattle.cmd.proofs.Commands.{in-order, alpha-test}
+use mathlib.Core.Path.{sym, _∙_}
 use borrow.Author.Needs.{needs}
+use Rattle.cmd.proofs.Commands.{in-order, alpha-test}
 use Rattle.cmd.proofs.command.CmdWords.is_alpha.Statement.{statement}
 use Rattle.cmd.proofs.command.CmdWords.is_alpha.Tie as tie
 

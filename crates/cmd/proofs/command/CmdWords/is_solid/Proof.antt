@@ -1,4 +1,4 @@
-use mathlib.Core.Path.{sym, ap, _∙_}
+use mathlib.Core.Path.{sym, _∙_}
 use borrow.Author.Needs.{needs}
 use Rattle.cmd.proofs.command.CmdWords.is_solid.Statement.{statement}
 use Rattle.cmd.proofs.command.CmdWords.is_solid.Tie as tie

@@ -1,9 +1,8 @@
-use mathlib.Core.Path.{sym, ap, _∙_}
-use borrow.Author.Tests.{eq-eqb, ne-eqb}
-use mathlib.Core.Path.{refl}
+use mathlib.Core.Path.{sym, _∙_, refl}
 use mathlib.Core.Bool.{true, false}
-use Rattle.cmd.proofs.Commands.{tag-1, tag-2, tag-3, tag-4, tag-5, tag-6, tag-7, other-tag}
+use borrow.Author.Tests.{eq-eqb, ne-eqb}
 use borrow.Author.Needs.{needs}
+use Rattle.cmd.proofs.Commands.{tag-1, tag-2, tag-3, tag-4, tag-5, tag-6, tag-7, other-tag}
 use Rattle.cmd.proofs.command.CmdWords.read.Statement.{statement}
 use Rattle.cmd.proofs.command.CmdWords.read.Tie as tie
 

@@ -1,6 +1,6 @@
 use native.Mathlib.Omega.{arith}
-use Rattle.rules.specs.Commands.{command-words}
 use borrow.Author.Needs.{needs}
+use Rattle.rules.specs.Commands.{command-words}
 use Rattle.cmd.proofs.command.RenderCmd.words.Statement.{statement}
 use Rattle.cmd.proofs.command.RenderCmd.words.Tie as tie
 

@@ -1,5 +1,5 @@
-use Rattle.rules.specs.Commands.{depth-words}
 use borrow.Author.Needs.{needs}
+use Rattle.rules.specs.Commands.{depth-words}
 use Rattle.cmd.proofs.depth_fill.DepthFill.words.Statement.{statement}
 use Rattle.cmd.proofs.depth_fill.DepthFill.words.Tie as tie
 

@@ -1,0 +1,139 @@
+// Depth of one row (depth.rs): the split of an opaque span, the row's summary, and the runs of its depth words.
+use cmd::Answer;
+use span::BucketRange;
+use span::TileSpan;
+use span::larger;
+use span::smaller;
+ghost use mathlib.Core.Path.{_≡_};
+ghost use Rattle.rules.specs.Split.{split-answer};
+ghost use Rattle.rules.specs.Depth.{no-depth, included, can-skip-answer};
+ghost use Rattle.span.specs.Spans.{tiles};
+ghost use Rattle.depth.specs.Answers.{split-of, summary, skip-of};
+
+// Tiles in a depth bucket.
+const BUCKET: u32 = 32;
+
+// A regular piece beside a depth fill, where there is one.
+pub enum Edge {
+    Absent,
+    Tiles(TileSpan),
+}
+
+pub enum Split {
+    Refused(Answer),
+    Whole(TileSpan),
+    Opaque {
+        before: Edge,
+        buckets: BucketRange,
+        after: Edge,
+    },
+}
+
+// Rule 7: the whole buckets of a span, and what is left of it on each side.
+pub fn split_opaque_span(span: TileSpan) -> Split
+    ensures { λ r. ⌜ split-of r ≡ split-answer 32 (tiles span) ⌝ }
+{
+    let first = span.first;
+    let end = span.end;
+    if end < first {
+        return Split::Refused(Answer::BadRun);
+    }
+    if 8192 < end {
+        return Split::Refused(Answer::BadRun);
+    }
+    let aligned_first = (first + (BUCKET - 1)) / BUCKET * BUCKET;
+    let aligned_end = end / BUCKET * BUCKET;
+    if aligned_end <= aligned_first {
+        return Split::Whole(span);
+    }
+    Split::Opaque {
+        before: piece(first, aligned_first),
+        buckets: BucketRange {
+            first: aligned_first / BUCKET,
+            end: aligned_end / BUCKET,
+        },
+        after: piece(aligned_end, end),
+    }
+}
+
+// The tiles from first to end, if there are any.
+fn piece(first: u32, end: u32) -> Edge
+    ensures { λ r. ⌜ r ≡ Rattle.depth.specs.Answers.piece-of first «end» ⌝ }
+{
+    if first < end {
+        Edge::Tiles(TileSpan { first, end })
+    } else {
+        Edge::Absent
+    }
+}
+
+// The union of a row's depth fills, as tiles.
+pub enum Bounds {
+    Nothing,
+    Tiles(TileSpan),
+}
+
+pub struct DepthState {
+    pub bounds: Bounds,
+    pub max_draw_id: u32,
+}
+
+pub enum Skip {
+    Refused(Answer),
+    Yes,
+    No,
+}
+
+impl DepthState {
+    pub fn new() -> DepthState
+        ensures { λ r. ⌜ summary r ≡ no-depth ⌝ }
+    {
+        DepthState {
+            bounds: Bounds::Nothing,
+            max_draw_id: 0,
+        }
+    }
+
+    // The summary with one depth fill more.
+    pub fn include_span(self, span: TileSpan, draw_id: u32) -> DepthState
+        ensures { λ r. ⌜ summary r ≡ included (summary self) (tiles span) «draw_id» ⌝ }
+    {
+        let bounds = self.bounds;
+        let whole = match bounds {
+            Bounds::Nothing => span,
+            Bounds::Tiles(known) => known.extend(span),
+        };
+        DepthState {
+            bounds: Bounds::Tiles(whole),
+            max_draw_id: larger(self.max_draw_id, draw_id),
+        }
+    }
+
+    // Whether a draw is visible on the whole span by the summary alone.
+    pub fn can_skip(self, span: TileSpan, draw_id: u32) -> Skip
+        ensures { λ r. ⌜ skip-of r ≡ can-skip-answer (summary self) (tiles span) «draw_id» ⌝ }
+    {
+        if span.end < span.first {
+            return Skip::Refused(Answer::BadRun);
+        }
+        if 8192 < span.end {
+            return Skip::Refused(Answer::BadRun);
+        }
+        if self.max_draw_id <= draw_id {
+            return Skip::Yes;
+        }
+        let bounds = self.bounds;
+        match bounds {
+            Bounds::Nothing => Skip::Yes,
+            Bounds::Tiles(known) => {
+                if known.end <= span.first {
+                    return Skip::Yes;
+                }
+                if span.end <= known.first {
+                    return Skip::Yes;
+                }
+                Skip::No
+            }
+        }
+    }
+}

@@ -5,10 +5,15 @@ use span::TileSpan;
 use span::larger;
 use span::smaller;
 ghost use mathlib.Core.Path.{_≡_};
+ghost use Prim.Native.Nat.{_≤_, _<_, _*_, _/_, min};
+ghost use lib.ListN.{length};
+ghost use lib.Dec.{ltb};
 ghost use Rattle.rules.specs.Split.{split-answer};
-ghost use Rattle.rules.specs.Depth.{no-depth, included, can-skip-answer};
-ghost use Rattle.span.specs.Spans.{tiles};
+ghost use Rattle.rules.specs.Spans.{span};
+ghost use Rattle.rules.specs.Depth.{no-depth, included, can-skip-answer, is-visible, runs-in, unset-answer, visible-answer, written};
+ghost use Rattle.span.specs.Spans.{tiles, buckets};
 ghost use Rattle.depth.specs.Answers.{split-of, summary, skip-of};
+ghost use Rattle.depth.specs.Listing.{out, out-write, done, cut-runs, listing, writing, met-end};
 
 // Tiles in a depth bucket.
 const BUCKET: u32 = 32;
@@ -136,4 +141,70 @@ impl DepthState {
             }
         }
     }
+}
+
+pub enum Runs {
+    Refused(Answer),
+    Listed(usize),
+}
+
+// The runs of neighbouring buckets from lo to hi that hold at most `ceiling`. Each ends at its first closed bucket.
+fn count_runs(depth: &[u32], lo: usize, hi: usize, ceiling: u32) -> usize
+    requires { ⌜ hi ≤ length (now depth) ⌝ }
+    ensures { λ r. ⌜ r ≡ length (runs-in (is-visible ceiling) (now (depth .entry)) (span lo hi)) ⌝ }
+{
+    let mut i = lo;
+    let mut n: usize = 0;
+    while i < hi {
+        if ceiling < depth[i] {
+            i += 1;
+        } else {
+            let mut j = i + 1;
+            let stop = loop {
+                if hi <= j {
+                    break j;
+                }
+                if ceiling < depth[j] {
+                    break j;
+                }
+                j += 1;
+            };
+            n += 1;
+            i = stop;
+        }
+    }
+    n
+}
+
+// Writes those runs to the start of the list, in units of `width` and cut to the span, and gives their number.
+fn list_runs(depth: &[u32], lo: usize, hi: usize, ceiling: u32, width: usize, cut: TileSpan, list: &mut [u32]) -> usize
+    requires { ⌜ hi ≤ length (now depth) ⌝ }
+    requires { ⌜ hi * width < 4294967296 ⌝ }
+    requires { ⌜ length (runs-in (is-visible ceiling) (now depth) (span lo hi)) * 2 ≤ length (now list) ⌝ }
+    ensures { λ r. ⌜ done r (now (list .exit)) ≡ listing (cut-runs (tiles cut) width ceiling (now (depth .entry)) lo hi) (now (list .entry)) ⌝ }
+{
+    let mut i = lo;
+    let mut n: usize = 0;
+    while i < hi {
+        if ceiling < depth[i] {
+            i += 1;
+        } else {
+            let mut j = i + 1;
+            let stop = loop {
+                if hi <= j {
+                    break j;
+                }
+                if ceiling < depth[j] {
+                    break j;
+                }
+                j += 1;
+            };
+            let at = n * 2;
+            list[at] = larger(cut.first, (i * width) as u32);
+            list[at + 1] = smaller(cut.end, (stop * width) as u32);
+            n += 1;
+            i = stop;
+        }
+    }
+    n
 }

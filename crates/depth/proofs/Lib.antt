@@ -1,4 +1,6 @@
+pub mod Answering
 pub mod Filling
+pub mod Marking
 pub mod Searching
 pub mod Skipping
 pub mod Splitting

@@ -7,7 +7,6 @@ use borrow.Author.Tests.{le-leb, lt-leb}
 use lib.ListN.{length, length-set}
 use Rattle.rules.specs.Spans.{Span, span, common}
 use Rattle.rules.specs.Depth.{is-visible, runs-in, tiles-of}
-use Rattle.span.specs.Spans.{tiles}
 use Rattle.depth.proofs.Searching.{Reached, Ended, reach-first, reach-more, reach-closed, reach-end}
 use Rattle.depth.proofs.Filling.{Filled, fill-first, fill-skip, fill-room, fill-more, fill-end, scaled}
 use Rattle.depth.proofs.list_runs.Statement.{statement}
@@ -18,16 +17,16 @@ use Rattle.span.proofs.larger.Reads as larger-reads
 use Rattle.span.proofs.smaller.Reads as smaller-reads
 
 abbrev Inv-loop2 : tie.InvT-loop2
-Inv-loop2 depth lo hi ceiling width cut list i n j₀ j = Reached (is-visible ceiling) depth hi i j
+Inv-loop2 depth lo hi ceiling width first end list i n j₀ j = Reached (is-visible ceiling) depth hi i j
 
 abbrev μ-loop2 : tie.MeasureT-loop2
-μ-loop2 depth lo hi ceiling width cut list i n j₀ j = hi - j
+μ-loop2 depth lo hi ceiling width first end list i n j₀ j = hi - j
 
 abbrev Inv-loop : tie.InvT-loop
-Inv-loop depth lo hi ceiling width cut list₀ i₀ n₀ list i n = Filled (is-visible ceiling) depth lo hi (λ (r : Span). common (tiles cut) (tiles-of width r)) list₀ i n list
+Inv-loop depth lo hi ceiling width first end list₀ i₀ n₀ list i n = Filled (is-visible ceiling) depth lo hi (λ (r : Span). common (span first end) (tiles-of width r)) list₀ i n list
 
 abbrev μ-loop : tie.MeasureT-loop
-μ-loop depth lo hi ceiling width cut list₀ i₀ n₀ list i n = hi - i
+μ-loop depth lo hi ceiling width first end list₀ i₀ n₀ list i n = hi - i
 
 -- src/lib.rt:188:5
 loop-holds : tie.Need-loop-holds Inv-loop2 μ-loop2 Inv-loop μ-loop

@@ -177,7 +177,16 @@ fn count_runs(depth: &[u32], lo: usize, hi: usize, ceiling: u32) -> usize
 }
 
 // Writes those runs to the start of the list, in units of `width` and cut to first and end, and gives their number.
-fn list_runs(depth: &[u32], lo: usize, hi: usize, ceiling: u32, width: usize, first: u32, end: u32, list: &mut [u32]) -> usize
+fn list_runs(
+    depth: &[u32],
+    lo: usize,
+    hi: usize,
+    ceiling: u32,
+    width: usize,
+    first: u32,
+    end: u32,
+    list: &mut [u32],
+) -> usize
     requires { ⌜ hi ≤ length (now depth) ⌝ }
     requires { ⌜ hi * width < 4294967296 ⌝ }
     requires { ⌜ length (runs-in (is-visible ceiling) (now depth) (span lo hi)) * 2 ≤ length (now list) ⌝ }
@@ -276,7 +285,12 @@ fn mark(depth: &mut [u32], lo: usize, hi: usize, draw_id: u32)
 }
 
 // The writing form: lists the unset runs of a bucket range as buckets, and stores the id there.
-pub fn unset_runs_and_write(depth: &mut [u32], range: BucketRange, draw_id: u32, list: &mut [u32]) -> Runs
+pub fn unset_runs_and_write(
+    depth: &mut [u32],
+    range: BucketRange,
+    draw_id: u32,
+    list: &mut [u32],
+) -> Runs
     ensures { λ r. ⌜ out-write r (now (list .exit)) (now (depth .exit)) ≡ writing (now (depth .entry)) «draw_id» (buckets range) (now (list .entry)) ⌝ }
 {
     let lo = range.first as usize;

@@ -9,9 +9,9 @@ use Rattle.rules.specs.Spans.{Span, hull}
 use Rattle.rules.specs.Depth.{included, can-skip, can-skip-answer}
 use Rattle.span.specs.declared.TileSpan.{TileSpan}
 use Rattle.span.specs.Spans.{tiles}
-use Rattle.depth.specs.declared.Bounds.{Bounds}
-use Rattle.depth.specs.declared.Bounds.the-variants as bounds
-use Rattle.depth.specs.declared.DepthState.{DepthState}
+use Rattle.depth.specs.declared.state.Bounds.{Bounds}
+use Rattle.depth.specs.declared.state.Bounds.the-variants as bounds
+use Rattle.depth.specs.declared.state.DepthState.{DepthState}
 use Rattle.depth.specs.Answers.{summary, union-of}
 
 module _ (b : Bounds) (m id : ℕ) (s : Span) (h₁ : s .first ≤ s .end) (h₂ : s .end ≤ 8192) (h₃ : id < m) where

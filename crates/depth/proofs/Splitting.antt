@@ -9,8 +9,8 @@ use Rattle.rules.specs.Lists.{keep}
 use Rattle.rules.specs.Answers.{answer}
 use Rattle.rules.specs.Spans.{Span, span}
 use Rattle.rules.specs.Split.{Part, regular, buckets, raised, lowered, split, split-answer}
-use Rattle.depth.specs.declared.Edge.{Edge}
-use Rattle.depth.specs.declared.Edge.the-variants as edge
+use Rattle.depth.specs.declared.split.Edge.{Edge}
+use Rattle.depth.specs.declared.split.Edge.the-variants as edge
 use Rattle.depth.specs.Answers.{beside, piece-of}
 
 kept : (t : Bool) (a b : ℕ) (ps : List Part) → beside (cond t (edge.Tiles (record { first = a; end = b })) edge.Absent) ps ≡ keep t (regular (span a b)) ps

@@ -11,15 +11,15 @@ use Rattle.rules.specs.Depth.{Summary}
 use Rattle.span.specs.Spans as spans
 use Rattle.cmd.specs.declared.Answer.{Answer}
 use Rattle.cmd.specs.Answers.{number-of}
-use Rattle.depth.specs.declared.Edge.{Edge}
-use Rattle.depth.specs.declared.Edge.the-variants as edge
-use Rattle.depth.specs.declared.Split.{Split}
-use Rattle.depth.specs.declared.Split.the-variants as split
-use Rattle.depth.specs.declared.Bounds.{Bounds}
-use Rattle.depth.specs.declared.Bounds.the-variants as bounds
-use Rattle.depth.specs.declared.DepthState.{DepthState}
-use Rattle.depth.specs.declared.Skip.{Skip}
-use Rattle.depth.specs.declared.Skip.the-variants as skip
+use Rattle.depth.specs.declared.split.Edge.{Edge}
+use Rattle.depth.specs.declared.split.Edge.the-variants as edge
+use Rattle.depth.specs.declared.split.Split.{Split}
+use Rattle.depth.specs.declared.split.Split.the-variants as split
+use Rattle.depth.specs.declared.state.Bounds.{Bounds}
+use Rattle.depth.specs.declared.state.Bounds.the-variants as bounds
+use Rattle.depth.specs.declared.state.DepthState.{DepthState}
+use Rattle.depth.specs.declared.state.Skip.{Skip}
+use Rattle.depth.specs.declared.state.Skip.the-variants as skip
 
 -- The number of a refusal. `Done` refuses nothing: it gets a number that no answer has, so that no result but one meets a contract.
 abbrev pub refusal : Answer → ℕ

@@ -7,8 +7,8 @@ use lib.Dec.{ltb}
 use Rattle.rules.specs.Answers.{Answer, answer, Done}
 use Rattle.rules.specs.Spans.{Span, span, common}
 use Rattle.rules.specs.Depth.{is-visible, runs-in, tiles-of, write-answer, write-after}
-use Rattle.depth.specs.declared.Runs.{Runs}
-use Rattle.depth.specs.declared.Runs.the-variants as runs
+use Rattle.depth.specs.declared.runs.Runs.{Runs}
+use Rattle.depth.specs.declared.runs.Runs.the-variants as runs
 use Rattle.depth.specs.Answers.{refusal}
 
 -- an answer, how many runs are listed, and the list's words

@@ -1,10 +1,10 @@
 use mathlib.Core.Logic.{⊎-elim}
 use Rattle.depth.proofs.Skipping.{first-fill, one-more}
 use borrow.Author.Needs.{needs}
-use Rattle.depth.proofs.DepthState.include_span.Statement.{statement}
-use Rattle.depth.proofs.DepthState.include_span.Tie as tie
-use Rattle.depth.proofs.DepthState.include_span.Reads as reads
-use Rattle.depth.proofs.DepthState.include_span.Lts as lts
+use Rattle.depth.proofs.state.DepthState.include_span.Statement.{statement}
+use Rattle.depth.proofs.state.DepthState.include_span.Tie as tie
+use Rattle.depth.proofs.state.DepthState.include_span.Reads as reads
+use Rattle.depth.proofs.state.DepthState.include_span.Lts as lts
 use Rattle.span.proofs.TileSpan.extend.Reads as extend-reads
 use Rattle.span.proofs.larger.Reads as larger-reads
 

@@ -2,11 +2,11 @@ use Rattle.depth.proofs.Splitting.{in-three}
 use borrow.Author.Tests.{lt-ltb, le-ltb, le-leb, lt-leb}
 use Rattle.rules.specs.Split.{split-answer, split}
 use borrow.Author.Needs.{needs}
-use Rattle.depth.proofs.split_opaque_span.Statement.{statement}
-use Rattle.depth.proofs.split_opaque_span.Tie as tie
-use Rattle.depth.proofs.split_opaque_span.Reads as reads
-use Rattle.depth.proofs.split_opaque_span.Lts as lts
-use Rattle.depth.proofs.piece.Reads as piece-reads
+use Rattle.depth.proofs.split.split_opaque_span.Statement.{statement}
+use Rattle.depth.proofs.split.split_opaque_span.Tie as tie
+use Rattle.depth.proofs.split.split_opaque_span.Reads as reads
+use Rattle.depth.proofs.split.split_opaque_span.Lts as lts
+use Rattle.depth.proofs.split.piece.Reads as piece-reads
 
 -- src/lib.rt:36:9
 returns : tie.Need-returns

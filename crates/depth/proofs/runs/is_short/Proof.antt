@@ -4,11 +4,11 @@ use Rattle.rules.specs.Depth.{is-visible}
 use Rattle.depth.proofs.Answering.{roomy, empty}
 use Prim.Native.Nat.{ℕ, _/_}
 use borrow.Author.Needs.{needs}
-use Rattle.depth.proofs.is_short.Statement.{statement}
-use Rattle.depth.proofs.is_short.Tie as tie
-use Rattle.depth.proofs.is_short.Reads as reads
-use Rattle.depth.proofs.is_short.Lts as lts
-use Rattle.depth.proofs.count_runs.Reads as count-runs-reads
+use Rattle.depth.proofs.runs.is_short.Statement.{statement}
+use Rattle.depth.proofs.runs.is_short.Tie as tie
+use Rattle.depth.proofs.runs.is_short.Reads as reads
+use Rattle.depth.proofs.runs.is_short.Lts as lts
+use Rattle.depth.proofs.runs.count_runs.Reads as count-runs-reads
 
 -- src/lib.rt:219:9
 returns : tie.Need-returns

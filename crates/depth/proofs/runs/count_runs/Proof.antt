@@ -8,10 +8,10 @@ use lib.ListN.{length}
 use Rattle.rules.specs.Spans.{span}
 use Rattle.rules.specs.Depth.{is-visible, runs-in}
 use Rattle.depth.proofs.Searching.{Reached, Ended, reach-first, reach-more, reach-closed, reach-end, runs-closed, runs-end}
-use Rattle.depth.proofs.count_runs.Statement.{statement}
-use Rattle.depth.proofs.count_runs.Tie as tie
-use Rattle.depth.proofs.count_runs.Reads as reads
-use Rattle.depth.proofs.count_runs.Lts as lts
+use Rattle.depth.proofs.runs.count_runs.Statement.{statement}
+use Rattle.depth.proofs.runs.count_runs.Tie as tie
+use Rattle.depth.proofs.runs.count_runs.Reads as reads
+use Rattle.depth.proofs.runs.count_runs.Lts as lts
 
 abbrev Inv-loop2 : tie.InvT-loop2
 Inv-loop2 depth lo hi ceiling i n j₀ j = Reached (is-visible ceiling) depth hi i j

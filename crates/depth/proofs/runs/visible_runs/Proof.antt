@@ -4,13 +4,13 @@ use mathlib.Core.Path.{_≡_, refl, sym, ap, _∙_}
 use native.Mathlib.Omega.{arith}
 use Rattle.depth.proofs.Answering.{tiles-backward, tiles-past, tiles-short, tiles-done}
 use borrow.Author.Needs.{needs}
-use Rattle.depth.proofs.visible_runs.Statement.{statement}
-use Rattle.depth.proofs.visible_runs.Tie as tie
-use Rattle.depth.proofs.visible_runs.Reads as reads
-use Rattle.depth.proofs.visible_runs.Lts as lts
-use Rattle.depth.proofs.is_short.Reads as is-short-reads
-use Rattle.depth.proofs.list_runs.Reads as list-runs-reads
-use Rattle.depth.proofs.met_end.Reads as met-end-reads
+use Rattle.depth.proofs.runs.visible_runs.Statement.{statement}
+use Rattle.depth.proofs.runs.visible_runs.Tie as tie
+use Rattle.depth.proofs.runs.visible_runs.Reads as reads
+use Rattle.depth.proofs.runs.visible_runs.Lts as lts
+use Rattle.depth.proofs.runs.is_short.Reads as is-short-reads
+use Rattle.depth.proofs.runs.list_runs.Reads as list-runs-reads
+use Rattle.depth.proofs.runs.met_end.Reads as met-end-reads
 
 -- src/lib.rt:244:9
 returns : tie.Need-returns

@@ -9,10 +9,10 @@ use Rattle.rules.specs.Spans.{Span, span, common}
 use Rattle.rules.specs.Depth.{is-visible, runs-in, tiles-of}
 use Rattle.depth.proofs.Searching.{Reached, Ended, reach-first, reach-more, reach-closed, reach-end}
 use Rattle.depth.proofs.Filling.{Filled, fill-first, fill-skip, fill-room, fill-more, fill-end, scaled}
-use Rattle.depth.proofs.list_runs.Statement.{statement}
-use Rattle.depth.proofs.list_runs.Tie as tie
-use Rattle.depth.proofs.list_runs.Reads as reads
-use Rattle.depth.proofs.list_runs.Lts as lts
+use Rattle.depth.proofs.runs.list_runs.Statement.{statement}
+use Rattle.depth.proofs.runs.list_runs.Tie as tie
+use Rattle.depth.proofs.runs.list_runs.Reads as reads
+use Rattle.depth.proofs.runs.list_runs.Lts as lts
 use Rattle.span.proofs.larger.Reads as larger-reads
 use Rattle.span.proofs.smaller.Reads as smaller-reads
 

@@ -2,10 +2,10 @@ use Rattle.depth.proofs.Skipping.{skip-bare, skip-after, skip-before, n
 use borrow.Author.Tests.{lt-ltb, le-ltb, le-leb, lt-leb}
 use Rattle.rules.specs.Depth.{can-skip-answer, can-skip}
 use borrow.Author.Needs.{needs}
-use Rattle.depth.proofs.DepthState.can_skip.Statement.{statement}
-use Rattle.depth.proofs.DepthState.can_skip.Tie as tie
-use Rattle.depth.proofs.DepthState.can_skip.Reads as reads
-use Rattle.depth.proofs.DepthState.can_skip.Lts as lts
+use Rattle.depth.proofs.state.DepthState.can_skip.Statement.{statement}
+use Rattle.depth.proofs.state.DepthState.can_skip.Tie as tie
+use Rattle.depth.proofs.state.DepthState.can_skip.Reads as reads
+use Rattle.depth.proofs.state.DepthState.can_skip.Lts as lts
 
 -- src/lib.rt:114:13
 returns : tie.Need-returns

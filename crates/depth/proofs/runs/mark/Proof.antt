@@ -6,10 +6,10 @@ use lib.ListN.{length, length-set}
 use Rattle.rules.specs.Spans.{span}
 use Rattle.rules.specs.Depth.{written}
 use Rattle.depth.proofs.Marking.{mark-end, mark-set, mark-kept}
-use Rattle.depth.proofs.mark.Statement.{statement}
-use Rattle.depth.proofs.mark.Tie as tie
-use Rattle.depth.proofs.mark.Reads as reads
-use Rattle.depth.proofs.mark.Lts as lts
+use Rattle.depth.proofs.runs.mark.Statement.{statement}
+use Rattle.depth.proofs.runs.mark.Tie as tie
+use Rattle.depth.proofs.runs.mark.Reads as reads
+use Rattle.depth.proofs.runs.mark.Lts as lts
 
 abbrev Inv-loop : tie.InvT-loop
 Inv-loop depth₀ lo hi draw-id i₀ depth i = (length depth ≡ length depth₀) × (written depth draw-id (span i hi) ≡ written depth₀ draw-id (span lo hi))

@@ -1,8 +1,8 @@
 use borrow.Author.Tests.{lt-ltb, le-ltb}
-use Rattle.depth.proofs.piece.Statement.{statement}
-use Rattle.depth.proofs.piece.Tie as tie
-use Rattle.depth.proofs.piece.Reads as reads
-use Rattle.depth.proofs.piece.Lts as lts
+use Rattle.depth.proofs.split.piece.Statement.{statement}
+use Rattle.depth.proofs.split.piece.Tie as tie
+use Rattle.depth.proofs.split.piece.Reads as reads
+use Rattle.depth.proofs.split.piece.Lts as lts
 
 -- src/lib.rt:57:1
 returns : tie.Need-returns

@@ -1,11 +1,11 @@
 use mathlib.Core.Path.{_≡_, refl, sym, ap, _∙_}
 use Rattle.depth.proofs.Answering.{unset-same}
 use borrow.Author.Needs.{needs}
-use Rattle.depth.proofs.unset_runs.Statement.{statement}
-use Rattle.depth.proofs.unset_runs.Tie as tie
-use Rattle.depth.proofs.unset_runs.Reads as reads
-use Rattle.depth.proofs.unset_runs.Lts as lts
-use Rattle.depth.proofs.visible_runs.Reads as visible-runs-reads
+use Rattle.depth.proofs.runs.unset_runs.Statement.{statement}
+use Rattle.depth.proofs.runs.unset_runs.Tie as tie
+use Rattle.depth.proofs.runs.unset_runs.Reads as reads
+use Rattle.depth.proofs.runs.unset_runs.Lts as lts
+use Rattle.depth.proofs.runs.visible_runs.Reads as visible-runs-reads
 
 -- src/lib.rt:261:5
 visible-runs-requires : tie.Need-visible-runs-requires

@@ -2,13 +2,13 @@ use mathlib.Core.Path.{_≡_, refl, sym, ap, _∙_}
 use native.Mathlib.Omega.{arith}
 use Rattle.depth.proofs.Answering.{room-for, write-backward, write-past, write-no-id, write-short, write-done}
 use borrow.Author.Needs.{needs}
-use Rattle.depth.proofs.unset_runs_and_write.Statement.{statement}
-use Rattle.depth.proofs.unset_runs_and_write.Tie as tie
-use Rattle.depth.proofs.unset_runs_and_write.Reads as reads
-use Rattle.depth.proofs.unset_runs_and_write.Lts as lts
-use Rattle.depth.proofs.is_short.Reads as is-short-reads
-use Rattle.depth.proofs.list_runs.Reads as list-runs-reads
-use Rattle.depth.proofs.mark.Reads as mark-reads
+use Rattle.depth.proofs.runs.unset_runs_and_write.Statement.{statement}
+use Rattle.depth.proofs.runs.unset_runs_and_write.Tie as tie
+use Rattle.depth.proofs.runs.unset_runs_and_write.Reads as reads
+use Rattle.depth.proofs.runs.unset_runs_and_write.Lts as lts
+use Rattle.depth.proofs.runs.is_short.Reads as is-short-reads
+use Rattle.depth.proofs.runs.list_runs.Reads as list-runs-reads
+use Rattle.depth.proofs.runs.mark.Reads as mark-reads
 
 -- src/lib.rt:282:14
 cast-lo : tie.Need-cast-lo

@@ -1,10 +1,10 @@
 use native.Mathlib.Omega.{arith}
 use borrow.Author.Tests.{lt-ltb, le-ltb}
 use borrow.Author.Needs.{needs}
-use Rattle.depth.proofs.met_end.Statement.{statement}
-use Rattle.depth.proofs.met_end.Tie as tie
-use Rattle.depth.proofs.met_end.Reads as reads
-use Rattle.depth.proofs.met_end.Lts as lts
+use Rattle.depth.proofs.runs.met_end.Statement.{statement}
+use Rattle.depth.proofs.runs.met_end.Tie as tie
+use Rattle.depth.proofs.runs.met_end.Reads as reads
+use Rattle.depth.proofs.runs.met_end.Lts as lts
 
 -- src/lib.rt:233:9
 returns : tie.Need-returns

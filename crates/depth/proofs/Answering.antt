@@ -1,7 +1,7 @@
 -- What the rules' answers say of each way through the calls over runs. Assumes nothing.
 use mathlib.Core.Path.{_≡_, refl, sym, ap, _∙_}
 use mathlib.Core.Bool.{Bool, true, false, _||_, cond}
-use mathlib.Core.List.{List, [], _∷_, map}
+use mathlib.Core.List.{List, [], map}
 use Prim.Native.Nat.{ℕ, _≤_, _<_, _+_, _-_, _*_, _/_, min}
 use native.Mathlib.Omega.{arith}
 use lib.ListN.{length, length-map}
@@ -9,7 +9,7 @@ use lib.Dec.{ltb, eqb}
 use borrow.Author.Tests.{lt-ltb, le-ltb, ltb-false, ne-eqb, eq-eqb}
 use Rattle.rules.specs.Answers.{Answer, answer}
 use Rattle.rules.specs.Spans.{Span, span, common, bad-range}
-use Rattle.rules.specs.Depth.{runs-in, runs, tiles-of, is-unset, is-visible, listed, unset-runs, visible-runs, unset-answer, visible-answer, write-runs, write-answer, write-after, written}
+use Rattle.rules.specs.Depth.{runs-in, runs, tiles-of, is-visible, listed, unset-runs, visible-runs, unset-answer, visible-answer, write-runs, write-answer, write-after, written}
 use Rattle.depth.specs.Listing.{Out, numbers, listing, done, cut-runs, met-end, OutWrite, writing}
 use Rattle.depth.proofs.Searching.{runs-few, runs-shorter, runs-end, runs-uncut, unset-visible}
 

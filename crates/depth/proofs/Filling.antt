@@ -1,12 +1,12 @@
 -- The runs' numbers, written to a list from its start. Assumes nothing.
 use mathlib.Core.Path.{_≡_, refl, sym, ap, _∙_}
-use mathlib.Core.Bool.{Bool, true, false}
+use mathlib.Core.Bool.{Bool, false}
 use mathlib.Core.List.{List, [], _∷_, map}
-use Prim.Native.Nat.{ℕ, zero, suc, _≤_, _<_, _+_, _*_}
+use Prim.Native.Nat.{ℕ, suc, _≤_, _<_, _+_, _*_}
 use native.Mathlib.Numerals.{add-one}
 use native.Mathlib.Nat.{zero-add, mul-le-mul-right}
 use native.Mathlib.Omega.{arith}
-use lib.ListN.{length, getD, set, drop, length-set, length-map}
+use lib.ListN.{length, getD, set, length-set, length-map}
 use lib.Seq.{sets, sets-eq}
 use Rattle.rules.specs.Answers.{answer}
 use Rattle.rules.specs.Spans.{Span, span}

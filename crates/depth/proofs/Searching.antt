@@ -1,17 +1,17 @@
 -- The rules' runs, found from left to right. Assumes nothing.
-use mathlib.Core.Path.{_≡_, refl, sym, ap, _∙_, fun-ext}
+use mathlib.Core.Path.{_≡_, refl, sym, _∙_, fun-ext}
 use mathlib.Core.Bool.{Bool, true, false, cond}
 use mathlib.Core.List.{List, [], _∷_, map}
-use Prim.Native.Nat.{ℕ, zero, suc, _≤_, _<_, _+_, _-_, _*_, _/_, min, max}
+use Prim.Native.Nat.{ℕ, zero, suc, _≤_, _<_, _+_, _-_, _*_, min, max}
 use native.Mathlib.Numerals.{add-one}
 use native.Mathlib.Omega.{arith}
-use lib.ListN.{length, getD, take, drop, length-take, length-drop}
-use lib.Seq.{drop-cons, take-all, drop-nil}
-use lib.Dec.{leb, ltb, eqb}
-use borrow.Author.Tests.{eq-eqb, ne-eqb, lt-ltb, le-ltb, le-leb, lt-leb, leb-true, leb-false}
+use lib.ListN.{length, getD, drop, length-take, length-drop}
+use lib.Seq.{drop-cons, take-all}
+use lib.Dec.{leb, eqb}
+use borrow.Author.Tests.{eq-eqb, ne-eqb, lt-leb, leb-true, leb-false}
 use Rattle.rules.specs.Lists.{slice}
 use Rattle.rules.specs.Spans.{Span, span, common}
-use Rattle.rules.specs.Depth.{join-run, bucket-runs, runs-in, runs, tiles-of, buckets-met, is-unset, is-visible}
+use Rattle.rules.specs.Depth.{join-run, bucket-runs, runs-in, tiles-of, is-unset, is-visible}
 
 -- a run open from i to j, before the runs from j on
 abbrev pub joined : ℕ → ℕ → List Span → List Span

@@ -3,8 +3,8 @@ use mathlib.Core.Path.{_≡_, refl}
 use mathlib.Core.Bool.{Bool, true, false, cond}
 use mathlib.Core.List.{List, [], _∷_}
 use Prim.Native.Nat.{ℕ, _≤_, _<_, _/_}
-use borrow.Author.Tests.{le-ltb, lt-leb}
 use lib.Dec.{ltb}
+use borrow.Author.Tests.{le-ltb, lt-leb}
 use Rattle.rules.specs.Lists.{keep}
 use Rattle.rules.specs.Answers.{answer}
 use Rattle.rules.specs.Spans.{Span, span}

@@ -5,7 +5,7 @@ use mathlib.Core.List.{List, [], _∷_}
 use mathlib.Core.Option.{Option, none, some}
 use lib.Dec.{ltb, eqb}
 use Rattle.rules.specs.Answers as rules
-use Rattle.rules.specs.Spans.{Span, span}
+use Rattle.rules.specs.Spans.{Span}
 use Rattle.rules.specs.Split.{Part, regular, buckets}
 use Rattle.rules.specs.Depth.{Summary}
 use Rattle.span.specs.Spans as spans
@@ -21,7 +21,7 @@ use Rattle.depth.specs.declared.state.DepthState.{DepthState}
 use Rattle.depth.specs.declared.state.Skip.{Skip}
 use Rattle.depth.specs.declared.state.Skip.the-variants as skip
 
--- The number of a refusal. `Done` refuses nothing: it gets a number that no answer has, so that no result but one meets a contract.
+-- The number of a refusal. `Done` refuses nothing: here it has a number that no answer has, so that one result alone meets a contract.
 abbrev pub refusal : Answer → ℕ
 refusal a = cond (eqb (number-of a) 0) 15 (number-of a)
 

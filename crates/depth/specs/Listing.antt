@@ -1,5 +1,5 @@
 -- What a call over runs leaves in the words that are lent to it.
-use Prim.Native.Nat.{ℕ, _+_, _-_, _*_, _/_, min}
+use Prim.Native.Nat.{ℕ, _+_, _-_, _/_, min}
 use mathlib.Core.Bool.{cond}
 use mathlib.Core.List.{List, [], _∷_, _++_, map}
 use lib.ListN.{length, drop}
@@ -33,6 +33,7 @@ numbers (r ∷ rs) = r .first ∷ r .end ∷ numbers rs
 abbrev pub over : List ℕ → List ℕ → List ℕ
 over ns l = ns ++ drop (length ns) l
 
+-- what an answer leaves; a refusal's value is no run, so that it leaves the list
 unfoldable pub listing : Answer (List Span) → List ℕ → Out
 listing a l = record { number = a .number; count = length (a .value); list = over (numbers (a .value)) l }
 
@@ -40,11 +41,11 @@ listing a l = record { number = a .number; count = length (a .value); list = ove
 abbrev pub cut-runs : Span → ℕ → ℕ → List ℕ → ℕ → ℕ → Answer (List Span)
 cut-runs s w id bs lo hi = answer Done (map (λ (r : Span). common s (tiles-of w r)) (runs-in (is-visible id) bs (span lo hi)))
 
--- where the search over a span's buckets ends; nowhere, if the span is empty
+-- where the search over a span's buckets ends, n buckets being there; at 0, so that it finds none, if the span is empty
 abbrev pub met-end : ℕ → Span → ℕ → ℕ
 met-end w s n = cond (ltb (s .first) (s .end)) (min ((s .end + (w - 1)) / w) n) 0
 
--- the same with the depth words
+-- .. and the depth words
 pub record OutWrite : Type 0 where
   pub listed : Out
   pub depth : List ℕ
@@ -52,5 +53,6 @@ pub record OutWrite : Type 0 where
 abbrev pub out-write : Runs → List ℕ → List ℕ → OutWrite
 out-write r l bs = record { listed = out r l; depth = bs }
 
+-- what the writing form leaves
 abbrev pub writing : List ℕ → ℕ → Span → List ℕ → OutWrite
 writing bs id r l = record { listed = listing (write-answer bs id r (length l / 2)) l; depth = write-after bs id r (length l / 2) }

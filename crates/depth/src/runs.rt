@@ -1,7 +1,10 @@
 // Runs of buckets in one row's depth words. The private functions are parts: their callers have judged the range and the room.
-use cmd::Answer;
 use crate::BUCKET;
-use span::{BucketRange, TileSpan, larger, smaller};
+use cmd::Answer;
+use span::BucketRange;
+use span::TileSpan;
+use span::larger;
+use span::smaller;
 ghost use mathlib.Core.Path.{_≡_};
 ghost use Prim.Native.Nat.{_≤_, _<_, _*_, _/_};
 ghost use lib.ListN.{length};
@@ -11,40 +14,41 @@ ghost use Rattle.rules.specs.Depth.{is-visible, runs-in, unset-answer, visible-
 ghost use Rattle.span.specs.Spans.{tiles, buckets};
 ghost use Rattle.depth.specs.Listing.{out, out-write, done, cut-runs, listing, writing, met-end};
 
+// Why nothing is listed, or how many runs are.
 pub enum Runs {
     Refused(Answer),
     Listed(usize),
 }
 
-// The runs of neighbouring buckets from lo to hi that hold at most `ceiling`. Each ends at its first closed bucket.
+// How many runs of neighbouring buckets from lo to hi hold at most `ceiling`. A run ends at its first closed bucket.
 fn count_runs(depth: &[u32], lo: usize, hi: usize, ceiling: u32) -> usize
     requires { ⌜ hi ≤ length (now depth) ⌝ }
     ensures { λ r. ⌜ r ≡ length (runs-in (is-visible ceiling) (now (depth .entry)) (span lo hi)) ⌝ }
 {
-    let mut i = lo;
-    let mut n: usize = 0;
-    while i < hi {
-        if ceiling < depth[i] {
-            i += 1;
+    let mut at = lo;
+    let mut count: usize = 0;
+    while at < hi {
+        if ceiling < depth[at] {
+            at += 1;
         } else {
-            let mut j = i + 1;
+            let mut next = at + 1;
             let stop = loop {
-                if hi <= j {
-                    break j;
+                if hi <= next {
+                    break next;
                 }
-                if ceiling < depth[j] {
-                    break j;
+                if ceiling < depth[next] {
+                    break next;
                 }
-                j += 1;
+                next += 1;
             };
-            n += 1;
-            i = stop;
+            count += 1;
+            at = stop;
         }
     }
-    n
+    count
 }
 
-// Writes those runs to the start of the list, in units of `width` and cut to first and end, and gives their number.
+// Writes those runs to the start of the list, in units of `width` and cut to first and end. It gives their number.
 fn list_runs(
     depth: &[u32],
     lo: usize,
@@ -86,7 +90,8 @@ fn list_runs(
     n
 }
 
-// Whether the list has no room for those runs. There is at most one for two buckets: they are counted only where the list has not that room.
+// Whether a list of so many words is too short for those runs. n buckets have at most (n + 1) / 2 of them: they are counted only where
+// the list has less room than that.
 fn is_short(depth: &[u32], lo: usize, hi: usize, ceiling: u32, words: usize) -> bool
     requires { ⌜ hi ≤ length (now depth) ⌝ }
     ensures { λ r. ⌜ r ≡ ltb (words / 2) (length (runs-in (is-visible ceiling) (now (depth .entry)) (span lo hi))) ⌝ }
@@ -101,7 +106,7 @@ fn is_short(depth: &[u32], lo: usize, hi: usize, ceiling: u32, words: usize) -> 
     room < count_runs(depth, lo, hi, ceiling)
 }
 
-// Where the search over a span's buckets ends: at the buffer's end at the latest, and at once if the span is empty.
+// Where the search over a span's buckets ends: at the buffer's end at the latest. An empty span has no bucket to search.
 fn met_end(span: TileSpan, buckets: usize) -> usize
     requires { ⌜ span .«end» ≤ 8192 ⌝ }
     ensures { λ r. ⌜ r ≡ met-end 32 (tiles span) buckets ⌝ }
@@ -128,7 +133,16 @@ pub fn visible_runs(depth: &[u32], span: TileSpan, draw_id: u32, list: &mut [u32
     if is_short(depth, lo, hi, draw_id, list.len()) {
         return Runs::Refused(Answer::NoRoom);
     }
-    Runs::Listed(list_runs(depth, lo, hi, draw_id, 32, span.first, span.end, list))
+    Runs::Listed(list_runs(
+        depth,
+        lo,
+        hi,
+        draw_id,
+        BUCKET as usize,
+        span.first,
+        span.end,
+        list,
+    ))
 }
 
 // The runs of a span's tiles whose buckets hold 0: what is visible at id 0.

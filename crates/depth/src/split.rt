@@ -1,7 +1,8 @@
 // Rule 7: an opaque span is split into a depth fill of whole buckets and regular pieces beside it.
-use cmd::Answer;
 use crate::BUCKET;
-use span::{BucketRange, TileSpan};
+use cmd::Answer;
+use span::BucketRange;
+use span::TileSpan;
 ghost use mathlib.Core.Path.{_≡_};
 ghost use Rattle.rules.specs.Split.{split-answer};
 ghost use Rattle.span.specs.Spans.{tiles};
@@ -13,6 +14,7 @@ pub enum Edge {
     Tiles(TileSpan),
 }
 
+// Why a span is not split, the span itself where it covers no whole bucket, or a depth fill with its edges.
 pub enum Split {
     Refused(Answer),
     Whole(TileSpan),

@@ -1,6 +1,7 @@
 // A row's depth summary: the union of its depth fills' spans, and the largest of their ids.
 use cmd::Answer;
-use span::{TileSpan, larger};
+use span::TileSpan;
+use span::larger;
 ghost use mathlib.Core.Path.{_≡_};
 ghost use Rattle.rules.specs.Depth.{no-depth, included, can-skip-answer};
 ghost use Rattle.span.specs.Spans.{tiles};
@@ -12,6 +13,7 @@ pub enum Bounds {
     Tiles(TileSpan),
 }
 
+// max_draw_id is 0 where the row has no depth fill.
 pub struct DepthState {
     pub bounds: Bounds,
     pub max_draw_id: u32,
@@ -24,6 +26,7 @@ pub enum Skip {
 }
 
 impl DepthState {
+    // A row with no depth fill.
     pub fn new() -> DepthState
         ensures { λ r. ⌜ summary r ≡ no-depth ⌝ }
     {
@@ -48,7 +51,7 @@ impl DepthState {
         }
     }
 
-    // Whether a draw is visible on the whole span by the summary alone.
+    // Whether a draw need not look at the depth words: no depth fill of the row is above it, or the span meets none.
     pub fn can_skip(self, span: TileSpan, draw_id: u32) -> Skip
         ensures { λ r. ⌜ skip-of r ≡ can-skip-answer (summary self) (tiles span) «draw_id» ⌝ }
     {

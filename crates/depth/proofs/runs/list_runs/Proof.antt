@@ -1,20 +1,15 @@
 use mathlib.Core.Logic.{⊎-elim}
-use mathlib.Core.Path.{_≡_, refl, sym, ap, _∙_}
-use Prim.Native.Nat.{ℕ, _≤_, _<_, _-_, _+_, _*_}
+use Prim.Native.Nat.{_<_, _-_, _+_, _*_}
 use native.Mathlib.Omega.{arith}
+use lib.ListN.{length, length-set}
 use borrow.Author.Needs.{needs}
 use borrow.Author.Tests.{le-leb, lt-leb}
-use lib.ListN.{length, length-set}
 use Rattle.rules.specs.Spans.{Span, span, common}
-use Rattle.rules.specs.Depth.{is-visible, runs-in, tiles-of}
+use Rattle.rules.specs.Depth.{is-visible, tiles-of}
 use Rattle.depth.proofs.Searching.{Reached, Ended, reach-first, reach-more, reach-closed, reach-end}
 use Rattle.depth.proofs.Filling.{Filled, fill-first, fill-skip, fill-room, fill-more, fill-end, scaled}
 use Rattle.depth.proofs.runs.list_runs.Statement.{statement}
 use Rattle.depth.proofs.runs.list_runs.Tie as tie
-use Rattle.depth.proofs.runs.list_runs.Reads as reads
-use Rattle.depth.proofs.runs.list_runs.Lts as lts
-use Rattle.span.proofs.larger.Reads as larger-reads
-use Rattle.span.proofs.smaller.Reads as smaller-reads
 
 abbrev Inv-loop2 : tie.InvT-loop2
 Inv-loop2 depth lo hi ceiling width first end list i n j₀ j = Reached (is-visible ceiling) depth hi i j
@@ -28,55 +23,42 @@ Inv-loop depth lo hi ceiling width first end list₀ i₀ n₀ list i n = Filled
 abbrev μ-loop : tie.MeasureT-loop
 μ-loop depth lo hi ceiling width first end list₀ i₀ n₀ list i n = hi - i
 
--- src/lib.rt:188:5
 loop-holds : tie.Need-loop-holds Inv-loop2 μ-loop2 Inv-loop μ-loop
 loop-holds c = fill-first _ _ _ _ _ _
 
--- src/lib.rt:189:22
 mul-if1 : tie.Need-mul-if1 Inv-loop2 μ-loop2 Inv-loop μ-loop
 mul-if1 c = omega arith
 
--- src/lib.rt:189:22
 shared-slice-read-if1 : tie.Need-shared-slice-read-if1 Inv-loop2 μ-loop2 Inv-loop μ-loop
 shared-slice-read-if1 c = omega arith
 
--- src/lib.rt:190:13
 add-i : tie.Need-add-i Inv-loop2 μ-loop2 Inv-loop μ-loop
 add-i c = omega arith
 
--- src/lib.rt:188:5
 loop-less : tie.Need-loop-less Inv-loop2 μ-loop2 Inv-loop μ-loop
 loop-less c = omega arith
 
--- src/lib.rt:188:5
 loop-again : tie.Need-loop-again Inv-loop2 μ-loop2 Inv-loop μ-loop
 loop-again c = fill-skip (is-visible _) _ _ _ _ _ _ _ _ (c .before .before .before .loop .inv) (c .before .before .before .before .before .before .pre .0) (c .before .before .loop-test .taken) (lt-leb _ _ (c .if1 .taken))
 
--- src/lib.rt:192:25
 add-j : tie.Need-add-j Inv-loop2 μ-loop2 Inv-loop μ-loop
 add-j c = omega arith
 
--- src/lib.rt:193:17
 loop2-holds : tie.Need-loop2-holds Inv-loop2 μ-loop2 Inv-loop μ-loop
 loop2-holds c = reach-first (is-visible _) _ _ (c .before .before .before .before .before .before .pre .0) _ 0 (c .before .before .loop-test .taken) (le-leb _ _ (c .if1 .left))
 
--- src/lib.rt:197:30
 mul-if3 : tie.Need-mul-if3 Inv-loop2 μ-loop2 Inv-loop μ-loop
 mul-if3 c = omega arith
 
--- src/lib.rt:197:30
 shared-slice-read-if3 : tie.Need-shared-slice-read-if3 Inv-loop2 μ-loop2 Inv-loop μ-loop
 shared-slice-read-if3 c = omega arith
 
--- src/lib.rt:200:17
 add-j-2 : tie.Need-add-j-2 Inv-loop2 μ-loop2 Inv-loop μ-loop
 add-j-2 c = omega arith
 
--- src/lib.rt:193:17
 loop2-less : tie.Need-loop2-less Inv-loop2 μ-loop2 Inv-loop μ-loop
 loop2-less c = omega arith
 
--- src/lib.rt:193:17
 loop2-again : tie.Need-loop2-again Inv-loop2 μ-loop2 Inv-loop μ-loop
 loop2-again c = reach-more (is-visible _) _ _ (c .before .before .before .before .before .before .before .before .before .before .pre .0) _ _ (c .before .before .before .loop2 .inv) (c .before .before .if2 .left) (le-leb _ _ (c .if3 .left))
 
@@ -93,71 +75,54 @@ stopped c =
 room : (c : tie.Joined2 Inv-loop2 μ-loop2 Inv-loop μ-loop) → c .before .before .before .before .before .loop .n * 2 + 1 < length (c .before .before .before .before .before .loop .list)
 room c = fill-room (is-visible _) _ _ _ _ _ _ _ _ (c .before .before .before .before .before .loop .inv) (c .before .before .before .before .before .before .before .before .pre .1 .1) _ (stopped c)
 
--- src/lib.rt:202:22
 mul-at : tie.Need-mul-at Inv-loop2 μ-loop2 Inv-loop μ-loop
 mul-at c = omega arith
 
--- src/lib.rt:203:43
 mul-larger : tie.Need-mul-larger Inv-loop2 μ-loop2 Inv-loop μ-loop
 mul-larger c = omega (arith, scaled (c .before .before .before .before .before .loop .i) (c .before .before .before .before .before .before .before .before .args .hi) (c .before .before .before .before .before .before .before .before .args .width) (omega arith) (c .before .before .before .before .before .before .before .before .pre .1 .0))
 
--- src/lib.rt:203:42
 cast-larger : tie.Need-cast-larger Inv-loop2 μ-loop2 Inv-loop μ-loop
 cast-larger c = omega (arith, scaled (c .before .before .before .before .before .loop .i) (c .before .before .before .before .before .before .before .before .args .hi) (c .before .before .before .before .before .before .before .before .args .width) (omega arith) (c .before .before .before .before .before .before .before .before .pre .1 .0))
 
--- src/lib.rt:203:24
 larger-requires : tie.Need-larger-requires Inv-loop2 μ-loop2 Inv-loop μ-loop
 larger-requires c κs = search needs
 
--- src/lib.rt:203:13
 mul-list : tie.Need-mul-list Inv-loop2 μ-loop2 Inv-loop μ-loop
 mul-list c = omega (arith, room (c .before), c .before .before .before .before .before .before .loop .inv .kept)
 
--- src/lib.rt:203:13
 slice-write-list : tie.Need-slice-write-list Inv-loop2 μ-loop2 Inv-loop μ-loop
 slice-write-list c = omega (arith, room (c .before))
 
--- src/lib.rt:204:46
 mul-smaller : tie.Need-mul-smaller Inv-loop2 μ-loop2 Inv-loop μ-loop
 mul-smaller c = omega (arith, scaled (c .before .before .if2 .stop) (c .before .before .before .before .before .before .before .before .before .before .args .hi) (c .before .before .before .before .before .before .before .before .before .before .args .width) (stopped (c .before .before) .within) (c .before .before .before .before .before .before .before .before .before .before .pre .1 .0))
 
--- src/lib.rt:204:45
 cast-smaller : tie.Need-cast-smaller Inv-loop2 μ-loop2 Inv-loop μ-loop
 cast-smaller c = omega (arith, scaled (c .before .before .if2 .stop) (c .before .before .before .before .before .before .before .before .before .before .args .hi) (c .before .before .before .before .before .before .before .before .before .before .args .width) (stopped (c .before .before) .within) (c .before .before .before .before .before .before .before .before .before .before .pre .1 .0))
 
--- src/lib.rt:204:28
 smaller-requires : tie.Need-smaller-requires Inv-loop2 μ-loop2 Inv-loop μ-loop
 smaller-requires c κs = search needs
 
--- src/lib.rt:204:18
 add-list : tie.Need-add-list Inv-loop2 μ-loop2 Inv-loop μ-loop
 add-list c = omega (arith, room (c .before .before .before), c .before .before .before .before .before .before .before .before .loop .inv .kept)
 
--- src/lib.rt:204:13
 mul-list-2 : tie.Need-mul-list-2 Inv-loop2 μ-loop2 Inv-loop μ-loop
 mul-list-2 c = omega (arith, room (c .before .before .before), c .before .before .before .before .before .before .before .before .loop .inv .kept)
 
--- src/lib.rt:204:13
 slice-write-list-2 : tie.Need-slice-write-list-2 Inv-loop2 μ-loop2 Inv-loop μ-loop
 slice-write-list-2 c = simp length-set (room (c .before .before .before))
 
--- src/lib.rt:205:13
 add-n : tie.Need-add-n Inv-loop2 μ-loop2 Inv-loop μ-loop
 add-n c = omega (arith, room (c .before .before .before), c .before .before .before .before .before .before .before .before .loop .inv .kept)
 
--- src/lib.rt:188:5
 loop-less-2 : tie.Need-loop-less-2 Inv-loop2 μ-loop2 Inv-loop μ-loop
 loop-less-2 c = omega (arith, stopped (c .before .before .before) .past, stopped (c .before .before .before) .within)
 
--- src/lib.rt:188:5
 loop-again-2 : tie.Need-loop-again-2 Inv-loop2 μ-loop2 Inv-loop μ-loop
 loop-again-2 c = fill-more (is-visible _) _ _ _ _ _ _ _ _ (c .before .before .before .before .before .before .before .before .loop .inv) _ _ _ (stopped (c .before .before .before)) (c .before .before .larger .ensures) (c .smaller .ensures)
 
--- src/lib.rt:180:1
 same-length : tie.Need-same-length Inv-loop2 μ-loop2 Inv-loop μ-loop
 same-length c = c .before .loop .inv .kept
 
--- src/lib.rt:180:1
 returns : tie.Need-returns Inv-loop2 μ-loop2 Inv-loop μ-loop
 returns c = fill-end (is-visible _) _ _ _ _ _ _ _ _ (c .before .loop .inv) (c .before .before .before .before .pre .1 .1) (c .loop-test .left)
 

@@ -1,6 +1,6 @@
 use mathlib.Core.Logic.{⊎-elim}
-use mathlib.Core.Path.{_≡_, refl, sym, ap, _∙_}
-use Prim.Native.Nat.{ℕ, _-_, _+_}
+use mathlib.Core.Path.{_≡_, refl, sym, _∙_}
+use Prim.Native.Nat.{_-_}
 use native.Mathlib.Omega.{arith}
 use lib.ListN.{length, length-set}
 use Rattle.rules.specs.Spans.{span}
@@ -8,8 +8,6 @@ use Rattle.rules.specs.Depth.{written}
 use Rattle.depth.proofs.Marking.{mark-end, mark-set, mark-kept}
 use Rattle.depth.proofs.runs.mark.Statement.{statement}
 use Rattle.depth.proofs.runs.mark.Tie as tie
-use Rattle.depth.proofs.runs.mark.Reads as reads
-use Rattle.depth.proofs.runs.mark.Lts as lts
 
 abbrev Inv-loop : tie.InvT-loop
 Inv-loop depth₀ lo hi draw-id i₀ depth i = (length depth ≡ length depth₀) × (written depth draw-id (span i hi) ≡ written depth₀ draw-id (span lo hi))
@@ -17,43 +15,33 @@ Inv-loop depth₀ lo hi draw-id i₀ depth i = (length depth ≡ length depth₀
 abbrev μ-loop : tie.MeasureT-loop
 μ-loop depth₀ lo hi draw-id i₀ depth i = hi - i
 
--- src/lib.rt:270:5
 loop-holds : tie.Need-loop-holds Inv-loop μ-loop
 loop-holds c = (refl, refl)
 
--- src/lib.rt:271:12
 mul-if1 : tie.Need-mul-if1 Inv-loop μ-loop
 mul-if1 c = omega arith
 
--- src/lib.rt:271:12
 slice-read-if1 : tie.Need-slice-read-if1 Inv-loop μ-loop
 slice-read-if1 c = omega arith
 
--- src/lib.rt:272:13
 mul-depth : tie.Need-mul-depth Inv-loop μ-loop
 mul-depth c = omega arith
 
--- src/lib.rt:272:13
 slice-write-depth : tie.Need-slice-write-depth Inv-loop μ-loop
 slice-write-depth c = omega arith
 
--- src/lib.rt:274:9
 add-i : tie.Need-add-i Inv-loop μ-loop
 add-i c = omega arith
 
--- src/lib.rt:270:5
 loop-less : tie.Need-loop-less Inv-loop μ-loop
 loop-less c = omega arith
 
--- src/lib.rt:270:5
 loop-again : tie.Need-loop-again Inv-loop μ-loop
 loop-again c = ⊎-elim (λ w. rw (w .1) (simp length-set (c .before .before .before .loop .inv .0), sym (mark-set _ _ _ _ (omega arith) (c .before .before .loop-test .taken) (w .0 .taken)) ∙ c .before .before .before .loop .inv .1)) (λ w. rw (w .1) (c .before .before .before .loop .inv .0, sym (mark-kept _ _ _ _ (omega arith) (c .before .before .loop-test .taken) (w .0 .left)) ∙ c .before .before .before .loop .inv .1)) (c .if1 .came)
 
--- src/lib.rt:265:1
 same-length : tie.Need-same-length Inv-loop μ-loop
 same-length c = c .before .loop .inv .0
 
--- src/lib.rt:265:1
 returns : tie.Need-returns Inv-loop μ-loop
 returns c = sym (mark-end _ _ _ _ (c .loop-test .left)) ∙ c .before .loop .inv .1
 

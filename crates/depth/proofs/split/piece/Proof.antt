@@ -1,14 +1,10 @@
 use borrow.Author.Tests.{lt-ltb, le-ltb}
 use Rattle.depth.proofs.split.piece.Statement.{statement}
 use Rattle.depth.proofs.split.piece.Tie as tie
-use Rattle.depth.proofs.split.piece.Reads as reads
-use Rattle.depth.proofs.split.piece.Lts as lts
 
--- src/lib.rt:57:1
 returns : tie.Need-returns
 returns c = simp (lt-ltb _ _ (c .if1 .taken))
 
--- src/lib.rt:57:1
 returns-2 : tie.Need-returns-2
 returns-2 c = simp (le-ltb _ _ (c .if1 .left))
 

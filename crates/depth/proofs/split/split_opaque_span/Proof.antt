@@ -1,53 +1,40 @@
-use Rattle.depth.proofs.Splitting.{in-three}
-use borrow.Author.Tests.{lt-ltb, le-ltb, le-leb, lt-leb}
-use Rattle.rules.specs.Split.{split-answer, split}
+use borrow.Author.Tests.{lt-ltb, le-ltb, le-leb}
 use borrow.Author.Needs.{needs}
+use Rattle.rules.specs.Split.{split-answer, split}
+use Rattle.depth.proofs.Splitting.{in-three}
 use Rattle.depth.proofs.split.split_opaque_span.Statement.{statement}
 use Rattle.depth.proofs.split.split_opaque_span.Tie as tie
-use Rattle.depth.proofs.split.split_opaque_span.Reads as reads
-use Rattle.depth.proofs.split.split_opaque_span.Lts as lts
-use Rattle.depth.proofs.split.piece.Reads as piece-reads
 
--- src/lib.rt:36:9
 returns : tie.Need-returns
 unfolding split-answer
 returns c = simp (lt-ltb _ _ (c .if1 .taken))
 
--- src/lib.rt:39:9
 returns-2 : tie.Need-returns-2
 unfolding split-answer
 returns-2 c = simp (le-ltb _ _ (c .before .if1 .left), lt-ltb _ _ (c .if2 .taken))
 
--- src/lib.rt:41:35
 sub-aligned-first : tie.Need-sub-aligned-first
 sub-aligned-first c = search needs
 
--- src/lib.rt:41:26
 add-aligned-first : tie.Need-add-aligned-first
 add-aligned-first c = search needs
 
--- src/lib.rt:41:25
 mul-aligned-first : tie.Need-mul-aligned-first
 mul-aligned-first c = search needs
 
--- src/lib.rt:42:23
 mul-aligned-end : tie.Need-mul-aligned-end
 mul-aligned-end c = search needs
 
--- src/lib.rt:44:9
 returns-3 : tie.Need-returns-3
 unfolding split-answer split
 returns-3 c = simp (le-ltb _ _ (c .before .before .if1 .left), le-ltb _ _ (c .before .if2 .left), le-leb _ _ (c .if3 .taken))
 
--- src/lib.rt:47:17
 piece-requires : tie.Need-piece-requires
 piece-requires c κs = search needs
 
--- src/lib.rt:52:16
 piece-requires-2 : tie.Need-piece-requires-2
 piece-requires-2 c κs = search needs
 
--- src/lib.rt:30:1
 returns-4 : tie.Need-returns-4
 unfolding split-answer split
 returns-4 c = in-three 32 _ _ _ (c .before .before .before .before .if1 .left) (c .before .before .before .if2 .left) (c .before .before .if3 .left) (c .before .piece .ensures) (c .piece2 .ensures)

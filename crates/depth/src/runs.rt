@@ -1,0 +1,195 @@
+// Runs of buckets in one row's depth words. The private functions are parts: their callers have judged the range and the room.
+use crate::BUCKET;
+use cmd::Answer;
+use span::BucketRange;
+use span::TileSpan;
+use span::larger;
+use span::smaller;
+ghost use mathlib.Core.Path.{_≡_};
+ghost use Prim.Native.Nat.{_≤_, _<_, _*_, _/_};
+ghost use lib.ListN.{length};
+ghost use lib.Dec.{ltb};
+ghost use Rattle.rules.specs.Spans.{span};
+ghost use Rattle.rules.specs.Depth.{is-visible, runs-in, unset-answer, visible-answer, written};
+ghost use Rattle.span.specs.Spans.{tiles, buckets};
+ghost use Rattle.depth.specs.Listing.{out, out-write, done, cut-runs, listing, writing, met-end};
+
+// Why nothing is listed, or how many runs are.
+pub enum Runs {
+    Refused(Answer),
+    Listed(usize),
+}
+
+// How many runs of neighbouring buckets from lo to hi hold at most `ceiling`. A run ends at its first closed bucket.
+fn count_runs(depth: &[u32], lo: usize, hi: usize, ceiling: u32) -> usize
+    requires { ⌜ hi ≤ length (now depth) ⌝ }
+    ensures { λ r. ⌜ r ≡ length (runs-in (is-visible ceiling) (now (depth .entry)) (span lo hi)) ⌝ }
+{
+    let mut at = lo;
+    let mut count: usize = 0;
+    while at < hi {
+        if ceiling < depth[at] {
+            at += 1;
+        } else {
+            let mut next = at + 1;
+            let stop = loop {
+                if hi <= next {
+                    break next;
+                }
+                if ceiling < depth[next] {
+                    break next;
+                }
+                next += 1;
+            };
+            count += 1;
+            at = stop;
+        }
+    }
+    count
+}
+
+// Writes those runs to the start of the list, in units of `width` and cut to first and end. It gives their number.
+fn list_runs(
+    depth: &[u32],
+    lo: usize,
+    hi: usize,
+    ceiling: u32,
+    width: usize,
+    first: u32,
+    end: u32,
+    list: &mut [u32],
+) -> usize
+    requires { ⌜ hi ≤ length (now depth) ⌝ }
+    requires { ⌜ hi * width < 4294967296 ⌝ }
+    requires { ⌜ length (runs-in (is-visible ceiling) (now depth) (span lo hi)) * 2 ≤ length (now list) ⌝ }
+    ensures { λ r. ⌜ done r (now (list .exit)) ≡ listing (cut-runs (span first «end») width ceiling (now (depth .entry)) lo hi) (now (list .entry)) ⌝ }
+{
+    let mut i = lo;
+    let mut n: usize = 0;
+    while i < hi {
+        if ceiling < depth[i] {
+            i += 1;
+        } else {
+            let mut j = i + 1;
+            let stop = loop {
+                if hi <= j {
+                    break j;
+                }
+                if ceiling < depth[j] {
+                    break j;
+                }
+                j += 1;
+            };
+            let at = n * 2;
+            list[at] = larger(first, (i * width) as u32);
+            list[at + 1] = smaller(end, (stop * width) as u32);
+            n += 1;
+            i = stop;
+        }
+    }
+    n
+}
+
+// Whether a list of so many words is too short for those runs. n buckets have at most (n + 1) / 2 of them: they are counted only where
+// the list has less room than that.
+fn is_short(depth: &[u32], lo: usize, hi: usize, ceiling: u32, words: usize) -> bool
+    requires { ⌜ hi ≤ length (now depth) ⌝ }
+    ensures { λ r. ⌜ r ≡ ltb (words / 2) (length (runs-in (is-visible ceiling) (now (depth .entry)) (span lo hi))) ⌝ }
+{
+    let room = words / 2;
+    if hi <= lo {
+        return false;
+    }
+    if (hi - lo + 1) / 2 <= room {
+        return false;
+    }
+    room < count_runs(depth, lo, hi, ceiling)
+}
+
+// Where the search over a span's buckets ends: at the buffer's end at the latest. An empty span has no bucket to search.
+fn met_end(span: TileSpan, buckets: usize) -> usize
+    requires { ⌜ span .«end» ≤ 8192 ⌝ }
+    ensures { λ r. ⌜ r ≡ met-end 32 (tiles span) buckets ⌝ }
+{
+    if span.end <= span.first {
+        return 0;
+    }
+    let met = ((span.end + (BUCKET - 1)) / BUCKET) as usize;
+    if met < buckets { met } else { buckets }
+}
+
+// The runs of a span's tiles whose buckets hold at most the id.
+pub fn visible_runs(depth: &[u32], span: TileSpan, draw_id: u32, list: &mut [u32]) -> Runs
+    ensures { λ r. ⌜ out r (now (list .exit)) ≡ listing (visible-answer 32 (now (depth .entry)) «draw_id» (tiles span) (length (now (list .entry)) / 2)) (now (list .entry)) ⌝ }
+{
+    if span.end < span.first {
+        return Runs::Refused(Answer::BadRun);
+    }
+    if 8192 < span.end {
+        return Runs::Refused(Answer::BadRun);
+    }
+    let lo = (span.first / BUCKET) as usize;
+    let hi = met_end(span, depth.len());
+    if is_short(depth, lo, hi, draw_id, list.len()) {
+        return Runs::Refused(Answer::NoRoom);
+    }
+    Runs::Listed(list_runs(
+        depth,
+        lo,
+        hi,
+        draw_id,
+        BUCKET as usize,
+        span.first,
+        span.end,
+        list,
+    ))
+}
+
+// The runs of a span's tiles whose buckets hold 0: what is visible at id 0.
+pub fn unset_runs(depth: &[u32], span: TileSpan, list: &mut [u32]) -> Runs
+    ensures { λ r. ⌜ out r (now (list .exit)) ≡ listing (unset-answer 32 (now (depth .entry)) (tiles span) (length (now (list .entry)) / 2)) (now (list .entry)) ⌝ }
+{
+    visible_runs(depth, span, 0, list)
+}
+
+// Stores the id in the buckets from lo to hi that hold 0.
+fn mark(depth: &mut [u32], lo: usize, hi: usize, draw_id: u32)
+    requires { ⌜ hi ≤ length (now depth) ⌝ }
+    ensures { λ _. ⌜ now (depth .exit) ≡ written (now (depth .entry)) «draw_id» (span lo hi) ⌝ }
+{
+    let mut i = lo;
+    while i < hi {
+        if depth[i] == 0 {
+            depth[i] = draw_id;
+        }
+        i += 1;
+    }
+}
+
+// The writing form: lists the unset runs of a bucket range as buckets, and stores the id there.
+pub fn unset_runs_and_write(
+    depth: &mut [u32],
+    range: BucketRange,
+    draw_id: u32,
+    list: &mut [u32],
+) -> Runs
+    ensures { λ r. ⌜ out-write r (now (list .exit)) (now (depth .exit)) ≡ writing (now (depth .entry)) «draw_id» (buckets range) (now (list .entry)) ⌝ }
+{
+    let lo = range.first as usize;
+    let hi = range.end as usize;
+    if hi < lo {
+        return Runs::Refused(Answer::BadRun);
+    }
+    if depth.len() < hi {
+        return Runs::Refused(Answer::BadRun);
+    }
+    if draw_id == 0 {
+        return Runs::Refused(Answer::BadRun);
+    }
+    if is_short(depth, lo, hi, 0, list.len()) {
+        return Runs::Refused(Answer::NoRoom);
+    }
+    let count = list_runs(depth, lo, hi, 0, 1, range.first, range.end, list);
+    mark(depth, lo, hi, draw_id);
+    Runs::Listed(count)
+}

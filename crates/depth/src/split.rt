@@ -1,0 +1,64 @@
+// Rule 7: an opaque span is split into a depth fill of whole buckets and regular pieces beside it.
+use crate::BUCKET;
+use cmd::Answer;
+use span::BucketRange;
+use span::TileSpan;
+ghost use mathlib.Core.Path.{_≡_};
+ghost use Rattle.rules.specs.Split.{split-answer};
+ghost use Rattle.span.specs.Spans.{tiles};
+ghost use Rattle.depth.specs.Answers.{piece-of, split-of};
+
+// A regular piece beside a depth fill, where there is one.
+pub enum Edge {
+    Absent,
+    Tiles(TileSpan),
+}
+
+// Why a span is not split, the span itself where it covers no whole bucket, or a depth fill with its edges.
+pub enum Split {
+    Refused(Answer),
+    Whole(TileSpan),
+    Opaque {
+        before: Edge,
+        buckets: BucketRange,
+        after: Edge,
+    },
+}
+
+// Rule 7: the whole buckets of a span, and what is left of it on each side.
+pub fn split_opaque_span(span: TileSpan) -> Split
+    ensures { λ r. ⌜ split-of r ≡ split-answer 32 (tiles span) ⌝ }
+{
+    let first = span.first;
+    let end = span.end;
+    if end < first {
+        return Split::Refused(Answer::BadRun);
+    }
+    if 8192 < end {
+        return Split::Refused(Answer::BadRun);
+    }
+    let aligned_first = (first + (BUCKET - 1)) / BUCKET * BUCKET;
+    let aligned_end = end / BUCKET * BUCKET;
+    if aligned_end <= aligned_first {
+        return Split::Whole(span);
+    }
+    Split::Opaque {
+        before: piece(first, aligned_first),
+        buckets: BucketRange {
+            first: aligned_first / BUCKET,
+            end: aligned_end / BUCKET,
+        },
+        after: piece(aligned_end, end),
+    }
+}
+
+// The tiles from first to end, if there are any.
+fn piece(first: u32, end: u32) -> Edge
+    ensures { λ r. ⌜ r ≡ piece-of first «end» ⌝ }
+{
+    if first < end {
+        Edge::Tiles(TileSpan { first, end })
+    } else {
+        Edge::Absent
+    }
+}

@@ -1,0 +1,81 @@
+// A row's depth summary: the union of its depth fills' spans, and the largest of their ids.
+use cmd::Answer;
+use span::TileSpan;
+use span::larger;
+ghost use mathlib.Core.Path.{_≡_};
+ghost use Rattle.rules.specs.Depth.{no-depth, included, can-skip-answer};
+ghost use Rattle.span.specs.Spans.{tiles};
+ghost use Rattle.depth.specs.Answers.{summary, skip-of};
+
+// The union of a row's depth fills, as tiles.
+pub enum Bounds {
+    Nothing,
+    Tiles(TileSpan),
+}
+
+// max_draw_id is 0 where the row has no depth fill.
+pub struct DepthState {
+    pub bounds: Bounds,
+    pub max_draw_id: u32,
+}
+
+pub enum Skip {
+    Refused(Answer),
+    Yes,
+    No,
+}
+
+impl DepthState {
+    // A row with no depth fill.
+    pub fn new() -> DepthState
+        ensures { λ r. ⌜ summary r ≡ no-depth ⌝ }
+    {
+        DepthState {
+            bounds: Bounds::Nothing,
+            max_draw_id: 0,
+        }
+    }
+
+    // The summary with one depth fill more.
+    pub fn include_span(self, span: TileSpan, draw_id: u32) -> DepthState
+        ensures { λ r. ⌜ summary r ≡ included (summary self) (tiles span) «draw_id» ⌝ }
+    {
+        let bounds = self.bounds;
+        let whole = match bounds {
+            Bounds::Nothing => span,
+            Bounds::Tiles(known) => known.extend(span),
+        };
+        DepthState {
+            bounds: Bounds::Tiles(whole),
+            max_draw_id: larger(self.max_draw_id, draw_id),
+        }
+    }
+
+    // Whether a draw need not look at the depth words: no depth fill of the row is above it, or the span meets none.
+    pub fn can_skip(self, span: TileSpan, draw_id: u32) -> Skip
+        ensures { λ r. ⌜ skip-of r ≡ can-skip-answer (summary self) (tiles span) «draw_id» ⌝ }
+    {
+        if span.end < span.first {
+            return Skip::Refused(Answer::BadRun);
+        }
+        if 8192 < span.end {
+            return Skip::Refused(Answer::BadRun);
+        }
+        if self.max_draw_id <= draw_id {
+            return Skip::Yes;
+        }
+        let bounds = self.bounds;
+        match bounds {
+            Bounds::Nothing => Skip::Yes,
+            Bounds::Tiles(known) => {
+                if known.end <= span.first {
+                    return Skip::Yes;
+                }
+                if span.end <= known.first {
+                    return Skip::Yes;
+                }
+                Skip::No
+            }
+        }
+    }
+}

@@ -2,6 +2,7 @@
 ghost use mathlib.Core.Path.{_≡_};
 ghost use Prim.Native.Nat.{_+_, _-_, _*_, _≤_, min, max};
 ghost use Rattle.rules.specs.Spans.{span, hull, meeting, moved, cut-to};
+ghost use Rattle.rules.specs.Depth.{tiles-of};
 ghost use mathlib.Core.Option.{some};
 ghost use Rattle.span.specs.Spans.{tiles, buckets, meeting-of, alpha, Moves, stretch, cut-of};
 
@@ -130,11 +131,11 @@ impl BucketRange {
     // The tiles of the buckets, 32 each.
     pub fn span(self) -> TileSpan
         requires { ⌜ (self .first ≤ 256) × (self .end ≤ 256) ⌝ }
-        ensures { λ r. ⌜ tiles r ≡ span (32 * self .first) (32 * self .end) ⌝ }
+        ensures { λ r. ⌜ tiles r ≡ tiles-of 32 (buckets self) ⌝ }
     {
         TileSpan {
-            first: 32 * self.first,
-            end: 32 * self.end,
+            first: self.first * 32,
+            end: self.end * 32,
         }
     }
 }

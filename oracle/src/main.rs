@@ -1,0 +1,77 @@
+//! Answers of the original Rust, to hold the definitions and the port against.
+
+extern crate alloc;
+
+mod coarse;
+mod file;
+mod filter;
+mod kurbo {
+    pub(crate) use vello_common::kurbo::*;
+}
+mod painting;
+mod peniko {
+    pub(crate) use vello_common::peniko::*;
+}
+mod print;
+#[path = "../../../shared/docs/src/src/record.rs"]
+#[allow(dead_code)]
+mod record;
+mod scene;
+#[path = "../../../shared/docs/src/src/span.rs"]
+#[allow(dead_code)]
+mod span;
+mod walk;
+
+use std::io::{Read, Write};
+
+const USAGE: &str = "usage: oracle rowlist [--first-id N] < FILE
+       oracle rowdump [--first-id N] < STREAM
+       oracle lines [--first-id N] < STREAM
+       oracle generate SEED COUNT [KIND] > STREAM
+       oracle leaves [--text] [SEED [COUNT]]";
+
+fn main() {
+    let mut words: Vec<String> = std::env::args().skip(1).collect();
+    let first_id = option(&mut words, "--first-id").unwrap_or(1);
+    let words: Vec<&str> = words.iter().map(String::as_str).collect();
+    let out = match words[..] {
+        ["rowlist"] => print::rowlist(&input(), first_id).into_bytes(),
+        ["rowdump"] => dump(|bytes| print::rowdump(bytes, first_id)),
+        ["lines"] => dump(|bytes| print::rowlist(bytes, first_id)),
+        _ => {
+            eprintln!("{USAGE}");
+            std::process::exit(2);
+        }
+    };
+    std::io::stdout().write_all(&out).expect("standard output");
+}
+
+/// Takes `NAME NUMBER` out of the arguments.
+fn option(words: &mut Vec<String>, name: &str) -> Option<u32> {
+    let at = words.iter().position(|word| word == name)?;
+    words.remove(at);
+    let value = if at < words.len() { words.remove(at) } else { String::new() };
+    Some(number(&value))
+}
+
+fn number(word: &str) -> u32 {
+    word.parse().unwrap_or_else(|_| {
+        eprintln!("oracle: '{word}' is no number\n{USAGE}");
+        std::process::exit(2);
+    })
+}
+
+fn input() -> Vec<u8> {
+    let mut bytes = Vec::new();
+    std::io::stdin().read_to_end(&mut bytes).expect("standard input");
+    bytes
+}
+
+/// Each recording of the stream under its number.
+fn dump(text: impl Fn(&[u8]) -> String) -> Vec<u8> {
+    let mut out = String::new();
+    for (i, bytes) in file::stream(&input()).into_iter().enumerate() {
+        out += &format!("recording {i}\n{}", text(bytes));
+    }
+    out.into_bytes()
+}

@@ -8,11 +8,13 @@ mod filter;
 mod kurbo {
     pub(crate) use vello_common::kurbo::*;
 }
+mod leaves;
 mod painting;
 mod peniko {
     pub(crate) use vello_common::peniko::*;
 }
 mod print;
+mod random;
 #[path = "../../../shared/docs/src/src/record.rs"]
 #[allow(dead_code)]
 mod record;
@@ -37,6 +39,7 @@ fn main() {
     let out = match words[..] {
         ["rowlist"] => print::rowlist(&input(), first_id).into_bytes(),
         ["rowdump"] => dump(|bytes| print::rowdump(bytes, first_id)),
+        ["leaves", ..] => leaves_of(&words[1..]),
         ["lines"] => dump(|bytes| print::rowlist(bytes, first_id)),
         _ => {
             eprintln!("{USAGE}");
@@ -44,6 +47,14 @@ fn main() {
         }
     };
     std::io::stdout().write_all(&out).expect("standard output");
+}
+
+/// Binary or readable, with seed 1 and 2,400 cases unless told otherwise.
+fn leaves_of(words: &[&str]) -> Vec<u8> {
+    let plain = words.first() == Some(&"--text");
+    let numbers: Vec<u32> = words[usize::from(plain)..].iter().map(|word| number(word)).collect();
+    let (seed, count) = (numbers.first().copied().unwrap_or(1), numbers.get(1).copied().unwrap_or(2_400));
+    if plain { leaves::text(seed, count) } else { leaves::binary(seed, count) }
 }
 
 /// Takes `NAME NUMBER` out of the arguments.

@@ -5,6 +5,7 @@ extern crate alloc;
 mod coarse;
 mod file;
 mod filter;
+mod generate;
 mod kurbo {
     pub(crate) use vello_common::kurbo::*;
 }
@@ -29,7 +30,8 @@ use std::io::{Read, Write};
 const USAGE: &str = "usage: oracle rowlist [--first-id N] < FILE
        oracle rowdump [--first-id N] < STREAM
        oracle lines [--first-id N] < STREAM
-       oracle generate SEED COUNT [KIND] > STREAM
+       oracle generate SEED COUNT [all|edges|scenes|damaged|heavy|ids] > STREAM
+       oracle names SEED COUNT [KIND]
        oracle leaves [--text] [SEED [COUNT]]";
 
 fn main() {
@@ -39,6 +41,10 @@ fn main() {
     let out = match words[..] {
         ["rowlist"] => print::rowlist(&input(), first_id).into_bytes(),
         ["rowdump"] => dump(|bytes| print::rowdump(bytes, first_id)),
+        ["generate", seed, count] => generate::stream(&made(seed, count, "all")),
+        ["generate", seed, count, kind] => generate::stream(&made(seed, count, kind)),
+        ["names", seed, count] => generate::names(&made(seed, count, "all")),
+        ["names", seed, count, kind] => generate::names(&made(seed, count, kind)),
         ["leaves", ..] => leaves_of(&words[1..]),
         ["lines"] => dump(|bytes| print::rowlist(bytes, first_id)),
         _ => {
@@ -47,6 +53,13 @@ fn main() {
         }
     };
     std::io::stdout().write_all(&out).expect("standard output");
+}
+
+fn made(seed: &str, count: &str, kind: &str) -> Vec<generate::Made> {
+    generate::recordings(number(seed), number(count), kind).unwrap_or_else(|| {
+        eprintln!("oracle: no kind '{kind}'\n{USAGE}");
+        std::process::exit(2);
+    })
 }
 
 /// Binary or readable, with seed 1 and 2,400 cases unless told otherwise.

@@ -10,6 +10,37 @@ const OPACITIES: [u32; 10] =
     [ONE, ONE, HALF, ONE + 1, ONE - 1, 0, 0x8000_0000, 0x7fc0_0000, 0x7f80_0001, 0xffff_ffff];
 
 pub(super) fn scene(random: &mut Random) -> Draft {
+    if random.chance(25) { stack(random) } else { tree(random) }
+}
+
+/// Many wide fills on few rows: depth fills that hide one another and other fills.
+fn stack(random: &mut Random) -> Draft {
+    let width = random.pick(&[256, 260, 384, 500, 512, 1_020, 1_024]);
+    let x = 4 * random.pick(&[0, 0, 3, 40]);
+    let mut draft = Draft { viewport: [x, 0, x + width, 4 * random.from(1, 2)], ..Draft::default() };
+    draft.paints = vec![[1, 1, 0, 0], [0, 2, 0, 0]];
+    let count = random.from(3, 9);
+    for _ in 0..count {
+        let (left, right) = (x / 4, (x + width) / 4);
+        let (a, b) = (place(random, left, right), place(random, left, right));
+        let (first, end) = (a.min(b), a.max(b).max(a.min(b) + 1));
+        let row = random.below(2);
+        let list = if random.chance(70) { [0, row, first, end, 0] } else { segment(random, row, first, end) };
+        let range = draft.segments(&[list]);
+        let number = draft.draw(range) as usize;
+        draft.draws[number][3] = u32::from(random.chance(15));
+        (draft.draws[number][4], draft.draws[number][5]) = blend(random, 92);
+    }
+    // At times the last draws stand in a layer.
+    let cut = if random.chance(40) { random.from(0, count) } else { count };
+    draft.nodes(&[[0, cut, u32::from(cut < count)], [cut, count, 0]]);
+    if cut < count {
+        draft.layer(layer((1, 2)));
+    }
+    draft.rooted((0, 1))
+}
+
+fn tree(random: &mut Random) -> Draft {
     let mut draft = Draft { viewport: viewport(random), ..Draft::default() };
     for _ in 0..random.from(1, 3) {
         let flag = u32::from(random.chance(75));

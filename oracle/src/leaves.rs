@@ -355,3 +355,32 @@ fn near(random: &mut Random, words: &[u32]) -> u32 {
         words => (random.pick(words) + random.below(3)).saturating_sub(1),
     }
 }
+
+#[cfg(test)]
+mod tests {
+    use super::{can_skip, split, unset, visible, writing};
+
+    /// A span of width 0 gives no run anywhere, on the buffer and past it; an empty range of buckets neither.
+    #[test]
+    fn width_0_gives_no_run() {
+        for words in [vec![], vec![0; 4], vec![7; 4], vec![0, 7, 0, 7], vec![7, 0, 0, 7]] {
+            for tile in 0..=8_192 {
+                assert!(unset(&words, (tile, tile)).is_empty());
+                assert!(visible(&words, 7, (tile, tile)).is_empty());
+                assert_eq!(split((tile, tile)), [(false, (tile, tile))]);
+            }
+            for bucket in 0..=u32::try_from(words.len()).expect("few") {
+                assert_eq!(writing(&words, 9, (bucket, bucket)), (vec![], words.clone()));
+            }
+        }
+    }
+
+    /// `can_skip` of a span of width 0 is no exception: no inside the union, yes at its ends and outside.
+    #[test]
+    fn width_0_may_be_skipped_by_the_same_rule() {
+        let included = [((32, 96), 5)];
+        for tile in 0..=200 {
+            assert_eq!(can_skip(&included, (tile, tile), 4), tile <= 32 || tile >= 96);
+        }
+    }
+}

@@ -37,16 +37,17 @@ const USAGE: &str = "usage: oracle rowlist [--first-id N] < FILE
 fn main() {
     let mut words: Vec<String> = std::env::args().skip(1).collect();
     let first_id = option(&mut words, "--first-id").unwrap_or(1);
+    let mut player = walk::Player::new(first_id);
     let words: Vec<&str> = words.iter().map(String::as_str).collect();
     let out = match words[..] {
-        ["rowlist"] => print::rowlist(&input(), first_id).into_bytes(),
-        ["rowdump"] => dump(|bytes| print::rowdump(bytes, first_id)),
+        ["rowlist"] => print::rowlist(&mut player, &input()).into_bytes(),
+        ["rowdump"] => dump(|bytes| print::rowdump(&mut player, bytes)),
         ["generate", seed, count] => generate::stream(&made(seed, count, "all")),
         ["generate", seed, count, kind] => generate::stream(&made(seed, count, kind)),
         ["names", seed, count] => generate::names(&made(seed, count, "all")),
         ["names", seed, count, kind] => generate::names(&made(seed, count, kind)),
         ["leaves", ..] => leaves_of(&words[1..]),
-        ["lines"] => dump(|bytes| print::rowlist(bytes, first_id)),
+        ["lines"] => dump(|bytes| print::rowlist(&mut player, bytes)),
         _ => {
             eprintln!("{USAGE}");
             std::process::exit(2);
@@ -92,7 +93,7 @@ fn input() -> Vec<u8> {
 }
 
 /// Each recording of the stream under its number.
-fn dump(text: impl Fn(&[u8]) -> String) -> Vec<u8> {
+fn dump(mut text: impl FnMut(&[u8]) -> String) -> Vec<u8> {
     let mut out = String::new();
     for (i, bytes) in file::stream(&input()).into_iter().enumerate() {
         out += &format!("recording {i}\n{}", text(bytes));

@@ -5,7 +5,7 @@ use crate::coarse::bucketer::RowState;
 use crate::coarse::cmd::RenderCmd;
 use crate::coarse::probe;
 use crate::painting::{Piece, pieces};
-use crate::walk::{play, play_whole};
+use crate::walk::Player;
 use std::fmt::Write;
 use vello_common::encode::EncodedPaint;
 use vello_common::mask::Mask;
@@ -17,26 +17,24 @@ macro_rules! line {
 }
 
 /// The lines of `rowlist`.
-pub(crate) fn rowlist(bytes: &[u8], first_id: u32) -> String {
-    both(bytes, first_id, screen_lines)
+pub(crate) fn rowlist(player: &mut Player, bytes: &[u8]) -> String {
+    both(player, bytes, screen_lines)
 }
 
 /// The lines of `rowlist`, then attributes and pieces of an accepted recording.
-pub(crate) fn rowdump(bytes: &[u8], first_id: u32) -> String {
-    both(bytes, first_id, |bucketer| screen_lines(bucketer) + &detail(bucketer))
+pub(crate) fn rowdump(player: &mut Player, bytes: &[u8]) -> String {
+    both(player, bytes, |bucketer| screen_lines(bucketer) + &detail(bucketer))
 }
 
 /// The text of the stepwise walk, which the Rust's own walk must give too.
-fn both(bytes: &[u8], first_id: u32, text: impl Fn(&CommandBucketer) -> String) -> String {
-    match play(bytes, first_id) {
-        Err(number) => format!("refused {number}\n"),
-        Ok(bucketer) => {
-            let steps = text(&bucketer);
-            let whole = text(&play_whole(bytes, first_id));
-            assert!(steps == whole, "the walk by steps and bucket_commands differ:\n{steps}\nand\n{whole}");
-            steps
-        }
-    }
+fn both(player: &mut Player, bytes: &[u8], text: impl Fn(&CommandBucketer) -> String) -> String {
+    let steps = match player.play(bytes) {
+        Err(number) => return format!("refused {number}\n"),
+        Ok(bucketer) => text(bucketer),
+    };
+    let whole = text(&player.play_whole(bytes));
+    assert!(steps == whole, "the walk by steps and bucket_commands differ:\n{steps}\nand\n{whole}");
+    steps
 }
 
 fn screen_lines(bucketer: &CommandBucketer) -> String {

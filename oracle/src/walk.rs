@@ -22,27 +22,34 @@ const MOST_ATTRS: usize = 1_024;
 const MOST_FILTERS: usize = 256;
 const ROOM: usize = 64;
 
-/// The screen that a recording ends as, or the number that refuses it.
-pub(crate) fn play(bytes: &[u8], first_id: u32) -> Result<CommandBucketer, u32> {
-    let recording = file::judged(bytes)?;
-    let scene = scene(&recording);
-    let mut bucketer = fresh(&scene, first_id);
-    walk_nodes(&mut bucketer, &scene, &scene.root)?;
-    Ok(bucketer)
+/// Plays recordings one after another on one screen, reset before each, as the dispatcher does.
+pub(crate) struct Player {
+    bucketer: CommandBucketer,
+    first_id: u32,
 }
 
-/// The same by the Rust's own walk, for a recording that is not refused.
-pub(crate) fn play_whole(bytes: &[u8], first_id: u32) -> CommandBucketer {
-    let scene = scene(&file::judged(bytes).expect("an accepted recording"));
-    let mut bucketer = fresh(&scene, first_id);
-    bucketer.bucket_commands(&scene.root, &scene.draws, &scene.layers, &scene.strips, &scene.paints, &scene.filters);
-    bucketer
-}
+impl Player {
+    pub(crate) fn new(first_id: u32) -> Self {
+        Self { bucketer: CommandBucketer::from_wh(0, 0), first_id }
+    }
 
-fn fresh(scene: &Scene, first_id: u32) -> CommandBucketer {
-    let mut bucketer = CommandBucketer::new(scene.viewport);
-    probe::set_next_id(&mut bucketer, first_id);
-    bucketer
+    /// The screen that a recording ends as, or the number that refuses it.
+    pub(crate) fn play(&mut self, bytes: &[u8]) -> Result<&CommandBucketer, u32> {
+        let scene = scene(&file::judged(bytes)?);
+        self.bucketer.reset(scene.viewport);
+        probe::set_next_id(&mut self.bucketer, self.first_id);
+        walk_nodes(&mut self.bucketer, &scene, &scene.root)?;
+        Ok(&self.bucketer)
+    }
+
+    /// The same by the Rust's own walk on a new screen, for a recording that is not refused.
+    pub(crate) fn play_whole(&self, bytes: &[u8]) -> CommandBucketer {
+        let scene = scene(&file::judged(bytes).expect("an accepted recording"));
+        let mut bucketer = CommandBucketer::new(scene.viewport);
+        probe::set_next_id(&mut bucketer, self.first_id);
+        bucketer.bucket_commands(&scene.root, &scene.draws, &scene.layers, &scene.strips, &scene.paints, &scene.filters);
+        bucketer
+    }
 }
 
 fn walk_nodes(bucketer: &mut CommandBucketer, scene: &Scene, nodes: &[Node]) -> Result<(), u32> {

@@ -690,12 +690,13 @@ fn full_attrs() -> Vec<Edge> {
 #[cfg(test)]
 mod tests {
     use super::{edges, heavy, ids};
-    use crate::walk::play;
+    use crate::walk::Player;
 
     #[test]
     fn every_edge_has_its_number() {
+        let mut player = Player::new(1);
         for edge in [edges(), heavy(), ids()].concat() {
-            let answer = play(&edge.made.bytes, 1).err().unwrap_or(0);
+            let answer = player.play(&edge.made.bytes).err().unwrap_or(0);
             assert_eq!(answer, edge.answer, "{}", edge.made.name);
         }
     }

@@ -403,64 +403,74 @@ pub mod util {
         fn clear(&mut self);
     }
 
-    /// A list of things that can be emptied; keeps no allocations here.
+    /// A list that keeps its emptied items for later use.
     #[derive(Debug)]
-    pub struct RetainVec<T>(Vec<T>);
+    pub struct RetainVec<T> {
+        items: Vec<T>,
+        len: usize,
+    }
 
     impl<T: Clear> RetainVec<T> {
         pub fn with_len(len: usize, make: impl FnMut() -> T) -> Self {
-            Self(std::iter::repeat_with(make).take(len).collect())
+            Self { items: std::iter::repeat_with(make).take(len).collect(), len }
         }
 
         pub fn as_slice(&self) -> &[T] {
-            &self.0
+            &self.items[..self.len]
         }
 
         pub fn len(&self) -> usize {
-            self.0.len()
+            self.len
         }
 
         pub fn is_empty(&self) -> bool {
-            self.0.is_empty()
+            self.len == 0
         }
 
         pub fn clear(&mut self) {
-            self.0.clear();
+            self.items[..self.len].iter_mut().for_each(T::clear);
+            self.len = 0;
         }
 
         pub fn resize_with(&mut self, len: usize, make: impl FnMut() -> T) {
-            self.0.resize_with(len, make);
+            self.items[len.min(self.len)..self.len].iter_mut().for_each(T::clear);
+            let missing = len.saturating_sub(self.items.len());
+            self.items.extend(std::iter::repeat_with(make).take(missing));
+            self.len = len;
         }
     }
 
     impl<T> Index<usize> for RetainVec<T> {
         type Output = T;
         fn index(&self, i: usize) -> &T {
-            &self.0[i]
+            &self.items[..self.len][i]
         }
     }
 
     impl<T> IndexMut<usize> for RetainVec<T> {
         fn index_mut(&mut self, i: usize) -> &mut T {
-            &mut self.0[i]
+            &mut self.items[..self.len][i]
         }
     }
 
-    /// Lends empty lists; keeps no allocations here.
+    /// Lends empty lists and takes them back.
     #[derive(Debug)]
-    pub struct VecPool<T>(std::marker::PhantomData<T>);
+    pub struct VecPool<T>(Vec<Vec<T>>);
 
     impl<T> Default for VecPool<T> {
         fn default() -> Self {
-            Self(std::marker::PhantomData)
+            Self(Vec::new())
         }
     }
 
     impl<T> VecPool<T> {
         pub fn take(&mut self) -> Vec<T> {
-            Vec::new()
+            self.0.pop().unwrap_or_default()
         }
 
-        pub fn submit(&mut self, _: Vec<T>) {}
+        pub fn submit(&mut self, mut list: Vec<T>) {
+            list.clear();
+            self.0.push(list);
+        }
     }
 }

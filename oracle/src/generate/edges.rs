@@ -408,17 +408,11 @@ fn deep() -> Vec<Edge> {
     let own = draft.node((0, 0), 1);
     draft.layer(filter(layer(own), 4, [0, 0, 64, 8], [0, 0]));
     all.push(edge("a filter layer in itself", 0, draft.rooted(own).bytes()));
-    // 6 before 10: the 17th push would touch a full row.
+    // 6 before 10: the 17th push would give a full row its 65th command.
     let mut draft = nest(17, destructive);
-    for at in 2..18 {
-        draft.nodes[at][1] = 1;
-    }
-    for _ in 0..4 {
-        draft.draw((0, 1));
-    }
-    let wide = |draft: &mut Draft, draws| draft.nodes[1][1] = draws;
-    wide(&mut draft, 5);
-    all.push(edge("6 with many commands", 6, draft.bytes()));
+    let number = many(&mut draft, 0, 48);
+    draft.nodes[1] = [number, number + 1, 1];
+    all.push(edge("6 before 10", 6, draft.bytes()));
     all
 }
 
@@ -638,14 +632,13 @@ fn counts() -> Vec<Edge> {
 /// Answer 9.
 fn full_attrs() -> Vec<Edge> {
     // 32 draws, all cut away, walked 32 times, and so many more.
-    let paints = |more: u32, row: u32| {
+    let paints = |more: u32, row: u32, commands: u32| {
         let mut draft = Draft::new(256, 8);
         let away = draft.segments(&[solid(9, 0, 8)]);
         for _ in 0..32 {
             draft.draw(away);
         }
-        let seen = draft.segments(&[solid(row, 0, 8)]);
-        draft.draw(seen);
+        many(&mut draft, row, commands);
         let mut nodes = vec![[0, 32, 0]; 32];
         nodes.push([32, 32 + more, 0]);
         let nodes = draft.nodes(&nodes);
@@ -676,9 +669,10 @@ fn full_attrs() -> Vec<Edge> {
         draft.rooted(nodes).bytes()
     };
     vec![
-        edge("1,024 paint attributes", 0, paints(0, 0)),
-        edge("1,025 paint attributes", 9, paints(1, 0)),
-        edge("1,025 paint attributes, the last off the screen", 9, paints(1, 9)),
+        edge("1,024 paint attributes", 0, paints(0, 0, 1)),
+        edge("1,025 paint attributes", 9, paints(1, 0, 1)),
+        edge("1,025 paint attributes, the last off the screen", 9, paints(1, 9, 1)),
+        edge("1,025 paint attributes and 65 commands: 9 before 10", 9, paints(1, 0, 65)),
         edge("1,024 layer attributes", 0, layers(1)),
         edge("1,025 layer attributes", 9, layers(2)),
         edge("256 filter paints", 0, filters(0, 32)),

@@ -1,0 +1,187 @@
+//! The recording file of document 01: its form, its records, and whether they are good.
+
+/// Answer numbers of document 01.
+pub(crate) const BAD_VIEWPORT: u32 = 2;
+pub(crate) const BAD_FORM: u32 = 3;
+pub(crate) const BAD_RECORD: u32 = 4;
+pub(crate) const BAD_ORDER: u32 = 5;
+
+/// Limits of the program `rowlist`.
+const MOST_BYTES: usize = 65_536;
+const MOST_ROWS: u32 = 32;
+/// The most records of a section.
+const MOST_RECORDS: u32 = 4_096;
+/// The last pixel edge and the last tile edge.
+const LAST_PIXEL: u32 = 32_768;
+const LAST_TILE: u32 = 8_192;
+/// Masks and pixmaps are handles below this.
+const HANDLES: u32 = 1 << 31;
+
+/// A file's sections, each record as its words.
+pub(crate) struct Recording {
+    pub(crate) viewport: [u32; 4],
+    pub(crate) paints: Vec<[u32; 4]>,
+    pub(crate) segments: Vec<[u32; 5]>,
+    pub(crate) draws: Vec<[u32; 7]>,
+    pub(crate) layers: Vec<[u32; 22]>,
+    pub(crate) nodes: Vec<[u32; 3]>,
+    pub(crate) root: [u32; 2],
+}
+
+/// A stream's recordings: each after its length in bytes; the last may be cut short.
+pub(crate) fn stream(mut bytes: &[u8]) -> Vec<&[u8]> {
+    let mut recordings = Vec::new();
+    while let Some((length, rest)) = bytes.split_first_chunk::<4>() {
+        let length = usize::try_from(u32::from_le_bytes(*length)).expect("a length");
+        let (recording, rest) = rest.split_at(length.min(rest.len()));
+        recordings.push(recording);
+        bytes = rest;
+    }
+    recordings
+}
+
+/// A file that is good up to the order of its segment lists, or the number that refuses it.
+pub(crate) fn judged(bytes: &[u8]) -> Result<Recording, u32> {
+    let recording = sections(bytes).ok_or(BAD_FORM)?;
+    if !good_viewport(recording.viewport) {
+        Err(BAD_VIEWPORT)
+    } else if !good_records(&recording) {
+        Err(BAD_RECORD)
+    } else if !good_order(&recording) {
+        Err(BAD_ORDER)
+    } else {
+        Ok(recording)
+    }
+}
+
+/// The counted sections, with nothing missing and nothing left over.
+fn sections(bytes: &[u8]) -> Option<Recording> {
+    if bytes.len() > MOST_BYTES || bytes.len() % 4 != 0 {
+        return None;
+    }
+    let words: Vec<u32> = bytes.chunks(4).map(|b| u32::from_le_bytes([b[0], b[1], b[2], b[3]])).collect();
+    let mut rest = &words[..];
+    let recording = Recording {
+        viewport: only(&mut rest)?,
+        paints: section(&mut rest)?,
+        segments: section(&mut rest)?,
+        draws: section(&mut rest)?,
+        layers: section(&mut rest)?,
+        nodes: section(&mut rest)?,
+        root: only(&mut rest)?,
+    };
+    rest.is_empty().then_some(recording)
+}
+
+/// A count, then that many records of N words.
+fn section<const N: usize>(rest: &mut &[u32]) -> Option<Vec<[u32; N]>> {
+    let (&count, mut words) = rest.split_first()?;
+    if count > MOST_RECORDS {
+        return None;
+    }
+    let mut records = Vec::new();
+    for _ in 0..count {
+        let (record, more) = words.split_first_chunk::<N>()?;
+        records.push(*record);
+        words = more;
+    }
+    *rest = words;
+    Some(records)
+}
+
+/// A section whose count is fixed at 1.
+fn only<const N: usize>(rest: &mut &[u32]) -> Option<[u32; N]> {
+    match section(rest)?[..] {
+        [record] => Some(record),
+        _ => None,
+    }
+}
+
+fn good_viewport([x0, y0, x1, y1]: [u32; 4]) -> bool {
+    good_box([x0, y0, x1, y1]) && x1 - x0 <= 4_096 && y1 - y0 <= 2_048 && (y1 - y0) / 4 <= MOST_ROWS
+}
+
+/// Multiples of 4, ends not before starts, all on the scene.
+fn good_box([x0, y0, x1, y1]: [u32; 4]) -> bool {
+    [x0, y0, x1, y1].iter().all(|edge| edge % 4 == 0) && x0 <= x1 && y0 <= y1 && x1 <= LAST_PIXEL && y1 <= LAST_PIXEL
+}
+
+fn good_range(start: u32, end: u32, count: usize) -> bool {
+    start <= end && end as usize <= count
+}
+
+/// Every record, also one that no walk reaches.
+fn good_records(r: &Recording) -> bool {
+    r.paints.iter().all(|&[flag, handle, _, _]| flag <= 1 && handle < HANDLES)
+        && r.segments.iter().all(good_segment)
+        && r.draws.iter().all(|draw| good_draw(r, draw))
+        && r.layers.iter().all(|layer| good_layer(r, layer))
+        && r.nodes.iter().all(|node| good_node(r, node))
+        && good_range(r.root[0], r.root[1], r.nodes.len())
+}
+
+fn good_segment(&[kind, row, first, end, alpha]: &[u32; 5]) -> bool {
+    kind <= 1
+        && row < LAST_TILE
+        && first < end
+        && end <= LAST_TILE
+        && (kind == 1 || alpha == 0)
+        && u64::from(alpha) + 16 * u64::from(end - first) < 1 << 32
+}
+
+fn good_blend(mix: u32, compose: u32) -> bool {
+    mix <= 15 && compose <= 13
+}
+
+fn good_draw(r: &Recording, &[thread, start, end, paint, mix, compose, mask]: &[u32; 7]) -> bool {
+    thread < 256
+        && good_range(start, end, r.segments.len())
+        && (paint as usize) < r.paints.len()
+        && good_blend(mix, compose)
+        && mask < HANDLES
+}
+
+fn good_layer(r: &Recording, layer: &[u32; 22]) -> bool {
+    let &[kind, start, end, mix, compose, _opacity, mask, flag, ..] = layer;
+    kind <= 1
+        && good_range(start, end, r.nodes.len())
+        && good_blend(mix, compose)
+        && mask < HANDLES
+        && match flag {
+            0 => layer[8..15].iter().all(|&word| word == 0),
+            1 => good_clip(r, layer),
+            _ => false,
+        }
+        && match kind {
+            0 => layer[15..22].iter().all(|&word| word == 0),
+            _ => good_placement(layer),
+        }
+}
+
+fn good_clip(r: &Recording, layer: &[u32; 22]) -> bool {
+    let &[.., x0, y0, x1, y1, start, end, thread, _, _, _, _, _, _, _] = layer;
+    good_box([x0, y0, x1, y1]) && good_range(start, end, r.segments.len()) && thread < 256
+}
+
+/// As a clip box, but with y free.
+fn good_placement(layer: &[u32; 22]) -> bool {
+    let &[.., pixmap, x0, y0, x1, y1, source_x, source_y] = layer;
+    let good_x = x0 % 4 == 0 && x1 % 4 == 0 && x0 <= x1 && x1 <= LAST_PIXEL;
+    pixmap < HANDLES && good_x && y0 <= y1 && y1 <= LAST_PIXEL && source_x <= LAST_PIXEL && source_y <= LAST_PIXEL
+}
+
+fn good_node(r: &Recording, &[start, end, layer]: &[u32; 3]) -> bool {
+    good_range(start, end, r.draws.len()) && layer as usize <= r.layers.len()
+}
+
+/// A draw's list and a present clip's list, each by itself.
+fn good_order(r: &Recording) -> bool {
+    let ordered = |start: u32, end: u32| r.segments[start as usize..end as usize].windows(2).all(in_order);
+    r.draws.iter().all(|draw| ordered(draw[1], draw[2])) && r.layers.iter().all(|layer| layer[7] == 0 || ordered(layer[12], layer[13]))
+}
+
+/// By row, then by tiles without overlap; touching is fine.
+fn in_order(pair: &[[u32; 5]]) -> bool {
+    let ([_, row, _, end, _], [_, next_row, next_first, _, _]) = (pair[0], pair[1]);
+    row < next_row || (row == next_row && end <= next_first)
+}

@@ -1,0 +1,102 @@
+//! Answers of the original Rust, to hold the definitions and the port against.
+
+extern crate alloc;
+
+mod coarse;
+mod file;
+mod filter;
+mod generate;
+mod kurbo {
+    pub(crate) use vello_common::kurbo::*;
+}
+mod leaves;
+mod painting;
+mod peniko {
+    pub(crate) use vello_common::peniko::*;
+}
+mod print;
+mod random;
+#[path = "../../../shared/docs/src/src/record.rs"]
+#[allow(dead_code)]
+mod record;
+mod scene;
+#[path = "../../../shared/docs/src/src/span.rs"]
+#[allow(dead_code)]
+mod span;
+mod walk;
+
+use std::io::{Read, Write};
+
+const USAGE: &str = "usage: oracle rowlist [--first-id N] < FILE
+       oracle rowdump [--first-id N] < STREAM
+       oracle lines [--first-id N] < STREAM
+       oracle generate SEED COUNT [all|edges|scenes|damaged|heavy|ids] > STREAM
+       oracle names SEED COUNT [KIND]
+       oracle leaves [--text] [SEED [COUNT]]";
+
+fn main() {
+    let mut words: Vec<String> = std::env::args().skip(1).collect();
+    let first_id = option(&mut words, "--first-id").unwrap_or(1);
+    let mut player = walk::Player::new(first_id);
+    let words: Vec<&str> = words.iter().map(String::as_str).collect();
+    let out = match words[..] {
+        ["rowlist"] => print::rowlist(&mut player, &input()).into_bytes(),
+        ["rowdump"] => dump(|bytes| print::rowdump(&mut player, bytes)),
+        ["generate", seed, count] => generate::stream(&made(seed, count, "all")),
+        ["generate", seed, count, kind] => generate::stream(&made(seed, count, kind)),
+        ["names", seed, count] => generate::names(&made(seed, count, "all")),
+        ["names", seed, count, kind] => generate::names(&made(seed, count, kind)),
+        ["leaves", ..] => leaves_of(&words[1..]),
+        ["lines"] => dump(|bytes| print::rowlist(&mut player, bytes)),
+        _ => {
+            eprintln!("{USAGE}");
+            std::process::exit(2);
+        }
+    };
+    std::io::stdout().write_all(&out).expect("standard output");
+}
+
+fn made(seed: &str, count: &str, kind: &str) -> Vec<generate::Made> {
+    generate::recordings(number(seed), number(count), kind).unwrap_or_else(|| {
+        eprintln!("oracle: no kind '{kind}'\n{USAGE}");
+        std::process::exit(2);
+    })
+}
+
+/// Binary or readable, with seed 1 and 2,400 cases unless told otherwise.
+fn leaves_of(words: &[&str]) -> Vec<u8> {
+    let plain = words.first() == Some(&"--text");
+    let numbers: Vec<u32> = words[usize::from(plain)..].iter().map(|word| number(word)).collect();
+    let (seed, count) = (numbers.first().copied().unwrap_or(1), numbers.get(1).copied().unwrap_or(2_400));
+    if plain { leaves::text(seed, count) } else { leaves::binary(seed, count) }
+}
+
+/// Takes `NAME NUMBER` out of the arguments.
+fn option(words: &mut Vec<String>, name: &str) -> Option<u32> {
+    let at = words.iter().position(|word| word == name)?;
+    words.remove(at);
+    let value = if at < words.len() { words.remove(at) } else { String::new() };
+    Some(number(&value))
+}
+
+fn number(word: &str) -> u32 {
+    word.parse().unwrap_or_else(|_| {
+        eprintln!("oracle: '{word}' is no number\n{USAGE}");
+        std::process::exit(2);
+    })
+}
+
+fn input() -> Vec<u8> {
+    let mut bytes = Vec::new();
+    std::io::stdin().read_to_end(&mut bytes).expect("standard input");
+    bytes
+}
+
+/// Each recording of the stream under its number.
+fn dump(mut text: impl FnMut(&[u8]) -> String) -> Vec<u8> {
+    let mut out = String::new();
+    for (i, bytes) in file::stream(&input()).into_iter().enumerate() {
+        out += &format!("recording {i}\n{}", text(bytes));
+    }
+    out.into_bytes()
+}

@@ -1,0 +1,121 @@
+//! A good recording as the values that the Rust takes.
+
+use crate::file::Recording;
+use crate::filter::context::FilterContext;
+use crate::kurbo::{Affine, Vec2};
+use crate::peniko::{BlendMode, Extend, ImageQuality, ImageSampler};
+use crate::record::RecordedFill;
+use std::ops::Range;
+use std::sync::Arc;
+use vello_common::encode::{EncodedImage, EncodedPaint};
+use vello_common::filter::FilterLayerPlacement;
+use vello_common::geometry::RectU16;
+use vello_common::mask::Mask;
+use vello_common::paint::{ImageSource, IndexedPaint, Paint};
+use vello_common::pixmap::Pixmap;
+use vello_common::record::{LayerClip, LayerProps, Node, RecordedLayer, RecordedLayerKind};
+use vello_common::strip::Strip;
+
+pub(crate) struct Scene {
+    pub(crate) viewport: RectU16,
+    pub(crate) paints: Vec<EncodedPaint>,
+    pub(crate) strips: Vec<Strip>,
+    pub(crate) draws: Vec<RecordedFill>,
+    pub(crate) layers: Vec<RecordedLayer>,
+    pub(crate) filters: FilterContext,
+    pub(crate) root: Vec<Node>,
+}
+
+pub(crate) fn scene(r: &Recording) -> Scene {
+    let nodes: Vec<Node> = r.nodes.iter().map(node).collect();
+    let mut filters = FilterContext::new(r.layers.len());
+    for (id, layer) in r.layers.iter().enumerate() {
+        // A filter layer with pixmap 0 has none.
+        if layer[0] == 1 && layer[15] != 0 {
+            filters.set_layer(id, Pixmap::of(layer[15]));
+        }
+    }
+    Scene {
+        viewport: rect(r.viewport),
+        paints: r.paints.iter().map(paint).collect(),
+        strips: r.segments.iter().map(strip).collect(),
+        draws: r.draws.iter().map(draw).collect(),
+        layers: r.layers.iter().map(|layer| recorded_layer(layer, &nodes)).collect(),
+        filters,
+        root: nodes[range(r.root[0], r.root[1])].to_vec(),
+    }
+}
+
+fn range(start: u32, end: u32) -> Range<usize> {
+    start as usize..end as usize
+}
+
+/// A pixel or tile number of a good recording.
+fn short(word: u32) -> u16 {
+    u16::try_from(word).expect("judged")
+}
+
+fn byte(word: u32) -> u8 {
+    u8::try_from(word).expect("judged")
+}
+
+fn rect([x0, y0, x1, y1]: [u32; 4]) -> RectU16 {
+    RectU16::new(short(x0), short(y0), short(x1), short(y1))
+}
+
+fn blend(mix: u32, compose: u32) -> BlendMode {
+    BlendMode { mix: byte(mix), compose: byte(compose) }
+}
+
+/// Handle 0 says none.
+fn mask(handle: u32) -> Option<Mask> {
+    (handle != 0).then_some(Mask(handle))
+}
+
+fn paint(&[flag, handle, x, y]: &[u32; 4]) -> EncodedPaint {
+    EncodedPaint::Image(EncodedImage {
+        source: ImageSource::Pixmap(Arc::new(Pixmap::of(handle))),
+        sampler: ImageSampler { x_extend: Extend::Pad, y_extend: Extend::Pad, quality: ImageQuality::Low, alpha: 1.0 },
+        may_have_transparency: flag == 0,
+        transform: Affine::translate((f64::from(x.cast_signed()), f64::from(y.cast_signed()))),
+        x_advance: Vec2::new(1.0, 0.0),
+        y_advance: Vec2::new(0.0, 1.0),
+        tint: None,
+    })
+}
+
+fn strip(&[kind, row, first, end, alpha]: &[u32; 5]) -> Strip {
+    Strip { alpha: kind == 1, row: short(row), first: short(first), end: short(end), alpha_idx: alpha }
+}
+
+fn draw(&[thread, start, end, paint, mix, compose, handle]: &[u32; 7]) -> RecordedFill {
+    let paint = Paint::Indexed(IndexedPaint::new(paint as usize));
+    RecordedFill::new(byte(thread), range(start, end), paint, blend(mix, compose), mask(handle))
+}
+
+fn node(&[start, end, layer]: &[u32; 3]) -> Node {
+    Node { draws: range(start, end), layer: layer.checked_sub(1) }
+}
+
+fn recorded_layer(layer: &[u32; 22], nodes: &[Node]) -> RecordedLayer {
+    let &[kind, start, end, mix, compose, opacity, handle, flag, ..] = layer;
+    let clip = LayerClip {
+        bbox: rect([layer[8], layer[9], layer[10], layer[11]]),
+        strip_range: range(layer[12], layer[13]),
+        thread_idx: byte(layer[14]),
+    };
+    let placement = FilterLayerPlacement {
+        dest: rect([layer[16], layer[17], layer[18], layer[19]]),
+        source: (short(layer[20]), short(layer[21])),
+    };
+    RecordedLayer {
+        nodes: nodes[range(start, end)].to_vec(),
+        props: LayerProps {
+            blend_mode: blend(mix, compose),
+            opacity: f32::from_bits(opacity),
+            mask: mask(handle),
+            clip_path: (flag == 1).then_some(clip),
+        },
+        kind: if kind == 0 { RecordedLayerKind::Regular } else { RecordedLayerKind::Filter { placement } },
+    }
+}

@@ -1,0 +1,137 @@
+//! A recording walked step by step by the Rust's own calls, with document 01's limits looked at after each step.
+
+use crate::coarse::cmd::PaintFillAttrs;
+use crate::coarse::{CommandBucketer, probe};
+use crate::file;
+use crate::peniko::BlendMode;
+use crate::record::RecordedFill;
+use crate::scene::{Scene, scene};
+use vello_common::record::{Node, RecordedLayer, RecordedLayerKind};
+
+/// Answer numbers of steps.
+const DEEP: u32 = 6;
+const IDS: u32 = 8;
+const FULL_ATTRS: u32 = 9;
+const FULL_ROW: u32 = 10;
+const FULL_DEPTH: u32 = 11;
+
+/// Limits of document 01; room for commands and depth fills as in `rowlist`.
+const MOST_LAYERS: usize = 16;
+const LAST_ID: u32 = 1_048_576;
+const MOST_ATTRS: usize = 1_024;
+const MOST_FILTERS: usize = 256;
+const ROOM: usize = 64;
+
+/// Plays recordings one after another on one screen, reset before each, as the dispatcher does.
+pub(crate) struct Player {
+    bucketer: CommandBucketer,
+    first_id: u32,
+}
+
+impl Player {
+    pub(crate) fn new(first_id: u32) -> Self {
+        Self { bucketer: CommandBucketer::from_wh(0, 0), first_id }
+    }
+
+    /// The screen that a recording ends as, or the number that refuses it.
+    pub(crate) fn play(&mut self, bytes: &[u8]) -> Result<&CommandBucketer, u32> {
+        let scene = scene(&file::judged(bytes)?);
+        self.bucketer.reset(scene.viewport);
+        probe::set_next_id(&mut self.bucketer, self.first_id);
+        walk_nodes(&mut self.bucketer, &scene, &scene.root)?;
+        Ok(&self.bucketer)
+    }
+
+    /// The same by the Rust's own walk on a new screen, for a recording that is not refused.
+    pub(crate) fn play_whole(&self, bytes: &[u8]) -> CommandBucketer {
+        let scene = scene(&file::judged(bytes).expect("an accepted recording"));
+        let mut bucketer = CommandBucketer::new(scene.viewport);
+        probe::set_next_id(&mut bucketer, self.first_id);
+        bucketer.bucket_commands(&scene.root, &scene.draws, &scene.layers, &scene.strips, &scene.paints, &scene.filters);
+        bucketer
+    }
+}
+
+fn walk_nodes(bucketer: &mut CommandBucketer, scene: &Scene, nodes: &[Node]) -> Result<(), u32> {
+    for node in nodes {
+        for draw in node.draws_in(&scene.draws) {
+            fill(bucketer, scene, draw)?;
+        }
+        if let Some(id) = node.layer {
+            walk_layer(bucketer, scene, id as usize)?;
+        }
+    }
+    Ok(())
+}
+
+fn walk_layer(bucketer: &mut CommandBucketer, scene: &Scene, id: usize) -> Result<(), u32> {
+    let layer = &scene.layers[id];
+    match &layer.kind {
+        RecordedLayerKind::Regular => {
+            push(bucketer, layer)?;
+            walk_nodes(bucketer, scene, &layer.nodes)?;
+            pop(bucketer, scene)
+        }
+        RecordedLayerKind::Filter { placement } => {
+            let buffer = needs_buffer(layer);
+            if buffer {
+                push(bucketer, layer)?;
+            }
+            if let Some(pixmap) = scene.filters.filter_layer(id) {
+                bucketer.generate_filter_layer_fill(pixmap, *placement, scene.paints.len());
+                limits(bucketer)?;
+            }
+            if buffer {
+                pop(bucketer, scene)?;
+            }
+            Ok(())
+        }
+    }
+}
+
+/// Whether a filter layer is pushed and popped; a NaN opacity is not 1.0.
+fn needs_buffer(layer: &RecordedLayer) -> bool {
+    let props = &layer.props;
+    props.blend_mode != BlendMode::default() || props.opacity != 1.0 || props.mask.is_some() || props.clip_path.is_some()
+}
+
+fn fill(bucketer: &mut CommandBucketer, scene: &Scene, draw: &RecordedFill) -> Result<(), u32> {
+    let attrs = PaintFillAttrs {
+        paint: draw.paint.clone(),
+        blend_mode: draw.blend_mode,
+        mask: draw.mask.clone(),
+        draw_id: probe::take_id(bucketer),
+        thread_idx: draw.thread_idx,
+        origin: (scene.viewport.x0, scene.viewport.y0),
+    };
+    bucketer.generate_fill(&scene.strips[draw.strip_range.clone()], &attrs, &scene.paints);
+    limits(bucketer)
+}
+
+fn push(bucketer: &mut CommandBucketer, layer: &RecordedLayer) -> Result<(), u32> {
+    bucketer.push_layer(&layer.props);
+    limits(bucketer)
+}
+
+fn pop(bucketer: &mut CommandBucketer, scene: &Scene) -> Result<(), u32> {
+    bucketer.pop_layer(&scene.strips);
+    limits(bucketer)
+}
+
+/// The smallest number that refuses the step just done; a count that equals its limit is fine.
+fn limits(bucketer: &CommandBucketer) -> Result<(), u32> {
+    let rows = bucketer.rows();
+    let passed = [
+        (DEEP, probe::open_layers(bucketer) > MOST_LAYERS),
+        (IDS, probe::next_id(bucketer) > LAST_ID + 1),
+        (
+            FULL_ATTRS,
+            bucketer.paint_fill_attrs.len() > MOST_ATTRS
+                || bucketer.layer_fill_attrs.len() > MOST_ATTRS
+                || bucketer.filter_paints.len() > MOST_FILTERS,
+        ),
+        (FULL_ROW, rows.iter().any(|row| row.render_cmds.len() > ROOM)),
+        (FULL_DEPTH, rows.iter().any(|row| row.depth_cmds.len() > ROOM)),
+    ];
+    passed.iter().find(|(_, yes)| *yes).map_or(Ok(()), |(number, _)| Err(*number))
+}

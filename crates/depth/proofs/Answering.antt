@@ -113,18 +113,18 @@ module _ (bs : List ℕ) (id : ℕ) (r : Span) (l : List ℕ) where
   abbrev pub refused-write : ℕ → OutWrite
   refused-write n = record { listed = refused n l; depth = bs }
 
-  bad-write : (bad : Bool) → (bad-range (length bs) r || eqb id 0) ≡ true → refused-write 12 ≡ writing bs id r l
+  bad-write : (bad-range (length bs) r || eqb id 0) ≡ true → refused-write 12 ≡ writing bs id r l
   unfolding write-answer write-after listing numbers
-  bad-write bad e = rw e
+  bad-write e = rw e
 
   pub write-backward : r .end < r .first → refused-write 12 ≡ writing bs id r l
-  write-backward h = bad-write true (rw (backward (length bs) r h))
+  write-backward h = bad-write (rw (backward (length bs) r h))
 
   pub write-past : length bs < r .end → refused-write 12 ≡ writing bs id r l
-  write-past h = bad-write true (rw (past (length bs) r h))
+  write-past h = bad-write (rw (past (length bs) r h))
 
   pub write-no-id : id ≡ 0 → refused-write 12 ≡ writing bs id r l
-  write-no-id h = bad-write true (rw (eq-eqb id 0 h) (or-true (bad-range (length bs) r)))
+  write-no-id h = bad-write (rw (eq-eqb id 0 h) (or-true (bad-range (length bs) r)))
 
   module _ (h : r .first ≤ r .end) (g : r .end ≤ length bs) (k : id ≡ 0 → ⊥) where
     fine : (bad-range (length bs) r || eqb id 0) ≡ false

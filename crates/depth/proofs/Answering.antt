@@ -1,5 +1,5 @@
 -- What the rules' answers say of each way through the calls over runs. Assumes nothing.
-use mathlib.Core.Path.{_≡_, refl, sym, ap, _∙_}
+use mathlib.Core.Path.{_≡_, sym, ap, _∙_}
 use mathlib.Core.Bool.{Bool, true, false, _||_, cond}
 use mathlib.Core.List.{List, [], map}
 use Prim.Native.Nat.{ℕ, _≤_, _<_, _+_, _-_, _*_, _/_, min}
@@ -11,6 +11,7 @@ use Rattle.rules.specs.Answers.{Answer, answer}
 use Rattle.rules.specs.Spans.{Span, span, common, bad-range}
 use Rattle.rules.specs.Depth.{runs-in, runs, tiles-of, is-visible, listed, unset-runs, visible-runs, unset-answer, visible-answer, write-runs, write-answer, write-after, written}
 use Rattle.depth.specs.Listing.{Out, numbers, listing, done, cut-runs, met-end, OutWrite, writing}
+use Rattle.depth.proofs.Skipping.{or-true}
 use Rattle.depth.proofs.Searching.{runs-few, runs-shorter, runs-end, runs-uncut, unset-visible}
 
 -- the list's room, seen at a glance
@@ -54,10 +55,6 @@ module _ (n : ℕ) (rs : List Span) (l : List ℕ) where
 
 listed-done : (n : ℕ) (rs : List Span) (bad : Bool) → bad ≡ false → ltb n (length rs) ≡ false → answer 0 rs ≡ listed bad n rs
 listed-done n rs bad e f = rw (e, f)
-
-or-true : (a : Bool) → (a || true) ≡ true
-or-true true = refl
-or-true false = refl
 
 backward : (n : ℕ) (s : Span) → s .end < s .first → bad-range n s ≡ true
 backward n s h = rw (lt-ltb _ _ h)

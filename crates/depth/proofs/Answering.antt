@@ -1,5 +1,5 @@
 -- What the rules' answers say of each way through the calls over runs. Assumes nothing.
-use mathlib.Core.Path.{_≡_, refl, sym, ap, _∙_}
+use mathlib.Core.Path.{_≡_, sym, ap, _∙_}
 use mathlib.Core.Bool.{Bool, true, false, _||_, cond}
 use mathlib.Core.List.{List, [], map}
 use Prim.Native.Nat.{ℕ, _≤_, _<_, _+_, _-_, _*_, _/_, min}
@@ -11,6 +11,7 @@ use Rattle.rules.specs.Answers.{Answer, answer}
 use Rattle.rules.specs.Spans.{Span, span, common, bad-range}
 use Rattle.rules.specs.Depth.{runs-in, runs, tiles-of, is-visible, listed, unset-runs, visible-runs, unset-answer, visible-answer, write-runs, write-answer, write-after, written}
 use Rattle.depth.specs.Listing.{Out, numbers, listing, done, cut-runs, met-end, OutWrite, writing}
+use Rattle.depth.proofs.Skipping.{or-true}
 use Rattle.depth.proofs.Searching.{runs-few, runs-shorter, runs-end, runs-uncut, unset-visible}
 
 -- the list's room, seen at a glance
@@ -54,10 +55,6 @@ module _ (n : ℕ) (rs : List Span) (l : List ℕ) where
 
 listed-done : (n : ℕ) (rs : List Span) (bad : Bool) → bad ≡ false → ltb n (length rs) ≡ false → answer 0 rs ≡ listed bad n rs
 listed-done n rs bad e f = rw (e, f)
-
-or-true : (a : Bool) → (a || true) ≡ true
-or-true true = refl
-or-true false = refl
 
 backward : (n : ℕ) (s : Span) → s .end < s .first → bad-range n s ≡ true
 backward n s h = rw (lt-ltb _ _ h)
@@ -113,18 +110,18 @@ module _ (bs : List ℕ) (id : ℕ) (r : Span) (l : List ℕ) where
   abbrev pub refused-write : ℕ → OutWrite
   refused-write n = record { listed = refused n l; depth = bs }
 
-  bad-write : (bad : Bool) → (bad-range (length bs) r || eqb id 0) ≡ true → refused-write 12 ≡ writing bs id r l
+  bad-write : (bad-range (length bs) r || eqb id 0) ≡ true → refused-write 12 ≡ writing bs id r l
   unfolding write-answer write-after listing numbers
-  bad-write bad e = rw e
+  bad-write e = rw e
 
   pub write-backward : r .end < r .first → refused-write 12 ≡ writing bs id r l
-  write-backward h = bad-write true (rw (backward (length bs) r h))
+  write-backward h = bad-write (rw (backward (length bs) r h))
 
   pub write-past : length bs < r .end → refused-write 12 ≡ writing bs id r l
-  write-past h = bad-write true (rw (past (length bs) r h))
+  write-past h = bad-write (rw (past (length bs) r h))
 
   pub write-no-id : id ≡ 0 → refused-write 12 ≡ writing bs id r l
-  write-no-id h = bad-write true (rw (eq-eqb id 0 h) (or-true (bad-range (length bs) r)))
+  write-no-id h = bad-write (rw (eq-eqb id 0 h) (or-true (bad-range (length bs) r)))
 
   module _ (h : r .first ≤ r .end) (g : r .end ≤ length bs) (k : id ≡ 0 → ⊥) where
     fine : (bad-range (length bs) r || eqb id 0) ≡ false

@@ -1,6 +1,6 @@
--- Each contract's equation allows one result. Assumes nothing.
+-- Each contract's equation allows one result, and what a caller that takes a result apart learns from it. Assumes nothing.
 use mathlib.Core.Path.{_≡_, refl, sym, ap, _∙_}
-use mathlib.Core.Bool.{Bool, true, false, cond}
+use mathlib.Core.Bool.{Bool, true, false, _||_, cond}
 use mathlib.Core.List.{List, [], _∷_}
 use mathlib.Core.Option.{Option, none, some}
 use Prim.Native.Nat.{ℕ, _<_}
@@ -11,7 +11,7 @@ use Rattle.rules.specs.Answers as rules
 use Rattle.rules.specs.Spans.{Span, bad-range}
 use Rattle.rules.specs.Split as rules-split
 use Rattle.rules.specs.Split.{Part, regular, buckets, split-answer}
-use Rattle.rules.specs.Depth.{Summary, can-skip, can-skip-answer, listed}
+use Rattle.rules.specs.Depth.{Summary, can-skip, can-skip-answer, listed, unset-runs, visible-runs, write-runs, unset-answer, visible-answer, write-answer}
 use Rattle.span.specs.declared.TileSpan.{TileSpan}
 use Rattle.span.specs.declared.BucketRange.{BucketRange}
 use Rattle.cmd.specs.declared.Answer.{Answer}
@@ -29,7 +29,7 @@ use Rattle.depth.specs.declared.state.Skip.the-variants as skip
 use Rattle.depth.specs.declared.runs.Runs.{Runs}
 use Rattle.depth.specs.declared.runs.Runs.the-variants as runs
 use Rattle.depth.specs.Answers.{refusal, split-of, union-of, summary, skip-of}
-use Rattle.depth.specs.Listing.{Out, out, OutWrite, out-write}
+use Rattle.depth.specs.Listing.{Out, out, listing, OutWrite, out-write}
 
 -- what has a way back tells its arguments apart
 once : {A B : Type 0} (f : A → B) (g : B → A) → ((x : A) → g (f x) ≡ x) → (x y : A) → f x ≡ f y → x ≡ y
@@ -175,10 +175,33 @@ skip-number d s id = go (bad-range 8192 s)
     go true = omega arith
     go false = omega arith
 
-pub listed-number : (bad : Bool) (n : ℕ) (rs : List Span) → listed bad n rs .number < 15
+listed-number : (bad : Bool) (n : ℕ) (rs : List Span) → listed bad n rs .number < 15
 listed-number true n rs = omega arith
 listed-number false n rs = go (ltb n (length rs))
   where
     go : (t : Bool) → rules.settle (cond t 14 0) [] rs .number < 15
     go true = omega arith
     go false = omega arith
+
+module _ (bs : List ℕ) (id : ℕ) (s : Span) (n : ℕ) where
+  pub unset-number : (w : ℕ) → unset-answer w bs s n .number < 15
+  unfolding unset-answer
+  unset-number w = listed-number (bad-range 8192 s) n (unset-runs w bs s)
+
+  pub visible-number : (w : ℕ) → visible-answer w bs id s n .number < 15
+  unfolding visible-answer
+  visible-number w = listed-number (bad-range 8192 s) n (visible-runs w bs id s)
+
+  pub write-number : write-answer bs id s n .number < 15
+  unfolding write-answer
+  write-number = listed-number (bad-range (length bs) s || eqb id 0) n (write-runs bs s)
+
+-- what a caller that takes the result of a call over runs apart learns of the answer
+module _ (r : Runs) (l m : List ℕ) (x : rules.Answer (List Span)) (e : out r l ≡ listing x m) where
+  pub told-refused : (a : Answer) → r ≡ runs.Refused a → x .number < 15 → number-of a ≡ x .number
+  unfolding listing
+  told-refused a q h = refused-number a (x .number) (ap (λ (o : Out). o .number) (rw q at e)) h
+
+  pub told-listed : (n : ℕ) → r ≡ runs.Listed n → (x .number ≡ 0) × (length (x .value) ≡ n)
+  unfolding listing
+  told-listed n q = (sym (ap (λ (o : Out). o .number) (rw q at e)), sym (ap (λ (o : Out). o .count) (rw q at e)))

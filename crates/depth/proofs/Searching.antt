@@ -109,10 +109,10 @@ module _ (p : ℕ → Bool) (bs : List ℕ) (hi : ℕ) where
     pub within : j ≤ hi
     pub run : runs-in p bs (span i hi) ≡ span i j ∷ runs-in p bs (span j hi)
 
-  module _ (fits : hi ≤ length bs) (i j : ℕ) where
-    pub reach-first : i < hi → p (getD bs i 0) ≡ true → Reached i (i + 1)
-    reach-first h e = record { past = omega arith; within = omega arith; so-far = runs-open fits i h e }
+  pub reach-first : hi ≤ length bs → (i : ℕ) → i < hi → p (getD bs i 0) ≡ true → Reached i (i + 1)
+  reach-first fits i h e = record { past = omega arith; within = omega arith; so-far = runs-open fits i h e }
 
+  module _ (fits : hi ≤ length bs) (i j : ℕ) where
     pub reach-more : Reached i j → j < hi → p (getD bs j 0) ≡ true → Reached i (j + 1)
     reach-more r h e = record { past = omega arith; within = omega arith; so-far = r .so-far ∙ run-on fits j h i e }
 

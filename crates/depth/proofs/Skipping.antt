@@ -1,8 +1,9 @@
 -- What the summary's definitions say of each way through the code. Assumes nothing.
-use mathlib.Core.Path.{_≡_}
-use mathlib.Core.Bool.{true, false}
+use mathlib.Core.Path.{_≡_, refl}
+use mathlib.Core.Bool.{Bool, true, false, _||_}
 use mathlib.Core.Option.{some}
 use Prim.Native.Nat.{ℕ, _≤_, _<_, max}
+use lib.Dec.{leb}
 use borrow.Author.Tests.{le-ltb, le-leb, lt-leb}
 use Rattle.rules.specs.Answers.{answer}
 use Rattle.rules.specs.Spans.{Span, hull}
@@ -14,6 +15,10 @@ use Rattle.depth.specs.declared.state.Bounds.the-variants as bounds
 use Rattle.depth.specs.declared.state.DepthState.{DepthState}
 use Rattle.depth.specs.Answers.{summary, union-of}
 
+pub or-true : (a : Bool) → (a || true) ≡ true
+or-true true = refl
+or-true false = refl
+
 module _ (b : Bounds) (m id : ℕ) (s : Span) (h₁ : s .first ≤ s .end) (h₂ : s .end ≤ 8192) (h₃ : id < m) where
   pub skip-bare : b ≡ bounds.Nothing → answer 0 true ≡ can-skip-answer (record { union = union-of b; largest = m }) s id
   unfolding can-skip-answer can-skip
@@ -24,9 +29,9 @@ module _ (b : Bounds) (m id : ℕ) (s : Span) (h₁ : s .first ≤ s .end) (h₂
     unfolding can-skip-answer can-skip
     skip-after h₄ = rw (e, le-ltb _ _ h₁, le-ltb _ _ h₂, lt-leb _ _ h₃, le-leb _ _ h₄)
 
-    pub skip-before : s .first < u .end → s .end ≤ u .first → answer 0 true ≡ can-skip-answer (record { union = union-of b; largest = m }) s id
+    pub skip-before : s .end ≤ u .first → answer 0 true ≡ can-skip-answer (record { union = union-of b; largest = m }) s id
     unfolding can-skip-answer can-skip
-    skip-before h₄ h₅ = rw (e, le-ltb _ _ h₁, le-ltb _ _ h₂, lt-leb _ _ h₃, lt-leb _ _ h₄, le-leb _ _ h₅)
+    skip-before h₄ = rw (e, le-ltb _ _ h₁, le-ltb _ _ h₂, lt-leb _ _ h₃, le-leb _ _ h₄, or-true (leb (u .end) (s .first)))
 
     pub no-skip : s .first < u .end → u .first < s .end → answer 0 false ≡ can-skip-answer (record { union = union-of b; largest = m }) s id
     unfolding can-skip-answer can-skip

@@ -45,7 +45,7 @@ add-j : tie.Need-add-j Inv-loop2 μ-loop2 Inv-loop μ-loop
 add-j c = omega arith
 
 loop2-holds : tie.Need-loop2-holds Inv-loop2 μ-loop2 Inv-loop μ-loop
-loop2-holds c = reach-first (is-visible _) _ _ (c .before .before .before .before .before .before .pre .0) _ 0 (c .before .before .loop-test .taken) (le-leb _ _ (c .if1 .left))
+loop2-holds c = reach-first (is-visible _) _ _ (c .before .before .before .before .before .before .pre .0) _ (c .before .before .loop-test .taken) (le-leb _ _ (c .if1 .left))
 
 mul-if3 : tie.Need-mul-if3 Inv-loop2 μ-loop2 Inv-loop μ-loop
 mul-if3 c = omega arith

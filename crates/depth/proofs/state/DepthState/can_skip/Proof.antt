@@ -1,3 +1,4 @@
+use native.Mathlib.Omega.{arith}
 use borrow.Author.Tests.{lt-ltb, le-ltb, le-leb}
 use borrow.Author.Needs.{needs}
 use Rattle.rules.specs.Depth.{can-skip-answer, can-skip}
@@ -24,10 +25,10 @@ enum-known-bounds : tie.Need-enum-known-bounds
 enum-known-bounds c = search needs
 
 returns-4 : tie.Need-returns-4
-returns-4 c = skip-after _ _ _ _ (c .before .before .before .before .before .before .before .before .before .before .if1 .left) (c .before .before .before .before .before .before .before .before .if2 .left) (c .before .before .before .before .before .before .if3 .left) _ (c .before .before .before .before .bounds .given .1) (c .if4 .taken)
+returns-4 c = skip-after _ _ _ _ (c .before .before .before .before .before .before .before .before .before .before .if1 .left) (c .before .before .before .before .before .before .before .before .if2 .left) (c .before .before .before .before .before .before .if3 .left) _ (c .before .before .before .before .bounds .given .1) (omega (arith, c .if4 .taken))
 
 returns-5 : tie.Need-returns-5
-returns-5 c = skip-before _ _ _ _ (c .before .before .before .before .before .before .before .before .before .before .before .before .before .if1 .left) (c .before .before .before .before .before .before .before .before .before .before .before .if2 .left) (c .before .before .before .before .before .before .before .before .before .if3 .left) _ (c .before .before .before .before .before .before .before .bounds .given .1) (c .before .before .before .if4 .left) (c .if5 .taken)
+returns-5 c = skip-before _ _ _ _ (c .before .before .before .before .before .before .before .before .before .before .before .before .before .if1 .left) (c .before .before .before .before .before .before .before .before .before .before .before .if2 .left) (c .before .before .before .before .before .before .before .before .before .if3 .left) _ (c .before .before .before .before .before .before .before .bounds .given .1) (c .if5 .taken)
 
 returns-6 : tie.Need-returns-6
 returns-6 c = skip-bare _ _ _ _ (c .before .before .before .before .before .before .if1 .left) (c .before .before .before .before .if2 .left) (c .before .before .if3 .left) (c .enum-told .given .1)

@@ -1,6 +1,6 @@
 // One stored case after another: what was asked, what the original answered, and whether the leaf answers the same.
-// data/README.md has the words of each kind.
-use crate::words::MARK;
+// data/README.md has the words of each kind. Every list is lent full of marks, and held to the answer to its end.
+use crate::words::clear;
 use crate::words::holds;
 use crate::words::load;
 use crate::words::word;
@@ -15,9 +15,7 @@ use depth::state::DepthState;
 use depth::state::Skip;
 use span::BucketRange;
 use span::TileSpan;
-ghost use Prim.Native.Nat.{_+_, _≤_, _<_};
-ghost use mathlib.Core.Path.{_≡_};
-ghost use lib.ListN.{length};
+ghost use Prim.Native.Nat.{_+_, _^_, _≤_, _<_};
 
 // How many cases agree, of how many.
 pub struct Tally {
@@ -31,73 +29,83 @@ pub struct Seen {
     pub agrees: bool,
 }
 
-// A stored count, at most `most`.
-fn count(s: &[u8], at: usize, most: usize) -> usize
-    ensures { λ r. ⌜ r ≤ most ⌝ }
-{
-    let n = word(s, at) as usize;
-    if n <= most { n } else { most }
-}
-
-// One edge of a split as three words at a place of the list: 0, first, end.
-fn put_edge(list: &mut [u32; 12], at: usize, edge: Edge) -> usize
-    requires { ⌜ at ≤ 7 ⌝ }
-    ensures { λ r. ⌜ (at ≤ r) × (r ≤ at + 3) × (length (now (list .exit)) ≡ 12) ⌝ }
-{
-    match edge {
-        Edge::Absent => at,
-        Edge::Tiles(tiles) => {
-            list[at] = 0;
-            list[at + 1] = tiles.first;
-            list[at + 2] = tiles.end;
-            at + 3
-        }
+// What is no case has no next.
+fn no_case() -> Seen {
+    Seen {
+        next: 0,
+        agrees: false,
     }
 }
 
-// A split as words: three a part; how many words there are.
-fn put_split(list: &mut [u32; 12], split: Split) -> usize
-    ensures { λ _. ⌜ length (now (list .exit)) ≡ 12 ⌝ }
+// Three words at a place of the list, where it has room for them; the place after them.
+fn put(list: &mut [u32], at: usize, kind: u32, first: u32, end: u32) -> usize
+    requires { ⌜ at ≤ 6 ⌝ }
+    ensures { λ r. ⌜ r ≤ at + 3 ⌝ }
 {
+    if list.len() < at + 3 {
+        return at + 3;
+    }
+    list[at] = kind;
+    list[at + 1] = first;
+    list[at + 2] = end;
+    at + 3
+}
+
+fn put_edge(list: &mut [u32], at: usize, edge: Edge) -> usize
+    requires { ⌜ at ≤ 6 ⌝ }
+    ensures { λ r. ⌜ r ≤ at + 3 ⌝ }
+{
+    match edge {
+        Edge::Absent => at,
+        Edge::Tiles(tiles) => put(list, at, 0, tiles.first, tiles.end),
+    }
+}
+
+// A split as words, three a part: how many there are. A refusal has more than any list.
+fn put_split(list: &mut [u32], split: Split) -> usize {
     match split {
-        Split::Refused(_) => 0,
-        Split::Whole(tiles) => put_edge(list, 0, Edge::Tiles(tiles)),
+        Split::Refused(_) => list.len() + 1,
+        Split::Whole(tiles) => put(list, 0, 0, tiles.first, tiles.end),
         Split::Opaque {
             before,
             buckets,
             after,
         } => {
             let at = put_edge(list, 0, before);
-            list[at] = 1;
-            list[at + 1] = buckets.first;
-            list[at + 2] = buckets.end;
-            put_edge(list, at + 3, after)
+            let rest = put(list, at, 1, buckets.first, buckets.end);
+            put_edge(list, rest, after)
         }
     }
 }
 
-fn replay_split(s: &[u8], at: usize) -> Seen
-    requires { ⌜ at ≤ 65000 ⌝ }
-    ensures { λ r. ⌜ (at < r .next) × (r .next ≤ at + 200) ⌝ }
+fn replay_split(s: &[u8], at: usize, list: &mut [u32]) -> Seen
+    requires { ⌜ at ≤ 2 ^ 61 ⌝ }
 {
     let first = word(s, at);
     let end = word(s, at + 1);
-    let n = count(s, at + 2, 3);
-    let mut list = [MARK; 12];
-    let k = put_split(&mut list, split_opaque_span(TileSpan { first, end }));
-    let same = holds(s, at + 3, 3 * n, &list);
-    let agrees = if k == 3 * n { same } else { false };
+    let words = 3 * (word(s, at + 2) as usize);
+    clear(list);
+    let k = put_split(list, split_opaque_span(TileSpan { first, end }));
+    let same = holds(s, at + 3, words, list);
     Seen {
-        next: at + 3 + 3 * n,
-        agrees,
+        next: at + 3 + words,
+        agrees: same && k == words,
     }
 }
 
-// Whether a call listed n runs, and the list holds them and nothing else.
+// A question about runs, to the leaf of its kind.
+fn ask(kind: u32, row: &mut [u32], id: u32, first: u32, end: u32, list: &mut [u32]) -> Runs {
+    match kind {
+        2 => unset_runs(row, TileSpan { first, end }, list),
+        3 => visible_runs(row, TileSpan { first, end }, id, list),
+        _ => unset_runs_and_write(row, BucketRange { first, end }, id, list),
+    }
+}
+
+// Whether n runs were listed, and the list holds them and nothing else.
 fn listed(s: &[u8], at: usize, n: usize, runs: Runs, list: &[u32]) -> bool
-    requires { ⌜ at ≤ 65536 ⌝ }
-    requires { ⌜ n ≤ 17 ⌝ }
-    requires { ⌜ length (now list) ≤ 64 ⌝ }
+    requires { ⌜ at ≤ 2 ^ 63 ⌝ }
+    requires { ⌜ n < 2 ^ 32 ⌝ }
 {
     match runs {
         Runs::Refused(_) => false,
@@ -111,78 +119,60 @@ fn listed(s: &[u8], at: usize, n: usize, runs: Runs, list: &[u32]) -> bool
     }
 }
 
-fn replay_unset(s: &[u8], at: usize) -> Seen
-    requires { ⌜ at ≤ 65000 ⌝ }
-    ensures { λ r. ⌜ (at < r .next) × (r .next ≤ at + 200) ⌝ }
+// Where a span stands: after b depth words and an id, which only an unset case has not.
+fn span_place(kind: u32, at: usize, b: usize) -> usize
+    requires { ⌜ (at ≤ 2 ^ 62) × (b ≤ 2 ^ 62) ⌝ }
+    ensures { λ r. ⌜ (at ≤ r) × (r ≤ at + b + 1) ⌝ }
 {
-    let b = count(s, at, 32);
-    let mut row = [0u32; 32];
-    load(s, at + 1, &mut row);
-    let first = word(s, at + 1 + b);
-    let end = word(s, at + 2 + b);
-    let n = count(s, at + 3 + b, 17);
-    let mut list = [MARK; 40];
-    let runs = unset_runs(&row[..b], TileSpan { first, end }, &mut list);
-    Seen {
-        next: at + 4 + b + 2 * n,
-        agrees: listed(s, at + 4 + b, n, runs, &list),
-    }
+    if kind == 2 { at + b } else { at + b + 1 }
 }
 
-fn replay_visible(s: &[u8], at: usize) -> Seen
-    requires { ⌜ at ≤ 65000 ⌝ }
-    ensures { λ r. ⌜ (at < r .next) × (r .next ≤ at + 200) ⌝ }
+// Loads the row, and tells whether the leaf lists the runs that are stored after it.
+fn asked(s: &[u8], kind: u32, at: usize, row: &mut [u32], list: &mut [u32]) -> bool
+    requires { ⌜ (1 ≤ at) × (at ≤ 2 ^ 62) ⌝ }
 {
-    let b = count(s, at, 32);
-    let mut row = [0u32; 32];
-    load(s, at + 1, &mut row);
-    let id = word(s, at + 1 + b);
-    let first = word(s, at + 2 + b);
-    let end = word(s, at + 3 + b);
-    let n = count(s, at + 4 + b, 17);
-    let mut list = [MARK; 40];
-    let runs = visible_runs(&row[..b], TileSpan { first, end }, id, &mut list);
-    Seen {
-        next: at + 5 + b + 2 * n,
-        agrees: listed(s, at + 5 + b, n, runs, &list),
-    }
+    let place = span_place(kind, at, row.len());
+    let id = word(s, place - 1);
+    let first = word(s, place);
+    let end = word(s, place + 1);
+    let n = word(s, place + 2) as usize;
+    load(s, at, row);
+    clear(list);
+    let runs = ask(kind, row, id, first, end, list);
+    listed(s, place + 3, n, runs, list)
 }
 
-fn replay_writing(s: &[u8], at: usize) -> Seen
-    requires { ⌜ at ≤ 65000 ⌝ }
-    ensures { λ r. ⌜ (at < r .next) × (r .next ≤ at + 200) ⌝ }
+// A case of runs. Afterwards the row is held to the words that stand after the runs, or, where nothing is written, to those it came with.
+fn replay_runs(s: &[u8], kind: u32, at: usize, row: &mut [u32], list: &mut [u32]) -> Seen
+    requires { ⌜ at ≤ 2 ^ 61 ⌝ }
 {
-    let b = count(s, at, 32);
-    let mut row = [MARK; 32];
-    load(s, at + 1, &mut row[..b]);
-    let draw_id = word(s, at + 1 + b);
-    let first = word(s, at + 2 + b);
-    let end = word(s, at + 3 + b);
-    let n = count(s, at + 4 + b, 17);
-    let mut list = [MARK; 40];
-    let runs = unset_runs_and_write(
-        &mut row[..b],
-        BucketRange { first, end },
-        draw_id,
-        &mut list,
-    );
-    let same = listed(s, at + 5 + b, n, runs, &list);
-    let after = at + 5 + b + 2 * n;
-    let agrees = if same {
-        holds(s, after, b, &row)
-    } else {
-        false
-    };
+    let b = word(s, at) as usize;
+    if row.len() < b {
+        return no_case();
+    }
+    let place = span_place(kind, at + 1, b);
+    let n = word(s, place + 2) as usize;
+    let after = place + 3 + 2 * n;
+    clear(row);
+    let same = asked(s, kind, at + 1, &mut row[..b], list);
+    if kind == 4 {
+        let kept = holds(s, after, b, row);
+        return Seen {
+            next: after + b,
+            agrees: same && kept,
+        };
+    }
+    let kept = holds(s, at + 1, b, row);
     Seen {
-        next: after + b,
-        agrees,
+        next: after,
+        agrees: same && kept,
     }
 }
 
 // The summary of k stored depth fills.
 fn summed(s: &[u8], at: usize, k: usize) -> DepthState
-    requires { ⌜ at ≤ 65536 ⌝ }
-    requires { ⌜ k ≤ 40 ⌝ }
+    requires { ⌜ at ≤ 2 ^ 63 ⌝ }
+    requires { ⌜ k < 2 ^ 32 ⌝ }
 {
     let mut state = DepthState::new();
     let mut i = 0;
@@ -196,64 +186,69 @@ fn summed(s: &[u8], at: usize, k: usize) -> DepthState
     state
 }
 
+// A case of fills, of which there are fewer than bytes.
 fn replay_skip(s: &[u8], at: usize) -> Seen
-    requires { ⌜ at ≤ 65000 ⌝ }
-    ensures { λ r. ⌜ (at < r .next) × (r .next ≤ at + 200) ⌝ }
+    requires { ⌜ at ≤ 2 ^ 61 ⌝ }
 {
-    let k = count(s, at, 40);
+    let k = word(s, at) as usize;
+    if s.len() < k {
+        return no_case();
+    }
     let place = at + 1 + 3 * k;
     let first = word(s, place);
     let end = word(s, place + 1);
     let draw_id = word(s, place + 2);
     let due = word(s, place + 3);
     let state = summed(s, at + 1, k);
-    let got: u32 = match state.can_skip(TileSpan { first, end }, draw_id) {
-        Skip::Refused(_) => 2,
-        Skip::Yes => 1,
-        Skip::No => 0,
+    let agrees = match state.can_skip(TileSpan { first, end }, draw_id) {
+        Skip::Refused(_) => false,
+        Skip::Yes => due == 1,
+        Skip::No => due == 0,
     };
     Seen {
         next: place + 4,
-        agrees: got == due,
+        agrees,
     }
 }
 
-// The case that stands after its kind. A kind that is none never agrees.
-fn replay_one(s: &[u8], kind: u32, at: usize) -> Seen
-    requires { ⌜ at ≤ 65000 ⌝ }
-    ensures { λ r. ⌜ (at < r .next) × (r .next ≤ at + 200) ⌝ }
+// The case that stands after its kind.
+fn replay_one(s: &[u8], kind: u32, at: usize, row: &mut [u32], list: &mut [u32]) -> Seen
+    requires { ⌜ at ≤ 2 ^ 61 ⌝ }
 {
     match kind {
-        1 => replay_split(s, at),
-        2 => replay_unset(s, at),
-        3 => replay_visible(s, at),
-        4 => replay_writing(s, at),
+        1 => replay_split(s, at, list),
+        2 | 3 | 4 => replay_runs(s, kind, at, row, list),
         5 => replay_skip(s, at),
-        _ => Seen {
-            next: at + 1,
-            agrees: false,
-        },
+        _ => no_case(),
     }
 }
 
-// All cases of one kind.
-pub fn replay(s: &[u8], kind: u32) -> Tally {
+// All cases of one kind. What is no case, or runs past the end, stops the replay, and counts as a case of every kind that does not agree.
+pub fn replay(s: &[u8], kind: u32, row: &mut [u32], list: &mut [u32]) -> Tally {
     let n = s.len() / 4;
-    let mut tally = Tally { agree: 0, of: 0 };
-    let mut at = 0;
+    let mut agree: usize = 0;
+    let mut of: usize = 0;
+    let mut at: usize = 0;
     while at < n {
-        if 64000 <= at {
-            break;
-        }
         let this = word(s, at);
-        let seen = replay_one(s, this, at + 1);
+        let seen = replay_one(s, this, at + 1, row, list);
+        let next = seen.next;
+        if next <= at {
+            return Tally { agree, of: of + 1 };
+        }
+        if n < next {
+            return Tally { agree, of: of + 1 };
+        }
         if this == kind {
-            tally.of = tally.of + 1;
+            of += 1;
             if seen.agrees {
-                tally.agree = tally.agree + 1;
+                agree += 1;
             }
         }
-        at = seen.next;
+        at = next;
     }
-    tally
+    if 4 * n < s.len() {
+        of += 1;
+    }
+    Tally { agree, of }
 }

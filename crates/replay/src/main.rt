@@ -2,7 +2,6 @@
 mod cases;
 mod words;
 
-use cases::Tally;
 use cases::replay;
 use libc::STDOUT_FILENO;
 
@@ -16,6 +15,22 @@ fn print(name: &[u8], agree: usize, of: usize) {
     io::write_all(STDOUT_FILENO, b"\n");
 }
 
+// Replays the cases of one kind, over a row of at most 32 buckets and a list of 20 runs.
+fn run(s: &[u8], name: &[u8], kind: u32) {
+    let mut row = [0u32; 32];
+    let mut list = [0u32; 40];
+    let tally = replay(s, kind, &mut row, &mut list);
+    print(name, tally.agree, tally.of);
+}
+
+fn run_all(s: &[u8]) {
+    run(s, b"split", 1);
+    run(s, b"unset runs", 2);
+    run(s, b"visible runs", 3);
+    run(s, b"writing runs", 4);
+    run(s, b"can_skip", 5);
+}
+
 fn main() {
     let path = b"leaves.words";
     let file = os::open_read(path);
@@ -26,15 +41,9 @@ fn main() {
     let mut bytes = [0u8; 262144];
     let n = io::read_full(file, &mut bytes);
     libc::close(file);
-    let s = &bytes[..n];
-    let split = replay(s, 1);
-    print(b"split", split.agree, split.of);
-    let unset = replay(s, 2);
-    print(b"unset runs", unset.agree, unset.of);
-    let visible = replay(s, 3);
-    print(b"visible runs", visible.agree, visible.of);
-    let writing = replay(s, 4);
-    print(b"writing runs", writing.agree, writing.of);
-    let skip = replay(s, 5);
-    print(b"can_skip", skip.agree, skip.of);
+    if bytes.len() <= n {
+        io::write_all(STDOUT_FILENO, b"longer than the buffer\n");
+        return;
+    }
+    run_all(&bytes[..n]);
 }

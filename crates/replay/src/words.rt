@@ -1,9 +1,7 @@
-// Words of a stored file.
-ghost use Prim.Native.Nat.{_≤_};
-ghost use lib.ListN.{length};
-ghost use mathlib.Core.Path.{_≡_};
+// Words of a stored file, and of a lent list.
+ghost use Prim.Native.Nat.{_^_, _≤_};
 
-// What a lent list is filled with before a call: no answer has it.
+// What a lent list is filled with before a call.
 pub const MARK: u32 = 4294967295;
 
 fn wide(x: u8) -> u32
@@ -22,11 +20,18 @@ pub fn word(s: &[u8], i: usize) -> u32 {
     wide(s[at]) + 256 * (wide(s[at + 1]) + 256 * (wide(s[at + 2]) + 256 * wide(s[at + 3])))
 }
 
+// Fills the list with the mark.
+pub fn clear(list: &mut [u32]) {
+    let mut i = 0;
+    while i < list.len() {
+        list[i] = MARK;
+        i += 1;
+    }
+}
+
 // The words from `at` on, as many as the list has.
 pub fn load(s: &[u8], at: usize, list: &mut [u32])
-    requires { ⌜ at ≤ 65536 ⌝ }
-    requires { ⌜ length (now list) ≤ 64 ⌝ }
-    ensures { λ _. ⌜ length (now (list .exit)) ≡ length (now (list .entry)) ⌝ }
+    requires { ⌜ at ≤ 2 ^ 63 ⌝ }
 {
     let mut i = 0;
     while i < list.len() {
@@ -37,8 +42,7 @@ pub fn load(s: &[u8], at: usize, list: &mut [u32])
 
 // Whether the first k words of the list are those from `at` on, and all others are the mark.
 pub fn holds(s: &[u8], at: usize, k: usize, list: &[u32]) -> bool
-    requires { ⌜ at ≤ 65536 ⌝ }
-    requires { ⌜ length (now list) ≤ 64 ⌝ }
+    requires { ⌜ at ≤ 2 ^ 63 ⌝ }
 {
     if list.len() < k {
         return false;

@@ -2,11 +2,6 @@ use Prim.Native.Nat.{_≤_, _-_}
 use borrow.Author.Needs.{needs}
 use Rattle.replay.proofs.cases.summed.Statement.{statement}
 use Rattle.replay.proofs.cases.summed.Tie as tie
-use Rattle.replay.proofs.cases.summed.Reads as reads
-use Rattle.replay.proofs.cases.summed.Lts as lts
-use Rattle.depth.proofs.state.DepthState.include_span.Reads as include-span-reads
-use Rattle.depth.proofs.state.DepthState.new.Reads as new-reads
-use Rattle.replay.proofs.words.word.Reads as word-reads
 
 abbrev Inv-loop : tie.InvT-loop
 Inv-loop s at k state₀ i₀ state i = i ≤ k
@@ -14,59 +9,45 @@ Inv-loop s at k state₀ i₀ state i = i ≤ k
 abbrev μ-loop : tie.MeasureT-loop
 μ-loop s at k state₀ i₀ state i = k - i
 
--- src/cases.rt:185:9
 new-requires : tie.Need-new-requires Inv-loop μ-loop
 new-requires c κs = search needs
 
--- src/cases.rt:187:5
 loop-holds : tie.Need-loop-holds Inv-loop μ-loop
 loop-holds c = search needs
 
--- src/cases.rt:188:26
 mul-place : tie.Need-mul-place Inv-loop μ-loop
 mul-place c = search needs
 
--- src/cases.rt:188:21
 add-place : tie.Need-add-place Inv-loop μ-loop
 add-place c = search needs
 
--- src/cases.rt:189:13
 word-requires : tie.Need-word-requires Inv-loop μ-loop
 word-requires c κs = search needs
 
--- src/cases.rt:190:27
 add-word : tie.Need-add-word Inv-loop μ-loop
 add-word c = search needs
 
--- src/cases.rt:190:13
 word-requires-2 : tie.Need-word-requires-2 Inv-loop μ-loop
 word-requires-2 c κs = search needs
 
--- src/cases.rt:191:69
 add-word-2 : tie.Need-add-word-2 Inv-loop μ-loop
 add-word-2 c = search needs
 
--- src/cases.rt:191:61
 word-requires-3 : tie.Need-word-requires-3 Inv-loop μ-loop
 word-requires-3 c κs = search needs
 
--- src/cases.rt:191:9
 include-span-requires : tie.Need-include-span-requires Inv-loop μ-loop
 include-span-requires c κs = search needs
 
--- src/cases.rt:192:9
 add-i : tie.Need-add-i Inv-loop μ-loop
 add-i c = search needs
 
--- src/cases.rt:187:5
 loop-less : tie.Need-loop-less Inv-loop μ-loop
 loop-less c = search needs
 
--- src/cases.rt:187:5
 loop-again : tie.Need-loop-again Inv-loop μ-loop
 loop-again c = search needs
 
--- src/cases.rt:181:1
 returns : tie.Need-returns Inv-loop μ-loop
 returns c = search needs
 

@@ -5,9 +5,6 @@ use native.Mathlib.Omega.{arith}
 use borrow.Author.Needs.{needs}
 use Rattle.replay.proofs.words.load.Statement.{statement}
 use Rattle.replay.proofs.words.load.Tie as tie
-use Rattle.replay.proofs.words.load.Reads as reads
-use Rattle.replay.proofs.words.load.Lts as lts
-use Rattle.replay.proofs.words.word.Reads as word-reads
 
 abbrev Inv-loop : tie.InvT-loop
 Inv-loop s at list₀ i₀ list i = (i ≤ length list₀) × (length list ≡ length list₀)
@@ -15,43 +12,33 @@ Inv-loop s at list₀ i₀ list i = (i ≤ length list₀) × (length list ≡ l
 abbrev μ-loop : tie.MeasureT-loop
 μ-loop s at list₀ i₀ list i = length list₀ - i
 
--- src/words.rt:29:5
 loop-holds : tie.Need-loop-holds Inv-loop μ-loop
 loop-holds c = search needs
 
--- src/words.rt:30:27
 add-word : tie.Need-add-word Inv-loop μ-loop
 add-word c = search needs
 
--- src/words.rt:30:19
 word-requires : tie.Need-word-requires Inv-loop μ-loop
 word-requires c κs = search needs
 
--- src/words.rt:30:9
 mul-list : tie.Need-mul-list Inv-loop μ-loop
 mul-list c = search needs
 
--- src/words.rt:30:9
 slice-write-list : tie.Need-slice-write-list Inv-loop μ-loop
 slice-write-list c = search needs
 
--- src/words.rt:31:9
 add-i : tie.Need-add-i Inv-loop μ-loop
 add-i c = search needs
 
--- src/words.rt:29:5
 loop-less : tie.Need-loop-less Inv-loop μ-loop
 loop-less c = search needs
 
--- src/words.rt:29:5
 loop-again : tie.Need-loop-again Inv-loop μ-loop
 loop-again c = (omega arith, simp length-set (c .before .before .loop .inv .1))
 
--- src/words.rt:24:1
 same-length : tie.Need-same-length Inv-loop μ-loop
 same-length c = search needs
 
--- src/words.rt:24:1
 returns : tie.Need-returns Inv-loop μ-loop
 returns c = search needs
 

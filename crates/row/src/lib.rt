@@ -1,0 +1,139 @@
+// One row over its own words (bucketer.rs, RowState). These are parts: each has a `requires`, which its callers have judged. They know
+// one row and not its place on the screen; all take the row's three slices: state, render commands, depth fills.
+use span::larger;
+use span::smaller;
+ghost use mathlib.Core.Path.{_≡_};
+ghost use Prim.Native.Nat.{_+_, _*_, _≤_, _<_};
+ghost use lib.ListN.{length, getD};
+ghost use Rattle.row.specs.Words.{words, put4, hull-word, include-span, put-cmd, put-buf, end-buf, put-fill, Room};
+
+pub fn wide(x: u32) -> usize
+    ensures { λ r. ⌜ r ≡ x ⌝ }
+{
+    x as usize
+}
+
+// The span word of a union that grows; the tag 6 says that there is one already.
+fn hull_word(tag: u32, span: u32, first: u32, end: u32) -> u32
+    requires { ⌜ (first ≤ 8192) × («end» ≤ 8192) ⌝ }
+    ensures { λ r. ⌜ r ≡ hull-word tag span first «end» ⌝ }
+{
+    if tag == 6 {
+        smaller(span / 65536, first) * 65536 + larger(span % 65536, end)
+    } else {
+        first * 65536 + end
+    }
+}
+
+// Rule 10: a fill counts for the innermost level.
+fn include_current_span(state: &mut [u32], first: u32, end: u32)
+    requires { ⌜ (length (now state) ≡ 54) × (getD (now state) 5 0 ≤ 16) × (first ≤ 8192) × («end» ≤ 8192) ⌝ }
+    ensures { λ _. ⌜ now (state .exit) ≡ include-span first «end» (now (state .entry)) ⌝ }
+{
+    let k = wide(state[5]);
+    if k == 0 {
+        return;
+    }
+    let at = 3 + 3 * k;
+    let tag = state[at + 1];
+    let span = state[at + 2];
+    state[at + 1] = 6;
+    state[at + 2] = hull_word(tag, span, first, end);
+}
+
+// The four words of command n.
+fn put_four(s: &mut [u32], n: u32, a: u32, b: u32, x: u32, y: u32)
+    requires { ⌜ 4 * n + 4 ≤ length (now s) ⌝ }
+    ensures { λ _. ⌜ now (s .exit) ≡ put4 (now (s .entry)) n a b x y ⌝ }
+{
+    let at = 4 * wide(n);
+    s[at] = a;
+    s[at + 1] = b;
+    s[at + 2] = x;
+    s[at + 3] = y;
+}
+
+// A PaintFill (tags 1 and 2) or a LayerFill (3 and 4) of tiles first to end.
+pub fn put_cmd(
+    state: &mut [u32],
+    render: &mut [u32],
+    fills: &mut [u32],
+    tag: u32,
+    first: u32,
+    end: u32,
+    alpha: u32,
+    attr: u32,
+)
+    requires { ⌜ (first ≤ 8192) × («end» ≤ 8192) × Room (words (now state) (now render) (now fills)) (put-cmd tag first «end» alpha attr (words (now state) (now render) (now fills))) ⌝ }
+    ensures { λ _. ⌜ words (now (state .exit)) (now (render .exit)) (now (fills .exit)) ≡ put-cmd tag first «end» alpha attr (words (now (state .entry)) (now (render .entry)) (now (fills .entry))) ⌝ }
+{
+    let n = state[0];
+    include_current_span(state, first, end);
+    put_four(render, n, tag, first * 65536 + end, alpha, attr);
+    state[0] = n + 1;
+}
+
+// Rule 5: a PushBuf, one level more. Its span is none so far.
+pub fn push_buf(state: &mut [u32], render: &mut [u32], fills: &mut [u32])
+    requires { ⌜ (getD (now state) 5 0 < 16) × Room (words (now state) (now render) (now fills)) (put-buf (words (now state) (now render) (now fills))) ⌝ }
+    ensures { λ _. ⌜ words (now (state .exit)) (now (render .exit)) (now (fills .exit)) ≡ put-buf (words (now (state .entry)) (now (render .entry)) (now (fills .entry))) ⌝ }
+{
+    let n = state[0];
+    let k = state[5] + 1;
+    put_four(render, n, 5, 0, 0, 0);
+    let at = 3 + 3 * wide(k);
+    state[at] = n;
+    state[at + 1] = 5;
+    state[at + 2] = 0;
+    state[5] = k;
+    state[0] = n + 1;
+}
+
+// Rules 9 and 10: a PopBuf; the level's PushBuf gets its span, and the level's words become 0.
+pub fn pop_buf(state: &mut [u32], render: &mut [u32], fills: &mut [u32])
+    requires { ⌜ (0 < getD (now state) 5 0) × (getD (now state) (3 + 3 * getD (now state) 5 0) 0 < getD (now state) 0 0) × Room (words (now state) (now render) (now fills)) (end-buf (words (now state) (now render) (now fills))) ⌝ }
+    ensures { λ _. ⌜ words (now (state .exit)) (now (render .exit)) (now (fills .exit)) ≡ end-buf (words (now (state .entry)) (now (render .entry)) (now (fills .entry))) ⌝ }
+{
+    let n = state[0];
+    let k = state[5];
+    let at = 3 + 3 * wide(k);
+    let p = 4 * wide(state[at]);
+    render[p] = state[at + 1];
+    render[p + 1] = state[at + 2];
+    put_four(render, n, 7, 0, 0, 0);
+    state[at] = 0;
+    state[at + 1] = 0;
+    state[at + 2] = 0;
+    state[5] = k - 1;
+    state[0] = n + 1;
+}
+
+// Rule 7: a depth fill of buckets first to end, 32 tiles each; the row's summary takes in their tiles and the id.
+pub fn push_depth_fill(
+    state: &mut [u32],
+    render: &mut [u32],
+    fills: &mut [u32],
+    first: u32,
+    end: u32,
+    attr: u32,
+    id: u32,
+)
+    requires { ⌜ (first ≤ 8192) × («end» ≤ 8192) × Room (words (now state) (now render) (now fills)) (put-fill 32 first «end» attr id (words (now state) (now render) (now fills))) ⌝ }
+    ensures { λ _. ⌜ words (now (state .exit)) (now (render .exit)) (now (fills .exit)) ≡ put-fill 32 first «end» attr id (words (now (state .entry)) (now (render .entry)) (now (fills .entry))) ⌝ }
+{
+    let n = state[1];
+    let f = if n == 0 {
+        first * 32
+    } else {
+        smaller(state[2], first * 32)
+    };
+    let e = larger(state[3], end * 32);
+    let m = larger(state[4], id);
+    state[2] = f;
+    state[3] = e;
+    state[4] = m;
+    state[1] = n + 1;
+    let at = 2 * wide(n);
+    fills[at] = first * 65536 + end;
+    fills[at + 1] = attr;
+}

@@ -8,7 +8,7 @@ use lib.ListN.{length, getD, set, length-set}
 use lib.Seq.{getD-set-same, getD-set-other}
 use lib.Dec.{eqb}
 use borrow.Author.Tests.{ne-eqb, eqb-false}
-use Rattle.row.specs.Words.{Words, words, word, put4, widened, include-span, put-cmd, put-buf, ended, end-buf, put-fill, Room, Grown}
+use Rattle.row.specs.Words.{Words, words, word, put4, widened, include-span, put-cmd, put-buf, ended, end-buf, put-fill, Room, Grown, Ends}
 
 cond-length : (b : Bool) {n : ℕ} (xs ys : List ℕ) → length xs ≡ n → length ys ≡ n → length (cond b xs ys) ≡ n
 cond-length true xs ys p q = p
@@ -57,6 +57,18 @@ module _ (w : Words) (l : length (w .state) ≡ 54) where
     pub cmd-levels : word 5 (put-cmd tag f e alpha i w) ≡ word 5 w
     unfolding put-cmd
     cmd-levels = let h : 0 < 5 = omega arith in rw (above, include-at f e (w .state) 5 (omega arith))
+
+    -- a fill widens the union of the innermost level and leaves its place
+    cmd-place : 0 < word 5 w → word (3 + 3 * word 5 w) (put-cmd tag f e alpha i w) ≡ word (3 + 3 * word 5 w) w
+    unfolding put-cmd include-span
+    cmd-place k =
+        let h0 : 0 < 3 + 3 * word 5 w = omega arith in
+        let h1 : 3 + 3 * word 5 w < 3 + 3 * word 5 w + 1 = omega arith in
+        let h2 : 3 + 3 * word 5 w < 3 + 3 * word 5 w + 2 = omega arith in
+        simp (ne-eqb (word 5 w) 0 (λ (z : word 5 w ≡ 0). omega arith), above, other)
+
+    pub cmd-ends : Ends w → Ends (put-cmd tag f e alpha i w)
+    cmd-ends p = record { levels = rw cmd-levels (p .levels); place = rw (cmd-levels, cmd-place (p .levels), cmd-renders) (omega (arith, p .place)) }
 
     cmd-state : length (put-cmd tag f e alpha i w .state) ≡ length (w .state)
     unfolding put-cmd

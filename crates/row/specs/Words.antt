@@ -2,7 +2,7 @@
 -- is total: what it gives is what is done without limits.
 -- state: 0 render count, 1 fill count, 2 the union's first tile, 3 its end, 4 the largest id, 5 levels;
 -- then for level k from 1 to 16, at 3 + 3k: the place of its PushBuf, and the tag and the span word that its pop will store.
-use Prim.Native.Nat.{ℕ, _≤_, _+_, _-_, _*_, _/_, _%_, min, max}
+use Prim.Native.Nat.{ℕ, _≤_, _<_, _+_, _-_, _*_, _/_, _%_, min, max}
 use mathlib.Core.Path.{_≡_}
 use mathlib.Core.Bool.{Bool, true, false, cond}
 use mathlib.Core.List.{List, [], _∷_}
@@ -119,3 +119,8 @@ pub record Grown (w w′ : Words) : Type 0 where
   pub fills : length (w′ .fills) ≡ length (w .fills)
   pub commands : word 0 w ≤ word 0 w′
   pub depths : word 1 w ≤ word 1 w′
+
+-- a row that can be popped: a level is open, and its PushBuf stands on the row
+pub record Ends (w : Words) : Type 0 where
+  pub levels : 0 < word 5 w
+  pub place : word (3 + 3 * word 5 w) w < word 0 w

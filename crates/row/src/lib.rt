@@ -5,7 +5,7 @@ use span::smaller;
 ghost use mathlib.Core.Path.{_≡_};
 ghost use Prim.Native.Nat.{_+_, _*_, _≤_, _<_};
 ghost use lib.ListN.{length, getD};
-ghost use Rattle.row.specs.Words.{words, put4, hull-word, include-span, put-cmd, put-buf, end-buf, put-fill, Room};
+ghost use Rattle.row.specs.Words.{words, put4, hull-word, include-span, put-cmd, put-buf, end-buf, put-fill, Room, Ends};
 
 pub fn wide(x: u32) -> usize
     ensures { λ r. ⌜ r ≡ x ⌝ }
@@ -91,7 +91,7 @@ pub fn push_buf(state: &mut [u32], render: &mut [u32], fills: &mut [u32])
 
 // Rules 9 and 10: a PopBuf; the level's PushBuf gets its span, and the level's words become 0.
 pub fn pop_buf(state: &mut [u32], render: &mut [u32], fills: &mut [u32])
-    requires { ⌜ (0 < getD (now state) 5 0) × (getD (now state) (3 + 3 * getD (now state) 5 0) 0 < getD (now state) 0 0) × Room (words (now state) (now render) (now fills)) (end-buf (words (now state) (now render) (now fills))) ⌝ }
+    requires { ⌜ Ends (words (now state) (now render) (now fills)) × Room (words (now state) (now render) (now fills)) (end-buf (words (now state) (now render) (now fills))) ⌝ }
     ensures { λ _. ⌜ words (now (state .exit)) (now (render .exit)) (now (fills .exit)) ≡ end-buf (words (now (state .entry)) (now (render .entry)) (now (fills .entry))) ⌝ }
 {
     let n = state[0];

@@ -83,6 +83,11 @@ module _ {A : Type 0} {P Q : A → Type 0} where
   all-both nil b = nil
   all-both (cons p a) (cons q b) = cons (p, q) (all-both a b)
 
+module _ {A B : Type 0} {Q : B → Type 0} where
+  pub all-mapped : (f : A → B) → ((x : A) → Q (f x)) → (xs : List A) → All Q (map f xs)
+  all-mapped f g [] = nil
+  all-mapped f g (x ∷ xs) = cons (g x) (all-mapped f g xs)
+
 module _ {A B : Type 0} {P : A → Type 0} {Q : B → Type 0} where
   -- through a map, or a map to lists
   pub all-over : (f : A → B) → ((x : A) → P x → Q (f x)) → {xs : List A} → All P xs → All Q (map f xs)

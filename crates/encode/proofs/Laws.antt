@@ -286,3 +286,11 @@ module _ (k j : ℕ) (cs : List Command) (fs : List DepthFill) (d : Summary) whe
 pub pops : (k j : ℕ) (r : Row) → Fine r → encode k j (rules.put-pop-buf r) ≡ end-buf (encode k j r)
 unfolding rules.put-pop-buf
 pops k j r o = popped k j (r .commands) (r .fills) (r .depth) (r .levels) o
+
+-- the innermost level's place, as it stands in the words
+pub place-word : (k j : ℕ) (r : Row) (l : Level) (ls : List Level) → r .levels ≡ l ∷ ls → length ls ≤ 15 → word (3 + 3 * length (r .levels)) (encode k j r) ≡ l .place
+unfolding encode stack
+place-word k j r l ls e few =
+    let i0 : 3 + 3 * suc (length ls) ≡ suc (suc (suc (suc (suc (suc (3 * length ls)))))) = omega arith in
+    let u = two-words (l .union) in
+    rw (e, i0, u .2) (top-place ls (l .place) (u .0) (u .1) few)

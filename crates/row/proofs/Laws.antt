@@ -2,13 +2,21 @@
 use mathlib.Core.Path.{_≡_, refl, sym, ap, _∙_}
 use mathlib.Core.Bool.{Bool, true, false, cond}
 use mathlib.Core.List.{List}
+use mathlib.Core.Option.{Option, none, some}
 use Prim.Native.Nat.{ℕ, zero, suc, _+_, _-_, _*_, _≤_, _<_}
 use native.Mathlib.Omega.{arith}
 use lib.ListN.{length, getD, set, length-set}
 use lib.Seq.{getD-set-same, getD-set-other}
 use lib.Dec.{eqb}
 use borrow.Author.Tests.{ne-eqb, eqb-false}
-use Rattle.row.specs.Words.{Words, words, word, put4, widened, include-span, put-cmd, put-buf, ended, end-buf, put-fill, Room, Grown, Ends}
+use Rattle.rules.specs.Spans.{Span}
+use Rattle.rules.specs.Commands.{Command, paint-fill, layer-fill, command-words}
+use Rattle.rules.specs.Rows.{adds}
+use Rattle.cmd.specs.Commands.{NarrowCmd}
+use Rattle.cmd.specs.declared.command.RenderCmd.{RenderCmd}
+use Rattle.cmd.specs.declared.command.RenderCmd.the-variants.{PaintFill, LayerFill, PushBuf, PopBuf}
+use Rattle.row.specs.Cmds.{ShortCmd}
+use Rattle.row.specs.Words.{Words, words, word, put4, widened, include-span, put-cmd, put-buf, ended, end-buf, put-fill, put-of, include-adds, put-command, Room, Grown, Ends}
 
 cond-length : (b : Bool) {n : ℕ} (xs ys : List ℕ) → length xs ≡ n → length ys ≡ n → length (cond b xs ys) ≡ n
 cond-length true xs ys p q = p
@@ -227,3 +235,34 @@ module _ {w : Words} where
 
   pub fill-room : (v f e i id : ℕ) → Room w (put-fill v f e i id w) → 2 * word 1 w + 2 ≤ length (w .fills)
   fill-room v f e i id r = omega (arith, fill-depths w (r .state) v f e i id)
+
+-- a fill's command by its numbers
+module _ (s : Span) (i : ℕ) (w : Words) where
+  pub paint-cmd : (a : Option ℕ) → put-command (paint-fill s a i) w ≡ put-of 1 s a i w
+  unfolding put-command put-cmd command-words
+  paint-cmd none = refl
+  paint-cmd (some a) = refl
+
+  pub layer-cmd : (a : Option ℕ) → put-command (layer-fill s a i) w ≡ put-of 3 s a i w
+  unfolding put-command put-cmd command-words
+  layer-cmd none = refl
+  layer-cmd (some a) = refl
+
+-- any command
+module _ (w : Words) (l : length (w .state) ≡ 54) where
+  adds-length : (a : Option Span) → length (include-adds a (w .state)) ≡ length (w .state)
+  adds-length none = refl
+  adds-length (some s) = include-length (s .first) (s .end) (w .state)
+
+  pub command-renders : (c : Command) → word 0 (put-command c w) ≡ word 0 w + 1
+  unfolding put-command
+  command-renders c = let h : 0 < length (include-adds (adds c) (w .state)) = rw adds-length (omega arith) in rw getD-set-same
+
+pub command-room : {w : Words} (c : Command) → Room w (put-command c w) → 4 * word 0 w + 4 ≤ length (w .render)
+command-room {w} c r = omega (arith, command-renders w (r .state) c)
+
+pub short-narrow : (k : RenderCmd) → ShortCmd k → NarrowCmd k
+short-narrow (PaintFill f) s = (omega arith, omega arith)
+short-narrow (LayerFill f) s = (omega arith, omega arith)
+short-narrow (PushBuf r) s = s
+short-narrow PopBuf s = tt

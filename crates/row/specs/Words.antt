@@ -10,8 +10,8 @@ use mathlib.Core.Option.{Option, none, some}
 use lib.ListN.{getD, set, length}
 use lib.Dec.{eqb}
 use Rattle.rules.specs.Spans.{Span}
-use Rattle.rules.specs.Commands.{Command, paint-fill, layer-fill, push-buf, pop-buf, DepthFill}
-use Rattle.rules.specs.Rows.{RowOps}
+use Rattle.rules.specs.Commands.{Command, command-words, DepthFill}
+use Rattle.rules.specs.Rows.{RowOps, adds}
 
 -- the words of one row, or of all the rows of a screen
 pub record Words : Type 0 where
@@ -76,16 +76,22 @@ put-fill v f e i id w =
     words (set (set (set s 3 (max (word 3 w) (e * v))) 4 (max (word 4 w) id)) 1 (n + 1)) (w .render)
     (set (set (w .fills) (2 * n) (f * 65536 + e)) (2 * n + 1) i)
 
--- the tag is one more where there is an alpha index
+-- a fill's command; the tag is one more where there is an alpha index
 abbrev pub put-of : ℕ → Span → Option ℕ → ℕ → Words → Words
 put-of tag s none i = put-cmd tag (s .first) (s .end) 0 i
 put-of tag s (some a) i = put-cmd (tag + 1) (s .first) (s .end) a i
 
+-- rule 10: what a command adds to the union at its level
+abbrev pub include-adds : Option Span → List ℕ → List ℕ
+include-adds none l = l
+include-adds (some s) l = include-span (s .first) (s .end) l
+
+-- any command, by its four words
 unfoldable pub put-command : Command → Words → Words
-put-command (paint-fill s a i) = put-of 1 s a i
-put-command (layer-fill s a i) = put-of 3 s a i
-put-command (push-buf s) = put-buf
-put-command pop-buf = end-buf
+put-command c w =
+    let ws = command-words c in
+    words (set (include-adds (adds c) (w .state)) 0 (word 0 w + 1))
+    (put4 (w .render) (word 0 w) (getD ws 0 0) (getD ws 1 0) (getD ws 2 0) (getD ws 3 0)) (w .fills)
 
 unfoldable pub put-depth : ℕ → DepthFill → ℕ → Words → Words
 put-depth v f id w = put-fill v (f .buckets .first) (f .buckets .end) (f .attribute) id w

@@ -1,11 +1,15 @@
 // One row over its own words (bucketer.rs, RowState). These are parts: each has a `requires`, which its callers have judged. They know
 // one row and not its place on the screen; all take the row's three slices: state, render commands, depth fills.
+use cmd::command::RenderCmd;
 use span::larger;
 use span::smaller;
 ghost use mathlib.Core.Path.{_≡_};
 ghost use Prim.Native.Nat.{_+_, _*_, _≤_, _<_};
 ghost use lib.ListN.{length, getD};
-ghost use Rattle.row.specs.Words.{words, put4, hull-word, include-span, put-cmd, put-buf, end-buf, put-fill, Room, Ends};
+ghost use Rattle.rules.specs.Rows.{adds};
+ghost use Rattle.cmd.specs.Commands.{command};
+ghost use Rattle.row.specs.Cmds.{ShortCmd};
+ghost use Rattle.row.specs.Words.{words, put4, hull-word, include-span, put-cmd, put-buf, end-buf, put-fill, include-adds, put-command, Room, Ends};
 
 pub fn wide(x: u32) -> usize
     ensures { λ r. ⌜ r ≡ x ⌝ }
@@ -70,6 +74,37 @@ pub fn put_cmd(
     let n = state[0];
     include_current_span(state, first, end);
     put_four(render, n, tag, first * 65536 + end, alpha, attr);
+    state[0] = n + 1;
+}
+
+// Rule 10: a command's span, if it is a fill, counts for the innermost level.
+fn include_cmd(state: &mut [u32], cmd: RenderCmd)
+    requires { ⌜ (length (now state) ≡ 54) × (getD (now state) 5 0 ≤ 16) × ShortCmd cmd ⌝ }
+    ensures { λ _. ⌜ now (state .exit) ≡ include-adds (adds (command cmd)) (now (state .entry)) ⌝ }
+{
+    match cmd {
+        RenderCmd::PaintFill(fill) => {
+            let span = fill.span;
+            include_current_span(state, span.first, span.end);
+        }
+        RenderCmd::LayerFill(fill) => {
+            let span = fill.span;
+            include_current_span(state, span.first, span.end);
+        }
+        RenderCmd::PushBuf(_) => {}
+        RenderCmd::PopBuf => {}
+    }
+}
+
+// Any command, as it stands.
+pub fn push_cmd(state: &mut [u32], render: &mut [u32], fills: &mut [u32], cmd: RenderCmd)
+    requires { ⌜ ShortCmd cmd × Room (words (now state) (now render) (now fills)) (put-command (command cmd) (words (now state) (now render) (now fills))) ⌝ }
+    ensures { λ _. ⌜ words (now (state .exit)) (now (render .exit)) (now (fills .exit)) ≡ put-command (command cmd) (words (now (state .entry)) (now (render .entry)) (now (fills .entry))) ⌝ }
+{
+    let n = state[0];
+    let four = cmd.words();
+    include_cmd(state, cmd);
+    put_four(render, n, four.tag, four.span, four.alpha, four.attrs_idx);
     state[0] = n + 1;
 }
 

@@ -10,13 +10,13 @@ use lib.Seq.{getD-set-same, getD-set-other}
 use lib.Dec.{eqb}
 use borrow.Author.Tests.{ne-eqb, eqb-false}
 use Rattle.rules.specs.Spans.{Span}
-use Rattle.rules.specs.Commands.{Command, paint-fill, layer-fill, command-words}
+use Rattle.rules.specs.Commands.{Command, DepthFill}
 use Rattle.rules.specs.Rows.{adds}
 use Rattle.cmd.specs.Commands.{NarrowCmd}
 use Rattle.cmd.specs.declared.command.RenderCmd.{RenderCmd}
 use Rattle.cmd.specs.declared.command.RenderCmd.the-variants.{PaintFill, LayerFill, PushBuf, PopBuf}
 use Rattle.row.specs.Cmds.{ShortCmd}
-use Rattle.row.specs.Words.{Words, words, word, put4, widened, include-span, put-cmd, put-buf, ended, end-buf, put-fill, put-of, include-adds, put-command, Room, Grown, Ends}
+use Rattle.row.specs.Words.{Words, words, word, put4, widened, include-span, include-adds, put-command, put-buf, ended, end-buf, put-depth, Room, Grown, Ends}
 
 cond-length : (b : Bool) {n : ℕ} (xs ys : List ℕ) → length xs ≡ n → length ys ≡ n → length (cond b xs ys) ≡ n
 cond-length true xs ys p q = p
@@ -52,45 +52,60 @@ include-at f e s i h = go (eqb (getD s 5 0) 0) refl
         let h2 : i < 3 + 3 * getD s 5 0 + 2 = omega arith in
         rw (other, other)
 
+-- a command's span, if it adds one
+module _ (s : List ℕ) where
+  adds-length : (a : Option Span) → length (include-adds a s) ≡ length s
+  adds-length none = refl
+  adds-length (some t) = include-length (t .first) (t .end) s
+
+  adds-at : (a : Option Span) (i : ℕ) → i ≤ 5 → getD (include-adds a s) i 0 ≡ getD s i 0
+  adds-at none i h = refl
+  adds-at (some t) i h = include-at (t .first) (t .end) s i h
+
+  -- it widens the union of the innermost level and leaves its place
+  adds-place : (a : Option Span) → 0 < getD s 5 0 → getD (include-adds a s) (3 + 3 * getD s 5 0) 0 ≡ getD s (3 + 3 * getD s 5 0) 0
+  unfolding include-span
+  adds-place none k = refl
+  adds-place (some t) k =
+      let h1 : 3 + 3 * getD s 5 0 < 3 + 3 * getD s 5 0 + 1 = omega arith in
+      let h2 : 3 + 3 * getD s 5 0 < 3 + 3 * getD s 5 0 + 2 = omega arith in
+      simp (ne-eqb (getD s 5 0) 0 (λ (z : getD s 5 0 ≡ 0). omega arith), other)
+
 module _ (w : Words) (l : length (w .state) ≡ 54) where
-  module _ (tag f e alpha i : ℕ) where
-    pub cmd-renders : word 0 (put-cmd tag f e alpha i w) ≡ word 0 w + 1
-    unfolding put-cmd
-    cmd-renders = let h : 0 < length (include-span f e (w .state)) = rw include-length (omega arith) in rw getD-set-same
+  module _ (c : Command) where
+    pub cmd-renders : word 0 (put-command c w) ≡ word 0 w + 1
+    unfolding put-command
+    cmd-renders = let h : 0 < length (include-adds (adds c) (w .state)) = rw adds-length (omega arith) in rw getD-set-same
 
-    pub cmd-depths : word 1 (put-cmd tag f e alpha i w) ≡ word 1 w
-    unfolding put-cmd
-    cmd-depths = let h : 0 < 1 = omega arith in rw (above, include-at f e (w .state) 1 (omega arith))
+    pub cmd-depths : word 1 (put-command c w) ≡ word 1 w
+    unfolding put-command
+    cmd-depths = let h : 0 < 1 = omega arith in rw above (adds-at (w .state) (adds c) 1 (omega arith))
 
-    pub cmd-levels : word 5 (put-cmd tag f e alpha i w) ≡ word 5 w
-    unfolding put-cmd
-    cmd-levels = let h : 0 < 5 = omega arith in rw (above, include-at f e (w .state) 5 (omega arith))
+    pub cmd-levels : word 5 (put-command c w) ≡ word 5 w
+    unfolding put-command
+    cmd-levels = let h : 0 < 5 = omega arith in rw above (adds-at (w .state) (adds c) 5 (omega arith))
 
-    -- a fill widens the union of the innermost level and leaves its place
-    cmd-place : 0 < word 5 w → word (3 + 3 * word 5 w) (put-cmd tag f e alpha i w) ≡ word (3 + 3 * word 5 w) w
-    unfolding put-cmd include-span
-    cmd-place k =
-        let h0 : 0 < 3 + 3 * word 5 w = omega arith in
-        let h1 : 3 + 3 * word 5 w < 3 + 3 * word 5 w + 1 = omega arith in
-        let h2 : 3 + 3 * word 5 w < 3 + 3 * word 5 w + 2 = omega arith in
-        simp (ne-eqb (word 5 w) 0 (λ (z : word 5 w ≡ 0). omega arith), above, other)
+    cmd-place : 0 < word 5 w → word (3 + 3 * word 5 w) (put-command c w) ≡ word (3 + 3 * word 5 w) w
+    unfolding put-command
+    cmd-place k = let h : 0 < 3 + 3 * word 5 w = omega arith in rw above (adds-place (w .state) (adds c) k)
 
-    pub cmd-ends : Ends w → Ends (put-cmd tag f e alpha i w)
+    -- a row that can be popped still can
+    pub cmd-ends : Ends w → Ends (put-command c w)
     cmd-ends p = record { levels = rw cmd-levels (p .levels); place = rw (cmd-levels, cmd-place (p .levels), cmd-renders) (omega (arith, p .place)) }
 
-    cmd-state : length (put-cmd tag f e alpha i w .state) ≡ length (w .state)
-    unfolding put-cmd
-    cmd-state = simp (length-set, include-length)
+    cmd-state : length (put-command c w .state) ≡ length (w .state)
+    unfolding put-command
+    cmd-state = simp (length-set, adds-length)
 
-    cmd-render : length (put-cmd tag f e alpha i w .render) ≡ length (w .render)
-    unfolding put-cmd
+    cmd-render : length (put-command c w .render) ≡ length (w .render)
+    unfolding put-command
     cmd-render = simp length-set
 
-    cmd-fills : length (put-cmd tag f e alpha i w .fills) ≡ length (w .fills)
-    unfolding put-cmd
+    cmd-fills : length (put-command c w .fills) ≡ length (w .fills)
+    unfolding put-command
     cmd-fills = refl
 
-    pub cmd-grown : Grown w (put-cmd tag f e alpha i w)
+    pub cmd-grown : Grown w (put-command c w)
     cmd-grown = record { state = cmd-state; render = cmd-render; fills = cmd-fills; commands = omega (arith, cmd-renders); depths = omega (arith, cmd-depths) }
 
   module _ (k : word 5 w ≤ 15) where
@@ -166,32 +181,32 @@ module _ (w : Words) (l : length (w .state) ≡ 54) where
         depths = simp (above, other) (omega arith);
       }
 
-  module _ (v f e i id : ℕ) where
-    pub fill-renders : word 0 (put-fill v f e i id w) ≡ word 0 w
-    unfolding put-fill
+  module _ (v : ℕ) (f : DepthFill) (id : ℕ) where
+    pub fill-renders : word 0 (put-depth v f id w) ≡ word 0 w
+    unfolding put-depth
     fill-renders = let h1 : 0 < 1 = omega arith in let h2 : 0 < 2 = omega arith in let h3 : 0 < 3 = omega arith in let h4 : 0 < 4 = omega arith in rw (other, other, other, other)
 
-    pub fill-depths : word 1 (put-fill v f e i id w) ≡ word 1 w + 1
-    unfolding put-fill
+    pub fill-depths : word 1 (put-depth v f id w) ≡ word 1 w + 1
+    unfolding put-depth
     fill-depths = let h : 1 < 54 = omega arith in simp (same, length-set, l)
 
-    pub fill-levels : word 5 (put-fill v f e i id w) ≡ word 5 w
-    unfolding put-fill
+    pub fill-levels : word 5 (put-depth v f id w) ≡ word 5 w
+    unfolding put-depth
     fill-levels = let h1 : 1 < 5 = omega arith in let h2 : 2 < 5 = omega arith in let h3 : 3 < 5 = omega arith in let h4 : 4 < 5 = omega arith in rw (above, above, above, above)
 
-    fill-state : length (put-fill v f e i id w .state) ≡ length (w .state)
-    unfolding put-fill
+    fill-state : length (put-depth v f id w .state) ≡ length (w .state)
+    unfolding put-depth
     fill-state = simp length-set
 
-    fill-render : length (put-fill v f e i id w .render) ≡ length (w .render)
-    unfolding put-fill
+    fill-render : length (put-depth v f id w .render) ≡ length (w .render)
+    unfolding put-depth
     fill-render = refl
 
-    fill-fills : length (put-fill v f e i id w .fills) ≡ length (w .fills)
-    unfolding put-fill
+    fill-fills : length (put-depth v f id w .fills) ≡ length (w .fills)
+    unfolding put-depth
     fill-fills = simp length-set
 
-    pub fill-grown : Grown w (put-fill v f e i id w)
+    pub fill-grown : Grown w (put-depth v f id w)
     fill-grown = record { state = fill-state; render = fill-render; fills = fill-fills; commands = omega (arith, fill-renders); depths = omega (arith, fill-depths) }
 
 pub grown-refl : (w : Words) → Grown w w
@@ -224,8 +239,8 @@ pub room-rest : {u v w : Words} → Grown u v → word 5 v ≤ 16 → Room u w �
 room-rest g k r = record { state = g .state ∙ r .state; render = omega (arith, g .render); fills = omega (arith, g .fills); levels = k; commands = omega (arith, g .render); depths = omega (arith, g .fills) }
 
 module _ {w : Words} where
-  pub cmd-room : (tag f e alpha i : ℕ) → Room w (put-cmd tag f e alpha i w) → 4 * word 0 w + 4 ≤ length (w .render)
-  cmd-room tag f e alpha i r = omega (arith, cmd-renders w (r .state) tag f e alpha i)
+  pub cmd-room : (c : Command) → Room w (put-command c w) → 4 * word 0 w + 4 ≤ length (w .render)
+  cmd-room c r = omega (arith, cmd-renders w (r .state) c)
 
   pub buf-room : word 5 w < 16 → Room w (put-buf w) → 4 * word 0 w + 4 ≤ length (w .render)
   buf-room k r = omega (arith, buf-renders w (r .state) (omega arith))
@@ -233,33 +248,8 @@ module _ {w : Words} where
   pub end-room : 0 < word 5 w → Room w (end-buf w) → 4 * word 0 w + 4 ≤ length (w .render)
   end-room k r = omega (arith, end-renders w (r .state) k)
 
-  pub fill-room : (v f e i id : ℕ) → Room w (put-fill v f e i id w) → 2 * word 1 w + 2 ≤ length (w .fills)
-  fill-room v f e i id r = omega (arith, fill-depths w (r .state) v f e i id)
-
--- a fill's command by its numbers
-module _ (s : Span) (i : ℕ) (w : Words) where
-  pub paint-cmd : (a : Option ℕ) → put-command (paint-fill s a i) w ≡ put-of 1 s a i w
-  unfolding put-command put-cmd command-words
-  paint-cmd none = refl
-  paint-cmd (some a) = refl
-
-  pub layer-cmd : (a : Option ℕ) → put-command (layer-fill s a i) w ≡ put-of 3 s a i w
-  unfolding put-command put-cmd command-words
-  layer-cmd none = refl
-  layer-cmd (some a) = refl
-
--- any command
-module _ (w : Words) (l : length (w .state) ≡ 54) where
-  adds-length : (a : Option Span) → length (include-adds a (w .state)) ≡ length (w .state)
-  adds-length none = refl
-  adds-length (some s) = include-length (s .first) (s .end) (w .state)
-
-  pub command-renders : (c : Command) → word 0 (put-command c w) ≡ word 0 w + 1
-  unfolding put-command
-  command-renders c = let h : 0 < length (include-adds (adds c) (w .state)) = rw adds-length (omega arith) in rw getD-set-same
-
-pub command-room : {w : Words} (c : Command) → Room w (put-command c w) → 4 * word 0 w + 4 ≤ length (w .render)
-command-room {w} c r = omega (arith, command-renders w (r .state) c)
+  pub fill-room : (v : ℕ) (f : DepthFill) (id : ℕ) → Room w (put-depth v f id w) → 2 * word 1 w + 2 ≤ length (w .fills)
+  fill-room v f id r = omega (arith, fill-depths w (r .state) v f id)
 
 pub short-narrow : (k : RenderCmd) → ShortCmd k → NarrowCmd k
 short-narrow (PaintFill f) s = (omega arith, omega arith)

@@ -10,7 +10,8 @@ use mathlib.Core.Option.{Option, none, some}
 use lib.ListN.{getD, set, length}
 use lib.Dec.{eqb}
 use Rattle.rules.specs.Spans.{Span}
-use Rattle.rules.specs.Commands.{Command, command-words, DepthFill}
+use Rattle.rules.specs.Commands.{Command, command-words, DepthFill, depth-words}
+use Rattle.rules.specs.Depth.{tiles-of}
 use Rattle.rules.specs.Rows.{RowOps, adds}
 
 -- the words of one row, or of all the rows of a screen
@@ -41,10 +42,17 @@ widened a f e s = set (set s (a + 1) 6) (a + 2) (hull-word (getD s (a + 1) 0) (g
 unfoldable pub include-span : ℕ → ℕ → List ℕ → List ℕ
 include-span f e s = cond (eqb (getD s 5 0) 0) s (widened (3 + 3 * getD s 5 0) f e s)
 
--- a fill's command: tag, tiles f to e, alpha index, attribute
-unfoldable pub put-cmd : ℕ → ℕ → ℕ → ℕ → ℕ → Words → Words
-put-cmd tag f e alpha i w =
-    words (set (include-span f e (w .state)) 0 (word 0 w + 1)) (put4 (w .render) (word 0 w) tag (f * 65536 + e) alpha i) (w .fills)
+-- what a command adds to the union at its level
+abbrev pub include-adds : Option Span → List ℕ → List ℕ
+include-adds none l = l
+include-adds (some s) l = include-span (s .first) (s .end) l
+
+-- a command, by its four words
+unfoldable pub put-command : Command → Words → Words
+put-command c w =
+    let ws = command-words c in
+    words (set (include-adds (adds c) (w .state)) 0 (word 0 w + 1))
+    (put4 (w .render) (word 0 w) (getD ws 0 0) (getD ws 1 0) (getD ws 2 0) (getD ws 3 0)) (w .fills)
 
 -- rule 5: a PushBuf, with no span yet, and one more level
 unfoldable pub put-buf : Words → Words
@@ -68,33 +76,15 @@ ended w =
 unfoldable pub end-buf : Words → Words
 end-buf w = cond (eqb (word 5 w) 0) w (ended w)
 
--- rule 7: a depth fill of buckets f to e, v tiles each, with its attribute and id
-unfoldable pub put-fill : ℕ → ℕ → ℕ → ℕ → ℕ → Words → Words
-put-fill v f e i id w =
-    let n = word 1 w in
-    let s = set (w .state) 2 (cond (eqb n 0) (f * v) (min (word 2 w) (f * v))) in
-    words (set (set (set s 3 (max (word 3 w) (e * v))) 4 (max (word 4 w) id)) 1 (n + 1)) (w .render)
-    (set (set (w .fills) (2 * n) (f * 65536 + e)) (2 * n + 1) i)
-
--- a fill's command; the tag is one more where there is an alpha index
-abbrev pub put-of : ℕ → Span → Option ℕ → ℕ → Words → Words
-put-of tag s none i = put-cmd tag (s .first) (s .end) 0 i
-put-of tag s (some a) i = put-cmd (tag + 1) (s .first) (s .end) a i
-
--- rule 10: what a command adds to the union at its level
-abbrev pub include-adds : Option Span → List ℕ → List ℕ
-include-adds none l = l
-include-adds (some s) l = include-span (s .first) (s .end) l
-
--- any command, by its four words
-unfoldable pub put-command : Command → Words → Words
-put-command c w =
-    let ws = command-words c in
-    words (set (include-adds (adds c) (w .state)) 0 (word 0 w + 1))
-    (put4 (w .render) (word 0 w) (getD ws 0 0) (getD ws 1 0) (getD ws 2 0) (getD ws 3 0)) (w .fills)
-
+-- rule 7: a depth fill at v tiles a bucket, by its two words; the summary takes in its tiles and its id
 unfoldable pub put-depth : ℕ → DepthFill → ℕ → Words → Words
-put-depth v f id w = put-fill v (f .buckets .first) (f .buckets .end) (f .attribute) id w
+put-depth v f id w =
+    let n = word 1 w in
+    let t = tiles-of v (f .buckets) in
+    let ws = depth-words f in
+    let s = set (w .state) 2 (cond (eqb n 0) (t .first) (min (word 2 w) (t .first))) in
+    words (set (set (set s 3 (max (word 3 w) (t .end))) 4 (max (word 4 w) id)) 1 (n + 1)) (w .render)
+    (set (set (w .fills) (2 * n) (getD ws 0 0)) (2 * n + 1) (getD ws 1 0))
 
 -- the rules' operations at rows of words
 abbrev pub word-ops : RowOps Words

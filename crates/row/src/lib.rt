@@ -1,6 +1,7 @@
 // One row over its own words (bucketer.rs, RowState). These are parts: each has a `requires`, which its callers have judged. They know
 // one row and not its place on the screen; all take the row's three slices: state, render commands, depth fills.
 use cmd::command::RenderCmd;
+use cmd::depth_fill::DepthFill;
 use span::larger;
 use span::smaller;
 ghost use mathlib.Core.Path.{_≡_};
@@ -8,8 +9,10 @@ ghost use Prim.Native.Nat.{_+_, _*_, _≤_, _<_};
 ghost use lib.ListN.{length, getD};
 ghost use Rattle.rules.specs.Rows.{adds};
 ghost use Rattle.cmd.specs.Commands.{command};
-ghost use Rattle.row.specs.Cmds.{ShortCmd};
-ghost use Rattle.row.specs.Words.{words, put4, hull-word, include-span, put-cmd, put-buf, end-buf, put-fill, include-adds, put-command, Room, Ends};
+ghost use Rattle.cmd.specs.DepthFills.{depth-fill};
+ghost use Rattle.span.specs.Spans.{buckets};
+ghost use Rattle.row.specs.Cmds.{Short, ShortCmd};
+ghost use Rattle.row.specs.Words.{words, put4, hull-word, include-span, include-adds, put-command, put-buf, end-buf, put-depth, Room, Ends};
 
 pub fn wide(x: u32) -> usize
     ensures { λ r. ⌜ r ≡ x ⌝ }
@@ -55,26 +58,6 @@ fn put_four(s: &mut [u32], n: u32, a: u32, b: u32, x: u32, y: u32)
     s[at + 1] = b;
     s[at + 2] = x;
     s[at + 3] = y;
-}
-
-// A PaintFill (tags 1 and 2) or a LayerFill (3 and 4) of tiles first to end.
-pub fn put_cmd(
-    state: &mut [u32],
-    render: &mut [u32],
-    fills: &mut [u32],
-    tag: u32,
-    first: u32,
-    end: u32,
-    alpha: u32,
-    attr: u32,
-)
-    requires { ⌜ (first ≤ 8192) × («end» ≤ 8192) × Room (words (now state) (now render) (now fills)) (put-cmd tag first «end» alpha attr (words (now state) (now render) (now fills))) ⌝ }
-    ensures { λ _. ⌜ words (now (state .exit)) (now (render .exit)) (now (fills .exit)) ≡ put-cmd tag first «end» alpha attr (words (now (state .entry)) (now (render .entry)) (now (fills .entry))) ⌝ }
-{
-    let n = state[0];
-    include_current_span(state, first, end);
-    put_four(render, n, tag, first * 65536 + end, alpha, attr);
-    state[0] = n + 1;
 }
 
 // Rule 10: a command's span, if it is a fill, counts for the innermost level.
@@ -143,32 +126,32 @@ pub fn pop_buf(state: &mut [u32], render: &mut [u32], fills: &mut [u32])
     state[0] = n + 1;
 }
 
-// Rule 7: a depth fill of buckets first to end, 32 tiles each; the row's summary takes in their tiles and the id.
+// Rule 7: a depth fill; the row's summary takes in its tiles, 32 a bucket, and its id.
 pub fn push_depth_fill(
     state: &mut [u32],
     render: &mut [u32],
     fills: &mut [u32],
-    first: u32,
-    end: u32,
-    attr: u32,
-    id: u32,
+    cmd: DepthFill,
+    draw_id: u32,
 )
-    requires { ⌜ (first ≤ 8192) × («end» ≤ 8192) × Room (words (now state) (now render) (now fills)) (put-fill 32 first «end» attr id (words (now state) (now render) (now fills))) ⌝ }
-    ensures { λ _. ⌜ words (now (state .exit)) (now (render .exit)) (now (fills .exit)) ≡ put-fill 32 first «end» attr id (words (now (state .entry)) (now (render .entry)) (now (fills .entry))) ⌝ }
+    requires { ⌜ Short (buckets (cmd .buckets)) × Room (words (now state) (now render) (now fills)) (put-depth 32 (depth-fill cmd) «draw_id» (words (now state) (now render) (now fills))) ⌝ }
+    ensures { λ _. ⌜ words (now (state .exit)) (now (render .exit)) (now (fills .exit)) ≡ put-depth 32 (depth-fill cmd) «draw_id» (words (now (state .entry)) (now (render .entry)) (now (fills .entry))) ⌝ }
 {
+    let two = cmd.words();
+    let range = cmd.buckets;
     let n = state[1];
-    let f = if n == 0 {
-        first * 32
+    let first = if n == 0 {
+        range.first * 32
     } else {
-        smaller(state[2], first * 32)
+        smaller(state[2], range.first * 32)
     };
-    let e = larger(state[3], end * 32);
-    let m = larger(state[4], id);
-    state[2] = f;
-    state[3] = e;
-    state[4] = m;
+    let end = larger(state[3], range.end * 32);
+    let largest = larger(state[4], draw_id);
+    state[2] = first;
+    state[3] = end;
+    state[4] = largest;
     state[1] = n + 1;
     let at = 2 * wide(n);
-    fills[at] = first * 65536 + end;
-    fills[at + 1] = attr;
+    fills[at] = two.span;
+    fills[at + 1] = two.attrs_idx;
 }

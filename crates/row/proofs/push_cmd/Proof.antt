@@ -1,7 +1,7 @@
 use native.Mathlib.Omega.{arith}
 use Rattle.cmd.specs.Commands.{command}
 use Rattle.row.specs.Words.{put-command}
-use Rattle.row.proofs.Laws.{command-room, short-narrow}
+use Rattle.row.proofs.Laws.{cmd-room, short-narrow}
 use borrow.Author.Needs.{needs}
 use Rattle.row.proofs.push_cmd.Statement.{statement}
 use Rattle.row.proofs.push_cmd.Tie as tie
@@ -25,11 +25,11 @@ include-cmd-requires c κs = search needs
 
 -- src/lib.rt:107:5
 put-four-requires : tie.Need-put-four-requires
-put-four-requires c κs = omega (arith, command-room (command (c .before .before .before .before .before .before .before .before .before .before .args .cmd)) (c .before .before .before .before .before .before .before .before .before .before .pre .1))
+put-four-requires c κs = omega (arith, cmd-room (command (c .before .before .before .before .before .before .before .before .before .before .args .cmd)) (c .before .before .before .before .before .before .before .before .before .before .pre .1))
 
 -- src/lib.rt:115:16
 add-state : tie.Need-add-state
-add-state c = record { fits = omega (arith, command-room (command (c .before .before .before .before .before .before .before .before .before .before .before .before .before .args .cmd)) (c .before .before .before .before .before .before .before .before .before .before .before .before .before .pre .1)) }
+add-state c = record { fits = omega (arith, cmd-room (command (c .before .before .before .before .before .before .before .before .before .before .before .before .before .args .cmd)) (c .before .before .before .before .before .before .before .before .before .before .before .before .before .pre .1)) }
 
 -- src/lib.rt:115:5
 slice-write-state : tie.Need-slice-write-state

@@ -1,11 +1,11 @@
 -- What the acts do to a row of words. Assumes nothing.
-use mathlib.Core.Path.{_≡_, refl, sym, ap, _∙_}
+use mathlib.Core.Path.{_≡_, refl, _∙_}
 use mathlib.Core.Bool.{Bool, true, false, cond}
 use mathlib.Core.List.{List, [], _∷_, foldl}
 use mathlib.Core.Option.{Option, none, some}
-use Prim.Native.Nat.{ℕ, zero, suc, _+_, _-_, _*_, _/_, _≤_, _<_}
+use Prim.Native.Nat.{ℕ, zero, suc, _+_, _-_, _/_, _≤_, _<_}
 use native.Mathlib.Omega.{arith}
-use lib.Dec.{ltb, leb}
+use lib.Dec.{ltb}
 use lib.ListN.{length}
 use borrow.Author.Tests.{lt-ltb, le-ltb, le-leb, lt-leb}
 use Rattle.rules.specs.Lists.{times, keep}
@@ -15,7 +15,7 @@ use Rattle.rules.specs.Plans.{Act, paint, opaque, touch, close, pop, draw-act}
 use Rattle.rules.specs.Steps.{do-act, put-part}
 use Rattle.rules.specs.Commands.{Command, paint-fill, layer-fill, DepthFill}
 use Rattle.row.specs.Words.{Words, word, put-command, put-buf, end-buf, put-depth, word-ops, Room, Grown}
-use Rattle.row.proofs.Laws.{cmd-grown, cmd-levels, buf-grown, buf-levels, buf-renders, fill-grown, fill-levels, end-grown, end-levels, grown-refl, grown-trans, room-first, room-rest}
+use Rattle.row.proofs.Laws.{cmd-grown, cmd-levels, buf-grown, buf-levels, fill-grown, fill-levels, end-grown, end-levels, grown-refl, grown-trans, room-first, room-rest}
 use Rattle.act.specs.Acts.{ensured, acted, parted, edge, drawn}
 
 -- w′ is w grown, and its levels are at most 16

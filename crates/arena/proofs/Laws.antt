@@ -4,8 +4,8 @@ use mathlib.Core.List.{List, [], _∷_, _++_, append-assoc}
 use Prim.Native.Nat.{ℕ, zero, suc, _+_, _-_, _*_, _≤_, _<_}
 use native.Mathlib.Nat.{zero-mul, suc-mul, add-comm, mul-le-mul, mul-le-mul-right}
 use native.Mathlib.Omega.{arith}
-use lib.ListN.{length, take, drop, getD, set, length-take, length-drop, length-append, take-append-drop}
-use lib.Seq.{take-all, length-take-le, drop-drop, take-add, take-at, drop-at}
+use lib.ListN.{length, take, drop, getD, set, length-drop, length-append, take-append-drop}
+use lib.Seq.{length-take-le, drop-drop, take-add, take-at, drop-at}
 use borrow.Rule.Slice.PartMut.{putMid, same-len-mid}
 use Rattle.rules.specs.Lists.{change}
 use Rattle.rules.proofs.All.{All, nil, cons}

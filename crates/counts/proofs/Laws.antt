@@ -2,12 +2,10 @@
 use mathlib.Core.Path.{_≡_, refl, sym, ap, _∙_}
 use mathlib.Core.Bool.{Bool, true, false, cond}
 use mathlib.Core.List.{List, map}
-use mathlib.Core.Option.{Option, none, some}
-use Prim.Native.Nat.{ℕ, _+_, _-_, _≤_, _<_}
+use Prim.Native.Nat.{ℕ, _+_, _-_, _≤_}
 use native.Mathlib.Omega.{arith}
 use lib.Dec.{eqb}
 use lib.ListN.{length}
-use Rattle.rules.specs.Answers.{Done}
 use Rattle.rules.specs.Spans.{Span}
 use Rattle.rules.specs.Split.{Part, regular, buckets, split}
 use Rattle.rules.specs.Commands.{Command, paint-fill, layer-fill, DepthFill}
@@ -15,7 +13,7 @@ use Rattle.rules.specs.Plans.{Act, paint, opaque, touch, close, pop, Put, Plan,
 use Rattle.rules.specs.Steps.{Screen, do-puts, perform, call}
 use Rattle.rules.proofs.All.{All, all-any}
 use Rattle.rules.proofs.Maps.{PartOk, of-tiles, of-buckets, ActOk, paints, splits, touches, closes, pops, PutOk, Follows, screen-by, follows-puts, follows-perform, follows-call}
-use Rattle.row.specs.Words.{Words, word, put-command, put-buf, ended, end-buf, put-depth, word-ops}
+use Rattle.row.specs.Words.{Words, word, put-command, ended, end-buf, put-depth, word-ops}
 use Rattle.row.proofs.Laws.{cmd-renders, cmd-depths, cmd-levels, cmd-grown, buf-renders, buf-depths, buf-levels, buf-grown, fill-renders, fill-depths, fill-levels, fill-grown, end-grown, end-levels, ended-renders, ended-depths, ended-level}
 use Rattle.counts.specs.Counts.{Counts, counts, count, count-ops}
 

@@ -1,26 +1,23 @@
 -- The row operations on words follow those of the rules. Assumes nothing.
 use mathlib.Core.Path.{_≡_, refl, sym, ap, _∙_}
-use mathlib.Core.Bool.{Bool, true, false, cond}
 use mathlib.Core.List.{List, [], _∷_, _++_, append-assoc, append-nil}
 use mathlib.Core.Option.{Option, none, some}
-use Prim.Native.Nat.{ℕ, zero, suc, _+_, _-_, _*_, _/_, _%_, _≤_, _<_, min, max}
+use Prim.Native.Nat.{ℕ, zero, suc, _+_, _-_, _*_, _/_, _%_, _≤_, _<_, max}
 use native.Mathlib.Numerals.{add-one, add-two, add-three}
-use native.Mathlib.Nat.{add-zero}
 use native.Mathlib.Omega.{arith}
-use lib.Dec.{eqb}
-use lib.ListN.{length, getD, set, replicate, length-append, length-set}
-use lib.Seq.{sets, getD-append-add, getD-at, set-at}
+use lib.ListN.{length, getD, set, length-append, length-set}
+use lib.Seq.{getD-append-add, getD-at, set-at}
 use borrow.Author.Tests.{ne-eqb}
 use Rattle.rules.specs.Lists.{join, is-none, is-empty}
-use Rattle.rules.specs.Spans.{Span, span, hull}
+use Rattle.rules.specs.Spans.{Span, hull}
 use Rattle.rules.specs.Commands.{Command, paint-fill, layer-fill, push-buf, pop-buf, DepthFill, span-word, command-words, depth-words}
 use Rattle.rules.specs.Rows as rules
 use Rattle.rules.specs.Depth.{Summary}
 use Rattle.rules.specs.Rows.{Row, Level, include}
 use Rattle.rules.proofs.All.{never, head}
-use Rattle.row.specs.Words.{Words, words, word, put4, hull-word, widened, include-span, include-adds, put-command, put-buf, end-buf, put-depth}
+use Rattle.row.specs.Words.{word, put4, hull-word, include-span, include-adds, put-command, put-buf, end-buf, put-depth}
 use Rattle.encode.specs.Encode.{padded, union-words, stack, first-of, end-of, state-of, encode, Fine}
-use Rattle.encode.proofs.Pads.{zeros, padded-fits, padded-length, stored, stored-any, set-after, set-padded}
+use Rattle.encode.proofs.Pads.{zeros, padded-fits, stored-any, set-after, set-padded}
 
 -- commands
 four : (c : Command) → length (command-words c) ≡ 4

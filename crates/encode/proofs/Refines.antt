@@ -1,18 +1,18 @@
 -- Rows of words refine the rules' rows: `encode` follows every operation, so it follows every step. Assumes nothing.
-use mathlib.Core.Path.{_≡_, refl, sym, ap, _∙_}
+use mathlib.Core.Path.{_≡_, refl, ap, _∙_}
 use mathlib.Core.Bool.{Bool, true, false, cond}
 use mathlib.Core.List.{List, [], _∷_, _++_, map}
 use mathlib.Core.Option.{Option, none, some}
-use Prim.Native.Nat.{ℕ, zero, suc, _+_, _-_, _*_, _/_, _≤_, _<_, max}
+use Prim.Native.Nat.{ℕ, _+_, _-_, _*_, _≤_, _<_}
 use native.Mathlib.Nat.{div-mul-le-self, div-le-self}
 use native.Mathlib.Omega.{arith}
 use lib.Dec.{leb, ltb}
 use borrow.Author.Tests.{leb-false}
-use lib.ListN.{length, getD, set, replicate, length-append, length-set, List·getD-append}
+use lib.ListN.{length, set, replicate, length-append, length-set, List·getD-append}
 use lib.Seq.{getD-set-other, getD-append-seam}
-use Rattle.rules.specs.Lists.{keep, is-none, is-empty}
+use Rattle.rules.specs.Lists.{keep, is-empty}
 use Rattle.rules.specs.Spans.{Span, span, hull}
-use Rattle.rules.specs.Split.{Part, regular, buckets, split, raised, lowered, around}
+use Rattle.rules.specs.Split.{regular, buckets, split, raised, lowered, around}
 use Rattle.rules.specs.Commands.{Command, paint-fill, layer-fill, push-buf, pop-buf, DepthFill}
 use Rattle.encode.proofs.Pads.{padded-fits}
 use Rattle.rules.specs.Rows.{fresh-row, Row, Level, row-ops, adds, include, put-command, put-push-buf, pop-levels, put-pop-buf, put-depth-fill}

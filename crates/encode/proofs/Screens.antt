@@ -1,21 +1,21 @@
 -- A whole screen's words: the words of its rows, one after the other. Assumes nothing.
-use mathlib.Core.Path.{_≡_, refl, ap, _∙_}
+use mathlib.Core.Path.{_≡_, refl, ap}
 use mathlib.Core.List.{List, [], _∷_, map}
-use Prim.Native.Nat.{ℕ, zero, suc, _+_, _*_, _≤_, _<_}
+use Prim.Native.Nat.{ℕ, zero, suc, _*_, _≤_, _<_}
 use native.Mathlib.Omega.{arith}
 use lib.ListN.{length, replicate}
 use Rattle.rules.specs.Boxes.{rows-of}
 use Rattle.rules.specs.Rows.{Row, Level, fresh-row}
 use Rattle.rules.specs.Plans.{Frame}
-use Rattle.rules.specs.Steps.{Screen, reset}
+use Rattle.rules.specs.Steps.{reset}
 use Rattle.rules.specs.Commands.{command-words, depth-words}
 use Rattle.rules.specs.Lists.{join}
 use Rattle.rules.proofs.All.{All, all-mapped}
 use Rattle.rules.proofs.Maps.{screen-by}
-use Rattle.row.specs.Words.{Words, words, word, Ends}
-use Rattle.arena.specs.Arena.{Sizes, sizes, Sized, Long, cut, lay}
+use Rattle.row.specs.Words.{Words, words, Ends}
+use Rattle.arena.specs.Arena.{sizes, Sized, Long, cut, lay}
 use Rattle.arena.proofs.Laws.{cut-lay, lay-long}
-use Rattle.encode.specs.Encode.{padded, stack, placed, encode, Fine}
+use Rattle.encode.specs.Encode.{stack, placed, encode, Fine}
 use Rattle.encode.proofs.Pads.{padded-length}
 use Rattle.encode.proofs.Laws.{place-word}
 use Rattle.encode.proofs.Refines.{fresh-words}

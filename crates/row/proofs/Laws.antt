@@ -1,5 +1,5 @@
 -- What each operation does to a row's counts and lengths. Assumes nothing.
-use mathlib.Core.Path.{_≡_, refl, sym, ap, _∙_}
+use mathlib.Core.Path.{_≡_, refl, _∙_}
 use mathlib.Core.Bool.{Bool, true, false, cond}
 use mathlib.Core.List.{List}
 use mathlib.Core.Option.{Option, none, some}
@@ -16,7 +16,7 @@ use Rattle.cmd.specs.Commands.{NarrowCmd}
 use Rattle.cmd.specs.declared.command.RenderCmd.{RenderCmd}
 use Rattle.cmd.specs.declared.command.RenderCmd.the-variants.{PaintFill, LayerFill, PushBuf, PopBuf}
 use Rattle.row.specs.Cmds.{ShortCmd}
-use Rattle.row.specs.Words.{Words, words, word, put4, widened, include-span, include-adds, put-command, put-buf, ended, end-buf, put-depth, Room, Grown, Ends}
+use Rattle.row.specs.Words.{Words, word, widened, include-span, include-adds, put-command, put-buf, ended, end-buf, put-depth, Room, Grown, Ends}
 
 cond-length : (b : Bool) {n : ℕ} (xs ys : List ℕ) → length xs ≡ n → length ys ≡ n → length (cond b xs ys) ≡ n
 cond-length true xs ys p q = p

@@ -1,7 +1,7 @@
 -- What a row asks of the commands that it is given: tiles and buckets up to 8,192.
 use Prim.Native.Nat.{_≤_}
 use Rattle.rules.specs.Spans.{Span}
-use Rattle.span.specs.Spans.{tiles, buckets}
+use Rattle.span.specs.Spans.{tiles}
 use Rattle.cmd.specs.Commands.{NarrowPush}
 use Rattle.cmd.specs.declared.command.RenderCmd.{RenderCmd}
 use Rattle.cmd.specs.declared.command.RenderCmd.the-variants.{PaintFill, LayerFill, PushBuf, PopBuf}

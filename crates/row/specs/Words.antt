@@ -4,8 +4,8 @@
 -- then for level k from 1 to 16, at 3 + 3k: the place of its PushBuf, and the tag and the span word that its pop will store.
 use Prim.Native.Nat.{ℕ, _≤_, _<_, _+_, _-_, _*_, _/_, _%_, min, max}
 use mathlib.Core.Path.{_≡_}
-use mathlib.Core.Bool.{Bool, true, false, cond}
-use mathlib.Core.List.{List, [], _∷_}
+use mathlib.Core.Bool.{cond}
+use mathlib.Core.List.{List}
 use mathlib.Core.Option.{Option, none, some}
 use lib.ListN.{getD, set, length}
 use lib.Dec.{eqb}

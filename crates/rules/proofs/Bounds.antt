@@ -1,24 +1,24 @@
 -- Steps keep within bounds: what they put on rows ends at tile 8,192 at the latest, and layers' boxes stay on the screen. Assumes nothing.
-use mathlib.Core.Path.{_≡_, refl, sym, ap, _∙_}
+use mathlib.Core.Path.{_≡_, refl}
 use mathlib.Core.Bool.{Bool, true, false, _&&_, _||_, not, cond}
-use mathlib.Core.List.{List, [], _∷_, _++_, map}
+use mathlib.Core.List.{List, [], _∷_}
 use mathlib.Core.Option.{Option, none, some}
 use Prim.Native.Nat.{ℕ, _+_, _-_, _*_, _/_, _≤_, _<_, min, max}
 use native.Mathlib.Omega.{arith}
 use lib.Dec.{leb, ltb, eqb}
 use lib.ListN.{length}
 use borrow.Author.Tests.{leb-true, ltb-true, eqb-true}
-use Rattle.rules.specs.Lists.{every, some-of, join}
-use Rattle.rules.specs.Answers.{Answer, answer, first-of, settle, Done, BadRecord, BadOrder}
-use Rattle.rules.specs.Boxes.{Box, box, width, height, by-4, bounded, good-box, good-dest, good-viewport, empty-box, meet, to-local, whole, rows-in, span-of, scene-tiles}
-use Rattle.rules.specs.Spans.{Span, span, Stretch, common, meeting, when-some, cut-at, cut-when, cut-to}
-use Rattle.rules.specs.Segments.{Segment, good-segment, ordered, judge-segments, stretch-of, Cut, localised, on-row, cut-in, cuts}
-use Rattle.rules.specs.Inputs.{Paint, Draw, Clip, Props, good-clip, good-handle, all-good, good-props, Filter, good-filter, draw-segments, good-draw, draw-paint}
+use Rattle.rules.specs.Lists.{every, some-of}
+use Rattle.rules.specs.Answers.{answer, first-of, Done, BadRecord, BadOrder}
+use Rattle.rules.specs.Boxes.{Box, width, height, by-4, bounded, good-box, good-dest, good-viewport, empty-box, rows-in, span-of, scene-tiles}
+use Rattle.rules.specs.Spans.{Span, span, Stretch, common, meeting, cut-at, cut-when, cut-to}
+use Rattle.rules.specs.Segments.{Segment, good-segment, ordered, judge-segments, stretch-of, Cut, localised, cut-in, cuts}
+use Rattle.rules.specs.Inputs.{Paint, Draw, Clip, Props, good-clip, good-handle, all-good, good-props, Filter, good-filter, draw-segments, good-draw}
 use Rattle.rules.specs.Blends.{good-blend}
 use Rattle.rules.specs.Rows.{RowOps}
-use Rattle.rules.specs.Plans.{Frame, Layer, State, Step, a-fill, a-push, a-pop, a-filter, Act, paint, opaque, touch, close, pop, Put, on, Plan, still, clip-box, box-of, draw-act, draw-puts, plan-fill, layer-box, touches-all, plan-push, clip-segments, clip-fits, close-puts, closing, plan-pop, filter-box, draws-nothing, filter-puts, plan-filter-in, plan-filter, plan}
+use Rattle.rules.specs.Plans.{Frame, Layer, State, Step, a-fill, a-push, a-pop, a-filter, paint, touch, close, pop, on, Plan, still, clip-box, box-of, draw-act, draw-puts, plan-fill, layer-box, touches-all, plan-push, clip-segments, clip-fits, close-puts, closing, plan-pop, filter-box, draws-nothing, filter-puts, plan-filter-in, plan-filter, plan}
 use Rattle.rules.specs.Steps.{Screen, reset, done, refusal, perform, touched, call}
-use Rattle.rules.proofs.All.{All, nil, cons, head, tail, never, both, all-if, all-append, all-mapped, all-join, every-all}
+use Rattle.rules.proofs.All.{All, nil, cons, head, tail, both, all-if, all-append, all-mapped, all-join, every-all}
 use Rattle.rules.proofs.Maps.{ActOk, paints, splits, touches, closes, pops, PutOk, planned}
 
 -- both ends at tile 8,192 at the latest

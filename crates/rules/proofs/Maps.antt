@@ -1,21 +1,20 @@
 -- A map of rows that follows every row operation follows every act, every list of puts and every step. Assumes nothing.
 use mathlib.Core.Path.{_≡_, refl, sym, ap, _∙_}
-use mathlib.Core.Bool.{Bool, true, false, _||_, cond}
+use mathlib.Core.Bool.{Bool, true, false, cond}
 use mathlib.Core.List.{List, [], _∷_, map, foldl}
-use mathlib.Core.Option.{Option, none, some}
+use mathlib.Core.Option.{Option, none}
 use Prim.Native.Nat.{ℕ, zero, suc, _+_, _-_, _≤_, _<_}
 use native.Mathlib.Omega.{arith}
 use lib.Dec.{ltb, eqb}
 use lib.ListN.{length}
 use borrow.Author.Tests.{ltb-false, eqb-true}
-use Rattle.rules.specs.Lists.{some-of, times, change}
-use Rattle.rules.specs.Answers.{Answer, answer, settle, first-of, Done, Deep, Ids, FullAttrs, FullRow, FullDepth}
+use Rattle.rules.specs.Lists.{times, change}
+use Rattle.rules.specs.Answers.{Answer, answer, settle, Done, Deep}
 use Rattle.rules.specs.Spans.{Span}
 use Rattle.rules.specs.Split.{Part, regular, buckets, split}
 use Rattle.rules.specs.Commands.{paint-fill, layer-fill}
 use Rattle.rules.specs.Rows.{RowOps}
-use Rattle.rules.specs.Attributes.{attrs-full}
-use Rattle.rules.specs.Plans.{State, Step, Act, paint, opaque, touch, close, pop, Put, Plan, plan}
+use Rattle.rules.specs.Plans.{Step, Act, paint, opaque, touch, close, pop, Put, Plan, plan}
 use Rattle.rules.specs.Steps.{Screen, ensure, put-part, do-act, do-puts, done, row-passes, passes, refusal, perform, touched, call}
 use Rattle.rules.proofs.All.{All, nil, cons}
 

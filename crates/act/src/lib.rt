@@ -1,0 +1,138 @@
+// What a step does to one row (bucketer.rs). These are parts: each has a `requires`, which its callers have judged. `n` is the number of
+// open layers. A closing LayerFill is row::push_cmd, and a pop is row::pop_buf.
+use cmd::command::Fill;
+use cmd::command::RenderCmd;
+use cmd::depth_fill::DepthFill;
+use row::push_buf;
+use row::push_cmd;
+use row::push_depth_fill;
+use span::Alpha;
+use span::BucketRange;
+use span::TileSpan;
+ghost use mathlib.Core.Path.{_≡_};
+ghost use mathlib.Core.Option.{none};
+ghost use Prim.Native.Nat.{_≤_};
+ghost use Rattle.rules.specs.Commands.{paint-fill};
+ghost use Rattle.span.specs.Spans.{tiles};
+ghost use Rattle.row.specs.Words.{words, put-command, Room};
+ghost use Rattle.row.specs.Cmds.{Short};
+ghost use Rattle.act.specs.Acts.{alpha-of, ensured, parted, edge, drawn};
+
+// Rule 5: a PushBuf for each open layer that the row lacks. A destructive push does this alone (rule 8).
+pub fn ensure_row_layers(state: &mut [u32], render: &mut [u32], fills: &mut [u32], n: u32)
+    requires { ⌜ (n ≤ 16) × Room (words (now state) (now render) (now fills)) (ensured n (words (now state) (now render) (now fills))) ⌝ }
+    ensures { λ _. ⌜ words (now (state .exit)) (now (render .exit)) (now (fills .exit)) ≡ ensured n (words (now (state .entry)) (now (render .entry)) (now (fills .entry))) ⌝ }
+{
+    let mut k = state[5];
+    while k < n {
+        push_buf(state, render, fills);
+        k += 1;
+    }
+}
+
+// One PaintFill.
+fn push_paint(
+    state: &mut [u32],
+    render: &mut [u32],
+    fills: &mut [u32],
+    span: TileSpan,
+    alpha: Alpha,
+    attrs_idx: u32,
+)
+    requires { ⌜ Short (tiles span) × Room (words (now state) (now render) (now fills)) (put-command (paint-fill (tiles span) (alpha-of alpha) «attrs_idx») (words (now state) (now render) (now fills))) ⌝ }
+    ensures { λ _. ⌜ words (now (state .exit)) (now (render .exit)) (now (fills .exit)) ≡ put-command (paint-fill (tiles span) (alpha-of alpha) «attrs_idx») (words (now (state .entry)) (now (render .entry)) (now (fills .entry))) ⌝ }
+{
+    let fill = Fill {
+        span,
+        alpha,
+        attrs_idx,
+    };
+    push_cmd(state, render, fills, RenderCmd::PaintFill(fill));
+}
+
+// Rule 7: the regular piece on one side of a depth fill, if it has tiles.
+fn push_edge(
+    state: &mut [u32],
+    render: &mut [u32],
+    fills: &mut [u32],
+    span: TileSpan,
+    attrs_idx: u32,
+)
+    requires { ⌜ Short (tiles span) × Room (words (now state) (now render) (now fills)) (edge (tiles span) «attrs_idx» (words (now state) (now render) (now fills))) ⌝ }
+    ensures { λ _. ⌜ words (now (state .exit)) (now (render .exit)) (now (fills .exit)) ≡ edge (tiles span) «attrs_idx» (words (now (state .entry)) (now (render .entry)) (now (fills .entry))) ⌝ }
+{
+    if span.first < span.end {
+        push_paint(state, render, fills, span, Alpha::Solid, attrs_idx);
+    }
+}
+
+// Rule 7: an eligible span, split over buckets of 32 tiles.
+fn push_opaque(
+    state: &mut [u32],
+    render: &mut [u32],
+    fills: &mut [u32],
+    span: TileSpan,
+    attrs_idx: u32,
+    draw_id: u32,
+)
+    requires { ⌜ Short (tiles span) × Room (words (now state) (now render) (now fills)) (parted «attrs_idx» «draw_id» (tiles span) (words (now state) (now render) (now fills))) ⌝ }
+    ensures { λ _. ⌜ words (now (state .exit)) (now (render .exit)) (now (fills .exit)) ≡ parted «attrs_idx» «draw_id» (tiles span) (words (now (state .entry)) (now (render .entry)) (now (fills .entry))) ⌝ }
+{
+    let a = (span.first + 31) / 32 * 32;
+    let b = span.end / 32 * 32;
+    if b <= a {
+        push_paint(state, render, fills, span, Alpha::Solid, attrs_idx);
+        return;
+    }
+    let left = TileSpan {
+        first: span.first,
+        end: a,
+    };
+    let right = TileSpan {
+        first: b,
+        end: span.end,
+    };
+    let buckets = BucketRange {
+        first: a / 32,
+        end: b / 32,
+    };
+    push_edge(state, render, fills, left, attrs_idx);
+    push_depth_fill(
+        state,
+        render,
+        fills,
+        DepthFill { buckets, attrs_idx },
+        draw_id,
+    );
+    push_edge(state, render, fills, right, attrs_idx);
+}
+
+// Rules 5 to 7: what is left of a segment, on its row. `eligible` is rule 6's, for the whole draw.
+pub fn push_fill(
+    state: &mut [u32],
+    render: &mut [u32],
+    fills: &mut [u32],
+    n: u32,
+    eligible: bool,
+    span: TileSpan,
+    alpha: Alpha,
+    attrs_idx: u32,
+    draw_id: u32,
+)
+    requires { ⌜ Short (tiles span) × (n ≤ 16) × Room (words (now state) (now render) (now fills)) (drawn n eligible (tiles span) (alpha-of alpha) «attrs_idx» «draw_id» (words (now state) (now render) (now fills))) ⌝ }
+    ensures { λ _. ⌜ words (now (state .exit)) (now (render .exit)) (now (fills .exit)) ≡ drawn n eligible (tiles span) (alpha-of alpha) «attrs_idx» «draw_id» (words (now (state .entry)) (now (render .entry)) (now (fills .entry))) ⌝ }
+{
+    ensure_row_layers(state, render, fills, n);
+    match alpha {
+        Alpha::Solid => {
+            if eligible {
+                push_opaque(state, render, fills, span, attrs_idx, draw_id);
+                return;
+            }
+            push_paint(state, render, fills, span, Alpha::Solid, attrs_idx);
+        }
+        Alpha::At(index) => {
+            push_paint(state, render, fills, span, Alpha::At(index), attrs_idx);
+        }
+    }
+}

@@ -2,6 +2,11 @@
 ghost use mathlib.Core.Path.{_≡_};
 ghost use Rattle.cmd.specs.Answers.{number-of};
 
+pub mod attrs;
+pub mod blend;
+pub mod command;
+pub mod depth_fill;
+
 // Document 01's answers. `number` gives each its number.
 pub enum Answer {
     Done,

@@ -1,0 +1,96 @@
+// Attributes of fills, and the tables that hold them. Each table has a fixed number of words for each attribute.
+use crate::blend::Blend;
+ghost use mathlib.Core.Path.{_≡_};
+ghost use Prim.Native.Nat.{_+_, _*_, _<_};
+ghost use lib.ListN.{length, getD};
+ghost use Rattle.cmd.specs.Attrs.{put-paint, layer-tables, put-layer, put-filter};
+
+// Rule 3: what a fill's commands share.
+pub struct PaintFillAttrs {
+    pub paint: u32,
+    pub blend: Blend,
+    pub mask: u32,
+    pub draw_id: u32,
+    pub thread_idx: u32,
+    pub origin_x: u32,
+    pub origin_y: u32,
+}
+
+// Rule 9: what a closing layer's fills share. `nan` is the pattern of a NaN opacity that came from a file, else 0.
+pub struct LayerFillAttrs {
+    pub blend: Blend,
+    pub opacity: f32,
+    pub nan: u32,
+    pub mask: u32,
+    pub draw_id: u32,
+    pub thread_idx: u32,
+}
+
+// Rule 11: the paint of a filter fill. The shift is source minus destination, and may be negative.
+pub struct FilterPaint {
+    pub pixmap: u32,
+    pub shift_x: i32,
+    pub shift_y: i32,
+}
+
+pub fn put_paint_attrs(table: &mut [u32], i: usize, a: PaintFillAttrs)
+    requires { ⌜ (i < 1024) × (length (now table) ≡ 8192) ⌝ }
+    ensures { λ _. ⌜ now (table .exit) ≡ put-paint (now (table .entry)) i a ⌝ }
+{
+    let blend = a.blend;
+    let at = 8 * i;
+    table[at] = a.paint;
+    table[at + 1] = blend.mix;
+    table[at + 2] = blend.compose;
+    table[at + 3] = a.mask;
+    table[at + 4] = a.draw_id;
+    table[at + 5] = a.thread_idx;
+    table[at + 6] = a.origin_x;
+    table[at + 7] = a.origin_y;
+}
+
+// The id of a paint attribute.
+pub fn paint_id(table: &[u32], i: usize) -> u32
+    requires { ⌜ (i < 1024) × (length (now table) ≡ 8192) ⌝ }
+    ensures { λ r. ⌜ r ≡ getD (now (table .entry)) (8 * i + 4) 0 ⌝ }
+{
+    table[8 * i + 4]
+}
+
+// The opacities of the 16 open layers stand before those of the attributes.
+pub fn put_layer_attrs(table: &mut [u32], opacities: &mut [f32], i: usize, a: LayerFillAttrs)
+    requires { ⌜ (i < 1024) × (length (now table) ≡ 6144) × (length (now opacities) ≡ 1040) ⌝ }
+    ensures { λ _. ⌜ layer-tables (now (table .exit)) (now (opacities .exit)) ≡ put-layer (layer-tables (now (table .entry)) (now (opacities .entry))) i a ⌝ }
+{
+    let blend = a.blend;
+    let at = 6 * i;
+    table[at] = blend.mix;
+    table[at + 1] = blend.compose;
+    table[at + 2] = a.mask;
+    table[at + 3] = a.draw_id;
+    table[at + 4] = a.thread_idx;
+    table[at + 5] = a.nan;
+    opacities[16 + i] = a.opacity;
+}
+
+// The id of a layer attribute.
+pub fn layer_id(table: &[u32], i: usize) -> u32
+    requires { ⌜ (i < 1024) × (length (now table) ≡ 6144) ⌝ }
+    ensures { λ r. ⌜ r ≡ getD (now (table .entry)) (6 * i + 3) 0 ⌝ }
+{
+    table[6 * i + 3]
+}
+
+pub fn put_filter_paint(table: &mut [i32], i: usize, p: FilterPaint)
+    requires { ⌜ (i < 256) × (length (now table) ≡ 1024) × (p .pixmap < 2147483648) ⌝ }
+    ensures { λ _. ⌜ now (table .exit) ≡ put-filter (now (table .entry)) i p ⌝ }
+{
+    let pixmap = p.pixmap as i32;
+    let shift_x = p.shift_x;
+    let shift_y = p.shift_y;
+    let at = 4 * i;
+    table[at] = 0;
+    table[at + 1] = pixmap;
+    table[at + 2] = shift_x;
+    table[at + 3] = shift_y;
+}

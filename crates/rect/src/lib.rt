@@ -1,7 +1,6 @@
 // Boxes in pixels (vello_common's RectU16). Parts: `is_..` judge any numbers, the others are exact on any.
 ghost use mathlib.Core.Path.{_≡_};
 ghost use Prim.Native.Nat.{_-_};
-ghost use lib.Dec.{eqb};
 ghost use Rattle.rules.specs.Boxes.{width, height, empty-box, meet, to-local, bounded, good-dest, good-box, good-viewport, whole, span-of, box};
 ghost use Rattle.span.specs.Spans.{tiles};
 ghost use Rattle.rect.specs.Rects.{box-of, same-box};
@@ -9,6 +8,7 @@ use span::TileSpan;
 use span::larger;
 use span::smaller;
 
+// From a left and a top edge to a right and a bottom edge, in pixels.
 pub struct Rect {
     pub x0: u32,
     pub y0: u32,
@@ -24,18 +24,21 @@ pub fn less(a: u32, b: u32) -> u32
 }
 
 impl Rect {
+    // From left to right, 0 where the end is not after the start.
     pub fn width(self) -> u32
         ensures { λ r. ⌜ r ≡ width (box-of self) ⌝ }
     {
         less(self.x1, self.x0)
     }
 
+    // From top to bottom, likewise.
     pub fn height(self) -> u32
         ensures { λ r. ⌜ r ≡ height (box-of self) ⌝ }
     {
         less(self.y1, self.y0)
     }
 
+    // No pixel lies in it.
     pub fn is_empty(self) -> bool
         ensures { λ r. ⌜ r ≡ empty-box (box-of self) ⌝ }
     {
@@ -45,6 +48,7 @@ impl Rect {
         self.y1 <= self.y0
     }
 
+    // The pixels of both.
     pub fn intersect(self, other: Rect) -> Rect
         ensures { λ r. ⌜ box-of r ≡ meet (box-of self) (box-of other) ⌝ }
     {
@@ -56,6 +60,7 @@ impl Rect {
         }
     }
 
+    // Seen from the pixel x, y; a side left of it or above it comes to 0.
     pub fn relative_to_origin(self, x: u32, y: u32) -> Rect
         ensures { λ r. ⌜ box-of r ≡ to-local (box x y 0 0) (box-of self) ⌝ }
     {
@@ -83,6 +88,7 @@ impl Rect {
         self.y1 <= 32768
     }
 
+    // A filter's dest box: bounded, x in whole tiles.
     pub fn is_good_dest(self) -> bool
         ensures { λ r. ⌜ r ≡ good-dest (box-of self) ⌝ }
     {
@@ -95,6 +101,7 @@ impl Rect {
         self.is_bounded()
     }
 
+    // A clip's box: bounded, in whole tiles.
     pub fn is_good(self) -> bool
         ensures { λ r. ⌜ r ≡ good-box (box-of self) ⌝ }
     {
@@ -107,6 +114,7 @@ impl Rect {
         self.is_good_dest()
     }
 
+    // The viewport rules: a good box of at most 4,096 x 2,048 pixels.
     pub fn is_good_viewport(self) -> bool
         ensures { λ r. ⌜ r ≡ good-viewport (box-of self) ⌝ }
     {
@@ -119,6 +127,7 @@ impl Rect {
         self.height() <= 2048
     }
 
+    // A box of the same size at 0, 0: the first clip box of this viewport.
     pub fn whole(self) -> Rect
         ensures { λ r. ⌜ box-of r ≡ whole (box-of self) ⌝ }
     {
@@ -130,6 +139,7 @@ impl Rect {
         }
     }
 
+    // The tiles from left to right; an empty box has none.
     pub fn bbox_span(self) -> TileSpan
         ensures { λ r. ⌜ tiles r ≡ span-of (box-of self) ⌝ }
     {
@@ -143,6 +153,7 @@ impl Rect {
         }
     }
 
+    // The same four edges.
     pub fn is_same(self, other: Rect) -> bool
         ensures { λ r. ⌜ r ≡ same-box (box-of self) (box-of other) ⌝ }
     {

@@ -1,30 +1,21 @@
 use borrow.Author.Needs.{needs}
 use Rattle.rect.proofs.Rect.intersect.Statement.{statement}
 use Rattle.rect.proofs.Rect.intersect.Tie as tie
-use Rattle.rect.proofs.Rect.intersect.Reads as reads
-use Rattle.rect.proofs.Rect.intersect.Lts as lts
-use Rattle.span.proofs.larger.Reads as larger-reads
-use Rattle.span.proofs.smaller.Reads as smaller-reads
 
--- src/lib.rt:52:17
 larger-requires : tie.Need-larger-requires
 larger-requires c κs = search needs
 
--- src/lib.rt:53:17
 larger-requires-2 : tie.Need-larger-requires-2
 larger-requires-2 c κs = search needs
 
--- src/lib.rt:54:17
 smaller-requires : tie.Need-smaller-requires
 smaller-requires c κs = search needs
 
--- src/lib.rt:55:17
 smaller-requires-2 : tie.Need-smaller-requires-2
 smaller-requires-2 c κs = search needs
 
--- src/lib.rt:48:5
 returns : tie.Need-returns
-returns c = ?
+returns c = rw (c .before .before .before .larger .ensures, c .before .before .larger2 .ensures, c .before .smaller .ensures, c .smaller2 .ensures)
 
 pub intersect-spec : {M : Type 1} → statement M
 intersect-spec =

@@ -1,23 +1,18 @@
+use borrow.Author.Tests.{le-leb, lt-leb}
 use Rattle.rect.proofs.Rect.is_bounded.Statement.{statement}
 use Rattle.rect.proofs.Rect.is_bounded.Tie as tie
-use Rattle.rect.proofs.Rect.is_bounded.Reads as reads
-use Rattle.rect.proofs.Rect.is_bounded.Lts as lts
 
--- src/lib.rt:75:13
 returns : tie.Need-returns
-returns c = ?
+returns c = rw (lt-leb _ _ (c .if1 .taken))
 
--- src/lib.rt:78:13
 returns-2 : tie.Need-returns-2
-returns-2 c = ?
+returns-2 c = rw (le-leb _ _ (c .before .before .if1 .left), lt-leb _ _ (c .if2 .taken))
 
--- src/lib.rt:81:13
 returns-3 : tie.Need-returns-3
-returns-3 c = ?
+returns-3 c = rw (le-leb _ _ (c .before .before .before .before .if1 .left), le-leb _ _ (c .before .before .if2 .left), lt-leb _ _ (c .if3 .taken))
 
--- src/lib.rt:71:5
 returns-4 : tie.Need-returns-4
-returns-4 c = ?
+returns-4 c = rw (le-leb _ _ (c .before .before .before .before .before .if1 .left), le-leb _ _ (c .before .before .before .if2 .left), le-leb _ _ (c .before .if3 .left))
 
 pub is-bounded-spec : {M : Type 1} → statement M
 is-bounded-spec = tie.close (tie.spec returns returns-2 returns-3 returns-4)

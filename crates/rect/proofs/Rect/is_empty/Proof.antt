@@ -1,15 +1,12 @@
+use borrow.Author.Tests.{le-leb, lt-leb}
 use Rattle.rect.proofs.Rect.is_empty.Statement.{statement}
 use Rattle.rect.proofs.Rect.is_empty.Tie as tie
-use Rattle.rect.proofs.Rect.is_empty.Reads as reads
-use Rattle.rect.proofs.Rect.is_empty.Lts as lts
 
--- src/lib.rt:43:13
 returns : tie.Need-returns
-returns c = ?
+returns c = rw (le-leb _ _ (c .if1 .taken))
 
--- src/lib.rt:39:5
 returns-2 : tie.Need-returns-2
-returns-2 c = ?
+returns-2 c = rw (lt-leb _ _ (c .before .if1 .left))
 
 pub is-empty-spec : {M : Type 1} → statement M
 is-empty-spec = tie.close (tie.spec returns returns-2)

@@ -1,35 +1,30 @@
+use borrow.Author.Tests.{le-leb, lt-leb, not-true, not-false}
+use mathlib.Core.Path.{sym, _∙_}
+use Rattle.rules.specs.Boxes.{good-viewport}
 use borrow.Author.Needs.{needs}
 use Rattle.rect.proofs.Rect.is_good_viewport.Statement.{statement}
 use Rattle.rect.proofs.Rect.is_good_viewport.Tie as tie
-use Rattle.rect.proofs.Rect.is_good_viewport.Reads as reads
-use Rattle.rect.proofs.Rect.is_good_viewport.Lts as lts
-use Rattle.rect.proofs.Rect.height.Reads as height-reads
-use Rattle.rect.proofs.Rect.is_good.Reads as is-good-reads
-use Rattle.rect.proofs.Rect.width.Reads as width-reads
 
--- src/lib.rt:113:13
 is-good-requires : tie.Need-is-good-requires
 is-good-requires c κs = search needs
 
--- src/lib.rt:114:13
 returns : tie.Need-returns
-returns c = ?
+unfolding good-viewport
+returns c = rw (sym (c .before .is-good .ensures) ∙ not-true _ (c .if1 .taken))
 
--- src/lib.rt:116:19
 width-requires : tie.Need-width-requires
 width-requires c κs = search needs
 
--- src/lib.rt:117:13
 returns-2 : tie.Need-returns-2
-returns-2 c = ?
+unfolding good-viewport
+returns-2 c = rw (sym (c .before .before .before .is-good .ensures) ∙ not-false _ (c .before .before .if1 .left), lt-leb _ _ (rw (c .before .width .ensures) at (c .if2 .taken)))
 
--- src/lib.rt:119:9
 height-requires : tie.Need-height-requires
 height-requires c κs = search needs
 
--- src/lib.rt:110:5
 returns-3 : tie.Need-returns-3
-returns-3 c = ?
+unfolding good-viewport
+returns-3 c = rw (sym (c .before .before .before .before .is-good .ensures) ∙ not-false _ (c .before .before .before .if1 .left), le-leb _ _ (rw (c .before .before .width .ensures) at (c .before .if2 .left)), c .height .ensures)
 
 pub is-good-viewport-spec : {M : Type 1} → statement M
 is-good-viewport-spec =

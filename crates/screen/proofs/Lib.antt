@@ -1,0 +1,6 @@
+pub mod Numbers
+pub mod Clearing
+pub mod Laws
+pub mod Judged
+pub mod Resets
+pub mod Passed

@@ -1,0 +1,157 @@
+// One row over its own words (bucketer.rs, RowState). These are parts: each has a `requires`, which its callers have judged. They know
+// one row and not its place on the screen; all take the row's three slices: state, render commands, depth fills.
+use cmd::command::RenderCmd;
+use cmd::depth_fill::DepthFill;
+use span::larger;
+use span::smaller;
+ghost use mathlib.Core.Path.{_≡_};
+ghost use Prim.Native.Nat.{_+_, _*_, _≤_, _<_};
+ghost use lib.ListN.{length, getD};
+ghost use Rattle.rules.specs.Rows.{adds};
+ghost use Rattle.cmd.specs.Commands.{command};
+ghost use Rattle.cmd.specs.DepthFills.{depth-fill};
+ghost use Rattle.span.specs.Spans.{buckets};
+ghost use Rattle.row.specs.Cmds.{Short, ShortCmd};
+ghost use Rattle.row.specs.Words.{words, put4, hull-word, include-span, include-adds, put-command, put-buf, end-buf, put-depth, Room, Ends};
+
+pub fn wide(x: u32) -> usize
+    ensures { λ r. ⌜ r ≡ x ⌝ }
+{
+    x as usize
+}
+
+// The span word of a union that grows; the tag 6 says that there is one already.
+fn hull_word(tag: u32, span: u32, first: u32, end: u32) -> u32
+    requires { ⌜ (first ≤ 8192) × («end» ≤ 8192) ⌝ }
+    ensures { λ r. ⌜ r ≡ hull-word tag span first «end» ⌝ }
+{
+    if tag == 6 {
+        smaller(span / 65536, first) * 65536 + larger(span % 65536, end)
+    } else {
+        first * 65536 + end
+    }
+}
+
+// Rule 10: a fill counts for the innermost level.
+fn include_current_span(state: &mut [u32], first: u32, end: u32)
+    requires { ⌜ (length (now state) ≡ 54) × (getD (now state) 5 0 ≤ 16) × (first ≤ 8192) × («end» ≤ 8192) ⌝ }
+    ensures { λ _. ⌜ now (state .exit) ≡ include-span first «end» (now (state .entry)) ⌝ }
+{
+    let k = wide(state[5]);
+    if k == 0 {
+        return;
+    }
+    let at = 3 + 3 * k;
+    let tag = state[at + 1];
+    let span = state[at + 2];
+    state[at + 1] = 6;
+    state[at + 2] = hull_word(tag, span, first, end);
+}
+
+// The four words of command n.
+fn put_four(s: &mut [u32], n: u32, a: u32, b: u32, x: u32, y: u32)
+    requires { ⌜ 4 * n + 4 ≤ length (now s) ⌝ }
+    ensures { λ _. ⌜ now (s .exit) ≡ put4 (now (s .entry)) n a b x y ⌝ }
+{
+    let at = 4 * wide(n);
+    s[at] = a;
+    s[at + 1] = b;
+    s[at + 2] = x;
+    s[at + 3] = y;
+}
+
+// Rule 10: a command's span, if it is a fill, counts for the innermost level.
+fn include_cmd(state: &mut [u32], cmd: RenderCmd)
+    requires { ⌜ (length (now state) ≡ 54) × (getD (now state) 5 0 ≤ 16) × ShortCmd cmd ⌝ }
+    ensures { λ _. ⌜ now (state .exit) ≡ include-adds (adds (command cmd)) (now (state .entry)) ⌝ }
+{
+    match cmd {
+        RenderCmd::PaintFill(fill) => {
+            let span = fill.span;
+            include_current_span(state, span.first, span.end);
+        }
+        RenderCmd::LayerFill(fill) => {
+            let span = fill.span;
+            include_current_span(state, span.first, span.end);
+        }
+        RenderCmd::PushBuf(_) => {}
+        RenderCmd::PopBuf => {}
+    }
+}
+
+// Any command, as it stands.
+pub fn push_cmd(state: &mut [u32], render: &mut [u32], fills: &mut [u32], cmd: RenderCmd)
+    requires { ⌜ ShortCmd cmd × Room (words (now state) (now render) (now fills)) (put-command (command cmd) (words (now state) (now render) (now fills))) ⌝ }
+    ensures { λ _. ⌜ words (now (state .exit)) (now (render .exit)) (now (fills .exit)) ≡ put-command (command cmd) (words (now (state .entry)) (now (render .entry)) (now (fills .entry))) ⌝ }
+{
+    let n = state[0];
+    let four = cmd.words();
+    include_cmd(state, cmd);
+    put_four(render, n, four.tag, four.span, four.alpha, four.attrs_idx);
+    state[0] = n + 1;
+}
+
+// Rule 5: a PushBuf, one level more. Its span is none so far.
+pub fn push_buf(state: &mut [u32], render: &mut [u32], fills: &mut [u32])
+    requires { ⌜ (getD (now state) 5 0 < 16) × Room (words (now state) (now render) (now fills)) (put-buf (words (now state) (now render) (now fills))) ⌝ }
+    ensures { λ _. ⌜ words (now (state .exit)) (now (render .exit)) (now (fills .exit)) ≡ put-buf (words (now (state .entry)) (now (render .entry)) (now (fills .entry))) ⌝ }
+{
+    let n = state[0];
+    let k = state[5] + 1;
+    put_four(render, n, 5, 0, 0, 0);
+    let at = 3 + 3 * wide(k);
+    state[at] = n;
+    state[at + 1] = 5;
+    state[at + 2] = 0;
+    state[5] = k;
+    state[0] = n + 1;
+}
+
+// Rules 9 and 10: a PopBuf; the level's PushBuf gets its span, and the level's words become 0.
+pub fn pop_buf(state: &mut [u32], render: &mut [u32], fills: &mut [u32])
+    requires { ⌜ Ends (words (now state) (now render) (now fills)) × Room (words (now state) (now render) (now fills)) (end-buf (words (now state) (now render) (now fills))) ⌝ }
+    ensures { λ _. ⌜ words (now (state .exit)) (now (render .exit)) (now (fills .exit)) ≡ end-buf (words (now (state .entry)) (now (render .entry)) (now (fills .entry))) ⌝ }
+{
+    let n = state[0];
+    let k = state[5];
+    let at = 3 + 3 * wide(k);
+    let p = 4 * wide(state[at]);
+    render[p] = state[at + 1];
+    render[p + 1] = state[at + 2];
+    put_four(render, n, 7, 0, 0, 0);
+    state[at] = 0;
+    state[at + 1] = 0;
+    state[at + 2] = 0;
+    state[5] = k - 1;
+    state[0] = n + 1;
+}
+
+// Rule 7: a depth fill; the row's summary takes in its tiles, 32 a bucket, and its id.
+pub fn push_depth_fill(
+    state: &mut [u32],
+    render: &mut [u32],
+    fills: &mut [u32],
+    cmd: DepthFill,
+    draw_id: u32,
+)
+    requires { ⌜ Short (buckets (cmd .buckets)) × Room (words (now state) (now render) (now fills)) (put-depth 32 (depth-fill cmd) «draw_id» (words (now state) (now render) (now fills))) ⌝ }
+    ensures { λ _. ⌜ words (now (state .exit)) (now (render .exit)) (now (fills .exit)) ≡ put-depth 32 (depth-fill cmd) «draw_id» (words (now (state .entry)) (now (render .entry)) (now (fills .entry))) ⌝ }
+{
+    let two = cmd.words();
+    let range = cmd.buckets;
+    let n = state[1];
+    let first = if n == 0 {
+        range.first * 32
+    } else {
+        smaller(state[2], range.first * 32)
+    };
+    let end = larger(state[3], range.end * 32);
+    let largest = larger(state[4], draw_id);
+    state[2] = first;
+    state[3] = end;
+    state[4] = largest;
+    state[1] = n + 1;
+    let at = 2 * wide(n);
+    fills[at] = two.span;
+    fills[at + 1] = two.attrs_idx;
+}

@@ -1,0 +1,4 @@
+pub mod All
+pub mod Changes
+pub mod Maps
+pub mod Bounds

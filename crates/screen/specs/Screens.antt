@@ -1,0 +1,105 @@
+-- A screen's numbers: what it stands for among the rules, and which are good (answer 4).
+use Prim.Native.Nat.{ℕ, _+_}
+use mathlib.Core.Bool.{Bool, true, false, _&&_, cond}
+use mathlib.Core.List.{List, [], _∷_}
+use mathlib.Core.Option.{none}
+use lib.ListN.{length, replicate}
+use lib.Dec.{leb, eqb}
+use lib.IntN.{pos}
+use Rattle.rules.specs.Boxes.{Box, width, height, by-4, whole}
+use Rattle.rules.specs.Blends.{default-blend}
+use Rattle.rules.specs.Attributes.{PaintAttr, LayerAttr, FilterPaint}
+use Rattle.rules.specs.Plans.{Frame, Layer, State, Plan, clip-box}
+use Rattle.rect.specs.declared.Rect.{Rect}
+use Rattle.rect.specs.Rects.{box-of, same-box}
+use Rattle.screen.specs.declared.Screen.{Screen}
+
+-- what a reset fixed
+abbrev pub frame-of : Screen → Frame
+frame-of s = record { viewport = box-of (s .viewport); c = s .c; d = s .d }
+
+-- the clip box b of n open layers in the viewport v: the whole viewport with none open
+unfoldable pub good-clip : Box → Box → ℕ → Bool
+good-clip v b n =
+    cond (eqb n 0) (same-box b (whole v))
+    (by-4 (b .x0)
+    && by-4 (b .y0)
+    && by-4 (b .x1)
+    && by-4 (b .y1)
+    && leb (b .x0) 32768
+    && leb (b .y0) 32768
+    && leb (b .x1) (width v)
+    && leb (b .y1) (height v))
+
+unfoldable pub good-screen : Screen → Bool
+good-screen s =
+    leb 1 (s .«next_draw_id»)
+    && leb (s .«next_draw_id») 1048577
+    && leb (s .«paint_attrs») 1024
+    && leb (s .«layer_attrs») 1024
+    && leb (s .«filter_paints») 256
+    && leb (s .layers) 16
+    && good-clip (box-of (s .viewport)) (box-of (s .«clip_bbox»)) (s .layers)
+
+-- attributes, filter paints and layers where only their number matters
+abbrev pub some-paint : PaintAttr
+some-paint = record { paint = 0; blend = default-blend; mask = 0; id = 0; thread = 0; origin-x = 0; origin-y = 0 }
+
+abbrev pub some-layer : LayerAttr
+some-layer = record { blend = default-blend; opacity = 0; mask = 0; id = 0; thread = 0 }
+
+abbrev pub some-filter : FilterPaint
+some-filter = record { pixmap = 0; shift-x = pos 0; shift-y = pos 0 }
+
+abbrev pub layer-in : Box → Layer
+layer-in b = record { props = record { blend = default-blend; opacity = 0; mask = 0; clip = none }; bounds = b }
+
+-- the rules' state for a step that reads no more of the attributes than their number, and of the layers the clip box
+unfoldable pub state-of : Screen → State
+state-of s =
+    record {
+      frame = frame-of s;
+      next = s .«next_draw_id»;
+      attrs =
+          record {
+            paints = replicate (s .«paint_attrs») some-paint;
+            layers = replicate (s .«layer_attrs») some-layer;
+            filters = replicate (s .«filter_paints») some-filter;
+          };
+      layers = replicate (s .layers) (layer-in (box-of (s .«clip_bbox»)));
+    }
+
+abbrev pub rect-of : Box → Rect
+rect-of b = record { x0 = b .x0; y0 = b .y0; x1 = b .x1; y1 = b .y1 }
+
+-- the screen that a done plan leaves
+unfoldable pub screen-after : Screen → Plan → Screen
+screen-after s p =
+    record {
+      viewport = s .viewport;
+      «clip_bbox» = rect-of (clip-box (box-of (s .viewport)) (p .layers));
+      c = s .c;
+      d = s .d;
+      «next_draw_id» = p .next;
+      «paint_attrs» = length (p .attrs .paints);
+      «layer_attrs» = length (p .attrs .layers);
+      «filter_paints» = length (p .attrs .filters);
+      layers = length (p .layers);
+      painting = false;
+    }
+
+-- rule 1
+abbrev pub fresh-screen : Rect → ℕ → ℕ → Screen
+fresh-screen v c d =
+    record {
+      viewport = v;
+      «clip_bbox» = rect-of (whole (box-of v));
+      c = c;
+      d = d;
+      «next_draw_id» = 1;
+      «paint_attrs» = 0;
+      «layer_attrs» = 0;
+      «filter_paints» = 0;
+      layers = 0;
+      painting = false;
+    }

@@ -1,0 +1,237 @@
+// A screen: its numbers by value, its words lent (rule 1). `reset` is a public call; the others are parts of the building steps.
+ghost use mathlib.Core.Path.{_≡_};
+ghost use Prim.Native.Nat.{_≤_};
+ghost use lib.ListN.{length};
+ghost use lib.IntN.{pos};
+ghost use Rattle.rules.specs.Answers.{answer};
+ghost use Rattle.rules.specs.Boxes.{rows-of, buckets-of};
+ghost use Rattle.rules.specs.Walk.{good-room};
+ghost use Rattle.cmd.specs.Answers.{number-of};
+ghost use Rattle.rect.specs.Rects.{box-of};
+ghost use Rattle.screen.specs.Screens.{good-clip, good-screen, fresh-screen};
+ghost use Rattle.screen.specs.Judging.{judged, judged-reset};
+ghost use Rattle.screen.specs.Tables.{zeros, tables, lent, reset-to, float-0};
+use cmd::Answer;
+use rect::Rect;
+
+// Words of a row's record, and of an open layer.
+pub const ROW: usize = 54;
+pub const OPEN: usize = 16;
+
+pub struct Screen {
+    pub viewport: Rect,
+    pub clip_bbox: Rect,
+    pub c: u32,
+    pub d: u32,
+    pub next_draw_id: u32,
+    pub paint_attrs: u32,
+    pub layer_attrs: u32,
+    pub filter_paints: u32,
+    pub layers: u32,
+    pub painting: bool,
+}
+
+// What a call gives: its answer, and the screen afterwards.
+pub struct Built {
+    pub answer: Answer,
+    pub screen: Screen,
+}
+
+// How many words are lent.
+pub struct Lengths {
+    pub render: usize,
+    pub fills: usize,
+    pub depth: usize,
+    pub rows: usize,
+    pub painting: usize,
+    pub layers: usize,
+    pub opacities: usize,
+    pub paint_attrs: usize,
+    pub layer_attrs: usize,
+    pub filter_paints: usize,
+}
+
+// The answer of a number.
+pub fn answer_of(n: u32) -> Answer
+    requires { ⌜ n ≤ 14 ⌝ }
+    ensures { λ r. ⌜ number-of r ≡ n ⌝ }
+{
+    match n {
+        0 => Answer::Done,
+        1 => Answer::BadArena,
+        2 => Answer::BadViewport,
+        3 => Answer::BadForm,
+        4 => Answer::BadRecord,
+        5 => Answer::BadOrder,
+        6 => Answer::Deep,
+        7 => Answer::NoLayer,
+        8 => Answer::Ids,
+        9 => Answer::FullAttrs,
+        10 => Answer::FullRow,
+        11 => Answer::FullDepth,
+        12 => Answer::BadRun,
+        13 => Answer::Open,
+        _ => Answer::NoRoom,
+    }
+}
+
+// Room for C render commands, or for D depth fills.
+pub fn is_good_room(n: u32) -> bool
+    ensures { λ r. ⌜ r ≡ good-room n ⌝ }
+{
+    if n < 1 {
+        return false;
+    }
+    n <= 1024
+}
+
+fn is_good_clip(viewport: Rect, clip: Rect, layers: u32) -> bool
+    ensures { λ r. ⌜ r ≡ good-clip (box-of viewport) (box-of clip) layers ⌝ }
+{
+    if layers == 0 {
+        return clip.is_same(viewport.whole());
+    }
+    if clip.x0 % 4 != 0 {
+        return false;
+    }
+    if clip.y0 % 4 != 0 {
+        return false;
+    }
+    if clip.x1 % 4 != 0 {
+        return false;
+    }
+    if clip.y1 % 4 != 0 {
+        return false;
+    }
+    if 32768 < clip.x0 {
+        return false;
+    }
+    if 32768 < clip.y0 {
+        return false;
+    }
+    if viewport.width() < clip.x1 {
+        return false;
+    }
+    clip.y1 <= viewport.height()
+}
+
+impl Screen {
+    pub fn rows(self) -> usize
+        ensures { λ r. ⌜ r ≡ rows-of (box-of (self .viewport)) ⌝ }
+    {
+        let viewport = self.viewport;
+        (viewport.height() / 4) as usize
+    }
+
+    pub fn buckets(self) -> usize
+        ensures { λ r. ⌜ r ≡ buckets-of 32 (box-of (self .viewport)) ⌝ }
+    {
+        let viewport = self.viewport;
+        ((viewport.width() / 4 + 31) / 32) as usize
+    }
+
+    // The screen's own numbers, answer 4.
+    pub fn is_good(self) -> bool
+        ensures { λ r. ⌜ r ≡ good-screen self ⌝ }
+    {
+        let viewport = self.viewport;
+        let clip = self.clip_bbox;
+        if self.next_draw_id < 1 {
+            return false;
+        }
+        if 1048577 < self.next_draw_id {
+            return false;
+        }
+        if 1024 < self.paint_attrs {
+            return false;
+        }
+        if 1024 < self.layer_attrs {
+            return false;
+        }
+        if 256 < self.filter_paints {
+            return false;
+        }
+        if 16 < self.layers {
+            return false;
+        }
+        is_good_clip(viewport, clip, self.layers)
+    }
+}
+
+// 2, then 1, then 4, or 0: the screen's numbers, and how many words of it are lent.
+pub fn judge_screen(screen: Screen, rows: usize, render: usize, fills: usize) -> u32
+    ensures { λ r. ⌜ r ≡ judged screen rows render fills ⌝ }
+{
+    let viewport = screen.viewport;
+    if !viewport.is_good_viewport() {
+        return 2;
+    }
+    if !is_good_room(screen.c) {
+        return 1;
+    }
+    if !is_good_room(screen.d) {
+        return 1;
+    }
+    let n = screen.rows();
+    if render != n * (4 * (screen.c as usize)) {
+        return 1;
+    }
+    if fills != n * (2 * (screen.d as usize)) {
+        return 1;
+    }
+    if rows != n * ROW {
+        return 4;
+    }
+    if !screen.is_good() {
+        return 4;
+    }
+    0
+}
+
+pub fn clear(words: &mut [u32])
+    ensures { λ _. ⌜ now (words .exit) ≡ zeros 0 (now (words .entry)) ⌝ }
+{
+    let mut i = 0;
+    while i < words.len() {
+        words[i] = 0;
+        i += 1;
+    }
+}
+
+pub fn clear_signed(words: &mut [i32])
+    ensures { λ _. ⌜ now (words .exit) ≡ zeros (pos 0) (now (words .entry)) ⌝ }
+{
+    let mut i = 0;
+    while i < words.len() {
+        words[i] = 0;
+        i += 1;
+    }
+}
+
+pub fn clear_floats(words: &mut [f32])
+    ensures { λ _. ⌜ now (words .exit) ≡ zeros float-0 (now (words .entry)) ⌝ }
+{
+    let mut i = 0;
+    while i < words.len() {
+        words[i] = 0.0;
+        i += 1;
+    }
+}
+
+// A screen with nothing on it.
+pub fn fresh(viewport: Rect, c: u32, d: u32) -> Screen
+    ensures { λ r. ⌜ r ≡ fresh-screen viewport c d ⌝ }
+{
+    Screen {
+        viewport,
+        clip_bbox: viewport.whole(),
+        c,
+        d,
+        next_draw_id: 1,
+        paint_attrs: 0,
+        layer_attrs: 0,
+        filter_paints: 0,
+        layers: 0,
+        painting: false,
+    }
+}

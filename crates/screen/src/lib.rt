@@ -16,6 +16,7 @@ use rect::Rect;
 
 // Words of a row's record, and of an open layer.
 pub const ROW: usize = 54;
+
 pub const OPEN: usize = 16;
 
 pub struct Screen {

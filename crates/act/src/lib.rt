@@ -1,13 +1,22 @@
 // What a step does to one row (bucketer.rs). These are parts: each has a `requires`, which its callers have judged. `n` is the number of
-// open layers. A pop's own act is row::pop_buf.
+// open layers. A closing LayerFill is row::push_cmd, and a pop is row::pop_buf.
+use cmd::command::Fill;
+use cmd::command::RenderCmd;
+use cmd::depth_fill::DepthFill;
 use row::push_buf;
+use row::push_cmd;
 use row::push_depth_fill;
-use row::put_cmd;
+use span::Alpha;
+use span::BucketRange;
+use span::TileSpan;
 ghost use mathlib.Core.Path.{_≡_};
+ghost use mathlib.Core.Option.{none};
 ghost use Prim.Native.Nat.{_≤_};
-ghost use Rattle.rules.specs.Spans.{span};
-ghost use Rattle.row.specs.Words.{words, Room};
-ghost use Rattle.act.specs.Acts.{ensured, parted, edge, drawn, closed};
+ghost use Rattle.rules.specs.Commands.{paint-fill};
+ghost use Rattle.span.specs.Spans.{tiles};
+ghost use Rattle.row.specs.Words.{words, put-command, Room};
+ghost use Rattle.row.specs.Cmds.{Short};
+ghost use Rattle.act.specs.Acts.{alpha-of, ensured, parted, edge, drawn};
 
 // Rule 5: a PushBuf for each open layer that the row lacks. A destructive push does this alone (rule 8).
 pub fn ensure_row_layers(state: &mut [u32], render: &mut [u32], fills: &mut [u32], n: u32)
@@ -21,93 +30,109 @@ pub fn ensure_row_layers(state: &mut [u32], render: &mut [u32], fills: &mut [u32
     }
 }
 
+// One PaintFill.
+fn push_paint(
+    state: &mut [u32],
+    render: &mut [u32],
+    fills: &mut [u32],
+    span: TileSpan,
+    alpha: Alpha,
+    attrs_idx: u32,
+)
+    requires { ⌜ Short (tiles span) × Room (words (now state) (now render) (now fills)) (put-command (paint-fill (tiles span) (alpha-of alpha) «attrs_idx») (words (now state) (now render) (now fills))) ⌝ }
+    ensures { λ _. ⌜ words (now (state .exit)) (now (render .exit)) (now (fills .exit)) ≡ put-command (paint-fill (tiles span) (alpha-of alpha) «attrs_idx») (words (now (state .entry)) (now (render .entry)) (now (fills .entry))) ⌝ }
+{
+    let fill = Fill {
+        span,
+        alpha,
+        attrs_idx,
+    };
+    push_cmd(state, render, fills, RenderCmd::PaintFill(fill));
+}
+
 // Rule 7: the regular piece on one side of a depth fill, if it has tiles.
 fn push_edge(
     state: &mut [u32],
     render: &mut [u32],
     fills: &mut [u32],
-    first: u32,
-    end: u32,
-    attr: u32,
+    span: TileSpan,
+    attrs_idx: u32,
 )
-    requires { ⌜ (first ≤ 8192) × («end» ≤ 8192) × Room (words (now state) (now render) (now fills)) (edge first «end» attr (words (now state) (now render) (now fills))) ⌝ }
-    ensures { λ _. ⌜ words (now (state .exit)) (now (render .exit)) (now (fills .exit)) ≡ edge first «end» attr (words (now (state .entry)) (now (render .entry)) (now (fills .entry))) ⌝ }
+    requires { ⌜ Short (tiles span) × Room (words (now state) (now render) (now fills)) (edge (tiles span) «attrs_idx» (words (now state) (now render) (now fills))) ⌝ }
+    ensures { λ _. ⌜ words (now (state .exit)) (now (render .exit)) (now (fills .exit)) ≡ edge (tiles span) «attrs_idx» (words (now (state .entry)) (now (render .entry)) (now (fills .entry))) ⌝ }
 {
-    if first < end {
-        put_cmd(state, render, fills, 1, first, end, 0, attr);
+    if span.first < span.end {
+        push_paint(state, render, fills, span, Alpha::Solid, attrs_idx);
     }
 }
 
-// Rule 7: an eligible span, split.
+// Rule 7: an eligible span, split over buckets of 32 tiles.
 fn push_opaque(
     state: &mut [u32],
     render: &mut [u32],
     fills: &mut [u32],
-    first: u32,
-    end: u32,
-    attr: u32,
-    id: u32,
+    span: TileSpan,
+    attrs_idx: u32,
+    draw_id: u32,
 )
-    requires { ⌜ (first ≤ 8192) × («end» ≤ 8192) × Room (words (now state) (now render) (now fills)) (parted attr id (span first «end») (words (now state) (now render) (now fills))) ⌝ }
-    ensures { λ _. ⌜ words (now (state .exit)) (now (render .exit)) (now (fills .exit)) ≡ parted attr id (span first «end») (words (now (state .entry)) (now (render .entry)) (now (fills .entry))) ⌝ }
+    requires { ⌜ Short (tiles span) × Room (words (now state) (now render) (now fills)) (parted «attrs_idx» «draw_id» (tiles span) (words (now state) (now render) (now fills))) ⌝ }
+    ensures { λ _. ⌜ words (now (state .exit)) (now (render .exit)) (now (fills .exit)) ≡ parted «attrs_idx» «draw_id» (tiles span) (words (now (state .entry)) (now (render .entry)) (now (fills .entry))) ⌝ }
 {
-    let a = (first + 31) / 32 * 32;
-    let b = end / 32 * 32;
+    let a = (span.first + 31) / 32 * 32;
+    let b = span.end / 32 * 32;
     if b <= a {
-        put_cmd(state, render, fills, 1, first, end, 0, attr);
+        push_paint(state, render, fills, span, Alpha::Solid, attrs_idx);
         return;
     }
-    push_edge(state, render, fills, first, a, attr);
-    push_depth_fill(state, render, fills, a / 32, b / 32, attr, id);
-    push_edge(state, render, fills, b, end, attr);
+    let left = TileSpan {
+        first: span.first,
+        end: a,
+    };
+    let right = TileSpan {
+        first: b,
+        end: span.end,
+    };
+    let buckets = BucketRange {
+        first: a / 32,
+        end: b / 32,
+    };
+    push_edge(state, render, fills, left, attrs_idx);
+    push_depth_fill(
+        state,
+        render,
+        fills,
+        DepthFill { buckets, attrs_idx },
+        draw_id,
+    );
+    push_edge(state, render, fills, right, attrs_idx);
 }
 
-// Rules 5 to 7: what is left of a segment, kind 0 solid or 1 alpha, on its row. `solid` says that the draw is eligible (rule 6).
+// Rules 5 to 7: what is left of a segment, on its row. `eligible` is rule 6's, for the whole draw.
 pub fn push_fill(
     state: &mut [u32],
     render: &mut [u32],
     fills: &mut [u32],
     n: u32,
-    solid: bool,
-    kind: u32,
-    first: u32,
-    end: u32,
-    alpha: u32,
-    attr: u32,
-    id: u32,
+    eligible: bool,
+    span: TileSpan,
+    alpha: Alpha,
+    attrs_idx: u32,
+    draw_id: u32,
 )
-    requires { ⌜ (first ≤ 8192) × («end» ≤ 8192) × (n ≤ 16) × Room (words (now state) (now render) (now fills)) (drawn n solid kind first «end» alpha attr id (words (now state) (now render) (now fills))) ⌝ }
-    ensures { λ _. ⌜ words (now (state .exit)) (now (render .exit)) (now (fills .exit)) ≡ drawn n solid kind first «end» alpha attr id (words (now (state .entry)) (now (render .entry)) (now (fills .entry))) ⌝ }
+    requires { ⌜ Short (tiles span) × (n ≤ 16) × Room (words (now state) (now render) (now fills)) (drawn n eligible (tiles span) (alpha-of alpha) «attrs_idx» «draw_id» (words (now state) (now render) (now fills))) ⌝ }
+    ensures { λ _. ⌜ words (now (state .exit)) (now (render .exit)) (now (fills .exit)) ≡ drawn n eligible (tiles span) (alpha-of alpha) «attrs_idx» «draw_id» (words (now (state .entry)) (now (render .entry)) (now (fills .entry))) ⌝ }
 {
     ensure_row_layers(state, render, fills, n);
-    if kind != 0 {
-        put_cmd(state, render, fills, 2, first, end, alpha, attr);
-        return;
+    match alpha {
+        Alpha::Solid => {
+            if eligible {
+                push_opaque(state, render, fills, span, attrs_idx, draw_id);
+                return;
+            }
+            push_paint(state, render, fills, span, Alpha::Solid, attrs_idx);
+        }
+        Alpha::At(index) => {
+            push_paint(state, render, fills, span, Alpha::At(index), attrs_idx);
+        }
     }
-    if solid {
-        push_opaque(state, render, fills, first, end, attr, id);
-        return;
-    }
-    put_cmd(state, render, fills, 1, first, end, 0, attr);
-}
-
-// Rule 9: a closing LayerFill in a touched row.
-pub fn close_row(
-    state: &mut [u32],
-    render: &mut [u32],
-    fills: &mut [u32],
-    kind: u32,
-    first: u32,
-    end: u32,
-    alpha: u32,
-    attr: u32,
-)
-    requires { ⌜ (first ≤ 8192) × («end» ≤ 8192) × Room (words (now state) (now render) (now fills)) (closed kind first «end» alpha attr (words (now state) (now render) (now fills))) ⌝ }
-    ensures { λ _. ⌜ words (now (state .exit)) (now (render .exit)) (now (fills .exit)) ≡ closed kind first «end» alpha attr (words (now (state .entry)) (now (render .entry)) (now (fills .entry))) ⌝ }
-{
-    if kind != 0 {
-        put_cmd(state, render, fills, 4, first, end, alpha, attr);
-        return;
-    }
-    put_cmd(state, render, fills, 3, first, end, 0, attr);
 }

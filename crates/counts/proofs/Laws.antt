@@ -10,12 +10,12 @@ use lib.ListN.{length}
 use Rattle.rules.specs.Answers.{Done}
 use Rattle.rules.specs.Spans.{Span}
 use Rattle.rules.specs.Split.{Part, regular, buckets, split}
-use Rattle.rules.specs.Commands.{Command, paint-fill, layer-fill}
+use Rattle.rules.specs.Commands.{Command, paint-fill, layer-fill, DepthFill}
 use Rattle.rules.specs.Plans.{Act, paint, opaque, touch, close, pop, Put, Plan, Step}
 use Rattle.rules.specs.Steps.{Screen, do-puts, perform, call}
 use Rattle.rules.proofs.All.{All, all-any}
 use Rattle.rules.proofs.Maps.{PartOk, of-tiles, of-buckets, ActOk, paints, splits, touches, closes, pops, PutOk, Follows, screen-by, follows-puts, follows-perform, follows-call}
-use Rattle.row.specs.Words.{Words, word, put-cmd, put-buf, put-fill, ended, end-buf, put-command, put-depth, word-ops}
+use Rattle.row.specs.Words.{Words, word, put-command, put-buf, ended, end-buf, put-depth, word-ops}
 use Rattle.row.proofs.Laws.{cmd-renders, cmd-depths, cmd-levels, cmd-grown, buf-renders, buf-depths, buf-levels, buf-grown, fill-renders, fill-depths, fill-levels, fill-grown, end-grown, end-levels, ended-renders, ended-depths, ended-level}
 use Rattle.counts.specs.Counts.{Counts, counts, count, count-ops}
 
@@ -43,22 +43,17 @@ any-put : (p : Put) → PutOk any p
 any-put p = record { act = any-act (p .act) }
 
 module _ (w : Words) (o : Sane w) where
-  -- a fill's command
-  cmd : (tag f e a i : ℕ) → (count (put-cmd tag f e a i w) ≡ counts (word 0 w + 1) (word 1 w) (word 5 w)) × Sane (put-cmd tag f e a i w)
-  cmd tag f e a i = (
-    rw (cmd-renders w (o .state) tag f e a i, cmd-depths w (o .state) tag f e a i, cmd-levels w (o .state) tag f e a i),
-    record { state = cmd-grown w (o .state) tag f e a i .state ∙ o .state; levels = omega (arith, cmd-levels w (o .state) tag f e a i, o .levels) },
+  cmd-counts : (c : Command) → (count (put-command c w) ≡ counts (word 0 w + 1) (word 1 w) (word 5 w)) × Sane (put-command c w)
+  cmd-counts c = (
+    rw (cmd-renders w (o .state) c, cmd-depths w (o .state) c, cmd-levels w (o .state) c),
+    record { state = cmd-grown w (o .state) c .state ∙ o .state; levels = omega (arith, cmd-levels w (o .state) c, o .levels) },
   )
 
-  paint-counts : (s : Span) (a : Option ℕ) (i : ℕ) → (count (put-command (paint-fill s a i) w) ≡ counts (word 0 w + 1) (word 1 w) (word 5 w)) × Sane (put-command (paint-fill s a i) w)
-  unfolding put-command
-  paint-counts s none i = cmd 1 (s .first) (s .end) 0 i
-  paint-counts s (some a) i = cmd 2 (s .first) (s .end) a i
-
-  close-counts : (s : Span) (a : Option ℕ) (i : ℕ) → (count (put-command (layer-fill s a i) w) ≡ counts (word 0 w + 1) (word 1 w) (word 5 w)) × Sane (put-command (layer-fill s a i) w)
-  unfolding put-command
-  close-counts s none i = cmd 3 (s .first) (s .end) 0 i
-  close-counts s (some a) i = cmd 4 (s .first) (s .end) a i
+  fill-counts : (v : ℕ) (f : DepthFill) (id : ℕ) → (count (put-depth v f id w) ≡ counts (word 0 w) (word 1 w + 1) (word 5 w)) × Sane (put-depth v f id w)
+  fill-counts v f id = (
+    rw (fill-renders w (o .state) v f id, fill-depths w (o .state) v f id, fill-levels w (o .state) v f id),
+    record { state = fill-grown w (o .state) v f id .state ∙ o .state; levels = omega (arith, fill-levels w (o .state) v f id, o .levels) },
+  )
 
   either : (b : Bool) → count (cond b w (ended w)) ≡ cond b (count w) (counts (word 0 w + 1) (word 1 w) (word 5 w - 1))
   either true = refl
@@ -69,7 +64,6 @@ module _ (w : Words) (o : Sane w) where
   pop-counts = either (eqb (word 5 w) 0)
 
 pub counted : (v : ℕ) → Follows Words Counts word-ops count-ops count Sane any v
-unfolding put-depth
 counted v =
     record {
       renders = λ w o. refl;
@@ -77,17 +71,14 @@ counted v =
       levels = λ w o. refl;
       few = λ w o. o .levels;
       deeper = λ w o h. buf-levels w (o .state) (omega arith);
-      paints = λ s i a g w o. paint-counts w o s i a;
-      closes = λ s i a g w o. close-counts w o s i a;
+      paints = λ s i a g w o. cmd-counts w o (paint-fill s i a);
+      closes = λ s i a g w o. cmd-counts w o (layer-fill s i a);
       pushes = λ w o h. (
         rw (buf-renders w (o .state) (omega arith), buf-depths w (o .state) (omega arith), buf-levels w (o .state) (omega arith)),
         record { state = buf-grown w (o .state) (omega arith) .state ∙ o .state; levels = omega (arith, buf-levels w (o .state) (omega arith), h) },
       );
       pops = λ w o. (pop-counts w o, record { state = end-grown w (o .state) .state ∙ o .state; levels = omega (arith, end-levels w (o .state), o .levels) });
-      fills = λ s a id g w o. (
-        rw (fill-renders w (o .state) v (s .first) (s .end) a id, fill-depths w (o .state) v (s .first) (s .end) a id, fill-levels w (o .state) v (s .first) (s .end) a id),
-        record { state = fill-grown w (o .state) v (s .first) (s .end) a id .state ∙ o .state; levels = omega (arith, fill-levels w (o .state) v (s .first) (s .end) a id, o .levels) },
-      );
+      fills = λ s a id g w o. fill-counts w o v (record { buckets = s; attribute = a }) id;
       parts = λ s g. all-any any-part (split v s);
     }
 

@@ -18,7 +18,7 @@ use Rattle.rules.specs.Rows as rules
 use Rattle.rules.specs.Depth.{Summary}
 use Rattle.rules.specs.Rows.{Row, Level, include}
 use Rattle.rules.proofs.All.{never, head}
-use Rattle.row.specs.Words.{Words, words, word, put4, hull-word, widened, include-span, put-cmd, put-buf, end-buf, put-fill, put-command, put-depth}
+use Rattle.row.specs.Words.{Words, words, word, put4, hull-word, widened, include-span, include-adds, put-command, put-buf, end-buf, put-depth}
 use Rattle.encode.specs.Encode.{padded, union-words, stack, first-of, end-of, state-of, encode, Fine}
 use Rattle.encode.proofs.Pads.{zeros, padded-fits, padded-length, stored, stored-any, set-after, set-padded}
 
@@ -128,23 +128,25 @@ module _ (s : Span) (cs : List Command) (c : Command) (f : List DepthFill) (d : 
   stated [] r = rw counted
   stated (l ∷ ls) r = rw (included (length cs) (length f) (first-of (d .union)) (end-of (d .union)) (d .largest) l ls s (omega (arith, r .few)) (head (r .spans)), counted)
 
--- a fill's command simulates
-module _ (k j : ℕ) (r : Row) (o : Fine r) (s : Span) (i : ℕ) where
-  one : (tag a : ℕ) (c : Command) → command-words c ≡ tag ∷ span-word s ∷ a ∷ i ∷ [] → rules.adds c ≡ some s
-      → encode k j (rules.put-command c r) ≡ put-cmd tag (s .first) (s .end) a i (encode k j r)
-  unfolding encode put-cmd rules.put-command
-  one tag a c e p =
-      rw (p, stated s (r .commands) c (r .fills) (r .depth) (r .levels) o, rendered k (r .commands) c tag (span-word s) a i e)
+-- a command simulates
+four-words : (c : Command) → command-words c ≡ getD (command-words c) 0 0 ∷ getD (command-words c) 1 0 ∷ getD (command-words c) 2 0 ∷ getD (command-words c) 3 0 ∷ []
+unfolding command-words
+four-words (paint-fill s none i) = refl
+four-words (paint-fill s (some a) i) = refl
+four-words (layer-fill s none i) = refl
+four-words (layer-fill s (some a) i) = refl
+four-words (push-buf none) = refl
+four-words (push-buf (some s)) = refl
+four-words pop-buf = refl
 
-  pub paints : (a : Option ℕ) → encode k j (rules.put-command (paint-fill s a i) r) ≡ put-command (paint-fill s a i) (encode k j r)
-  unfolding put-command command-words
-  paints none = one 1 0 (paint-fill s none i) refl refl
-  paints (some a) = one 2 a (paint-fill s (some a) i) refl refl
+module _ (k j : ℕ) (r : Row) (o : Fine r) (c : Command) where
+  added : (a : Option Span) → set (include-adds a (state-of r)) 0 (length (r .commands) + 1) ≡ state-of (record { commands = r .commands ++ (c ∷ []); fills = r .fills; levels = include a (r .levels); depth = r .depth })
+  added none = rw (length-append (r .commands) (c ∷ []))
+  added (some s) = stated s (r .commands) c (r .fills) (r .depth) (r .levels) o
 
-  pub closes : (a : Option ℕ) → encode k j (rules.put-command (layer-fill s a i) r) ≡ put-command (layer-fill s a i) (encode k j r)
-  unfolding put-command command-words
-  closes none = one 3 0 (layer-fill s none i) refl refl
-  closes (some a) = one 4 a (layer-fill s (some a) i) refl refl
+  pub puts : encode k j (rules.put-command c r) ≡ put-command c (encode k j r)
+  unfolding encode put-command rules.put-command
+  puts = rw (added (rules.adds c), rendered k (r .commands) c _ _ _ _ (four-words c))
 
 -- a PushBuf simulates
 module _ (k j : ℕ) (r : Row) (few : length (r .levels) ≤ 15) where
@@ -200,7 +202,7 @@ module _ (k j v : ℕ) (cs : List Command) (ls : List Level) (g : ℕ) (f : Dept
   least x = omega arith
 
   deep-as : (u : Option Span) (fs : List DepthFill) → is-none u ≡ is-empty fs → encode k j (rules.put-depth-fill v f id (row-of u fs)) ≡ put-depth v f id (encode k j (row-of u fs))
-  unfolding encode put-depth put-fill rules.put-depth-fill
+  unfolding encode put-depth rules.put-depth-fill depth-words
   deep-as none [] e = rw (← deepened j [] f, least)
   deep-as none (x ∷ fs) e = never e
   deep-as (some u) [] e = never (sym e)

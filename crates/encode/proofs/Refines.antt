@@ -24,7 +24,7 @@ use Rattle.rules.proofs.Bounds.{Short, Framed, plan-ok, call-framed, reset-fram
 use Rattle.rules.proofs.Maps.{Follows, PartOk, of-tiles, of-buckets, PutOk, screen-by, answer-by, follows-puts, follows-call}
 use Rattle.row.specs.Words.{Words, words, word-ops}
 use Rattle.encode.specs.Encode.{padded, stack, end-of, placed, encode, Fine}
-use Rattle.encode.proofs.Laws.{paints, closes, pushes, pops, fills}
+use Rattle.encode.proofs.Laws.{puts, pushes, pops, fills}
 
 -- places stay where they are
 module _ (cs : List Command) (c : Command) where
@@ -144,8 +144,8 @@ refines c d v =
       levels = λ r o. refl;
       few = λ r o. o .few;
       deeper = λ r o h. omega arith;
-      paints = λ s i a g r o. (paints c d r o s a i, fine-put (paint-fill s i a) s refl g r o);
-      closes = λ s i a g r o. (closes c d r o s a i, fine-put (layer-fill s i a) s refl g r o);
+      paints = λ s i a g r o. (puts c d r o (paint-fill s i a), fine-put (paint-fill s i a) s refl g r o);
+      closes = λ s i a g r o. (puts c d r o (layer-fill s i a), fine-put (layer-fill s i a) s refl g r o);
       pushes = λ r o h. (pushes c d r (omega arith), fine-push r o h);
       pops = λ r o. (pops c d r o, fine-pop (r .levels) r o refl);
       fills = λ s a id g r o. (fills c d v r o (record { buckets = s; attribute = a }) id, fine-fill v (record { buckets = s; attribute = a }) id r o);

@@ -1,15 +1,15 @@
 -- Rule 4: a stretch cut to a span, and a segment cut to scene tiles.
 use mathlib.Core.Path.{_≡_, refl}
 use mathlib.Core.Bool.{Bool, true, false, cond}
-use mathlib.Core.List.{List, [], _∷_}
-use mathlib.Core.Option.{Option, none, some}
+use mathlib.Core.List.{[], _∷_}
+use mathlib.Core.Option.{none, some}
 use Prim.Native.Nat.{ℕ, _-_, _/_, _≤_, _<_}
 use native.Mathlib.Omega.{arith}
 use lib.Dec.{ltb}
 use borrow.Author.Tests.{lt-ltb, le-ltb, le-leb, lt-leb, ltb-true}
 use Rattle.rules.specs.Boxes.{Box}
 use Rattle.rules.specs.Spans.{Span, span, common, meeting, Stretch, moved, cut-at, cut-when, cut-to}
-use Rattle.rules.specs.Segments.{Segment, stretch-of, Cut, cut-in}
+use Rattle.rules.specs.Segments.{Segment, stretch-of, cut-in}
 
 -- what is left of the stretch s inside the span b
 pub record Left (b : Span) (s k : Stretch) : Type 0 where

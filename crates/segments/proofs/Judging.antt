@@ -5,12 +5,12 @@ use mathlib.Core.List.{List, [], _∷_}
 use Prim.Native.Nat.{ℕ, _+_, _-_, _*_, _≤_, _<_}
 use native.Mathlib.Omega.{arith}
 use lib.Dec.{leb, ltb, eqb}
-use borrow.Author.Tests.{lt-ltb, le-ltb, le-leb, lt-leb, eq-eqb, ne-eqb, leb-true, leb-false, eqb-true, not-true, not-false}
+use borrow.Author.Tests.{lt-ltb, le-ltb, le-leb, eq-eqb, ne-eqb, leb-true, leb-false, eqb-true, not-true, not-false}
 use Rattle.rules.specs.Lists.{every}
 use Rattle.rules.specs.Answers.{Done, BadRecord, BadOrder}
+use Rattle.rules.specs.Segments.{Segment, good-segment, follows, ordered-after, ordered, judge-segments}
 use Rattle.segments.specs.Segs.{seg-at, segs}
 use Rattle.segments.proofs.Laws.{segs-first, segs-end}
-use Rattle.rules.specs.Segments.{Segment, good-segment, follows, ordered-after, ordered, judge-segments}
 
 -- that a solid segment's index is 0 says all that there is to ask of its sum
 solid-test : (a x : ℕ) (t : Bool) → x < 4294967296 → eqb a 0 ≡ t → t ≡ (t && ltb (a + x) 4294967296)

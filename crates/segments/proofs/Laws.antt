@@ -1,6 +1,6 @@
 -- Laws for callers: the segments of a list's words, their bounds as facts, and where a cut segment lies.
 use mathlib.Core.Path.{_≡_, refl, sym, ap, _∙_}
-use mathlib.Core.Bool.{Bool, true, false, _&&_, _||_, cond}
+use mathlib.Core.Bool.{Bool, true, false, _&&_, _||_, not, cond}
 use mathlib.Core.List.{List, [], _∷_, _++_}
 use mathlib.Core.Option.{Option, none, some}
 use Prim.Native.Nat.{ℕ, zero, suc, _+_, _-_, _*_, _/_, _%_, _≤_, _<_}
@@ -8,10 +8,11 @@ use native.Mathlib.Omega.{arith}
 use lib.Dec.{leb, ltb, eqb}
 use lib.ListN.{length, take, drop}
 use borrow.Author.Tests.{leb-true, ltb-true, eqb-true}
-use Rattle.rules.specs.Lists.{slice}
+use Rattle.rules.specs.Lists.{every, slice}
+use Rattle.rules.specs.Answers.{Done, BadRecord, BadOrder}
 use Rattle.rules.specs.Boxes.{Box, box, width, height, bounded, good-viewport, by-4, rows-of, scene-tiles}
 use Rattle.rules.specs.Spans.{span, Stretch, moved, cut-to}
-use Rattle.rules.specs.Segments.{Segment, good-segment, alpha-of, stretch-of, Cut, localised, on-row, cut-in, cuts}
+use Rattle.rules.specs.Segments.{Segment, good-segment, ordered, judge-segments, alpha-of, stretch-of, Cut, localised, on-row, cut-in, cuts}
 use Rattle.span.specs.declared.Alpha.{Alpha}
 use Rattle.span.specs.declared.Alpha.the-variants.{Solid, At}
 use Rattle.span.specs.Spans.{alpha, Moves}
@@ -92,6 +93,32 @@ good-facts s g =
       ends = leb-true _ _ (h3 .1);
       index = ltb-true _ _ (h5 .1);
     }
+
+-- a list that is judged good, and its segments
+pub record Judged (ss : List Segment) : Type 0 where
+  pub good : every good-segment ss ≡ true
+  pub order : ordered ss ≡ true
+
+by-tests : (ss : List Segment) (g o : Bool) → every good-segment ss ≡ g → ordered ss ≡ o → cond (not g) BadRecord (cond (not o) BadOrder Done) ≡ Done → Judged ss
+by-tests ss true true p q e = record { good = p; order = q }
+by-tests ss true false p q e = absurd (omega arith)
+by-tests ss false o p q e = absurd (omega arith)
+
+pub judged : (ss : List Segment) → judge-segments false ss ≡ Done → Judged ss
+unfolding judge-segments
+judged ss e = by-tests ss _ _ refl refl e
+
+module _ (ws : List ℕ) (i n : ℕ) (h : i < n) (g : every good-segment (segs ws i (n - i)) ≡ true) where
+  good-both : (good-segment (seg-at ws i) ≡ true) × (every good-segment (segs ws (i + 1) (n - (i + 1))) ≡ true)
+  good-both =
+      both (good-segment (seg-at ws i)) (every good-segment (segs ws (i + 1) (n - (i + 1))))
+      (rw (segs-first ws i n h) at g)
+
+  pub good-first : good-segment (seg-at ws i) ≡ true
+  good-first = good-both .0
+
+  pub good-rest : every good-segment (segs ws (i + 1) (n - (i + 1))) ≡ true
+  good-rest = good-both .1
 
 -- the boxes that are judged are small
 pub small : (b : Box) → bounded b ≡ true → Small b
@@ -237,19 +264,23 @@ module _ (v b : Box) (s : Segment) (k : Cut) (g : Good s) (o : Starts v b) where
   by-rows true q none p e = none-left e
   by-rows false q m p e = none-left e
 
-  pub landed : k ∷ [] ≡ cut-in v b s → Landed v b k
+  by-cut : k ∷ [] ≡ cut-in v b s → Landed v b k
   unfolding cut-in
-  landed e = by-rows _ refl _ refl e
+  by-cut e = by-rows _ refl _ refl e
 
--- a good segment cut to a clip box that lies on the screen: its row and its tiles are the screen's
+pub landed : (v b : Box) (s : Segment) (k : Cut) → good-segment s ≡ true → Starts v b → k ∷ [] ≡ cut-in v b s → Landed v b k
+landed v b s k g o e = by-cut v b s k (good-facts s g) o e
+
+-- a cut segment on the screen of the viewport v
 pub record OnScreen (v : Box) (k : Cut) : Type 0 where
   pub row : k .row < rows-of v
   pub right : k .tiles .end ≤ width v / 4
 
-module _ (v c : Box) (w : Viewport v) (x : c .x1 ≤ width v) (y : c .y1 ≤ height v) where
-  landed-on : (k : Cut) → Landed v (scene-tiles v c) k → OnScreen v k
-  unfolding scene-tiles
-  landed-on k l = record { row = omega arith; right = omega arith }
+landed-on : (v c : Box) (k : Cut) → Viewport v → c .x1 ≤ width v → c .y1 ≤ height v → Landed v (scene-tiles v c) k → OnScreen v k
+unfolding scene-tiles
+landed-on v c k w x y l = record { row = omega arith; right = omega arith }
 
-  pub on-screen : (s : Segment) (k : Cut) → Good s → k ∷ [] ≡ cut-in v (scene-tiles v c) s → OnScreen v k
-  on-screen s k g e = landed-on k (landed v (scene-tiles v c) s k g (starts v c) e)
+-- what is cut to a clip box on the screen lies there
+pub on-screen : (v c : Box) (s : Segment) (k : Cut) → good-viewport v ≡ true → c .x1 ≤ width v → c .y1 ≤ height v
+    → good-segment s ≡ true → k ∷ [] ≡ cut-in v (scene-tiles v c) s → OnScreen v k
+on-screen v c s k w x y g e = landed-on v c k (viewport-facts v w) x y (landed v (scene-tiles v c) s k g (starts v c) e)

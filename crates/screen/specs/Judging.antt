@@ -6,37 +6,39 @@ use lib.Dec.{leb, eqb}
 use Rattle.rules.specs.Answers.{first-of, BadArena, BadViewport, BadRecord}
 use Rattle.rules.specs.Boxes.{Box, good-viewport, rows-of, buckets-of}
 use Rattle.rules.specs.Plans.{Frame}
-use Rattle.rules.specs.Walk.{Arenas, needed, good-room, good-arenas}
+use Rattle.rules.specs.Walk.{Arenas, good-room, good-arenas}
 use Rattle.rect.specs.declared.Rect.{Rect}
 use Rattle.rect.specs.Rects.{box-of}
 use Rattle.screen.specs.declared.Screen.{Screen}
 use Rattle.screen.specs.declared.Lengths.{Lengths}
-use Rattle.screen.specs.Screens.{frame-of, good-screen}
+use Rattle.screen.specs.Screens.{good-screen}
 
--- C and D in range, and room in the arenas lent for commands and depth fills
-abbrev pub good-rooms : Frame → ℕ → ℕ → Bool
-good-rooms f render fills =
-    good-room (f .c) && good-room (f .d) && eqb render (needed 32 f .render) && eqb fills (needed 32 f .fills)
+-- C and D in range, and the render and depth fill arenas of n rows lent exactly
+abbrev pub good-rooms : ℕ → ℕ → ℕ → ℕ → ℕ → Bool
+good-rooms n c d render fills = good-room c && good-room d && eqb render (n * (4 * c)) && eqb fills (n * (2 * d))
 
 -- a building step's first tests
 unfoldable pub judged : Screen → ℕ → ℕ → ℕ → ℕ
 judged s rows render fills =
+    let n = rows-of (box-of (s .viewport)) in
     first-of
     ((not (good-viewport (box-of (s .viewport))), BadViewport)
-    ∷ (not (good-rooms (frame-of s) render fills), BadArena)
-    ∷ (not (eqb rows (rows-of (box-of (s .viewport)) * 54) && good-screen s), BadRecord)
+    ∷ (not (good-rooms n (s .c) (s .d) render fills), BadArena)
+    ∷ (not (eqb rows (n * 54) && good-screen s), BadRecord)
     ∷ [])
 
--- the tables beside the arenas
-abbrev pub good-tables : ℕ → Lengths → Bool
-good-tables n l =
-    eqb (l .rows) (n * 54)
-    && eqb (l .painting) (n * 2)
-    && eqb (l .layers) 256
+-- the tables whose length no screen changes
+abbrev pub good-fixed : Lengths → Bool
+good-fixed l =
+    eqb (l .layers) 256
     && eqb (l .opacities) 1040
     && eqb (l .«paint_attrs») 8192
     && eqb (l .«layer_attrs») 6144
     && eqb (l .«filter_paints») 1024
+
+-- the tables beside the arenas of n rows
+abbrev pub good-tables : ℕ → Lengths → Bool
+good-tables n l = eqb (l .rows) (n * 54) && eqb (l .painting) (n * 2) && good-fixed l
 
 abbrev pub frame : Rect → ℕ → ℕ → Frame
 frame v c d = record { viewport = box-of v; c = c; d = d }

@@ -18,28 +18,27 @@ use Rattle.screen.specs.declared.Screen.{Screen}
 abbrev pub frame-of : Screen → Frame
 frame-of s = record { viewport = box-of (s .viewport); c = s .c; d = s .d }
 
+abbrev pub in-tiles : Box → Bool
+in-tiles b = by-4 (b .x0) && by-4 (b .y0) && by-4 (b .x1) && by-4 (b .y1)
+
 -- the clip box b of n open layers in the viewport v: the whole viewport with none open
 unfoldable pub good-clip : Box → Box → ℕ → Bool
 good-clip v b n =
     cond (eqb n 0) (same-box b (whole v))
-    (by-4 (b .x0)
-    && by-4 (b .y0)
-    && by-4 (b .x1)
-    && by-4 (b .y1)
-    && leb (b .x0) 32768
-    && leb (b .y0) 32768
-    && leb (b .x1) (width v)
-    && leb (b .y1) (height v))
+    (in-tiles b && leb (b .x0) 32768 && leb (b .y0) 32768 && leb (b .x1) (width v) && leb (b .y1) (height v))
 
-unfoldable pub good-screen : Screen → Bool
-good-screen s =
+-- the next id and the counts within their limits
+abbrev pub good-counts : Screen → Bool
+good-counts s =
     leb 1 (s .«next_draw_id»)
     && leb (s .«next_draw_id») 1048577
     && leb (s .«paint_attrs») 1024
     && leb (s .«layer_attrs») 1024
     && leb (s .«filter_paints») 256
     && leb (s .layers) 16
-    && good-clip (box-of (s .viewport)) (box-of (s .«clip_bbox»)) (s .layers)
+
+unfoldable pub good-screen : Screen → Bool
+good-screen s = good-counts s && good-clip (box-of (s .viewport)) (box-of (s .«clip_bbox»)) (s .layers)
 
 -- attributes, filter paints and layers where only their number matters
 abbrev pub some-paint : PaintAttr

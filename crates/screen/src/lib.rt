@@ -8,8 +8,8 @@ ghost use Rattle.rules.specs.Boxes.{rows-of, buckets-of};
 ghost use Rattle.rules.specs.Walk.{good-room};
 ghost use Rattle.cmd.specs.Answers.{number-of};
 ghost use Rattle.rect.specs.Rects.{box-of};
-ghost use Rattle.screen.specs.Screens.{good-clip, good-screen, fresh-screen};
-ghost use Rattle.screen.specs.Judging.{judged, judged-reset};
+ghost use Rattle.screen.specs.Screens.{in-tiles, good-clip, good-screen, fresh-screen};
+ghost use Rattle.screen.specs.Judging.{good-rooms, judged, good-fixed, judged-reset};
 ghost use Rattle.screen.specs.Tables.{zeros, tables, lent, reset-to, float-0};
 use cmd::Answer;
 use rect::Rect;
@@ -86,22 +86,29 @@ pub fn is_good_room(n: u32) -> bool
     n <= 1024
 }
 
+// Multiples of 4.
+fn is_in_tiles(b: Rect) -> bool
+    ensures { λ r. ⌜ r ≡ in-tiles (box-of b) ⌝ }
+{
+    if b.x0 % 4 != 0 {
+        return false;
+    }
+    if b.y0 % 4 != 0 {
+        return false;
+    }
+    if b.x1 % 4 != 0 {
+        return false;
+    }
+    b.y1 % 4 == 0
+}
+
 fn is_good_clip(viewport: Rect, clip: Rect, layers: u32) -> bool
     ensures { λ r. ⌜ r ≡ good-clip (box-of viewport) (box-of clip) layers ⌝ }
 {
     if layers == 0 {
         return clip.is_same(viewport.whole());
     }
-    if clip.x0 % 4 != 0 {
-        return false;
-    }
-    if clip.y0 % 4 != 0 {
-        return false;
-    }
-    if clip.x1 % 4 != 0 {
-        return false;
-    }
-    if clip.y1 % 4 != 0 {
+    if !is_in_tiles(clip) {
         return false;
     }
     if 32768 < clip.x0 {
@@ -159,6 +166,23 @@ impl Screen {
     }
 }
 
+// C and D in range, and the render and depth fill arenas of n rows lent exactly.
+pub fn is_good_rooms(n: usize, c: u32, d: u32, render: usize, fills: usize) -> bool
+    requires { ⌜ n ≤ 512 ⌝ }
+    ensures { λ r. ⌜ r ≡ good-rooms n c d render fills ⌝ }
+{
+    if !is_good_room(c) {
+        return false;
+    }
+    if !is_good_room(d) {
+        return false;
+    }
+    if render != n * (4 * (c as usize)) {
+        return false;
+    }
+    fills == n * (2 * (d as usize))
+}
+
 // 2, then 1, then 4, or 0: the screen's numbers, and how many words of it are lent.
 pub fn judge_screen(screen: Screen, rows: usize, render: usize, fills: usize) -> u32
     ensures { λ r. ⌜ r ≡ judged screen rows render fills ⌝ }
@@ -167,17 +191,8 @@ pub fn judge_screen(screen: Screen, rows: usize, render: usize, fills: usize) ->
     if !viewport.is_good_viewport() {
         return 2;
     }
-    if !is_good_room(screen.c) {
-        return 1;
-    }
-    if !is_good_room(screen.d) {
-        return 1;
-    }
     let n = screen.rows();
-    if render != n * (4 * (screen.c as usize)) {
-        return 1;
-    }
-    if fills != n * (2 * (screen.d as usize)) {
+    if !is_good_rooms(n, screen.c, screen.d, render, fills) {
         return 1;
     }
     if rows != n * ROW {
@@ -234,5 +249,108 @@ pub fn fresh(viewport: Rect, c: u32, d: u32) -> Screen
         filter_paints: 0,
         layers: 0,
         painting: false,
+    }
+}
+
+impl Lengths {
+    // The tables whose length no screen changes.
+    fn is_good_fixed(self) -> bool
+        ensures { λ r. ⌜ r ≡ good-fixed self ⌝ }
+    {
+        if self.layers != 16 * OPEN {
+            return false;
+        }
+        if self.opacities != 1040 {
+            return false;
+        }
+        if self.paint_attrs != 8192 {
+            return false;
+        }
+        if self.layer_attrs != 6144 {
+            return false;
+        }
+        self.filter_paints == 1024
+    }
+}
+
+// 2, then 1, then 4, or 0: what a reset is asked for, and how many words are lent.
+fn judge_reset(viewport: Rect, c: u32, d: u32, lent: Lengths) -> u32
+    ensures { λ r. ⌜ r ≡ judged-reset viewport c d lent ⌝ }
+{
+    if !viewport.is_good_viewport() {
+        return 2;
+    }
+    let screen = fresh(viewport, c, d);
+    let n = screen.rows();
+    if !is_good_rooms(n, c, d, lent.render, lent.fills) {
+        return 1;
+    }
+    if lent.depth != n * screen.buckets() {
+        return 1;
+    }
+    if lent.rows != n * ROW {
+        return 4;
+    }
+    if lent.painting != n * 2 {
+        return 4;
+    }
+    if !lent.is_good_fixed() {
+        return 4;
+    }
+    0
+}
+
+// Rule 1.
+pub fn reset(
+    screen: Screen,
+    viewport: Rect,
+    c: u32,
+    d: u32,
+    render: &mut [u32],
+    fills: &mut [u32],
+    depth: &mut [u32],
+    rows: &mut [u32],
+    painting: &mut [u32],
+    layers: &mut [u32],
+    opacities: &mut [f32],
+    paint_attrs: &mut [u32],
+    layer_attrs: &mut [u32],
+    filter_paints: &mut [i32],
+) -> Built
+    ensures { λ r. ⌜ answer (number-of (r .answer)) (lent (r .screen) (tables (now (render .exit)) (now (fills .exit)) (now (depth .exit)) (now (rows .exit)) (now (painting .exit)) (now (layers .exit)) (now (opacities .exit)) (now («paint_attrs» .exit)) (now («layer_attrs» .exit)) (now («filter_paints» .exit))))
+        ≡ reset-to viewport c d (lent screen (tables (now (render .entry)) (now (fills .entry)) (now (depth .entry)) (now (rows .entry)) (now (painting .entry)) (now (layers .entry)) (now (opacities .entry)) (now («paint_attrs» .entry)) (now («layer_attrs» .entry)) (now («filter_paints» .entry)))) ⌝ }
+{
+    let lent = Lengths {
+        render: render.len(),
+        fills: fills.len(),
+        depth: depth.len(),
+        rows: rows.len(),
+        painting: painting.len(),
+        layers: layers.len(),
+        opacities: opacities.len(),
+        paint_attrs: paint_attrs.len(),
+        layer_attrs: layer_attrs.len(),
+        filter_paints: filter_paints.len(),
+    };
+    let n = judge_reset(viewport, c, d, lent);
+    if n != 0 {
+        return Built {
+            answer: answer_of(n),
+            screen,
+        };
+    }
+    clear(render);
+    clear(fills);
+    clear(depth);
+    clear(rows);
+    clear(painting);
+    clear(layers);
+    clear_floats(opacities);
+    clear(paint_attrs);
+    clear(layer_attrs);
+    clear_signed(filter_paints);
+    Built {
+        answer: Answer::Done,
+        screen: fresh(viewport, c, d),
     }
 }

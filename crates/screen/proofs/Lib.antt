@@ -1,0 +1,4 @@
+pub mod Numbers
+pub mod Clearing
+pub mod Laws
+pub mod Judged

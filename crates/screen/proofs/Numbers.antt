@@ -1,0 +1,22 @@
+-- Small laws on numbers and tests.
+use mathlib.Core.Path.{_≡_, refl}
+use mathlib.Core.Bool.{Bool, true, false, _&&_}
+use Prim.Native.Nat.{ℕ, zero, suc, _≤_}
+use native.Mathlib.Omega.{arith}
+
+pub and-left : (x y : Bool) → (x && y) ≡ true → x ≡ true
+and-left true y h = refl
+and-left false y h = h
+
+pub and-right : (x y : Bool) → (x && y) ≡ true → y ≡ true
+and-right true y h = h
+and-right false y h = let z : _≡_ {A = ℕ} 0 1 = cc in absurd (omega arith)
+
+-- n is none of the first k numbers
+abbrev NoneOf : ℕ → ℕ → Type 0
+NoneOf n zero = Unit
+NoneOf n (suc k) = NoneOf n k × (n ≡ k → ⊥)
+
+pub past : (n k : ℕ) → NoneOf n k → k ≤ n
+past n zero t = omega arith
+past n (suc k) t = let h : k ≤ n = past n k (t .0) in omega (arith, t .1)

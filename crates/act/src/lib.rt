@@ -1,5 +1,5 @@
 // What a step does to one row (bucketer.rs). These are parts: each has a `requires`, which its callers have judged. `n` is the number of
-// open layers. A closing LayerFill is row::push_cmd, and a pop is row::pop_buf.
+// open layers. A pop's PopBuf is row::pop_buf.
 use cmd::command::Fill;
 use cmd::command::RenderCmd;
 use cmd::depth_fill::DepthFill;
@@ -10,9 +10,8 @@ use span::Alpha;
 use span::BucketRange;
 use span::TileSpan;
 ghost use mathlib.Core.Path.{_≡_};
-ghost use mathlib.Core.Option.{none};
 ghost use Prim.Native.Nat.{_≤_};
-ghost use Rattle.rules.specs.Commands.{paint-fill};
+ghost use Rattle.rules.specs.Commands.{paint-fill, layer-fill};
 ghost use Rattle.span.specs.Spans.{tiles};
 ghost use Rattle.row.specs.Words.{words, put-command, Room};
 ghost use Rattle.row.specs.Cmds.{Short};
@@ -135,4 +134,24 @@ pub fn push_fill(
             push_paint(state, render, fills, span, Alpha::At(index), attrs_idx);
         }
     }
+}
+
+// Rule 9: a closing LayerFill, in a touched row.
+pub fn close_row(
+    state: &mut [u32],
+    render: &mut [u32],
+    fills: &mut [u32],
+    span: TileSpan,
+    alpha: Alpha,
+    attrs_idx: u32,
+)
+    requires { ⌜ Short (tiles span) × Room (words (now state) (now render) (now fills)) (put-command (layer-fill (tiles span) (alpha-of alpha) «attrs_idx») (words (now state) (now render) (now fills))) ⌝ }
+    ensures { λ _. ⌜ words (now (state .exit)) (now (render .exit)) (now (fills .exit)) ≡ put-command (layer-fill (tiles span) (alpha-of alpha) «attrs_idx») (words (now (state .entry)) (now (render .entry)) (now (fills .entry))) ⌝ }
+{
+    let fill = Fill {
+        span,
+        alpha,
+        attrs_idx,
+    };
+    push_cmd(state, render, fills, RenderCmd::LayerFill(fill));
 }

@@ -10,8 +10,8 @@ use Rattle.rect.specs.declared.Rect.{Rect}
 use Rattle.rect.specs.Rects.{box-of}
 use Rattle.screen.specs.declared.Screen.{Screen}
 use Rattle.screen.specs.declared.Lengths.{Lengths}
-use Rattle.screen.specs.Screens.{good-screen}
-use Rattle.screen.specs.Judging.{good-rooms, judged, good-fixed, frame, arenas, judged-reset}
+use Rattle.screen.specs.Screens.{frame, good-screen}
+use Rattle.screen.specs.Judging.{good-rooms, judged, good-fixed, arenas, judged-reset}
 
 module _ (s : Screen) (rows render fills : ℕ) where
   pub bad-viewport : good-viewport (box-of (s .viewport)) ≡ false → 2 ≡ judged s rows render fills

@@ -17,8 +17,7 @@ use Rattle.rules.specs.Walk.{good-room}
 use Rattle.rect.specs.declared.Rect.{Rect}
 use Rattle.rect.specs.Rects.{box-of, same-box}
 use Rattle.screen.specs.declared.Screen.{Screen}
-use Rattle.screen.specs.Screens.{in-tiles, good-clip, good-counts, good-screen, some-paint, some-layer, some-filter, layer-in, state-of, screen-after, counted, fresh-screen}
-use Rattle.screen.specs.Judging.{frame}
+use Rattle.screen.specs.Screens.{frame, in-tiles, good-clip, good-counts, good-screen, some-paint, some-layer, some-filter, layer-in, state-of, screen-after, counted, fresh-screen}
 use Rattle.screen.proofs.Numbers.{and-left, and-right, or-left, or-right}
 
 pub record Room (n : ℕ) : Type 0 where
@@ -174,6 +173,22 @@ module _ (v b : Box) where
   unfolding good-clip
   clip zero g h = rw (same b (whole v) h) (whole-clip v (view v g))
   clip (suc n) g h = inside-clip (rw (ne-eqb (suc n) 0 (λ e. omega arith)) at h)
+
+  -- .. and the other way, with a layer open
+  pub clip-good : (n : ℕ) → Clip v b → good-clip v b (suc n) ≡ true
+  unfolding good-clip
+  clip-good n k =
+      rw (
+        ne-eqb (suc n) 0 (λ e. omega arith),
+        eq-eqb _ _ (k .x0-by-4),
+        eq-eqb _ _ (k .y0-by-4),
+        eq-eqb _ _ (k .x1-by-4),
+        eq-eqb _ _ (k .y1-by-4),
+        le-leb _ _ (k .left),
+        le-leb _ _ (k .top),
+        le-leb _ _ (k .right),
+        le-leb _ _ (k .bottom),
+      )
 
   clip-is : (n : ℕ) → good-clip v b n ≡ true → clip-box v (replicate n (layer-in b)) ≡ b
   unfolding good-clip

@@ -1,20 +1,20 @@
 -- What it says that a screen, or a reset, is judged 0.
-use mathlib.Core.Path.{_≡_, refl, sym, _∙_}
+use mathlib.Core.Path.{_≡_, refl, sym}
 use mathlib.Core.Bool.{Bool, true, false, _&&_, not}
-use mathlib.Core.List.{List, [], _∷_}
+use mathlib.Core.List.{[], _∷_}
 use Prim.Native.Nat.{ℕ, _*_}
 use native.Mathlib.Omega.{arith}
 use lib.Dec.{eqb}
-use borrow.Author.Tests.{eqb-true, eq-eqb, not-false}
+use borrow.Author.Tests.{eqb-true, not-false}
 use Rattle.rules.specs.Answers.{first-of}
 use Rattle.rules.specs.Boxes.{good-viewport, rows-of, buckets-of}
-use Rattle.rules.specs.Walk.{needed, same-arenas, good-room, good-arenas}
+use Rattle.rules.specs.Walk.{good-room, good-arenas}
 use Rattle.rect.specs.declared.Rect.{Rect}
 use Rattle.rect.specs.Rects.{box-of}
 use Rattle.screen.specs.declared.Screen.{Screen}
 use Rattle.screen.specs.declared.Lengths.{Lengths}
-use Rattle.screen.specs.Screens.{good-screen, fresh-screen}
-use Rattle.screen.specs.Judging.{good-rooms, judged, good-fixed, good-tables, frame, arenas, judged-reset}
+use Rattle.screen.specs.Screens.{frame, good-screen, fresh-screen}
+use Rattle.screen.specs.Judging.{good-rooms, judged, good-fixed, good-tables, arenas, judged-reset}
 use Rattle.screen.proofs.Numbers.{and-left, and-right}
 use Rattle.screen.proofs.Laws.{Room, room, fresh-good}
 use Rattle.screen.proofs.Judged.{good}

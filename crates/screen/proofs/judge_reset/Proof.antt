@@ -9,7 +9,8 @@ use Rattle.rules.specs.Boxes.{good-viewport, rows-of, buckets-of}
 use Rattle.rules.specs.Walk.{good-arenas}
 use Rattle.rect.specs.Rects.{box-of}
 use Rattle.screen.specs.declared.Screen.{Screen}
-use Rattle.screen.specs.Judging.{frame, arenas}
+use Rattle.screen.specs.Screens.{frame}
+use Rattle.screen.specs.Judging.{arenas}
 use Rattle.screen.proofs.Laws.{few-rows, few-buckets}
 use Rattle.screen.proofs.Judged.{Rows, reset-bad-viewport, reset-bad-rooms, reset-bad-depth, reset-arenas, reset-bad-rows, reset-bad-painting, reset-bad-fixed, reset-good}
 use Rattle.screen.proofs.judge_reset.Statement.{statement}

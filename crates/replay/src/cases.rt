@@ -1,8 +1,9 @@
 // One stored case after another: what was asked, what the original answered, and whether the leaf answers the same.
 // data/README.md has the words of each kind. Every list is lent full of marks, and held to the answer to its end.
-use crate::words::clear;
+use crate::words::MARK;
 use crate::words::holds;
 use crate::words::load;
+use crate::words::marks;
 use crate::words::word;
 use depth::runs::Runs;
 use depth::runs::unset_runs;
@@ -15,7 +16,9 @@ use depth::state::DepthState;
 use depth::state::Skip;
 use span::BucketRange;
 use span::TileSpan;
+ghost use mathlib.Core.Path.{_≡_};
 ghost use Prim.Native.Nat.{_+_, _^_, _≤_, _<_};
+ghost use lib.ListN.{length};
 
 // How many cases agree, of how many.
 pub struct Tally {
@@ -23,95 +26,92 @@ pub struct Tally {
     pub of: usize,
 }
 
-// Where the next case stands, and whether this one agrees.
+// Where the next case stands, and whether this one agrees. What is no case has 0 as its next.
 pub struct Seen {
     pub next: usize,
     pub agrees: bool,
 }
 
-// What is no case has no next.
-fn no_case() -> Seen {
-    Seen {
-        next: 0,
-        agrees: false,
-    }
-}
-
-// Three words at a place of the list, where it has room for them; the place after them.
-fn put(list: &mut [u32], at: usize, kind: u32, first: u32, end: u32) -> usize
-    requires { ⌜ at ≤ 6 ⌝ }
-    ensures { λ r. ⌜ r ≤ at + 3 ⌝ }
+fn tiles_at(s: &[u8], at: usize) -> TileSpan
+    requires { ⌜ at ≤ 2 ^ 63 ⌝ }
 {
-    if list.len() < at + 3 {
-        return at + 3;
+    TileSpan {
+        first: word(s, at),
+        end: word(s, at + 1),
     }
-    list[at] = kind;
-    list[at + 1] = first;
-    list[at + 2] = end;
-    at + 3
 }
 
-fn put_edge(list: &mut [u32], at: usize, edge: Edge) -> usize
-    requires { ⌜ at ≤ 6 ⌝ }
-    ensures { λ r. ⌜ r ≤ at + 3 ⌝ }
+// A split as it is stored: the number of parts, three words a part, and marks. A refusal is marks alone.
+fn split_words(split: Split) -> [u32; 11]
+    ensures { λ r. ⌜ 11 ≡ length r ⌝ }
 {
-    match edge {
-        Edge::Absent => at,
-        Edge::Tiles(tiles) => put(list, at, 0, tiles.first, tiles.end),
-    }
-}
-
-// A split as words, three a part: how many there are. A refusal has more than any list.
-fn put_split(list: &mut [u32], split: Split) -> usize {
+    let m = MARK;
     match split {
-        Split::Refused(_) => list.len() + 1,
-        Split::Whole(tiles) => put(list, 0, 0, tiles.first, tiles.end),
+        Split::Refused(_) => [MARK; 11],
+        Split::Whole(t) => [1, 0, t.first, t.end, m, m, m, m, m, m, m],
         Split::Opaque {
             before,
             buckets,
             after,
         } => {
-            let at = put_edge(list, 0, before);
-            let rest = put(list, at, 1, buckets.first, buckets.end);
-            put_edge(list, rest, after)
+            let f = buckets.first;
+            let e = buckets.end;
+            match before {
+                Edge::Absent => match after {
+                    Edge::Absent => [1, 1, f, e, m, m, m, m, m, m, m],
+                    Edge::Tiles(a) => [2, 1, f, e, 0, a.first, a.end, m, m, m, m],
+                },
+                Edge::Tiles(b) => match after {
+                    Edge::Absent => [2, 0, b.first, b.end, 1, f, e, m, m, m, m],
+                    Edge::Tiles(a) => [3, 0, b.first, b.end, 1, f, e, 0, a.first, a.end, m],
+                },
+            }
         }
     }
 }
 
-fn replay_split(s: &[u8], at: usize, list: &mut [u32]) -> Seen
+fn replay_split(s: &[u8], at: usize) -> Seen
     requires { ⌜ at ≤ 2 ^ 61 ⌝ }
 {
-    let first = word(s, at);
-    let end = word(s, at + 1);
-    let words = 3 * (word(s, at + 2) as usize);
-    clear(list);
-    let k = put_split(list, split_opaque_span(TileSpan { first, end }));
-    let same = holds(s, at + 3, words, list);
+    let words = 1 + 3 * (word(s, at + 2) as usize);
+    let list = split_words(split_opaque_span(tiles_at(s, at)));
     Seen {
-        next: at + 3 + words,
-        agrees: same && k == words,
+        next: at + 2 + words,
+        agrees: holds(s, at + 2, words, &list),
     }
 }
 
-// A question about runs, to the leaf of its kind.
-fn ask(kind: u32, row: &mut [u32], id: u32, first: u32, end: u32, list: &mut [u32]) -> Runs {
-    match kind {
-        2 => unset_runs(row, TileSpan { first, end }, list),
-        3 => visible_runs(row, TileSpan { first, end }, id, list),
-        _ => unset_runs_and_write(row, BucketRange { first, end }, id, list),
-    }
-}
-
-// Whether n runs were listed, and the list holds them and nothing else.
-fn listed(s: &[u8], at: usize, n: usize, runs: Runs, list: &[u32]) -> bool
-    requires { ⌜ at ≤ 2 ^ 63 ⌝ }
-    requires { ⌜ n < 2 ^ 32 ⌝ }
+// A question about runs, to the leaf of its kind: a span, with an id before it unless the kind is the unset one.
+fn ask(s: &[u8], kind: u32, at: usize, row: &mut [u32], list: &mut [u32]) -> Runs
+    requires { ⌜ (1 ≤ at) × (at ≤ 2 ^ 63) ⌝ }
 {
+    let id = word(s, at - 1);
+    let tiles = tiles_at(s, at);
+    match kind {
+        2 => unset_runs(row, tiles, list),
+        3 => visible_runs(row, tiles, id, list),
+        _ => unset_runs_and_write(
+            row,
+            BucketRange {
+                first: tiles.first,
+                end: tiles.end,
+            },
+            id,
+            list,
+        ),
+    }
+}
+
+// Whether as many runs were listed as are stored, and the list holds them and nothing else.
+fn listed(s: &[u8], at: usize, runs: Runs, list: &[u32]) -> bool
+    requires { ⌜ at < 2 ^ 63 ⌝ }
+{
+    let n = word(s, at) as usize;
     match runs {
         Runs::Refused(_) => false,
         Runs::Listed(k) => {
             if k == n {
-                holds(s, at, 2 * n, list)
+                holds(s, at + 1, 2 * n, list)
             } else {
                 false
             }
@@ -121,86 +121,98 @@ fn listed(s: &[u8], at: usize, n: usize, runs: Runs, list: &[u32]) -> bool
 
 // Where a span stands: after b depth words and an id, which only an unset case has not.
 fn span_place(kind: u32, at: usize, b: usize) -> usize
-    requires { ⌜ (at ≤ 2 ^ 62) × (b ≤ 2 ^ 62) ⌝ }
+    requires { ⌜ (at ≤ 2 ^ 62) × (b ≤ 2 ^ 61) ⌝ }
     ensures { λ r. ⌜ (at ≤ r) × (r ≤ at + b + 1) ⌝ }
 {
     if kind == 2 { at + b } else { at + b + 1 }
 }
 
-// Loads the row, and tells whether the leaf lists the runs that are stored after it.
+// Loads the row, and tells whether the leaf lists the runs that are stored.
 fn asked(s: &[u8], kind: u32, at: usize, row: &mut [u32], list: &mut [u32]) -> bool
     requires { ⌜ (1 ≤ at) × (at ≤ 2 ^ 62) ⌝ }
 {
     let place = span_place(kind, at, row.len());
-    let id = word(s, place - 1);
-    let first = word(s, place);
-    let end = word(s, place + 1);
-    let n = word(s, place + 2) as usize;
     load(s, at, row);
-    clear(list);
-    let runs = ask(kind, row, id, first, end, list);
-    listed(s, place + 3, n, runs, list)
+    let runs = ask(s, kind, place, row, list);
+    listed(s, place + 2, runs, list)
 }
 
-// A case of runs. Afterwards the row is held to the words that stand after the runs, or, where nothing is written, to those it came with.
-fn replay_runs(s: &[u8], kind: u32, at: usize, row: &mut [u32], list: &mut [u32]) -> Seen
+// What is seen of a case of runs, with the row as the leaf left it: as at first, or in the writing kind as stored after the runs.
+fn seen_runs(
+    s: &[u8],
+    kind: u32,
+    at: usize,
+    after: usize,
+    b: usize,
+    same: bool,
+    row: &[u32],
+) -> Seen
+    requires { ⌜ (at ≤ 2 ^ 62) × (after ≤ 2 ^ 62) × (b < 2 ^ 32) ⌝ }
+{
+    if kind == 4 {
+        let kept = holds(s, after, b, row);
+        Seen {
+            next: after + b,
+            agrees: same && kept,
+        }
+    } else {
+        let kept = holds(s, at, b, row);
+        Seen {
+            next: after,
+            agrees: same && kept,
+        }
+    }
+}
+
+fn replay_runs(s: &[u8], kind: u32, at: usize) -> Seen
     requires { ⌜ at ≤ 2 ^ 61 ⌝ }
 {
     let b = word(s, at) as usize;
-    if row.len() < b {
-        return no_case();
-    }
-    let place = span_place(kind, at + 1, b);
-    let n = word(s, place + 2) as usize;
-    let after = place + 3 + 2 * n;
-    clear(row);
-    let same = asked(s, kind, at + 1, &mut row[..b], list);
-    if kind == 4 {
-        let kept = holds(s, after, b, row);
+    let from = at + 1;
+    if 40 < b {
         return Seen {
-            next: after + b,
-            agrees: same && kept,
+            next: 0,
+            agrees: false,
         };
     }
-    let kept = holds(s, at + 1, b, row);
-    Seen {
-        next: after,
-        agrees: same && kept,
-    }
+    let place = span_place(kind, from, b);
+    let n = word(s, place + 2) as usize;
+    let mut row = marks();
+    let mut list = marks();
+    let same = asked(s, kind, from, &mut row[..b], &mut list);
+    seen_runs(s, kind, from, place + 3 + 2 * n, b, same, &row)
 }
 
 // The summary of k stored depth fills.
 fn summed(s: &[u8], at: usize, k: usize) -> DepthState
-    requires { ⌜ at ≤ 2 ^ 63 ⌝ }
+    requires { ⌜ at ≤ 2 ^ 62 ⌝ }
     requires { ⌜ k < 2 ^ 32 ⌝ }
 {
     let mut state = DepthState::new();
     let mut i = 0;
     while i < k {
         let place = at + 3 * i;
-        let first = word(s, place);
-        let end = word(s, place + 1);
-        state = state.include_span(TileSpan { first, end }, word(s, place + 2));
+        state = state.include_span(tiles_at(s, place), word(s, place + 2));
         i += 1;
     }
     state
 }
 
-// A case of fills, of which there are fewer than bytes.
+// A case of fills, of which there are no more than bytes.
 fn replay_skip(s: &[u8], at: usize) -> Seen
     requires { ⌜ at ≤ 2 ^ 61 ⌝ }
 {
     let k = word(s, at) as usize;
     if s.len() < k {
-        return no_case();
+        return Seen {
+            next: 0,
+            agrees: false,
+        };
     }
     let place = at + 1 + 3 * k;
-    let first = word(s, place);
-    let end = word(s, place + 1);
-    let draw_id = word(s, place + 2);
     let due = word(s, place + 3);
     let state = summed(s, at + 1, k);
-    let agrees = match state.can_skip(TileSpan { first, end }, draw_id) {
+    let agrees = match state.can_skip(tiles_at(s, place), word(s, place + 2)) {
         Skip::Refused(_) => false,
         Skip::Yes => due == 1,
         Skip::No => due == 0,
@@ -212,26 +224,29 @@ fn replay_skip(s: &[u8], at: usize) -> Seen
 }
 
 // The case that stands after its kind.
-fn replay_one(s: &[u8], kind: u32, at: usize, row: &mut [u32], list: &mut [u32]) -> Seen
+fn replay_one(s: &[u8], kind: u32, at: usize) -> Seen
     requires { ⌜ at ≤ 2 ^ 61 ⌝ }
 {
     match kind {
-        1 => replay_split(s, at, list),
-        2 | 3 | 4 => replay_runs(s, kind, at, row, list),
+        1 => replay_split(s, at),
+        2 | 3 | 4 => replay_runs(s, kind, at),
         5 => replay_skip(s, at),
-        _ => no_case(),
+        _ => Seen {
+            next: 0,
+            agrees: false,
+        },
     }
 }
 
 // All cases of one kind. What is no case, or runs past the end, stops the replay, and counts as a case of every kind that does not agree.
-pub fn replay(s: &[u8], kind: u32, row: &mut [u32], list: &mut [u32]) -> Tally {
+pub fn replay(s: &[u8], kind: u32) -> Tally {
     let n = s.len() / 4;
     let mut agree: usize = 0;
     let mut of: usize = 0;
     let mut at: usize = 0;
     while at < n {
         let this = word(s, at);
-        let seen = replay_one(s, this, at + 1, row, list);
+        let seen = replay_one(s, this, at + 1);
         let next = seen.next;
         if next <= at {
             return Tally { agree, of: of + 1 };

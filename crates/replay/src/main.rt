@@ -4,23 +4,18 @@ mod words;
 
 use cases::replay;
 use libc::STDOUT_FILENO;
+ghost use mathlib.Core.Path.{_≡_};
+ghost use lib.ListN.{length};
 
-// A line `NAME agree N of M`.
-fn print(name: &[u8], agree: usize, of: usize) {
+// Replays the cases of one kind, and writes a line `NAME agree N of M`.
+fn run(s: &[u8], name: &[u8], kind: u32) {
+    let tally = replay(s, kind);
     io::write_all(STDOUT_FILENO, name);
     io::write_all(STDOUT_FILENO, b" agree ");
-    io::print_decimal(STDOUT_FILENO, agree as u64);
+    io::print_decimal(STDOUT_FILENO, tally.agree as u64);
     io::write_all(STDOUT_FILENO, b" of ");
-    io::print_decimal(STDOUT_FILENO, of as u64);
+    io::print_decimal(STDOUT_FILENO, tally.of as u64);
     io::write_all(STDOUT_FILENO, b"\n");
-}
-
-// Replays the cases of one kind, over a row of at most 32 buckets and a list of 20 runs.
-fn run(s: &[u8], name: &[u8], kind: u32) {
-    let mut row = [0u32; 32];
-    let mut list = [0u32; 40];
-    let tally = replay(s, kind, &mut row, &mut list);
-    print(name, tally.agree, tally.of);
 }
 
 fn run_all(s: &[u8]) {
@@ -31,6 +26,13 @@ fn run_all(s: &[u8]) {
     run(s, b"can_skip", 5);
 }
 
+// Room for a file and at least one byte more.
+fn buffer() -> [u8; 196608]
+    ensures { λ r. ⌜ 196608 ≡ length r ⌝ }
+{
+    [0; 196608]
+}
+
 fn main() {
     let path = b"leaves.words";
     let file = os::open_read(path);
@@ -38,7 +40,7 @@ fn main() {
         os::fail(path);
         return;
     }
-    let mut bytes = [0u8; 262144];
+    let mut bytes = buffer();
     let n = io::read_full(file, &mut bytes);
     libc::close(file);
     if bytes.len() <= n {

@@ -1,5 +1,7 @@
 // Words of a stored file, and of a lent list.
+ghost use mathlib.Core.Path.{_≡_};
 ghost use Prim.Native.Nat.{_^_, _≤_};
+ghost use lib.ListN.{length};
 
 // What a lent list is filled with before a call.
 pub const MARK: u32 = 4294967295;
@@ -20,13 +22,11 @@ pub fn word(s: &[u8], i: usize) -> u32 {
     wide(s[at]) + 256 * (wide(s[at + 1]) + 256 * (wide(s[at + 2]) + 256 * wide(s[at + 3])))
 }
 
-// Fills the list with the mark.
-pub fn clear(list: &mut [u32]) {
-    let mut i = 0;
-    while i < list.len() {
-        list[i] = MARK;
-        i += 1;
-    }
+// A list of marks, to be lent.
+pub fn marks() -> [u32; 40]
+    ensures { λ r. ⌜ 40 ≡ length r ⌝ }
+{
+    [MARK; 40]
 }
 
 // The words from `at` on, as many as the list has.

@@ -1,15 +1,13 @@
 use Prim.Native.Nat.{_≤_, _-_}
-use lib.ListN.{length}
-use mathlib.Core.Path.{_≡_}
 use borrow.Author.Needs.{needs}
 use Rattle.replay.proofs.cases.replay.Statement.{statement}
 use Rattle.replay.proofs.cases.replay.Tie as tie
 
 abbrev Inv-loop : tie.InvT-loop
-Inv-loop s kind row₀ list₀ n agree₀ of₀ at₀ row list agree of at = (at ≤ n) × (agree ≤ of) × (of ≤ at) × (length row ≡ length row₀) × (length list ≡ length list₀)
+Inv-loop s kind n agree₀ of₀ at₀ agree of at = (at ≤ n) × (agree ≤ of) × (of ≤ at)
 
 abbrev μ-loop : tie.MeasureT-loop
-μ-loop s kind row₀ list₀ n agree₀ of₀ at₀ row list agree of at = n - at
+μ-loop s kind n agree₀ of₀ at₀ agree of at = n - at
 
 loop-holds : tie.Need-loop-holds Inv-loop μ-loop
 loop-holds c = search needs
@@ -23,26 +21,14 @@ add-replay-one c = search needs
 replay-one-requires : tie.Need-replay-one-requires Inv-loop μ-loop
 replay-one-requires c κs = search needs
 
-add-t19 : tie.Need-add-t19 Inv-loop μ-loop
-add-t19 c = search needs
-
-same-length : tie.Need-same-length Inv-loop μ-loop
-same-length c = search needs
-
-same-length-2 : tie.Need-same-length-2 Inv-loop μ-loop
-same-length-2 c = search needs
+add-t13 : tie.Need-add-t13 Inv-loop μ-loop
+add-t13 c = search needs
 
 returns : tie.Need-returns Inv-loop μ-loop
 returns c = search needs
 
-add-t20 : tie.Need-add-t20 Inv-loop μ-loop
-add-t20 c = search needs
-
-same-length-3 : tie.Need-same-length-3 Inv-loop μ-loop
-same-length-3 c = search needs
-
-same-length-4 : tie.Need-same-length-4 Inv-loop μ-loop
-same-length-4 c = search needs
+add-t14 : tie.Need-add-t14 Inv-loop μ-loop
+add-t14 c = search needs
 
 returns-2 : tie.Need-returns-2 Inv-loop μ-loop
 returns-2 c = search needs
@@ -77,20 +63,8 @@ mul-if5 c = search needs
 add-of-2 : tie.Need-add-of-2 Inv-loop μ-loop
 add-of-2 c = search needs
 
-same-length-5 : tie.Need-same-length-5 Inv-loop μ-loop
-same-length-5 c = search needs
-
-same-length-6 : tie.Need-same-length-6 Inv-loop μ-loop
-same-length-6 c = search needs
-
 returns-3 : tie.Need-returns-3 Inv-loop μ-loop
 returns-3 c = search needs
-
-same-length-7 : tie.Need-same-length-7 Inv-loop μ-loop
-same-length-7 c = search needs
-
-same-length-8 : tie.Need-same-length-8 Inv-loop μ-loop
-same-length-8 c = search needs
 
 returns-4 : tie.Need-returns-4 Inv-loop μ-loop
 returns-4 c = search needs
@@ -105,13 +79,9 @@ replay-spec =
     word-requires
     add-replay-one
     replay-one-requires
-    add-t19
-    same-length
-    same-length-2
+    add-t13
     returns
-    add-t20
-    same-length-3
-    same-length-4
+    add-t14
     returns-2
     add-of
     add-agree
@@ -123,9 +93,5 @@ replay-spec =
     loop-again-3
     mul-if5
     add-of-2
-    same-length-5
-    same-length-6
     returns-3
-    same-length-7
-    same-length-8
     returns-4)

@@ -1,6 +1,6 @@
 use native.Mathlib.Omega.{arith}
-use lib.Seq.{length-take-le}
-use mathlib.Core.Path.{sym}
+use lib.Seq.{length-take-le, length-front}
+use mathlib.Core.Path.{sym, _∙_}
 use borrow.Author.Needs.{needs}
 use Rattle.replay.proofs.cases.replay_runs.Statement.{statement}
 use Rattle.replay.proofs.cases.replay_runs.Tie as tie
@@ -11,14 +11,11 @@ word-requires c κs = search needs
 cast-b : tie.Need-cast-b
 cast-b c = search needs
 
-no-case-requires : tie.Need-no-case-requires
-no-case-requires c κs = search needs
+add-from : tie.Need-add-from
+add-from c = search needs
 
 returns : tie.Need-returns
 returns c = search needs
-
-add-span-place : tie.Need-add-span-place
-add-span-place c = search needs
 
 span-place-requires : tie.Need-span-place-requires
 span-place-requires c κs = search needs
@@ -32,77 +29,41 @@ word-requires-2 c κs = search needs
 cast-n : tie.Need-cast-n
 cast-n c = search needs
 
-add-after : tie.Need-add-after
-add-after c = search needs
+marks-requires : tie.Need-marks-requires
+marks-requires c κs = search needs
 
-mul-after : tie.Need-mul-after
-mul-after c = search needs
+marks-requires-2 : tie.Need-marks-requires-2
+marks-requires-2 c κs = search needs
 
-add-after-2 : tie.Need-add-after-2
-add-after-2 c = search needs
-
-clear-requires : tie.Need-clear-requires
-clear-requires c κs = search needs
-
-add-asked : tie.Need-add-asked
-add-asked c = search needs
-
-slice-relend-prefix-asked : tie.Need-slice-relend-prefix-asked
-slice-relend-prefix-asked c = search needs
+array-borrow-prefix-row : tie.Need-array-borrow-prefix-row
+array-borrow-prefix-row c = search needs
 
 slice-aggregate-asked : tie.Need-slice-aggregate-asked
-slice-aggregate-asked c = sym (length-take-le (c .before .before .before .before .before .before .before .before .word .result) (c .before .before .before .clear .last .0) (omega arith))
+slice-aggregate-asked c = sym (length-take-le (c .before .before .before .before .before .before .word .result) (c .before .before .marks .result) (omega arith))
+
+slice-aggregate-asked-2 : tie.Need-slice-aggregate-asked-2
+slice-aggregate-asked-2 c = search needs
 
 asked-requires : tie.Need-asked-requires
 asked-requires c κs = search needs
 
-holds-requires : tie.Need-holds-requires
-holds-requires c κs = search needs
+add-seen-runs : tie.Need-add-seen-runs
+add-seen-runs c = search needs
 
-add-t52 : tie.Need-add-t52
-add-t52 c = search needs
+mul-seen-runs : tie.Need-mul-seen-runs
+mul-seen-runs c = search needs
 
-same-length : tie.Need-same-length
-same-length c = search needs
+add-seen-runs-2 : tie.Need-add-seen-runs-2
+add-seen-runs-2 c = search needs
 
-same-length-2 : tie.Need-same-length-2
-same-length-2 c = search needs
+slice-aggregate-seen-runs : tie.Need-slice-aggregate-seen-runs
+slice-aggregate-seen-runs c = c .before .before .before .before .before .before .before .marks .ensures ∙ sym (length-front (c .before .before .before .before .before .before .before .marks .result) (c .before .before .before .asked .last .1 .1 .1 .0) (c .before .before .before .before .before .before .before .before .before .before .before .word .result) (c .before .before .before .asked .kept .1 .1 .1 .0))
+
+seen-runs-requires : tie.Need-seen-runs-requires
+seen-runs-requires c κs = search needs
 
 returns-2 : tie.Need-returns-2
 returns-2 c = search needs
-
-same-length-3 : tie.Need-same-length-3
-same-length-3 c = search needs
-
-same-length-4 : tie.Need-same-length-4
-same-length-4 c = search needs
-
-returns-3 : tie.Need-returns-3
-returns-3 c = search needs
-
-add-holds : tie.Need-add-holds
-add-holds c = search needs
-
-holds-requires-2 : tie.Need-holds-requires-2
-holds-requires-2 c κs = search needs
-
-same-length-5 : tie.Need-same-length-5
-same-length-5 c = search needs
-
-same-length-6 : tie.Need-same-length-6
-same-length-6 c = search needs
-
-returns-4 : tie.Need-returns-4
-returns-4 c = search needs
-
-same-length-7 : tie.Need-same-length-7
-same-length-7 c = search needs
-
-same-length-8 : tie.Need-same-length-8
-same-length-8 c = search needs
-
-returns-5 : tie.Need-returns-5
-returns-5 c = search needs
 
 pub replay-runs-spec : {M : Type 1} → statement M
 replay-runs-spec =
@@ -110,34 +71,21 @@ replay-runs-spec =
     (tie.spec
     word-requires
     cast-b
-    no-case-requires
+    add-from
     returns
-    add-span-place
     span-place-requires
     add-word
     word-requires-2
     cast-n
-    add-after
-    mul-after
-    add-after-2
-    clear-requires
-    add-asked
-    slice-relend-prefix-asked
+    marks-requires
+    marks-requires-2
+    array-borrow-prefix-row
     slice-aggregate-asked
+    slice-aggregate-asked-2
     asked-requires
-    holds-requires
-    add-t52
-    same-length
-    same-length-2
-    returns-2
-    same-length-3
-    same-length-4
-    returns-3
-    add-holds
-    holds-requires-2
-    same-length-5
-    same-length-6
-    returns-4
-    same-length-7
-    same-length-8
-    returns-5)
+    add-seen-runs
+    mul-seen-runs
+    add-seen-runs-2
+    slice-aggregate-seen-runs
+    seen-runs-requires
+    returns-2)

@@ -21,20 +21,14 @@ mul-place c = search needs
 add-place : tie.Need-add-place Inv-loop μ-loop
 add-place c = search needs
 
-word-requires : tie.Need-word-requires Inv-loop μ-loop
-word-requires c κs = search needs
+tiles-at-requires : tie.Need-tiles-at-requires Inv-loop μ-loop
+tiles-at-requires c κs = search needs
 
 add-word : tie.Need-add-word Inv-loop μ-loop
 add-word c = search needs
 
-word-requires-2 : tie.Need-word-requires-2 Inv-loop μ-loop
-word-requires-2 c κs = search needs
-
-add-word-2 : tie.Need-add-word-2 Inv-loop μ-loop
-add-word-2 c = search needs
-
-word-requires-3 : tie.Need-word-requires-3 Inv-loop μ-loop
-word-requires-3 c κs = search needs
+word-requires : tie.Need-word-requires Inv-loop μ-loop
+word-requires c κs = search needs
 
 include-span-requires : tie.Need-include-span-requires Inv-loop μ-loop
 include-span-requires c κs = search needs
@@ -61,11 +55,9 @@ summed-spec =
     loop-holds
     mul-place
     add-place
-    word-requires
+    tiles-at-requires
     add-word
-    word-requires-2
-    add-word-2
-    word-requires-3
+    word-requires
     include-span-requires
     add-i
     loop-less

@@ -84,9 +84,9 @@ begun k = begin-call 32 k .value
 abbrev painting : Canvas
 painting = begun (after (fills (solid 0 0 64 ∷ []) 1) start)
 
--- a piece of one tile at the start of bucket 0 and one of bucket 1, with bucket 0 closed between them by a direct writing run
-abbrev apart : Canvas
-apart = write-call 32 9 0 2 (span 0 1) start .canvas
+-- bucket 0 holds id 9 after a direct writing run
+abbrev nine : Canvas
+nine = write-call 32 9 0 2 (span 0 1) start .canvas
 
 -- what a call answered, and what it has to answer
 pub record Told : Type 0 where
@@ -161,9 +161,9 @@ answers =
     ∷ unset-call 32 1 9 (span 0 1) start .number is BadRun
     ∷ unset-call 32 0 0 (span 5 5) start .number is Done
     ∷ unset-call 32 0 0 (span 5 6) start .number is NoRoom
-    ∷ unset-call 32 0 0 (span 31 32) apart .number is Done
-    ∷ visible-call 32 8 0 0 (span 31 32) apart .number is Done
-    ∷ visible-call 32 9 0 0 (span 31 32) apart .number is NoRoom
+    ∷ unset-call 32 0 0 (span 31 32) nine .number is Done
+    ∷ visible-call 32 8 0 0 (span 31 32) nine .number is Done
+    ∷ visible-call 32 9 0 0 (span 31 32) nine .number is NoRoom
     ∷ write-call 32 0 0 9 (span 0 1) start .number is BadRun
     ∷ write-call 32 1 0 9 (span 0 2) start .number is Done
     ∷ write-call 32 1 0 9 (span 0 3) start .number is BadRun

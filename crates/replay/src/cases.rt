@@ -1,5 +1,5 @@
 // One stored case after another: what was asked, what the original answered, and whether the leaf answers the same.
-// data/README.md has the words of each kind. Every list is lent full of marks, and held to the answer to its end.
+// data/README.md has the words of each kind. A list of runs is lent full of marks, and compared to its end.
 use crate::words::MARK;
 use crate::words::holds;
 use crate::words::load;
@@ -198,7 +198,7 @@ fn summed(s: &[u8], at: usize, k: usize) -> DepthState
     state
 }
 
-// A case of fills, of which there are no more than bytes.
+// More fills than the file has bytes are no case.
 fn replay_skip(s: &[u8], at: usize) -> Seen
     requires { ⌜ at ≤ 2 ^ 61 ⌝ }
 {

@@ -26,7 +26,7 @@ fn run_all(s: &[u8]) {
     run(s, b"can_skip", 5);
 }
 
-// Room for a file and at least one byte more.
+// Room for the stored file. A file that fills it may be longer, and is not replayed.
 fn buffer() -> [u8; 196608]
     ensures { λ r. ⌜ 196608 ≡ length r ⌝ }
 {

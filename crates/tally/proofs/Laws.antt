@@ -234,7 +234,7 @@ one-left : (v : Box) (r : ℕ) (m : Option Stretch) → length (localised v r m)
 one-left v r none = omega arith
 one-left v r (some k) = omega arith
 
-at-most-one : (v b : Box) (g : Segment) → length (cut-in v b g) ≤ 1
+pub at-most-one : (v b : Box) (g : Segment) → length (cut-in v b g) ≤ 1
 unfolding cut-in
 at-most-one v b g = one-left v (g .row) (on-row b g (cut-to (span (b .x0) (b .x1)) (stretch-of g)))
 

@@ -1,5 +1,5 @@
 -- A reset that is refused, and one that is done.
-use mathlib.Core.Path.{_≡_, refl, sym, ap, _∙_}
+use mathlib.Core.Path.{_≡_}
 use mathlib.Core.Bool.{Bool, true, false, _&&_, not}
 use mathlib.Core.List.{List, [], _∷_}
 use Prim.Native.Nat.{ℕ, _≤_, _*_}
@@ -9,15 +9,15 @@ use lib.Dec.{eqb}
 use lib.IntN.{ℤ, pos}
 use lib.Ieee.{Float}
 use borrow.Author.Tests.{eq-eqb, ne-eqb}
-use Rattle.rules.specs.Answers.{Answer, answer, first-of}
+use Rattle.rules.specs.Answers.{answer, first-of}
 use Rattle.rules.specs.Boxes.{good-viewport, rows-of}
 use Rattle.rules.specs.Walk.{good-arenas}
 use Rattle.rect.specs.declared.Rect.{Rect}
 use Rattle.rect.specs.Rects.{box-of}
 use Rattle.screen.specs.declared.Screen.{Screen}
 use Rattle.screen.specs.declared.Lengths.{Lengths}
-use Rattle.screen.specs.Screens.{good-screen, fresh-screen}
-use Rattle.screen.specs.Judging.{good-rooms, judged, good-tables, frame, arenas, judged-reset}
+use Rattle.screen.specs.Screens.{frame, good-screen, fresh-screen}
+use Rattle.screen.specs.Judging.{good-rooms, judged, good-tables, arenas, judged-reset}
 use Rattle.screen.specs.Tables.{zeros, float-0, Tables, tables, lengths, zeroed, Lent, lent, reset-to}
 
 at-most-4 : (x y z : Bool) → first-of ((x, 2) ∷ (y, 1) ∷ (z, 4) ∷ []) ≤ 4

@@ -1,17 +1,16 @@
 -- The answers 2, 1 and 4 for a screen's numbers and for how many words are lent.
 use Prim.Native.Nat.{ℕ, _*_}
-use mathlib.Core.Bool.{Bool, true, false, _&&_, not}
-use mathlib.Core.List.{List, [], _∷_}
-use lib.Dec.{leb, eqb}
+use mathlib.Core.Bool.{Bool, _&&_, not}
+use mathlib.Core.List.{[], _∷_}
+use lib.Dec.{eqb}
 use Rattle.rules.specs.Answers.{first-of, BadArena, BadViewport, BadRecord}
-use Rattle.rules.specs.Boxes.{Box, good-viewport, rows-of, buckets-of}
-use Rattle.rules.specs.Plans.{Frame}
+use Rattle.rules.specs.Boxes.{good-viewport, rows-of}
 use Rattle.rules.specs.Walk.{Arenas, good-room, good-arenas}
 use Rattle.rect.specs.declared.Rect.{Rect}
 use Rattle.rect.specs.Rects.{box-of}
 use Rattle.screen.specs.declared.Screen.{Screen}
 use Rattle.screen.specs.declared.Lengths.{Lengths}
-use Rattle.screen.specs.Screens.{good-screen}
+use Rattle.screen.specs.Screens.{frame, good-screen}
 
 -- C and D in range, and the render and depth fill arenas of n rows lent exactly
 abbrev pub good-rooms : ℕ → ℕ → ℕ → ℕ → ℕ → Bool
@@ -39,9 +38,6 @@ good-fixed l =
 -- the tables beside the arenas of n rows
 abbrev pub good-tables : ℕ → Lengths → Bool
 good-tables n l = eqb (l .rows) (n * 54) && eqb (l .painting) (n * 2) && good-fixed l
-
-abbrev pub frame : Rect → ℕ → ℕ → Frame
-frame v c d = record { viewport = box-of v; c = c; d = d }
 
 abbrev pub arenas : Lengths → Arenas
 arenas l = record { render = l .render; fills = l .fills; depth = l .depth }

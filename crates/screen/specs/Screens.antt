@@ -1,7 +1,6 @@
 -- A screen's numbers: what it stands for among the rules, and which are good (answer 4).
-use Prim.Native.Nat.{ℕ, _+_}
-use mathlib.Core.Bool.{Bool, true, false, _&&_, cond}
-use mathlib.Core.List.{List, [], _∷_}
+use Prim.Native.Nat.{ℕ}
+use mathlib.Core.Bool.{Bool, false, _&&_, cond}
 use mathlib.Core.Option.{none}
 use lib.ListN.{length, replicate}
 use lib.Dec.{leb, eqb}
@@ -14,9 +13,12 @@ use Rattle.rect.specs.declared.Rect.{Rect}
 use Rattle.rect.specs.Rects.{box-of, same-box}
 use Rattle.screen.specs.declared.Screen.{Screen}
 
--- what a reset fixed
+-- what a reset fixes
+abbrev pub frame : Rect → ℕ → ℕ → Frame
+frame v c d = record { viewport = box-of v; c = c; d = d }
+
 abbrev pub frame-of : Screen → Frame
-frame-of s = record { viewport = box-of (s .viewport); c = s .c; d = s .d }
+frame-of s = frame (s .viewport) (s .c) (s .d)
 
 abbrev pub in-tiles : Box → Bool
 in-tiles b = by-4 (b .x0) && by-4 (b .y0) && by-4 (b .x1) && by-4 (b .y1)
@@ -84,6 +86,22 @@ screen-after s p =
       «layer_attrs» = length (p .attrs .layers);
       «filter_paints» = length (p .attrs .filters);
       layers = length (p .layers);
+      painting = false;
+    }
+
+-- the screen with other counts and no painting, its layers and clip box as before
+abbrev pub counted : Screen → ℕ → ℕ → ℕ → ℕ → Screen
+counted s next paints layers filters =
+    record {
+      viewport = s .viewport;
+      «clip_bbox» = s .«clip_bbox»;
+      c = s .c;
+      d = s .d;
+      «next_draw_id» = next;
+      «paint_attrs» = paints;
+      «layer_attrs» = layers;
+      «filter_paints» = filters;
+      layers = s .layers;
       painting = false;
     }
 

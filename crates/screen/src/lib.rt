@@ -1,7 +1,6 @@
 // A screen: its numbers by value, its words lent (rule 1). `reset` is a public call; the others are parts of the building steps.
 ghost use mathlib.Core.Path.{_≡_};
 ghost use Prim.Native.Nat.{_≤_};
-ghost use lib.ListN.{length};
 ghost use lib.IntN.{pos};
 ghost use Rattle.rules.specs.Answers.{answer};
 ghost use Rattle.rules.specs.Boxes.{rows-of, buckets-of};

@@ -1,0 +1,152 @@
+use Prim.Native.Nat.{_*_}
+use native.Mathlib.Omega.{arith}
+use Rattle.span.specs.Spans.{tiles, alpha}
+use Rattle.act.proofs.Laws.{drawn-sound}
+use Rattle.arena.proofs.Laws.{small, within, lent, back}
+use Rattle.fillrows.specs.Filling.{draws}
+use borrow.Author.Needs.{needs}
+use Rattle.fillrows.proofs.fill_row.Statement.{statement}
+use Rattle.fillrows.proofs.fill_row.Tie as tie
+use Rattle.fillrows.proofs.fill_row.Reads as reads
+use Rattle.fillrows.proofs.fill_row.Lts as lts
+use Rattle.act.proofs.push_fill.Reads as push-fill-reads
+
+-- src/lib.rt:48:18
+cast-c : tie.Need-cast-c
+cast-c c = search needs
+
+-- src/lib.rt:48:13
+mul-c : tie.Need-mul-c
+mul-c c = search needs
+
+-- src/lib.rt:49:18
+cast-d : tie.Need-cast-d
+cast-d c = search needs
+
+-- src/lib.rt:49:13
+mul-d : tie.Need-mul-d
+mul-d c = search needs
+
+-- src/lib.rt:50:13
+mul-x : tie.Need-mul-x
+mul-x c = search needs
+
+-- src/lib.rt:51:13
+mul-y : tie.Need-mul-y
+mul-y c = record { fits = omega (arith, small _ _ (4 * c .before .before .before .before .before .args .job .c) (c .before .before .before .before .before .pre .1) (c .before .before .before .before .before .pre .0 .rows) (omega (arith, c .before .before .before .before .before .pre .0 .c))) }
+
+-- src/lib.rt:52:13
+mul-z : tie.Need-mul-z
+mul-z c = record { fits = omega (arith, small _ _ (2 * c .before .before .before .before .before .args .job .d) (c .before .before .before .before .before .pre .1) (c .before .before .before .before .before .pre .0 .rows) (omega (arith, c .before .before .before .before .before .pre .0 .d))) }
+
+-- src/lib.rt:56:22
+add-push-fill : tie.Need-add-push-fill
+add-push-fill c = search needs
+
+-- src/lib.rt:56:9
+mul-push-fill : tie.Need-mul-push-fill
+mul-push-fill c = search needs
+
+-- src/lib.rt:56:9
+sub-push-fill : tie.Need-sub-push-fill
+sub-push-fill c = search needs
+
+-- src/lib.rt:56:9
+part-push-fill-start : tie.Need-part-push-fill-start
+part-push-fill-start c = search needs
+
+-- src/lib.rt:56:9
+part-push-fill-end : tie.Need-part-push-fill-end
+part-push-fill-end c = search needs
+
+-- src/lib.rt:57:24
+add-push-fill-2 : tie.Need-add-push-fill-2
+add-push-fill-2 c = record { fits = omega (arith, small _ _ (4 * c .before .before .before .before .before .before .before .args .job .c) (c .before .before .before .before .before .before .before .pre .1) (c .before .before .before .before .before .before .before .pre .0 .rows) (omega (arith, c .before .before .before .before .before .before .before .pre .0 .c)), c .before .before .before .before .before .before .before .pre .0 .c) }
+
+-- src/lib.rt:57:9
+mul-push-fill-2 : tie.Need-mul-push-fill-2
+mul-push-fill-2 c = record { fits = omega (arith, small _ _ (4 * c .before .before .before .before .before .before .before .args .job .c) (c .before .before .before .before .before .before .before .pre .1) (c .before .before .before .before .before .before .before .pre .0 .rows) (omega (arith, c .before .before .before .before .before .before .before .pre .0 .c))) }
+
+-- src/lib.rt:57:9
+sub-push-fill-2 : tie.Need-sub-push-fill-2
+sub-push-fill-2 c = search needs
+
+-- src/lib.rt:57:9
+part-push-fill-start-2 : tie.Need-part-push-fill-start-2
+part-push-fill-start-2 c = search needs
+
+-- src/lib.rt:57:9
+part-push-fill-end-2 : tie.Need-part-push-fill-end-2
+part-push-fill-end-2 c = omega (arith, within _ _ (4 * c .before .before .before .before .before .before .before .args .job .c) (c .before .before .before .before .before .before .before .pre .1), c .before .before .before .before .before .before .before .pre .0 .long .render)
+
+-- src/lib.rt:58:23
+add-push-fill-3 : tie.Need-add-push-fill-3
+add-push-fill-3 c = record { fits = omega (arith, small _ _ (2 * c .before .before .before .before .before .before .before .before .args .job .d) (c .before .before .before .before .before .before .before .before .pre .1) (c .before .before .before .before .before .before .before .before .pre .0 .rows) (omega (arith, c .before .before .before .before .before .before .before .before .pre .0 .d)), c .before .before .before .before .before .before .before .before .pre .0 .d) }
+
+-- src/lib.rt:58:9
+mul-push-fill-3 : tie.Need-mul-push-fill-3
+mul-push-fill-3 c = record { fits = omega (arith, small _ _ (2 * c .before .before .before .before .before .before .before .before .args .job .d) (c .before .before .before .before .before .before .before .before .pre .1) (c .before .before .before .before .before .before .before .before .pre .0 .rows) (omega (arith, c .before .before .before .before .before .before .before .before .pre .0 .d))) }
+
+-- src/lib.rt:58:9
+sub-push-fill-3 : tie.Need-sub-push-fill-3
+sub-push-fill-3 c = search needs
+
+-- src/lib.rt:58:9
+part-push-fill-start-3 : tie.Need-part-push-fill-start-3
+part-push-fill-start-3 c = search needs
+
+-- src/lib.rt:58:9
+part-push-fill-end-3 : tie.Need-part-push-fill-end-3
+part-push-fill-end-3 c = omega (arith, within _ _ (2 * c .before .before .before .before .before .before .before .before .args .job .d) (c .before .before .before .before .before .before .before .before .pre .1), c .before .before .before .before .before .before .before .before .pre .0 .long .fills)
+
+-- src/lib.rt:55:5
+push-fill-requires : tie.Need-push-fill-requires
+push-fill-requires c κs = (c .before .before .before .before .before .before .before .before .before .pre .2, c .before .before .before .before .before .before .before .before .before .pre .0 .layers, rw (lent _ _ _ _ (c .before .before .before .before .before .before .before .before .before .pre .0 .long) (c .before .before .before .before .before .before .before .before .before .pre .1)) (c .before .before .before .before .before .before .before .before .before .pre .3))
+
+-- src/lib.rt:35:1
+same-length : tie.Need-same-length
+same-length c = search needs
+
+-- src/lib.rt:35:1
+same-length-2 : tie.Need-same-length-2
+same-length-2 c = search needs
+
+-- src/lib.rt:35:1
+same-length-3 : tie.Need-same-length-3
+same-length-3 c = search needs
+
+-- src/lib.rt:35:1
+returns : tie.Need-returns
+returns c = back _ _ _ _ (c .before .before .before .before .before .before .before .before .before .before .before .before .before .before .before .before .pre .0 .long) (c .before .before .before .before .before .before .before .before .before .before .before .before .before .before .before .before .pre .1) (draws (c .before .before .before .before .before .before .before .before .before .before .before .before .before .before .before .before .args .job) (tiles (c .before .before .before .before .before .before .before .before .before .before .before .before .before .before .before .before .args .stretch .tiles)) (alpha (c .before .before .before .before .before .before .before .before .before .before .before .before .before .before .before .before .args .stretch .alpha))) _ _ _ (drawn-sound _ _ _ (tiles (c .before .before .before .before .before .before .before .before .before .before .before .before .before .before .before .before .args .stretch .tiles)) _ (c .before .before .before .before .before .before .before .before .before .before .before .before .before .before .before .before .pre .3 .state) (c .before .before .before .before .before .before .before .before .before .before .before .before .before .before .before .before .pre .3 .levels) (c .before .before .before .before .before .before .before .before .before .before .before .before .before .before .before .before .pre .0 .layers) (c .before .before .before .before .before .before .before .before .before .before .before .before .before .before .before .before .args .job .eligible) (alpha (c .before .before .before .before .before .before .before .before .before .before .before .before .before .before .before .before .args .stretch .alpha)) .grown) (rw (lent _ _ _ _ (c .before .before .before .before .before .before .before .before .before .before .before .before .before .before .before .before .pre .0 .long) (c .before .before .before .before .before .before .before .before .before .before .before .before .before .before .before .before .pre .1)) at (c .before .before .before .before .before .before .push-fill .ensures))
+
+pub fill-row-spec : {M : Type 1} → statement M
+fill-row-spec =
+    tie.close
+    (tie.spec
+    cast-c
+    mul-c
+    cast-d
+    mul-d
+    mul-x
+    mul-y
+    mul-z
+    add-push-fill
+    mul-push-fill
+    sub-push-fill
+    part-push-fill-start
+    part-push-fill-end
+    add-push-fill-2
+    mul-push-fill-2
+    sub-push-fill-2
+    part-push-fill-start-2
+    part-push-fill-end-2
+    add-push-fill-3
+    mul-push-fill-3
+    sub-push-fill-3
+    part-push-fill-start-3
+    part-push-fill-end-3
+    push-fill-requires
+    same-length
+    same-length-2
+    same-length-3
+    returns)

@@ -1,5 +1,5 @@
 -- What the judging definitions say of each way through the code.
-use mathlib.Core.Path.{_≡_, refl, sym, _∙_}
+use mathlib.Core.Path.{_≡_, refl, _∙_}
 use mathlib.Core.Bool.{Bool, true, false, _&&_}
 use Prim.Native.Nat.{ℕ, _*_}
 use lib.Dec.{eqb}
@@ -13,12 +13,12 @@ use Rattle.screen.specs.declared.Lengths.{Lengths}
 use Rattle.screen.specs.Screens.{good-screen}
 use Rattle.screen.specs.Judging.{good-rooms, judged, good-fixed, frame, arenas, judged-reset}
 
-module _ (s : Screen) (rows render fills n : ℕ) (e : n ≡ rows-of (box-of (s .viewport))) where
+module _ (s : Screen) (rows render fills : ℕ) where
   pub bad-viewport : good-viewport (box-of (s .viewport)) ≡ false → 2 ≡ judged s rows render fills
   unfolding judged
   bad-viewport h = rw h
 
-  module _ (v : good-viewport (box-of (s .viewport)) ≡ true) where
+  module _ (n : ℕ) (e : n ≡ rows-of (box-of (s .viewport))) (v : good-viewport (box-of (s .viewport)) ≡ true) where
     pub bad-rooms : good-rooms n (s .c) (s .d) render fills ≡ false → 1 ≡ judged s rows render fills
     unfolding judged
     bad-rooms h = rw (v, rw e at h)
@@ -37,7 +37,7 @@ module _ (s : Screen) (rows render fills n : ℕ) (e : n ≡ rows-of (box-of (s 
         unfolding judged
         good h = rw (v, rw e at r, rw e at (eq-eqb _ _ l), h)
 
--- an arena more
+-- the depth arena besides the two others
 with-depth : (x y z w : Bool) → (x && (y && z && w)) ≡ (x && y && z && w)
 with-depth true y z w = refl
 with-depth false y z w = refl
@@ -47,38 +47,43 @@ module _ (v : Rect) (c d : ℕ) (l : Lengths) where
   unfolding judged-reset
   reset-bad-viewport h = rw h
 
-  module _ (n : ℕ) (e : n ≡ rows-of (box-of v)) (g : good-viewport (box-of v) ≡ true) where
+  -- n rows of a good viewport
+  pub record Rows (n : ℕ) : Type 0 where
+    pub view : good-viewport (box-of v) ≡ true
+    pub rows : n ≡ rows-of (box-of v)
+
+  module _ (n : ℕ) (g : Rows n) where
     all-arenas : good-arenas 32 (frame v c d) (arenas l)
         ≡ (good-rooms n c d (l .render) (l .fills) && eqb (l .depth) (n * buckets-of 32 (box-of v)))
-    all-arenas = rw e (with-depth (good-room c && good-room d) _ _ _)
+    all-arenas = rw (g .rows) (with-depth (good-room c && good-room d) _ _ _)
 
     pub reset-bad-rooms : good-rooms n c d (l .render) (l .fills) ≡ false → 1 ≡ judged-reset v c d l
     unfolding judged-reset
-    reset-bad-rooms h = rw (g, all-arenas, h)
+    reset-bad-rooms h = rw (g .view, all-arenas, h)
 
-    module _ (r : good-rooms n c d (l .render) (l .fills) ≡ true) where
-      pub reset-bad-depth : (l .depth ≡ n * buckets-of 32 (box-of v) → ⊥) → 1 ≡ judged-reset v c d l
+    module _ (b : ℕ) (e : b ≡ buckets-of 32 (box-of v)) (r : good-rooms n c d (l .render) (l .fills) ≡ true) where
+      pub reset-bad-depth : (l .depth ≡ n * b → ⊥) → 1 ≡ judged-reset v c d l
       unfolding judged-reset
-      reset-bad-depth h = rw (g, all-arenas, r, ne-eqb _ _ h)
+      reset-bad-depth h = rw (g .view, all-arenas, r, ne-eqb _ _ (rw e at h))
 
-      module _ (w : l .depth ≡ n * buckets-of 32 (box-of v)) where
-        good-all : good-arenas 32 (frame v c d) (arenas l) ≡ true
-        good-all = all-arenas ∙ rw (r, eq-eqb _ _ w)
+      pub reset-arenas : l .depth ≡ n * b → good-arenas 32 (frame v c d) (arenas l) ≡ true
+      reset-arenas h = all-arenas ∙ rw (r, eq-eqb _ _ (rw e at h))
 
-        pub reset-bad-rows : (l .rows ≡ n * 54 → ⊥) → 4 ≡ judged-reset v c d l
+    module _ (a : good-arenas 32 (frame v c d) (arenas l) ≡ true) where
+      pub reset-bad-rows : (l .rows ≡ n * 54 → ⊥) → 4 ≡ judged-reset v c d l
+      unfolding judged-reset
+      reset-bad-rows h = rw (g .view, a, rw (g .rows) at (ne-eqb _ _ h))
+
+      module _ (k : l .rows ≡ n * 54) where
+        pub reset-bad-painting : (l .painting ≡ n * 2 → ⊥) → 4 ≡ judged-reset v c d l
         unfolding judged-reset
-        reset-bad-rows h = rw (g, good-all, rw e at (ne-eqb _ _ h))
+        reset-bad-painting h = rw (g .view, a, rw (g .rows) at (eq-eqb _ _ k), rw (g .rows) at (ne-eqb _ _ h))
 
-        module _ (k : l .rows ≡ n * 54) where
-          pub reset-bad-painting : (l .painting ≡ n * 2 → ⊥) → 4 ≡ judged-reset v c d l
+        module _ (p : l .painting ≡ n * 2) where
+          pub reset-bad-fixed : good-fixed l ≡ false → 4 ≡ judged-reset v c d l
           unfolding judged-reset
-          reset-bad-painting h = rw (g, good-all, rw e at (eq-eqb _ _ k), rw e at (ne-eqb _ _ h))
+          reset-bad-fixed h = rw (g .view, a, rw (g .rows) at (eq-eqb _ _ k), rw (g .rows) at (eq-eqb _ _ p), h)
 
-          module _ (p : l .painting ≡ n * 2) where
-            pub reset-bad-fixed : good-fixed l ≡ false → 4 ≡ judged-reset v c d l
-            unfolding judged-reset
-            reset-bad-fixed h = rw (g, good-all, rw e at (eq-eqb _ _ k), rw e at (eq-eqb _ _ p), h)
-
-            pub reset-good : good-fixed l ≡ true → 0 ≡ judged-reset v c d l
-            unfolding judged-reset
-            reset-good h = rw (g, good-all, rw e at (eq-eqb _ _ k), rw e at (eq-eqb _ _ p), h)
+          pub reset-good : good-fixed l ≡ true → 0 ≡ judged-reset v c d l
+          unfolding judged-reset
+          reset-good h = rw (g .view, a, rw (g .rows) at (eq-eqb _ _ k), rw (g .rows) at (eq-eqb _ _ p), h)

@@ -2,3 +2,4 @@ pub mod Numbers
 pub mod Clearing
 pub mod Laws
 pub mod Judged
+pub mod Resets

@@ -1,12 +1,10 @@
 use Prim.Native.Nat.{_-_}
+use native.Mathlib.Omega.{arith}
 use lib.ListN.{length}
 use Rattle.screen.specs.Tables.{float-0}
-use native.Mathlib.Omega.{arith}
 use Rattle.screen.proofs.Clearing.{Clearing, begun, again, ended}
 use Rattle.screen.proofs.clear_floats.Statement.{statement}
 use Rattle.screen.proofs.clear_floats.Tie as tie
-use Rattle.screen.proofs.clear_floats.Reads as reads
-use Rattle.screen.proofs.clear_floats.Lts as lts
 
 abbrev Inv-loop : tie.InvT-loop
 Inv-loop words₀ i₀ words i = Clearing float-0 words₀ words i
@@ -14,35 +12,27 @@ Inv-loop words₀ i₀ words i = Clearing float-0 words₀ words i
 abbrev μ-loop : tie.MeasureT-loop
 μ-loop words₀ i₀ words i = length words₀ - i
 
--- src/lib.rt:231:5
 loop-holds : tie.Need-loop-holds Inv-loop μ-loop
 loop-holds c = begun _ _
 
--- src/lib.rt:232:9
 mul-words : tie.Need-mul-words Inv-loop μ-loop
 mul-words c = omega (arith, c .before .loop .inv .within, c .before .loop .inv .long)
 
--- src/lib.rt:232:9
 slice-write-words : tie.Need-slice-write-words Inv-loop μ-loop
 slice-write-words c = omega arith
 
--- src/lib.rt:233:9
 add-i : tie.Need-add-i Inv-loop μ-loop
 add-i c = omega arith
 
--- src/lib.rt:231:5
 loop-less : tie.Need-loop-less Inv-loop μ-loop
 loop-less c = omega (arith, c .before .loop .inv .within, c .before .loop .inv .long)
 
--- src/lib.rt:231:5
 loop-again : tie.Need-loop-again Inv-loop μ-loop
 loop-again c = again _ _ _ _ (c .before .loop .inv) (c .loop-test .taken)
 
--- src/lib.rt:227:1
 same-length : tie.Need-same-length Inv-loop μ-loop
 same-length c = c .before .loop .inv .long
 
--- src/lib.rt:227:1
 returns : tie.Need-returns Inv-loop μ-loop
 returns c = ended _ _ _ _ (c .before .loop .inv) (c .loop-test .left)
 

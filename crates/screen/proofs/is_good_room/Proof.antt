@@ -1,14 +1,10 @@
 use borrow.Author.Tests.{le-leb, lt-leb}
 use Rattle.screen.proofs.is_good_room.Statement.{statement}
 use Rattle.screen.proofs.is_good_room.Tie as tie
-use Rattle.screen.proofs.is_good_room.Reads as reads
-use Rattle.screen.proofs.is_good_room.Lts as lts
 
--- src/lib.rt:84:9
 returns : tie.Need-returns
 returns c = rw (lt-leb _ _ (c .if1 .taken))
 
--- src/lib.rt:80:1
 returns-2 : tie.Need-returns-2
 returns-2 c = rw (le-leb _ _ (c .if1 .left))
 

@@ -1,22 +1,16 @@
 use borrow.Author.Tests.{eq-eqb, ne-eqb}
 use Rattle.screen.proofs.is_in_tiles.Statement.{statement}
 use Rattle.screen.proofs.is_in_tiles.Tie as tie
-use Rattle.screen.proofs.is_in_tiles.Reads as reads
-use Rattle.screen.proofs.is_in_tiles.Lts as lts
 
--- src/lib.rt:94:9
 returns : tie.Need-returns
 returns c = rw (ne-eqb _ _ (c .if1 .taken))
 
--- src/lib.rt:97:9
 returns-2 : tie.Need-returns-2
 returns-2 c = rw (eq-eqb _ _ (c .before .before .if1 .left), ne-eqb _ _ (c .if2 .taken))
 
--- src/lib.rt:100:9
 returns-3 : tie.Need-returns-3
 returns-3 c = rw (eq-eqb _ _ (c .before .before .before .before .if1 .left), eq-eqb _ _ (c .before .before .if2 .left), ne-eqb _ _ (c .if3 .taken))
 
--- src/lib.rt:90:1
 returns-4 : tie.Need-returns-4
 returns-4 c = rw (eq-eqb _ _ (c .before .before .before .before .before .if1 .left), eq-eqb _ _ (c .before .before .before .if2 .left), eq-eqb _ _ (c .before .if3 .left))
 

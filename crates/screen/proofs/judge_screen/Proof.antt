@@ -1,52 +1,51 @@
+use mathlib.Core.Path.{_≡_, sym, _∙_}
+use mathlib.Core.Bool.{true}
+use borrow.Author.Tests.{not-true, not-false}
 use borrow.Author.Needs.{needs}
+use Rattle.rules.specs.Boxes.{good-viewport}
+use Rattle.rect.specs.Rects.{box-of}
+use Rattle.screen.specs.Judging.{good-rooms}
+use Rattle.screen.proofs.Laws.{few-rows}
+use Rattle.screen.proofs.Judged.{bad-viewport, bad-rooms, bad-rows, bad-screen, good}
 use Rattle.screen.proofs.judge_screen.Statement.{statement}
 use Rattle.screen.proofs.judge_screen.Tie as tie
-use Rattle.screen.proofs.judge_screen.Reads as reads
-use Rattle.screen.proofs.judge_screen.Lts as lts
-use Rattle.rect.proofs.Rect.is_good_viewport.Reads as is-good-viewport-reads
-use Rattle.screen.proofs.Screen.is_good.Reads as is-good-reads
-use Rattle.screen.proofs.Screen.rows.Reads as rows-reads
-use Rattle.screen.proofs.is_good_rooms.Reads as is-good-rooms-reads
 
--- src/lib.rt:191:9
+-- past the first test the viewport is good, past the second C, D and the arenas
+good-view : (c : tie.Else1) → good-viewport (box-of (c .before .before .before .args .screen .viewport)) ≡ true
+good-view c = sym (c .before .is-good-viewport .ensures) ∙ not-false _ (c .if1 .left)
+
+good-arenas : (c : tie.Else2) → good-rooms (c .before .before .rows .result) (c .before .before .before .before .before .before .args .screen .c) (c .before .before .before .before .before .before .args .screen .d) (c .before .before .before .before .before .before .args .render) (c .before .before .before .before .before .before .args .fills) ≡ true
+good-arenas c = sym (c .before .is-good-rooms .ensures) ∙ not-false _ (c .if2 .left)
+
 is-good-viewport-requires : tie.Need-is-good-viewport-requires
 is-good-viewport-requires c κs = search needs
 
--- src/lib.rt:192:9
 returns : tie.Need-returns
-returns c = ?
+returns c = bad-viewport _ _ _ _ (sym (c .before .is-good-viewport .ensures) ∙ not-true _ (c .if1 .taken))
 
--- src/lib.rt:194:9
 rows-requires : tie.Need-rows-requires
 rows-requires c κs = search needs
 
--- src/lib.rt:195:9
 is-good-rooms-requires : tie.Need-is-good-rooms-requires
-is-good-rooms-requires c κs = ?
+is-good-rooms-requires c κs = rw (c .rows .ensures) (few-rows _ (good-view (c .before)))
 
--- src/lib.rt:196:9
 returns-2 : tie.Need-returns-2
-returns-2 c = ?
+returns-2 c = bad-rooms _ _ _ _ _ (c .before .before .rows .ensures) (good-view (c .before .before .before)) (sym (c .before .is-good-rooms .ensures) ∙ not-true _ (c .if2 .taken))
 
--- src/lib.rt:198:16
 mul-if3 : tie.Need-mul-if3
 mul-if3 c = search needs
 
--- src/lib.rt:199:9
 returns-3 : tie.Need-returns-3
-returns-3 c = ?
+returns-3 c = bad-rows _ _ _ _ _ (c .before .before .before .rows .ensures) (good-view (c .before .before .before .before)) (good-arenas (c .before)) (c .if3 .taken)
 
--- src/lib.rt:201:9
 is-good-requires : tie.Need-is-good-requires
 is-good-requires c κs = search needs
 
--- src/lib.rt:202:9
 returns-4 : tie.Need-returns-4
-returns-4 c = ?
+returns-4 c = bad-screen _ _ _ _ _ (c .before .before .before .before .before .rows .ensures) (good-view (c .before .before .before .before .before .before)) (good-arenas (c .before .before .before)) (c .before .before .if3 .left) (sym (c .before .is-good .ensures) ∙ not-true _ (c .if4 .taken))
 
--- src/lib.rt:187:1
 returns-5 : tie.Need-returns-5
-returns-5 c = ?
+returns-5 c = good _ _ _ _ _ (c .before .before .before .before .before .rows .ensures) (good-view (c .before .before .before .before .before .before)) (good-arenas (c .before .before .before)) (c .before .before .if3 .left) (sym (c .before .is-good .ensures) ∙ not-false _ (c .if4 .left))
 
 pub judge-screen-spec : {M : Type 1} → statement M
 judge-screen-spec =

@@ -2,30 +2,22 @@ use borrow.Author.Tests.{eq-eqb, ne-eqb}
 use borrow.Author.Needs.{needs}
 use Rattle.screen.proofs.Lengths.is_good_fixed.Statement.{statement}
 use Rattle.screen.proofs.Lengths.is_good_fixed.Tie as tie
-use Rattle.screen.proofs.Lengths.is_good_fixed.Reads as reads
-use Rattle.screen.proofs.Lengths.is_good_fixed.Lts as lts
 
--- src/lib.rt:260:27
 mul-if1 : tie.Need-mul-if1
 mul-if1 c = search needs
 
--- src/lib.rt:261:13
 returns : tie.Need-returns
 returns c = rw (ne-eqb _ _ (c .if1 .taken))
 
--- src/lib.rt:264:13
 returns-2 : tie.Need-returns-2
 returns-2 c = rw (eq-eqb _ _ (c .before .before .if1 .left), ne-eqb _ _ (c .if2 .taken))
 
--- src/lib.rt:267:13
 returns-3 : tie.Need-returns-3
 returns-3 c = rw (eq-eqb _ _ (c .before .before .before .before .if1 .left), eq-eqb _ _ (c .before .before .if2 .left), ne-eqb _ _ (c .if3 .taken))
 
--- src/lib.rt:270:13
 returns-4 : tie.Need-returns-4
 returns-4 c = rw (eq-eqb _ _ (c .before .before .before .before .before .before .if1 .left), eq-eqb _ _ (c .before .before .before .before .if2 .left), eq-eqb _ _ (c .before .before .if3 .left), ne-eqb _ _ (c .if4 .taken))
 
--- src/lib.rt:257:5
 returns-5 : tie.Need-returns-5
 returns-5 c = rw (eq-eqb _ _ (c .before .before .before .before .before .before .before .if1 .left), eq-eqb _ _ (c .before .before .before .before .before .if2 .left), eq-eqb _ _ (c .before .before .before .if3 .left), eq-eqb _ _ (c .before .if4 .left))
 

@@ -1,24 +1,25 @@
 -- Laws of screens, for this crate and its callers.
-use mathlib.Core.Path.{_≡_, refl, sym, ap, _∙_}
-use mathlib.Core.Bool.{Bool, true, false, _&&_, not, cond}
-use mathlib.Core.List.{List, [], _∷_}
-use Prim.Native.Nat.{ℕ, zero, suc, _≤_, _<_, _+_, _-_, _*_, _/_}
+use mathlib.Core.Path.{_≡_, refl, sym}
+use mathlib.Core.Bool.{Bool, true, false, _&&_, _||_}
+use Prim.Native.Nat.{ℕ, zero, suc, _≤_, _*_, _%_}
 use native.Mathlib.Nat.{mul-le-mul}
 use native.Mathlib.Omega.{arith}
 use lib.ListN.{length, replicate, length-replicate}
-use lib.Dec.{leb, eqb}
-use borrow.Author.Tests.{leb-true, eqb-true}
-use Rattle.screen.proofs.Numbers.{and-left, and-right}
-use Rattle.rules.specs.Boxes.{Box, box, width, height, whole, rows-of, buckets-of, good-box, good-viewport}
+use lib.Dec.{leb, ltb, eqb}
+use borrow.Author.Tests.{leb-true, ltb-false, eqb-true, eq-eqb, ne-eqb, le-leb}
+use Rattle.rules.specs.Lists.{is-empty}
+use Rattle.rules.specs.Boxes.{Box, width, height, by-4, bounded, whole, rows-of, buckets-of, good-box, good-viewport}
+use Rattle.rules.specs.Attributes.{attrs-full}
 use Rattle.rules.specs.Plans as plans
-use Rattle.rules.specs.Plans.{clip-box}
+use Rattle.rules.specs.Plans.{Plan, clip-box}
 use Rattle.rules.specs.Steps.{reset-state}
 use Rattle.rules.specs.Walk.{good-room}
 use Rattle.rect.specs.declared.Rect.{Rect}
 use Rattle.rect.specs.Rects.{box-of, same-box}
 use Rattle.screen.specs.declared.Screen.{Screen}
-use Rattle.screen.specs.Screens.{good-clip, good-counts, good-screen, layer-in, state-of, frame-of, fresh-screen}
+use Rattle.screen.specs.Screens.{in-tiles, good-clip, good-counts, good-screen, some-paint, some-layer, some-filter, layer-in, state-of, screen-after, counted, fresh-screen}
 use Rattle.screen.specs.Judging.{frame}
+use Rattle.screen.proofs.Numbers.{and-left, and-right, or-left, or-right}
 
 pub record Room (n : ℕ) : Type 0 where
   pub some : 1 ≤ n
@@ -32,15 +33,67 @@ room n h =
 pub small : (n k c : ℕ) → n ≤ 512 → k ≤ 4 → good-room c ≡ true → n * (k * c) ≤ 2097152
 small n k c p q g = mul-le-mul {n₂ = 512} {m₂ = 4096} p (mul-le-mul {n₂ = 4} {m₂ = 1024} q (room c g .few))
 
--- a viewport's rows and buckets
+-- what a good viewport is
+pub record View (v : Box) : Type 0 where
+  pub x0-by-4 : v .x0 % 4 ≡ 0
+  pub x1-by-4 : v .x1 % 4 ≡ 0
+  pub y0-by-4 : v .y0 % 4 ≡ 0
+  pub y1-by-4 : v .y1 % 4 ≡ 0
+  pub in-order : v .x0 ≤ v .x1
+  pub in-order-y : v .y0 ≤ v .y1
+  pub right : v .x1 ≤ 32768
+  pub bottom : v .y1 ≤ 32768
+  pub wide : width v ≤ 4096
+  pub high : height v ≤ 2048
+
+pub view : (v : Box) → good-viewport v ≡ true → View v
+unfolding good-viewport
+view v g =
+    let a1 = by-4 (v .x0) in
+    let a2 = by-4 (v .x1) in
+    let a3 = by-4 (v .y0) in
+    let a4 = by-4 (v .y1) in
+    let b1 = leb (v .x0) (v .x1) in
+    let b2 = leb (v .y0) (v .y1) in
+    let b3 = leb (v .x1) 32768 in
+    let b4 = leb (v .y1) 32768 in
+    let w = leb (width v) 4096 in
+    let t = leb (height v) 2048 in
+    let h2 : (good-box v && w) ≡ true = and-left (good-box v && w) t g in
+    let h1 : (a1 && a2 && a3 && a4 && bounded v) ≡ true = and-left (good-box v) w h2 in
+    let k4 : (a1 && a2 && a3 && a4) ≡ true = and-left (a1 && a2 && a3 && a4) (bounded v) h1 in
+    let k3 : (a1 && a2 && a3) ≡ true = and-left (a1 && a2 && a3) a4 k4 in
+    let k2 : (a1 && a2) ≡ true = and-left (a1 && a2) a3 k3 in
+    let m4 : (b1 && b2 && b3 && b4) ≡ true = and-right (a1 && a2 && a3 && a4) (bounded v) h1 in
+    let m3 : (b1 && b2 && b3) ≡ true = and-left (b1 && b2 && b3) b4 m4 in
+    let m2 : (b1 && b2) ≡ true = and-left (b1 && b2) b3 m3 in
+    record {
+      x0-by-4 = eqb-true _ _ (and-left a1 a2 k2);
+      x1-by-4 = eqb-true _ _ (and-right a1 a2 k2);
+      y0-by-4 = eqb-true _ _ (and-right (a1 && a2) a3 k3);
+      y1-by-4 = eqb-true _ _ (and-right (a1 && a2 && a3) a4 k4);
+      in-order = leb-true _ _ (and-left b1 b2 m2);
+      in-order-y = leb-true _ _ (and-right b1 b2 m2);
+      right = leb-true _ _ (and-right (b1 && b2) b3 m3);
+      bottom = leb-true _ _ (and-right (b1 && b2 && b3) b4 m4);
+      wide = leb-true _ _ (and-right (good-box v) w h2);
+      high = leb-true _ _ (and-right (good-box v && w) t g);
+    }
+
 module _ (v : Box) (g : good-viewport v ≡ true) where
   pub few-rows : rows-of v ≤ 512
-  unfolding good-viewport
-  few-rows = let h : height v ≤ 2048 = leb-true _ _ (and-right (good-box v && leb (width v) 4096) (leb (height v) 2048) g) in omega arith
+  few-rows = omega (arith, view v g .high)
 
   pub few-buckets : buckets-of 32 v ≤ 32
-  unfolding good-viewport
-  few-buckets = let h : width v ≤ 4096 = leb-true _ _ (and-right (good-box v) (leb (width v) 4096) (and-left _ (leb (height v) 2048) g)) in omega arith
+  few-buckets = omega (arith, view v g .wide)
+
+pub record Bounds (s : Screen) : Type 0 where
+  pub some-id : 1 ≤ s .«next_draw_id»
+  pub ids : s .«next_draw_id» ≤ 1048577
+  pub paints : s .«paint_attrs» ≤ 1024
+  pub layer-attrs : s .«layer_attrs» ≤ 1024
+  pub filters : s .«filter_paints» ≤ 256
+  pub deep : s .layers ≤ 16
 
 -- boxes that the test calls the same are
 same : (a b : Box) → same-box a b ≡ true → a ≡ b
@@ -57,17 +110,167 @@ same a b h =
     let s : a .y1 ≡ b .y1 = eqb-true _ _ (and-right (t1 && t2 && t3) t4 h) in
     rw (p, q, r, s)
 
-clip-is : (v b : Box) (n : ℕ) → good-clip v b n ≡ true → clip-box v (replicate n (layer-in b)) ≡ b
-unfolding good-clip
-clip-is v b zero g = sym (same b (whole v) g)
-clip-is v b (suc n) g = refl
+same-itself : (a : Box) → same-box a a ≡ true
+same-itself a = rw (eq-eqb (a .x0) (a .x0) refl, eq-eqb (a .y0) (a .y0) refl, eq-eqb (a .x1) (a .x1) refl, eq-eqb (a .y1) (a .y1) refl)
 
--- the clip box of a good screen
-pub clip-of : (s : Screen) → good-screen s ≡ true → plans.box-of (state-of s) ≡ box-of (s .«clip_bbox»)
-unfolding good-screen state-of
-clip-of s g = clip-is _ _ (s .layers) (and-right (good-counts s) _ g)
+-- what a good clip box is, with layers open or none
+pub record Clip (v b : Box) : Type 0 where
+  pub x0-by-4 : b .x0 % 4 ≡ 0
+  pub y0-by-4 : b .y0 % 4 ≡ 0
+  pub x1-by-4 : b .x1 % 4 ≡ 0
+  pub y1-by-4 : b .y1 % 4 ≡ 0
+  pub left : b .x0 ≤ 32768
+  pub top : b .y0 ≤ 32768
+  pub right : b .x1 ≤ width v
+  pub bottom : b .y1 ≤ height v
 
--- a fresh screen stands for the rules' reset
+whole-clip : (v : Box) → View v → Clip v (whole v)
+whole-clip v g =
+    record {
+      x0-by-4 = refl;
+      y0-by-4 = refl;
+      x1-by-4 = omega (arith, g .x0-by-4, g .x1-by-4, g .in-order);
+      y1-by-4 = omega (arith, g .y0-by-4, g .y1-by-4, g .in-order-y);
+      left = omega arith;
+      top = omega arith;
+      right = omega arith;
+      bottom = omega arith;
+    }
+
+module _ (v b : Box) where
+  abbrev inside : Bool
+  inside = in-tiles b && leb (b .x0) 32768 && leb (b .y0) 32768 && leb (b .x1) (width v) && leb (b .y1) (height v)
+
+  inside-clip : inside ≡ true → Clip v b
+  inside-clip h =
+      let a1 = by-4 (b .x0) in
+      let a2 = by-4 (b .y0) in
+      let a3 = by-4 (b .x1) in
+      let a4 = by-4 (b .y1) in
+      let t = in-tiles b in
+      let l1 = leb (b .x0) 32768 in
+      let l2 = leb (b .y0) 32768 in
+      let l3 = leb (b .x1) (width v) in
+      let l4 = leb (b .y1) (height v) in
+      let h3 : (t && l1 && l2 && l3) ≡ true = and-left (t && l1 && l2 && l3) l4 h in
+      let h2 : (t && l1 && l2) ≡ true = and-left (t && l1 && l2) l3 h3 in
+      let h1 : (t && l1) ≡ true = and-left (t && l1) l2 h2 in
+      let k4 : (a1 && a2 && a3 && a4) ≡ true = and-left t l1 h1 in
+      let k3 : (a1 && a2 && a3) ≡ true = and-left (a1 && a2 && a3) a4 k4 in
+      let k2 : (a1 && a2) ≡ true = and-left (a1 && a2) a3 k3 in
+      record {
+        x0-by-4 = eqb-true _ _ (and-left a1 a2 k2);
+        y0-by-4 = eqb-true _ _ (and-right a1 a2 k2);
+        x1-by-4 = eqb-true _ _ (and-right (a1 && a2) a3 k3);
+        y1-by-4 = eqb-true _ _ (and-right (a1 && a2 && a3) a4 k4);
+        left = leb-true _ _ (and-right t l1 h1);
+        top = leb-true _ _ (and-right (t && l1) l2 h2);
+        right = leb-true _ _ (and-right (t && l1 && l2) l3 h3);
+        bottom = leb-true _ _ (and-right (t && l1 && l2 && l3) l4 h);
+      }
+
+  -- of a good viewport
+  pub clip : (n : ℕ) → good-viewport v ≡ true → good-clip v b n ≡ true → Clip v b
+  unfolding good-clip
+  clip zero g h = rw (same b (whole v) h) (whole-clip v (view v g))
+  clip (suc n) g h = inside-clip (rw (ne-eqb (suc n) 0 (λ e. omega arith)) at h)
+
+  clip-is : (n : ℕ) → good-clip v b n ≡ true → clip-box v (replicate n (layer-in b)) ≡ b
+  unfolding good-clip
+  clip-is zero h = sym (same b (whole v) h)
+  clip-is (suc n) h = refl
+
+module _ (s : Screen) (g : good-screen s ≡ true) where
+  -- the counts of a good screen
+  pub bounds : Bounds s
+  unfolding good-screen
+  bounds =
+      let t1 = leb 1 (s .«next_draw_id») in
+      let t2 = leb (s .«next_draw_id») 1048577 in
+      let t3 = leb (s .«paint_attrs») 1024 in
+      let t4 = leb (s .«layer_attrs») 1024 in
+      let t5 = leb (s .«filter_paints») 256 in
+      let t6 = leb (s .layers) 16 in
+      let h6 : (t1 && t2 && t3 && t4 && t5 && t6) ≡ true = and-left (good-counts s) _ g in
+      let h5 : (t1 && t2 && t3 && t4 && t5) ≡ true = and-left (t1 && t2 && t3 && t4 && t5) t6 h6 in
+      let h4 : (t1 && t2 && t3 && t4) ≡ true = and-left (t1 && t2 && t3 && t4) t5 h5 in
+      let h3 : (t1 && t2 && t3) ≡ true = and-left (t1 && t2 && t3) t4 h4 in
+      let h2 : (t1 && t2) ≡ true = and-left (t1 && t2) t3 h3 in
+      record {
+        some-id = leb-true _ _ (and-left t1 t2 h2);
+        ids = leb-true _ _ (and-right t1 t2 h2);
+        paints = leb-true _ _ (and-right (t1 && t2) t3 h3);
+        layer-attrs = leb-true _ _ (and-right (t1 && t2 && t3) t4 h4);
+        filters = leb-true _ _ (and-right (t1 && t2 && t3 && t4) t5 h5);
+        deep = leb-true _ _ (and-right (t1 && t2 && t3 && t4 && t5) t6 h6);
+      }
+
+  pub good-clip-of : good-clip (box-of (s .viewport)) (box-of (s .«clip_bbox»)) (s .layers) ≡ true
+  unfolding good-screen
+  good-clip-of = and-right (good-counts s) _ g
+
+  -- its clip box is the rules'
+  pub clip-of : plans.box-of (state-of s) ≡ box-of (s .«clip_bbox»)
+  unfolding state-of
+  clip-of = clip-is _ _ (s .layers) good-clip-of
+
+  -- a plan that leaves the layers as they are
+  pub same-layers : (p : Plan) → p .layers ≡ state-of s .layers
+      → screen-after s p ≡ counted s (p .next) (length (p .attrs .paints)) (length (p .attrs .layers)) (length (p .attrs .filters))
+  unfolding screen-after state-of
+  same-layers p e = rw (e, length-replicate (s .layers) (layer-in (box-of (s .«clip_bbox»))), clip-is (box-of (s .viewport)) (box-of (s .«clip_bbox»)) (s .layers) good-clip-of)
+
+-- how many there are of each
+module _ (s : Screen) where
+  pub paint-count : length (state-of s .attrs .paints) ≡ s .«paint_attrs»
+  unfolding state-of
+  paint-count = length-replicate (s .«paint_attrs») some-paint
+
+  pub layer-attr-count : length (state-of s .attrs .layers) ≡ s .«layer_attrs»
+  unfolding state-of
+  layer-attr-count = length-replicate (s .«layer_attrs») some-layer
+
+  pub filter-count : length (state-of s .attrs .filters) ≡ s .«filter_paints»
+  unfolding state-of
+  filter-count = length-replicate (s .«filter_paints») some-filter
+
+  pub layer-count : length (state-of s .layers) ≡ s .layers
+  unfolding state-of
+  layer-count = length-replicate (s .layers) (layer-in (box-of (s .«clip_bbox»)))
+
+none-in : {A : Type 0} (n : ℕ) (x : A) → is-empty (replicate n x) ≡ eqb n 0
+none-in zero x = refl
+none-in (suc n) x = sym (ne-eqb (suc n) 0 (λ e. omega arith))
+
+pub none-open : (s : Screen) → is-empty (state-of s .layers) ≡ eqb (s .layers) 0
+unfolding state-of
+none-open s = none-in (s .layers) _
+
+-- a fresh screen stands for the rules' reset, and is good
 pub fresh-state : (v : Rect) (c d : ℕ) → state-of (fresh-screen v c d) ≡ reset-state (frame v c d)
 unfolding state-of
 fresh-state v c d = refl
+
+pub fresh-good : (v : Rect) (c d : ℕ) → good-screen (fresh-screen v c d) ≡ true
+unfolding good-screen good-clip
+fresh-good v c d = same-itself (whole (box-of v))
+
+-- a done plan leaves a good screen, if its clip box is good
+pub good-after : (s : Screen) (p : Plan) → 1 ≤ p .next → p .next ≤ 1048577 → attrs-full (p .attrs) ≡ false → length (p .layers) ≤ 16
+    → good-clip (box-of (s .viewport)) (clip-box (box-of (s .viewport)) (p .layers)) (length (p .layers)) ≡ true
+    → good-screen (screen-after s p) ≡ true
+unfolding good-screen screen-after
+good-after s p h1 h2 h3 h4 h5 =
+    let f1 = ltb 1024 (length (p .attrs .paints)) in
+    let f2 = ltb 1024 (length (p .attrs .layers)) in
+    let f3 = ltb 256 (length (p .attrs .filters)) in
+    let k : (f1 || f2) ≡ false = or-left (f1 || f2) f3 h3 in
+    rw (
+      le-leb _ _ h1,
+      le-leb _ _ h2,
+      le-leb _ _ (ltb-false _ _ (or-left f1 f2 k)),
+      le-leb _ _ (ltb-false _ _ (or-right f1 f2 k)),
+      le-leb _ _ (ltb-false _ _ (or-right (f1 || f2) f3 h3)),
+      le-leb _ _ h4,
+    )
+    h5

@@ -3,3 +3,4 @@ pub mod Clearing
 pub mod Laws
 pub mod Judged
 pub mod Resets
+pub mod Passed

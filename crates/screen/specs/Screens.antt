@@ -87,6 +87,22 @@ screen-after s p =
       painting = false;
     }
 
+-- the screen with other counts and no painting, its layers and clip box as before
+abbrev pub counted : Screen → ℕ → ℕ → ℕ → ℕ → Screen
+counted s next paints layers filters =
+    record {
+      viewport = s .viewport;
+      «clip_bbox» = s .«clip_bbox»;
+      c = s .c;
+      d = s .d;
+      «next_draw_id» = next;
+      «paint_attrs» = paints;
+      «layer_attrs» = layers;
+      «filter_paints» = filters;
+      layers = s .layers;
+      painting = false;
+    }
+
 -- rule 1
 abbrev pub fresh-screen : Rect → ℕ → ℕ → Screen
 fresh-screen v c d =

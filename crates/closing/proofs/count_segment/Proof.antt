@@ -1,0 +1,91 @@
+use mathlib.Core.Path.{sym, _∙_, ap}
+use native.Mathlib.Omega.{arith}
+use Rattle.rules.specs.Segments.{good-segment}
+use Rattle.closing.proofs.Rooms.{rows-long}
+use Rattle.closing.proofs.Clipping.{placed-at, counted-none, counted-out, counted-in}
+use Rattle.closing.proofs.Judging.{touched-no, touched-yes, touched-few, touched-long, touched-so-far}
+use borrow.Author.Needs.{needs}
+use Rattle.closing.proofs.count_segment.Statement.{statement}
+use Rattle.closing.proofs.count_segment.Tie as tie
+use Rattle.closing.proofs.count_segment.Reads as reads
+use Rattle.closing.proofs.count_segment.Lts as lts
+use Rattle.closing.proofs.is_touched.Reads as is-touched-reads
+use Rattle.closing.proofs.so_far.Reads as so-far-reads
+use Rattle.row.proofs.wide.Reads as wide-reads
+use Rattle.segments.proofs.place.Reads as place-reads
+use Rattle.segments.proofs.segment_at.Reads as segment-at-reads
+
+-- src/lib.rt:187:24
+segment-at-requires : tie.Need-segment-at-requires
+segment-at-requires c κs = search needs
+
+-- src/lib.rt:187:9
+place-requires : tie.Need-place-requires
+place-requires c κs = (ap good-segment (c .segment-at .ensures) ∙ c .before .before .before .before .before .pre .3, c .before .before .before .before .before .pre .4)
+
+-- src/lib.rt:189:28
+enum-told : tie.Need-enum-told
+enum-told c = search needs
+
+-- src/lib.rt:194:20
+enum-known-placed : tie.Need-enum-known-placed
+enum-known-placed c = search needs
+
+-- src/lib.rt:195:34
+wide-requires : tie.Need-wide-requires
+wide-requires c κs = search needs
+
+-- src/lib.rt:195:17
+is-touched-requires : tie.Need-is-touched-requires
+is-touched-requires c κs = (omega (arith, c .before .before .before .before .before .before .before .before .before .before .pre .1, c .before .before .before .before .before .before .before .before .before .before .pre .0 .rows), rows-long (c .before .before .before .before .before .before .before .before .before .before .pre .0) _ (c .before .before .before .before .before .before .before .before .before .before .pre .1))
+
+-- src/lib.rt:196:17
+returns : tie.Need-returns
+returns c = counted-out _ _ _ _ _ _ (c .before .before .before .before .before .before .before .before .before .before .before .before .pre .5) _ (placed-at (c .before .before .before .before .before .before .before .before .before .before .before .before .args .scene) (c .before .before .before .before .placed .given .1) (c .before .before .before .before .before .before .place .ensures) (c .before .before .before .before .before .before .before .segment-at .ensures)) (touched-no (c .before .before .before .before .before .before .before .before .before .before .before .before .pre .0) _ _ _ (c .before .before .before .before .before .before .before .before .before .before .before .before .pre .1) _ (c .before .is-touched .ensures) (c .before .before .wide .ensures) (c .if1 .taken))
+
+-- src/lib.rt:202:21
+so-far-requires : tie.Need-so-far-requires
+so-far-requires c κs = (touched-few (c .before .before .before .before .before .before .before .before .before .before .before .before .pre .0) _ _ _ (c .before .before .before .before .before .before .before .before .before .before .before .before .pre .1) _ (touched-yes (c .before .before .before .before .before .before .before .before .before .before .before .before .pre .0) _ _ _ (c .before .before .before .before .before .before .before .before .before .before .before .before .pre .1) _ (c .before .is-touched .ensures) (c .before .before .wide .ensures) (c .if1 .left)), touched-long (c .before .before .before .before .before .before .before .before .before .before .before .before .pre .0) _ _ _ (c .before .before .before .before .before .before .before .before .before .before .before .before .pre .1) _ (touched-yes (c .before .before .before .before .before .before .before .before .before .before .before .before .pre .0) _ _ _ (c .before .before .before .before .before .before .before .before .before .before .before .before .pre .1) _ (c .before .is-touched .ensures) (c .before .before .wide .ensures) (c .if1 .left)), c .before .before .before .before .before .before .before .before .before .before .before .before .pre .5)
+
+-- src/lib.rt:202:21
+add-n : tie.Need-add-n
+add-n c = record { fits = omega (arith, c .so-far .ensures .1) }
+
+-- src/lib.rt:204:23
+add-t19 : tie.Need-add-t19
+add-t19 c = record { fits = omega (arith, touched-few (c .before .before .before .before .before .before .before .before .before .before .before .before .before .pre .0) _ _ _ (c .before .before .before .before .before .before .before .before .before .before .before .before .before .pre .1) _ (touched-yes (c .before .before .before .before .before .before .before .before .before .before .before .before .before .pre .0) _ _ _ (c .before .before .before .before .before .before .before .before .before .before .before .before .before .pre .1) _ (c .before .before .is-touched .ensures) (c .before .before .before .wide .ensures) (c .before .if1 .left))) }
+
+-- src/lib.rt:206:24
+cast-t17 : tie.Need-cast-t17
+cast-t17 c = search needs
+
+-- src/lib.rt:206:45
+add-t20 : tie.Need-add-t20
+add-t20 c = record { fits = omega (arith, c .before .so-far .ensures .1) }
+
+-- src/lib.rt:172:1
+returns-2 : tie.Need-returns-2
+returns-2 c = counted-none _ _ _ _ _ _ (c .before .before .before .before .before .before .before .before .pre .5) (placed-at (c .before .before .before .before .before .before .before .before .args .scene) (c .enum-told .given .1) (c .before .before .place .ensures) (c .before .before .before .segment-at .ensures))
+
+-- src/lib.rt:172:1
+returns-3 : tie.Need-returns-3
+returns-3 c = counted-in _ _ _ _ _ _ (c .before .before .before .before .before .before .before .before .before .before .before .before .before .before .pre .5) _ (placed-at (c .before .before .before .before .before .before .before .before .before .before .before .before .before .before .args .scene) (c .before .before .before .before .before .before .placed .given .1) (c .before .before .before .before .before .before .before .before .place .ensures) (c .before .before .before .before .before .before .before .before .before .segment-at .ensures)) (touched-yes (c .before .before .before .before .before .before .before .before .before .before .before .before .before .before .pre .0) _ _ _ (c .before .before .before .before .before .before .before .before .before .before .before .before .before .before .pre .1) _ (c .before .before .before .is-touched .ensures) (c .before .before .before .before .wide .ensures) (c .before .before .if1 .left)) (c .before .before .before .before .before .before .before .before .before .before .before .before .before .before .pre .0 .c) _ (touched-so-far (c .before .before .before .before .before .before .before .before .before .before .before .before .before .before .pre .0) _ _ _ (c .before .before .before .before .before .before .before .before .before .before .before .before .before .before .pre .1) _ (touched-yes (c .before .before .before .before .before .before .before .before .before .before .before .before .before .before .pre .0) _ _ _ (c .before .before .before .before .before .before .before .before .before .before .before .before .before .before .pre .1) _ (c .before .before .before .is-touched .ensures) (c .before .before .before .before .wide .ensures) (c .before .before .if1 .left)) _ _ _ (c .before .so-far .ensures .0))
+
+pub count-segment-spec : {M : Type 1} → statement M
+count-segment-spec =
+    tie.close
+    (tie.spec
+    segment-at-requires
+    place-requires
+    enum-told
+    enum-known-placed
+    wide-requires
+    is-touched-requires
+    returns
+    so-far-requires
+    add-n
+    add-t19
+    cast-t17
+    add-t20
+    returns-2
+    returns-3)

@@ -1,0 +1,63 @@
+use mathlib.Core.Path.{_∙_}
+use Prim.Native.Nat.{_-_}
+use mathlib.Core.Path.{_≡_, refl}
+use native.Mathlib.Omega.{arith}
+use Rattle.rules.specs.Lists.{range}
+use Rattle.screen.specs.Screens.{frame-of}
+use Rattle.row.specs.Words.{words}
+use Rattle.building.specs.Building.{rows-at}
+use Rattle.closing.specs.Closing.{good-pops}
+use Rattle.closing.proofs.Judging.{pops-end, pops-bad, pops-on}
+use Rattle.closing.proofs.judge_pop_rows.Statement.{statement}
+use Rattle.closing.proofs.judge_pop_rows.Tie as tie
+use Rattle.closing.proofs.judge_pop_rows.Reads as reads
+use Rattle.closing.proofs.judge_pop_rows.Lts as lts
+use Rattle.closing.proofs.judge_pop_row.Reads as judge-pop-row-reads
+
+abbrev Inv-loop : tie.InvT-loop
+Inv-loop screen rows render fills a b r₀ r = good-pops (screen .c) (screen .d) (screen .layers) (rows-at (frame-of screen) (words rows render fills)) (range r b) ≡ good-pops (screen .c) (screen .d) (screen .layers) (rows-at (frame-of screen) (words rows render fills)) (range a b)
+
+abbrev μ-loop : tie.MeasureT-loop
+μ-loop screen rows render fills a b r₀ r = b - r
+
+-- src/lib.rt:86:5
+loop-holds : tie.Need-loop-holds Inv-loop μ-loop
+loop-holds c = refl
+
+-- src/lib.rt:87:13
+judge-pop-row-requires : tie.Need-judge-pop-row-requires Inv-loop μ-loop
+judge-pop-row-requires c κs = (c .before .before .before .before .before .pre .0, omega arith, c .before .before .before .before .before .pre .2, c .before .before .before .before .before .pre .3)
+
+-- src/lib.rt:88:13
+returns : tie.Need-returns Inv-loop μ-loop
+returns c = pops-bad _ _ _ _ _ _ (c .before .before .loop-test .taken) (c .before .judge-pop-row .ensures) (c .if1 .taken) (c .before .before .before .loop .inv)
+
+-- src/lib.rt:90:9
+add-r : tie.Need-add-r Inv-loop μ-loop
+add-r c = omega arith
+
+-- src/lib.rt:86:5
+loop-less : tie.Need-loop-less Inv-loop μ-loop
+loop-less c = omega arith
+
+-- src/lib.rt:86:5
+loop-again : tie.Need-loop-again Inv-loop μ-loop
+loop-again c = pops-on _ _ _ _ _ _ (c .before .before .loop-test .taken) (c .before .judge-pop-row .ensures) (c .if1 .left) (c .before .before .before .loop .inv)
+
+-- src/lib.rt:74:1
+returns-2 : tie.Need-returns-2 Inv-loop μ-loop
+returns-2 c = pops-end _ _ _ _ _ _ (c .loop-test .left) ∙ c .before .loop .inv
+
+pub judge-pop-rows-spec : {M : Type 1} → statement M
+judge-pop-rows-spec =
+    tie.close
+    (tie.spec
+    Inv-loop
+    μ-loop
+    loop-holds
+    judge-pop-row-requires
+    returns
+    add-r
+    loop-less
+    loop-again
+    returns-2)

@@ -1,0 +1,175 @@
+use borrow.Author.Needs.{needs}
+use Rattle.paint.proofs.row.step_command.Statement.{statement}
+use Rattle.paint.proofs.row.step_command.Tie as tie
+use Rattle.paint.proofs.row.step_command.Reads as reads
+use Rattle.paint.proofs.row.step_command.Lts as lts
+use Rattle.paint.proofs.fills.paint_fill.Reads as paint-fill-reads
+use Rattle.paint.proofs.refused.Reads as refused-reads
+use Rattle.paint.proofs.row.layer_taken.Reads as layer-taken-reads
+use Rattle.paint.proofs.row.nest.Reads as nest-reads
+use Rattle.paint.proofs.row.paint_taken.Reads as paint-taken-reads
+
+-- src/row.rt:117:30
+enum-known-cmd : tie.Need-enum-known-cmd
+enum-known-cmd c = search needs
+
+-- src/row.rt:118:17
+paint-taken-requires : tie.Need-paint-taken-requires
+paint-taken-requires c κs = search needs
+
+-- src/row.rt:120:17
+refused-requires : tie.Need-refused-requires
+refused-requires c κs = search needs
+
+-- src/row.rt:120:17
+returns : tie.Need-returns
+returns c = ?
+
+-- src/row.rt:122:13
+paint-fill-requires : tie.Need-paint-fill-requires
+paint-fill-requires c κs = ?
+
+-- src/row.rt:124:30
+enum-known-cmd-2 : tie.Need-enum-known-cmd-2
+enum-known-cmd-2 c = search needs
+
+-- src/row.rt:125:17
+layer-taken-requires : tie.Need-layer-taken-requires
+layer-taken-requires c κs = search needs
+
+-- src/row.rt:127:17
+refused-requires-2 : tie.Need-refused-requires-2
+refused-requires-2 c κs = search needs
+
+-- src/row.rt:127:17
+returns-2 : tie.Need-returns-2
+returns-2 c = ?
+
+-- src/row.rt:129:13
+paint-fill-requires-2 : tie.Need-paint-fill-requires-2
+paint-fill-requires-2 c κs = ?
+
+-- src/row.rt:132:27
+enum-told : tie.Need-enum-told
+enum-told c = search needs
+
+-- src/row.rt:132:27
+slice-read-nesting : tie.Need-slice-read-nesting
+slice-read-nesting c = search needs
+
+-- src/row.rt:134:39
+add-nest : tie.Need-add-nest
+add-nest c = search needs
+
+-- src/row.rt:134:17
+nest-requires : tie.Need-nest-requires
+nest-requires c κs = search needs
+
+-- src/row.rt:134:17
+same-length : tie.Need-same-length
+same-length c = search needs
+
+-- src/row.rt:134:17
+returns-3 : tie.Need-returns-3
+returns-3 c = ?
+
+-- src/row.rt:136:13
+refused-requires-3 : tie.Need-refused-requires-3
+refused-requires-3 c κs = search needs
+
+-- src/row.rt:139:27
+enum-told-2 : tie.Need-enum-told-2
+enum-told-2 c = search needs
+
+-- src/row.rt:139:27
+slice-read-nesting-2 : tie.Need-slice-read-nesting-2
+slice-read-nesting-2 c = search needs
+
+-- src/row.rt:141:39
+sub-nest : tie.Need-sub-nest
+sub-nest c = search needs
+
+-- src/row.rt:141:17
+nest-requires-2 : tie.Need-nest-requires-2
+nest-requires-2 c κs = search needs
+
+-- src/row.rt:141:17
+same-length-2 : tie.Need-same-length-2
+same-length-2 c = search needs
+
+-- src/row.rt:141:17
+returns-4 : tie.Need-returns-4
+returns-4 c = ?
+
+-- src/row.rt:143:13
+refused-requires-4 : tie.Need-refused-requires-4
+refused-requires-4 c κs = search needs
+
+-- src/row.rt:102:1
+same-length-3 : tie.Need-same-length-3
+same-length-3 c = search needs
+
+-- src/row.rt:102:1
+same-length-4 : tie.Need-same-length-4
+same-length-4 c = search needs
+
+-- src/row.rt:102:1
+returns-5 : tie.Need-returns-5
+returns-5 c = ?
+
+-- src/row.rt:102:1
+same-length-5 : tie.Need-same-length-5
+same-length-5 c = search needs
+
+-- src/row.rt:102:1
+same-length-6 : tie.Need-same-length-6
+same-length-6 c = search needs
+
+-- src/row.rt:102:1
+returns-6 : tie.Need-returns-6
+returns-6 c = ?
+
+-- src/row.rt:102:1
+returns-7 : tie.Need-returns-7
+returns-7 c = ?
+
+-- src/row.rt:102:1
+returns-8 : tie.Need-returns-8
+returns-8 c = ?
+
+pub step-command-spec : {M : Type 1} → statement M
+step-command-spec =
+    tie.close
+    (tie.spec
+    enum-known-cmd
+    paint-taken-requires
+    refused-requires
+    returns
+    paint-fill-requires
+    enum-known-cmd-2
+    layer-taken-requires
+    refused-requires-2
+    returns-2
+    paint-fill-requires-2
+    enum-told
+    slice-read-nesting
+    add-nest
+    nest-requires
+    same-length
+    returns-3
+    refused-requires-3
+    enum-told-2
+    slice-read-nesting-2
+    sub-nest
+    nest-requires-2
+    same-length-2
+    returns-4
+    refused-requires-4
+    same-length-3
+    same-length-4
+    returns-5
+    same-length-5
+    same-length-6
+    returns-6
+    returns-7
+    returns-8)

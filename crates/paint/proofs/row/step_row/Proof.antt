@@ -1,0 +1,200 @@
+use borrow.Author.Needs.{needs}
+use Rattle.paint.proofs.row.step_row.Statement.{statement}
+use Rattle.paint.proofs.row.step_row.Tie as tie
+use Rattle.paint.proofs.row.step_row.Reads as reads
+use Rattle.paint.proofs.row.step_row.Lts as lts
+use Rattle.paint.proofs.refused.Reads as refused-reads
+use Rattle.paint.proofs.row.read_command.Reads as read-command-reads
+use Rattle.paint.proofs.row.step_command.Reads as step-command-reads
+use Rattle.paint.proofs.row.step_depth.Reads as step-depth-reads
+use Rattle.paint.proofs.row.wide.Reads as wide-reads
+
+-- src/row.rt:180:19
+shared-slice-read-renders : tie.Need-shared-slice-read-renders
+shared-slice-read-renders c = search needs
+
+-- src/row.rt:181:18
+shared-slice-read-depths : tie.Need-shared-slice-read-depths
+shared-slice-read-depths c = search needs
+
+-- src/row.rt:182:17
+slice-read-steps : tie.Need-slice-read-steps
+slice-read-steps c = search needs
+
+-- src/row.rt:183:27
+wide-requires : tie.Need-wide-requires
+wide-requires c κs = search needs
+
+-- src/row.rt:183:23
+mul-if1 : tie.Need-mul-if1
+mul-if1 c = ?
+
+-- src/row.rt:184:9
+refused-requires : tie.Need-refused-requires
+refused-requires c κs = search needs
+
+-- src/row.rt:184:9
+returns : tie.Need-returns
+returns c = ?
+
+-- src/row.rt:186:26
+wide-requires-2 : tie.Need-wide-requires-2
+wide-requires-2 c κs = search needs
+
+-- src/row.rt:186:22
+mul-if2 : tie.Need-mul-if2
+mul-if2 c = ?
+
+-- src/row.rt:187:9
+refused-requires-2 : tie.Need-refused-requires-2
+refused-requires-2 c κs = search needs
+
+-- src/row.rt:187:9
+returns-2 : tie.Need-returns-2
+returns-2 c = ?
+
+-- src/row.rt:189:13
+slice-read-if3 : tie.Need-slice-read-if3
+slice-read-if3 c = search needs
+
+-- src/row.rt:190:9
+refused-requires-3 : tie.Need-refused-requires-3
+refused-requires-3 c κs = search needs
+
+-- src/row.rt:190:9
+returns-3 : tie.Need-returns-3
+returns-3 c = ?
+
+-- src/row.rt:192:8
+add-if4 : tie.Need-add-if4
+add-if4 c = search needs
+
+-- src/row.rt:193:9
+refused-requires-4 : tie.Need-refused-requires-4
+refused-requires-4 c κs = search needs
+
+-- src/row.rt:193:9
+returns-4 : tie.Need-returns-4
+returns-4 c = ?
+
+-- src/row.rt:196:32
+add-wide : tie.Need-add-wide
+add-wide c = search needs
+
+-- src/row.rt:196:22
+sub-wide : tie.Need-sub-wide
+sub-wide c = search needs
+
+-- src/row.rt:196:13
+wide-requires-3 : tie.Need-wide-requires-3
+wide-requires-3 c κs = search needs
+
+-- src/row.rt:197:9
+step-depth-requires : tie.Need-step-depth-requires
+step-depth-requires c κs = search needs
+
+-- src/row.rt:197:9
+same-length : tie.Need-same-length
+same-length c = search needs
+
+-- src/row.rt:197:9
+same-length-2 : tie.Need-same-length-2
+same-length-2 c = search needs
+
+-- src/row.rt:197:9
+same-length-3 : tie.Need-same-length-3
+same-length-3 c = search needs
+
+-- src/row.rt:197:9
+returns-5 : tie.Need-returns-5
+returns-5 c = ?
+
+-- src/row.rt:201:43
+wide-requires-4 : tie.Need-wide-requires-4
+wide-requires-4 c κs = search needs
+
+-- src/row.rt:201:22
+read-command-requires : tie.Need-read-command-requires
+read-command-requires c κs = search needs
+
+-- src/row.rt:202:29
+enum-told : tie.Need-enum-told
+enum-told c = search needs
+
+-- src/row.rt:202:29
+refused-requires-5 : tie.Need-refused-requires-5
+refused-requires-5 c κs = search needs
+
+-- src/row.rt:203:26
+enum-known-cmd : tie.Need-enum-known-cmd
+enum-known-cmd c = search needs
+
+-- src/row.rt:203:34
+step-command-requires : tie.Need-step-command-requires
+step-command-requires c κs = ?
+
+-- src/row.rt:201:9
+returns-6 : tie.Need-returns-6
+returns-6 c = ?
+
+-- src/row.rt:201:9
+same-length-4 : tie.Need-same-length-4
+same-length-4 c = search needs
+
+-- src/row.rt:201:9
+same-length-5 : tie.Need-same-length-5
+same-length-5 c = search needs
+
+-- src/row.rt:201:9
+same-length-6 : tie.Need-same-length-6
+same-length-6 c = search needs
+
+-- src/row.rt:201:9
+returns-7 : tie.Need-returns-7
+returns-7 c = ?
+
+-- src/row.rt:164:1
+returns-8 : tie.Need-returns-8
+returns-8 c = ?
+
+pub step-row-spec : {M : Type 1} → statement M
+step-row-spec =
+    tie.close
+    (tie.spec
+    shared-slice-read-renders
+    shared-slice-read-depths
+    slice-read-steps
+    wide-requires
+    mul-if1
+    refused-requires
+    returns
+    wide-requires-2
+    mul-if2
+    refused-requires-2
+    returns-2
+    slice-read-if3
+    refused-requires-3
+    returns-3
+    add-if4
+    refused-requires-4
+    returns-4
+    add-wide
+    sub-wide
+    wide-requires-3
+    step-depth-requires
+    same-length
+    same-length-2
+    same-length-3
+    returns-5
+    wide-requires-4
+    read-command-requires
+    enum-told
+    refused-requires-5
+    enum-known-cmd
+    step-command-requires
+    returns-6
+    same-length-4
+    same-length-5
+    same-length-6
+    returns-7
+    returns-8)

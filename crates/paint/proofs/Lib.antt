@@ -1,2 +1,5 @@
 pub mod Spreading
 pub mod Judging
+pub mod Within
+pub mod Listing
+pub mod Filling

@@ -1,3 +1,6 @@
+use mathlib.Core.Path.{sym, ap, _∙_}
+use Rattle.paint.proofs.Listing.{lent-length}
+use Rattle.paint.proofs.Filling.{depth-refused, depth-ready, depth-done}
 use borrow.Author.Needs.{needs}
 use Rattle.paint.proofs.fills.paint_depth.Statement.{statement}
 use Rattle.paint.proofs.fills.paint_depth.Tie as tie
@@ -19,7 +22,7 @@ slice-relend-prefix-unset-runs-and-write c = search needs
 
 -- src/fills.rt:41:50
 slice-aggregate-unset-runs-and-write : tie.Need-slice-aggregate-unset-runs-and-write
-slice-aggregate-unset-runs-and-write c = ?
+slice-aggregate-unset-runs-and-write c = sym (lent-length (c .before .before .before .before .before .before .args .list .now))
 
 -- src/fills.rt:41:11
 unset-runs-and-write-requires : tie.Need-unset-runs-and-write-requires
@@ -43,7 +46,7 @@ enum-known-n c = search needs
 
 -- src/fills.rt:51:13
 spread-requires : tie.Need-spread-requires
-spread-requires c κs = ?
+spread-requires c κs = depth-ready _ (c .before .before .before .before .before .before .before .before .before .before .before .before .before .before .before .args .painting .now) (c .before .before .before .before .before .before .before .before .before .before .before .before .before .before .before .args .list .now) _ _ _ (c .before .before .before .before .before .before .before .before .before .before .before .before .before .before .before .args .fill .«attrs_idx») (c .before .before .before .before .before .before .before .before .before .before .before .before .before .before .before .args .fill .buckets) (c .before .before .before .before .before .before .before .before .before .before .before .before .before .before .before .pre .0 .0) (c .before .before .before .before .before .before .before .before .before .before .before .before .before .before .before .pre .0 .1) (c .before .before .before .before .before .before .before .before .before .before .before .before .before .before .before .pre .0 .3) _ (c .before .before .before .before .before .before .before .before .unset-runs-and-write .ensures) _ (c .before .before .n .given .1) (c .before .before .before .before .before .before .before .before .before .before .before .before .before .before .before .pre .0 .2)
 
 -- src/fills.rt:52:27
 slice-read-painting : tie.Need-slice-read-painting
@@ -71,7 +74,7 @@ same-length-2 c = search needs
 
 -- src/fills.rt:28:1
 returns : tie.Need-returns
-returns c = ?
+returns c = depth-refused _ _ (c .before .before .before .before .before .before .before .before .before .before .before .before .before .before .before .before .args .list .now) _ _ _ _ (c .before .before .before .before .before .before .before .before .before .before .before .before .before .before .before .before .args .fill .buckets) (c .before .before .before .before .before .before .before .before .before .before .before .before .before .before .before .before .pre .0 .0) (c .before .before .before .before .before .before .before .before .before .before .before .before .before .before .before .before .pre .0 .1) (c .before .before .before .before .before .before .before .before .before .before .before .before .before .before .before .before .pre .0 .3) _ (c .before .before .before .before .before .before .before .before .before .unset-runs-and-write .ensures) _ _ _ (c .before .before .before .answer .given .1) (c .before .number .ensures) (c .refused .ensures)
 
 -- src/fills.rt:28:1
 same-length-3 : tie.Need-same-length-3
@@ -87,7 +90,7 @@ same-length-5 c = search needs
 
 -- src/fills.rt:28:1
 returns-2 : tie.Need-returns-2
-returns-2 c = ?
+returns-2 c = depth-done _ (c .before .before .before .before .before .before .before .before .before .before .before .before .before .before .before .before .before .before .before .before .args .painting .now) (c .before .before .before .before .before .before .before .before .before .before .before .before .before .before .before .before .before .before .before .before .args .list .now) _ _ _ _ (c .before .before .before .before .before .before .before .before .before .before .before .before .before .before .before .before .before .before .before .before .args .fill .buckets) (c .before .before .before .before .before .before .before .before .before .before .before .before .before .before .before .before .before .before .before .before .pre .0 .0) (c .before .before .before .before .before .before .before .before .before .before .before .before .before .before .before .before .before .before .before .before .pre .0 .1) (c .before .before .before .before .before .before .before .before .before .before .before .before .before .before .before .before .before .before .before .before .pre .0 .3) _ (c .before .before .before .before .before .before .before .before .before .before .before .before .before .unset-runs-and-write .ensures) _ (c .before .before .before .before .before .before .before .n .given .1) _ _ (c .listed .ensures) (c .before .before .before .before .before .before .before .before .before .before .before .before .before .before .before .before .before .before .before .before .pre .1 .0) (c .before .before .before .before .spread .ensures)
 
 pub paint-depth-spec : {M : Type 1} → statement M
 paint-depth-spec =

@@ -1,3 +1,7 @@
+use mathlib.Core.Path.{sym, ap, _∙_}
+use Rattle.span.specs.Spans.{tiles}
+use Rattle.paint.proofs.Listing.{lent-length}
+use Rattle.paint.proofs.Filling.{fill-refused, fill-ready, fill-done}
 use borrow.Author.Needs.{needs}
 use Rattle.paint.proofs.fills.paint_fill.Statement.{statement}
 use Rattle.paint.proofs.fills.paint_fill.Tie as tie
@@ -19,7 +23,7 @@ slice-relend-prefix-visible-runs c = search needs
 
 -- src/fills.rt:73:41
 slice-aggregate-visible-runs : tie.Need-slice-aggregate-visible-runs
-slice-aggregate-visible-runs c = ?
+slice-aggregate-visible-runs c = sym (lent-length (c .before .before .before .before .before .args .list .now))
 
 -- src/fills.rt:73:11
 visible-runs-requires : tie.Need-visible-runs-requires
@@ -47,7 +51,7 @@ slice-read-painting c = search needs
 
 -- src/fills.rt:84:13
 spread-requires : tie.Need-spread-requires
-spread-requires c κs = ?
+spread-requires c κs = fill-ready _ (c .before .before .before .before .before .before .before .before .before .before .before .before .before .args .painting .now) (c .before .before .before .before .before .before .before .before .before .before .before .before .before .args .list .now) _ (c .before .before .before .before .before .before .before .before .before .before .before .before .before .args .layer) _ (c .before .before .before .before .before .before .before .before .before .before .before .before .before .args .fill .«attrs_idx») (c .before .before .before .before .before .before .before .before .before .before .before .before .before .args .fill .span) (c .before .before .before .before .before .before .before .before .before .before .before .before .before .args .fill .alpha) (c .before .before .before .before .before .before .before .before .before .before .before .before .before .pre .0 .0) (c .before .before .before .before .before .before .before .before .before .before .before .before .before .pre .0 .1) _ (c .before .before .before .before .before .before .before .visible-runs .ensures) _ (c .before .before .before .n .given .1) (c .before .before .before .before .before .before .before .before .before .before .before .before .before .pre .0 .2)
 
 -- src/fills.rt:85:27
 slice-read-painting-2 : tie.Need-slice-read-painting-2
@@ -71,7 +75,7 @@ same-length c = search needs
 
 -- src/fills.rt:59:1
 returns : tie.Need-returns
-returns c = ?
+returns c = fill-refused _ _ (c .before .before .before .before .before .before .before .before .before .before .before .before .before .args .list .now) _ _ _ _ (c .before .before .before .before .before .before .before .before .before .before .before .before .before .args .fill .span) (c .before .before .before .before .before .before .before .before .before .before .before .before .before .args .fill .alpha) (c .before .before .before .before .before .before .before .before .before .before .before .before .before .pre .0 .0) (c .before .before .before .before .before .before .before .before .before .before .before .before .before .pre .0 .1) _ (c .before .before .before .before .before .before .before .visible-runs .ensures) _ _ _ (c .before .before .before .answer .given .1) (c .before .number .ensures) (c .refused .ensures)
 
 -- src/fills.rt:59:1
 same-length-2 : tie.Need-same-length-2
@@ -83,7 +87,7 @@ same-length-3 c = search needs
 
 -- src/fills.rt:59:1
 returns-2 : tie.Need-returns-2
-returns-2 c = ?
+returns-2 c = fill-done _ (c .before .before .before .before .before .before .before .before .before .before .before .before .before .before .before .before .before .before .args .painting .now) (c .before .before .before .before .before .before .before .before .before .before .before .before .before .before .before .before .before .before .args .list .now) _ _ _ _ (c .before .before .before .before .before .before .before .before .before .before .before .before .before .before .before .before .before .before .args .fill .span) (c .before .before .before .before .before .before .before .before .before .before .before .before .before .before .before .before .before .before .args .fill .alpha) (c .before .before .before .before .before .before .before .before .before .before .before .before .before .before .before .before .before .before .pre .0 .0) (c .before .before .before .before .before .before .before .before .before .before .before .before .before .before .before .before .before .before .pre .0 .1) _ (c .before .before .before .before .before .before .before .before .before .before .before .before .visible-runs .ensures) _ (c .before .before .before .before .before .before .before .before .n .given .1) _ _ (c .listed .ensures) (c .before .before .before .before .before .before .before .before .before .before .before .before .before .before .before .before .before .before .pre .1 .0) (c .before .before .before .before .spread .ensures)
 
 pub paint-fill-spec : {M : Type 1} → statement M
 paint-fill-spec =

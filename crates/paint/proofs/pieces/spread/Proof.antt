@@ -61,7 +61,7 @@ mul-b-3 c = omega (arith, spread-fits _ _ _ _ _ _ (c .before .before .before .lo
 put-piece-requires : tie.Need-put-piece-requires Inv-loop μ-loop
 put-piece-requires c κs =
     let f = spread-fits _ _ _ _ _ _ (c .before .before .before .before .loop .inv) (c .before .before .before .loop-test .taken) in
-    (omega (arith, c .before .before .before .before .loop .inv .room), (f .begun, f .moves))
+    (omega (arith, c .before .before .before .before .loop .inv .room), f .begun, f .moves)
 
 -- src/pieces.rt:76:5
 loop-less : tie.Need-loop-less Inv-loop μ-loop

@@ -3,3 +3,4 @@ pub mod Judging
 pub mod Within
 pub mod Listing
 pub mod Filling
+pub mod Steps

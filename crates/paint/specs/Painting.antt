@@ -79,12 +79,12 @@ module _ (attrs : Attrs) where
   good-command n pop-buf = ltb 0 n
 
   -- The step, by the rules, unless something that it reads is forged: of a depth fill ..
-  abbrev pub depth-step : Painter → Option DepthFill → Option rules.Painted
+  unfoldable pub depth-step : Painter → Option DepthFill → Option rules.Painted
   depth-step p none = none
   depth-step p (some f) = only-if (good-paint (f .attribute)) (paint-depth 32 attrs f p)
 
   -- .. and of a command
-  abbrev pub command-step : Painter → Option Command → Option rules.Painted
+  unfoldable pub command-step : Painter → Option Command → Option rules.Painted
   command-step p none = none
   command-step p (some c) = only-if (good-command (p .nesting) c) (paint-command 32 attrs c p)
 

@@ -1,3 +1,5 @@
+use native.Mathlib.Omega.{arith}
+use Rattle.paint.proofs.Steps.{depth-unread, depth-forged, depth-taken, depth-good}
 use borrow.Author.Needs.{needs}
 use Rattle.paint.proofs.row.step_depth.Statement.{statement}
 use Rattle.paint.proofs.row.step_depth.Tie as tie
@@ -62,15 +64,15 @@ refused-requires-2 c κs = search needs
 
 -- src/row.rt:84:17
 returns : tie.Need-returns
-returns c = ?
+returns c = depth-forged (c .before .before .before .before .before .before .before .before .before .before .before .before .before .before .args .paint-attrs .now) (c .before .before .before .before .before .before .before .before .before .before .before .before .before .before .args .paints) _ _ (c .before .before .before .before .before .before .before .before .before .before .before .before .before .before .args .depth .now) (c .before .before .before .before .before .before .before .before .before .before .before .before .before .before .args .painting .now) (c .before .before .before .before .before .before .before .before .before .before .before .before .before .before .args .list .now) _ _ 0 (c .before .before .before .before .before .before .read .ensures) _ (c .before .before .before .before .fill .given .1) _ (c .before .before .paint-taken .ensures) _ (c .before .if1 .taken) (c .refused2 .ensures)
 
 -- src/row.rt:86:13
 paint-depth-requires : tie.Need-paint-depth-requires
-paint-depth-requires c κs = ?
+paint-depth-requires c κs = let g = depth-good _ _ _ _ _ (c .before .before .before .before .before .before .before .before .read .ensures) (c .before .before .before .before .before .before .fill .given .1) in ((g .0, g .1, omega (arith, g .1, c .before .before .before .before .before .before .before .before .before .before .before .before .before .before .before .before .pre .0 .2), omega (arith, c .before .before .before .if1 .left)), (c .before .before .before .before .before .before .before .before .before .before .before .before .before .before .before .before .pre .1 .1, c .before .before .before .before .before .before .before .before .before .before .before .before .before .before .before .before .pre .1 .2))
 
 -- src/row.rt:61:1
 returns-2 : tie.Need-returns-2
-returns-2 c = ?
+returns-2 c = depth-unread (c .before .before .before .before .before .before .before .before .before .before .before .args .paint-attrs .now) (c .before .before .before .before .before .before .before .before .before .before .before .args .paints) _ _ (c .before .before .before .before .before .before .before .before .before .before .before .args .depth .now) (c .before .before .before .before .before .before .before .before .before .before .before .args .painting .now) (c .before .before .before .before .before .before .before .before .before .before .before .args .list .now) _ _ 0 (c .before .before .before .read .ensures) _ (c .before .enum-told .given .1) (c .refused .ensures)
 
 -- src/row.rt:61:1
 same-length : tie.Need-same-length
@@ -86,7 +88,7 @@ same-length-3 c = search needs
 
 -- src/row.rt:61:1
 returns-3 : tie.Need-returns-3
-returns-3 c = ?
+returns-3 c = depth-taken (c .before .before .before .before .before .before .before .before .before .before .before .before .before .before .before .before .before .before .before .before .before .before .before .args .paint-attrs .now) (c .before .before .before .before .before .before .before .before .before .before .before .before .before .before .before .before .before .before .before .before .before .before .before .args .paints) _ _ (c .before .before .before .before .before .before .before .before .before .before .before .before .before .before .before .before .before .before .before .before .before .before .before .args .depth .now) (c .before .before .before .before .before .before .before .before .before .before .before .before .before .before .before .before .before .before .before .before .before .before .before .args .painting .now) (c .before .before .before .before .before .before .before .before .before .before .before .before .before .before .before .before .before .before .before .before .before .before .before .args .list .now) _ _ 0 (c .before .before .before .before .before .before .before .before .before .before .before .before .before .before .before .read .ensures) _ (c .before .before .before .before .before .before .before .before .before .before .before .before .before .fill .given .1) _ (c .before .before .before .before .before .before .before .before .before .before .before .paint-taken .ensures) _ (c .before .before .before .before .before .before .before .before .before .before .if1 .left) (c .before .before .before .before .before .before .paint-depth .ensures)
 
 pub step-depth-spec : {M : Type 1} → statement M
 step-depth-spec =

@@ -1,5 +1,5 @@
 -- The two calls over runs as a step makes them, and what the step leaves of their pieces. Assumes nothing.
-use mathlib.Core.Path.{_≡_, refl, sym, ap, _∙_}
+use mathlib.Core.Path.{_≡_, refl, ap, _∙_}
 use mathlib.Core.Bool.{Bool, true, false, _||_, cond}
 use mathlib.Core.List.{List, [], _∷_, map}
 use mathlib.Core.Option.{some}
@@ -79,11 +79,10 @@ module _ (D P l ys : List ℕ) (layer : Bool) (id i : ℕ) (t : TileSpan) (a : A
     pub fill-ready : Moves a (t .end - t .first)
         → (6 * n ≤ length (back l ys)) × ((k : ℕ) → k < n → Fits 1 brush (run-at (back l ys) k))
     unfolding runs
-    fill-ready m =
-        (
-          listed-room runs l n (back l ys) found,
-          listed-at runs l n (back l ys) found (Fits 1 brush) (fill-fits D id (tiles t) brush h g refl m),
-        )
+    fill-ready m = (
+      listed-room runs l n (back l ys) found,
+      listed-at runs l n (back l ys) found (Fits 1 brush) (fill-fits D id (tiles t) brush h g refl m),
+    )
 
     pub fill-done : (p : Painted) (l′ : List ℕ) → p ≡ listed n → length P ≡ 2
         → l′ ≡ laid (map (piece 1 brush) (runs-at n (back l ys))) (back l ys)
@@ -146,11 +145,10 @@ module _ (D P l ys D′ : List ℕ) (id i : ℕ) (b : BucketRange) (h : b .first
     pub depth-ready : b .end ≤ 65535
         → (6 * n ≤ length (back l ys)) × ((k : ℕ) → k < n → Fits 32 depth-brush (run-at (back l ys) k))
     unfolding unset
-    depth-ready m =
-        (
-          listed-room unset l n (back l ys) found-unset,
-          listed-at unset l n (back l ys) found-unset (Fits 32 depth-brush) (depth-fits D (buckets b) depth-brush h m refl refl),
-        )
+    depth-ready m = (
+      listed-room unset l n (back l ys) found-unset,
+      listed-at unset l n (back l ys) found-unset (Fits 32 depth-brush) (depth-fits D (buckets b) depth-brush h m refl refl),
+    )
 
     pub depth-done : (p : Painted) (l′ : List ℕ) → p ≡ listed n → length P ≡ 2
         → l′ ≡ laid (map (piece 32 depth-brush) (runs-at n (back l ys))) (back l ys)

@@ -1,13 +1,13 @@
 -- What the tests of a step say of the attributes and their ids. Assumes nothing.
-use mathlib.Core.Path.{_≡_, refl, sym, ap, subst, _∙_}
+use mathlib.Core.Path.{_≡_, refl, ap, _∙_}
 use mathlib.Core.Bool.{Bool, true, false, _&&_, cond}
 use mathlib.Core.List.{List, [], _∷_, map}
 use Prim.Native.Nat.{ℕ, zero, suc, _≤_, _<_, _+_, _*_}
 use native.Mathlib.Nat.{add-zero, zero-add, not-suc-le-zero, le-of-suc-le-suc}
 use native.Mathlib.Omega.{arith}
 use lib.ListN.{length, getD, set, length-map}
-use lib.Dec.{leb, ltb, eqb}
-use borrow.Author.Tests.{lt-ltb, le-ltb, le-leb, lt-leb, ltb-true, eqb-true, ne-eqb}
+use lib.Dec.{ltb}
+use borrow.Author.Tests.{lt-ltb, le-ltb, le-leb, lt-leb, ltb-true}
 use Rattle.rules.specs.Lists.{count-from}
 use Rattle.rules.specs.Blends.{default-blend}
 use Rattle.rules.specs.Attributes.{PaintAttr, LayerAttr}
@@ -54,7 +54,7 @@ module _ (t : Bool) (id : ℕ) where
       go true n = (refl, refl)
       go false n = absurd (n refl)
 
-length-count : (a n : ℕ) → length (count-from a n) ≡ n
+pub length-count : (a n : ℕ) → length (count-from a n) ≡ n
 length-count a zero = refl
 length-count a (suc n) = ap suc (length-count (suc a) n)
 
@@ -65,10 +65,10 @@ getD-count f d a (suc n) (suc i) h =
     let e : suc a + i ≡ a + suc i = omega arith in
     getD-count f d (suc a) n i (le-of-suc-le-suc h) ∙ ap f e
 
-abbrev no-paint : PaintAttr
+abbrev pub no-paint : PaintAttr
 no-paint = record { paint = 0; blend = default-blend; mask = 0; id = 0; thread = 0; origin-x = 0; origin-y = 0 }
 
-abbrev no-layer : LayerAttr
+abbrev pub no-layer : LayerAttr
 no-layer = record { blend = default-blend; opacity = 0; mask = 0; id = 0; thread = 0 }
 
 module _ (ps : List ℕ) (paints : ℕ) (ls : List ℕ) (layers : ℕ) where

@@ -1,5 +1,5 @@
 -- What a call over runs leaves at the start of the result list, and the pieces made of it. Assumes nothing.
-use mathlib.Core.Path.{_≡_, refl, sym, ap, subst, _∙_}
+use mathlib.Core.Path.{_≡_, refl, sym, ap, _∙_}
 use mathlib.Core.Bool.{Bool, true, false, cond}
 use mathlib.Core.List.{List, [], _∷_, _++_, map, append-assoc}
 use Prim.Native.Nat.{ℕ, zero, suc, _≤_, _<_, _+_, _-_, _*_, _/_}
@@ -7,13 +7,12 @@ use native.Mathlib.Nat.{not-suc-le-zero, le-of-suc-le-suc}
 use native.Mathlib.Omega.{arith}
 use lib.ListN.{length, getD, take, drop, length-append, length-drop, length-map, take-append-drop}
 use lib.Seq.{length-take-le, take-length, take-suc, drop-append-add, drop-append-le, drop-drop}
-use lib.Dec.{ltb, eqb}
+use lib.Dec.{ltb}
 use borrow.Author.Tests.{ltb-false}
 use Rattle.rules.specs.Answers as rules
 use Rattle.rules.specs.Lists.{join}
 use Rattle.rules.specs.Spans.{Span, span}
 use Rattle.rules.specs.Depth as rule
-use Rattle.rules.specs.Depth.{tiles-of}
 use Rattle.rules.specs.Painting.{Piece}
 use Rattle.cmd.specs.declared.Answer.{Answer}
 use Rattle.cmd.specs.Answers.{number-of}
@@ -24,7 +23,7 @@ use Rattle.depth.specs.Listing.{Out, out, numbers, over, listing}
 use Rattle.depth.proofs.Filling.{length-numbers}
 use Rattle.depth.proofs.Once.{refused-number}
 use Rattle.paint.specs.declared.pieces.Brush.{Brush}
-use Rattle.paint.specs.Pieces.{piece-words, laid, brush-piece, Fits, run-at, runs-at}
+use Rattle.paint.specs.Pieces.{piece-words, laid, run-at, runs-at}
 use Rattle.paint.proofs.Spreading.{length-pieces, piece}
 use Rattle.paint.proofs.Within.{Each, each-at}
 
@@ -97,9 +96,9 @@ module _ (rs : List Span) (l : List ℕ) (n : ℕ) (m : List ℕ) (s : Listed rs
   cover ps h =
       let long : length (join piece-words ps) ≡ length (numbers rs) + 4 * n = length-pieces ps ∙ omega (arith, words) in
       let past : drop (length (numbers rs) + 4 * n) m ≡ drop (length (numbers rs) + 4 * n) l =
-        ap (λ (x : List ℕ). drop (length (numbers rs) + 4 * n) x) (s .start)
-        ∙ drop-append-add (numbers rs) _ (4 * n)
-        ∙ drop-drop (4 * n) (length (numbers rs)) l
+      ap (λ (x : List ℕ). drop (length (numbers rs) + 4 * n) x) (s .start)
+      ∙ drop-append-add (numbers rs) _ (4 * n)
+      ∙ drop-drop (4 * n) (length (numbers rs)) l
       in
       rw (long, past)
 
@@ -120,11 +119,10 @@ module _ (rs : List Span) (l ys : List ℕ) where
 
   short : (a : Answer) → out (runs.Refused a) ys ≡ told true → (number-of a ≡ 14) × (back l ys ≡ l)
   unfolding told listing numbers
-  short a e =
-      (
-        refused-number a 14 (ap (λ (o : Out). o .number) e) (omega arith),
-        ap (back l) (ap (λ (o : Out). o .list) e) ∙ take-append-drop (2 * (length l / 6)) l,
-      )
+  short a e = (
+    refused-number a 14 (ap (λ (o : Out). o .number) e) (omega arith),
+    ap (back l) (ap (λ (o : Out). o .list) e) ∙ take-append-drop (2 * (length l / 6)) l,
+  )
 
   not-refused : (a : Answer) → out (runs.Refused a) ys ≡ told false → ⊥
   unfolding told listing
@@ -148,8 +146,8 @@ module _ (rs : List Span) (l ys : List ℕ) where
         many = many;
         roomy = q;
         start =
-          ap (back l) (ap (λ (o : Out). o .list) e)
-          ∙ rw (append-assoc, ← drop-append-le (length (numbers rs)) (lent l) (drop (2 * (length l / 6)) l) fits, take-append-drop (2 * (length l / 6)) l);
+            ap (back l) (ap (λ (o : Out). o .list) e)
+            ∙ rw (append-assoc, ← drop-append-le (length (numbers rs)) (lent l) (drop (2 * (length l / 6)) l) fits, take-append-drop (2 * (length l / 6)) l);
       }
 
   module _ (r : Runs) (h : out r ys ≡ listing (rule.listed false (length l / 6) rs) (lent l)) where

@@ -1,6 +1,6 @@
 -- The step that is judged and the step that is done, way by way. Assumes nothing.
-use mathlib.Core.Path.{_≡_, refl, sym, ap, subst, _∙_}
-use mathlib.Core.Bool.{Bool, true, false, _&&_, _||_, cond}
+use mathlib.Core.Path.{_≡_, refl, sym, ap, _∙_}
+use mathlib.Core.Bool.{Bool, true, false, _&&_}
 use mathlib.Core.List.{List, [], _∷_, map}
 use mathlib.Core.Option.{Option, none, some}
 use Prim.Native.Nat.{ℕ, _≤_, _<_, _+_, _-_, _*_, _/_}
@@ -11,7 +11,7 @@ use borrow.Author.Tests.{lt-ltb, le-ltb, ltb-true}
 use Rattle.rules.specs.Attributes.{Attrs, no-attrs}
 use Rattle.rules.specs.Spans.{Span}
 use Rattle.rules.specs.Commands as rule
-use Rattle.rules.specs.Commands.{Command, command-of, depth-fill-of}
+use Rattle.rules.specs.Commands.{depth-fill-of}
 use Rattle.rules.specs.Depth.{write-runs, written}
 use Rattle.rules.specs.Painting as rules
 use Rattle.rules.specs.Painting.{painted, depth-piece, paint-depth, paint-fill-runs, paint-command}
@@ -29,10 +29,10 @@ use Rattle.cmd.specs.declared.«depth_fill».ReadDepth.{ReadDepth}
 use Rattle.cmd.specs.declared.«depth_fill».ReadDepth.the-variants as read-depth
 use Rattle.cmd.specs.Commands.{command, read-of}
 use Rattle.cmd.specs.DepthFills.{depth-fill, read-depth-of}
-use Rattle.cmd.specs.Good.{GoodSpan, GoodAlpha, GoodCommand}
+use Rattle.cmd.specs.Good.{GoodAlpha, GoodCommand}
 use Rattle.cmd.proofs.BothWays.{depth-reads-good, reads-good}
 use Rattle.paint.specs.declared.Painted.{Painted}
-use Rattle.paint.specs.Painting.{word, attrs-at, Lent, lent, Out, out, painter-at, good-id, given, good-paint, good-layer, depth-step, command-step, depth-fill-at, command-at, bad-counts, next-step, refused, listed, Nested, nested, settled, painted-row}
+use Rattle.paint.specs.Painting.{word, attrs-at, Lent, lent, Out, out, painter-at, good-id, given, depth-step, command-step, depth-fill-at, command-at, bad-counts, next-step, refused, listed, Nested, nested, settled, painted-row}
 use Rattle.paint.proofs.Judging.{given-none, given-some, paint-id-is, layer-id-is, good-paint-is, good-layer-is, two-same}
 
 module _ (D P l : List ℕ) where
@@ -89,7 +89,7 @@ module _ (ps : List ℕ) (paints : ℕ) (ls : List ℕ) (layers : ℕ) (D P l : 
           let i = f .«attrs_idx» in
           let good = given-some (ltb i paints) (word ps (8 * i + 4)) (λ z. nz (g ∙ z)) in
           let same : id ≡ rules.paint-id attrs i =
-            g ∙ good .1 ∙ sym (paint-id-is ps paints ls layers i (below i paints (word ps (8 * i + 4)) (good .0)))
+          g ∙ good .1 ∙ sym (paint-id-is ps paints ls layers i (below i paints (word ps (8 * i + 4)) (good .0)))
           in
           q ∙ rw (is-fill, good-paint-is ps paints ls layers i ∙ good .0, same)
 
@@ -111,7 +111,7 @@ module _ (ps : List ℕ) (paints : ℕ) (ls : List ℕ) (layers : ℕ) (D P l : 
         let i = f .«attrs_idx» in
         let good = given-some (ltb i paints) (word ps (8 * i + 4)) (λ z. nz (g ∙ z)) in
         let same : id ≡ rules.paint-id attrs i =
-          g ∙ good .1 ∙ sym (paint-id-is ps paints ls layers i (below i paints (word ps (8 * i + 4)) (good .0)))
+        g ∙ good .1 ∙ sym (paint-id-is ps paints ls layers i (below i paints (word ps (8 * i + 4)) (good .0)))
         in
         q ∙ rw (e, good-paint-is ps paints ls layers i ∙ good .0, same)
 
@@ -133,7 +133,7 @@ module _ (ps : List ℕ) (paints : ℕ) (ls : List ℕ) (layers : ℕ) (D P l : 
         let i = f .«attrs_idx» in
         let good = given-some (ltb i layers) (word ls (6 * i + 3)) (λ z. nz (g ∙ z)) in
         let same : id ≡ rules.layer-id attrs i =
-          g ∙ good .1 ∙ sym (layer-id-is ps paints ls layers i (below i layers (word ls (6 * i + 3)) (good .0)))
+        g ∙ good .1 ∙ sym (layer-id-is ps paints ls layers i (below i layers (word ls (6 * i + 3)) (good .0)))
         in
         q ∙ rw (e, good-layer-is ps paints ls layers i ∙ good .0, same)
 

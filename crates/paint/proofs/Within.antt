@@ -2,7 +2,7 @@
 use mathlib.Core.Path.{_≡_, refl}
 use mathlib.Core.Bool.{Bool, true, false, cond}
 use mathlib.Core.List.{List, [], _∷_, map}
-use Prim.Native.Nat.{ℕ, zero, suc, _≤_, _<_, _+_, _-_, _*_, _/_}
+use Prim.Native.Nat.{ℕ, zero, suc, _≤_, _<_, _+_, _-_, _/_}
 use native.Mathlib.Nat.{not-suc-le-zero, le-of-suc-le-suc}
 use native.Mathlib.Omega.{arith}
 use lib.ListN.{length, getD, length-take, length-drop}
@@ -54,11 +54,10 @@ join-in i hi (r ∷ rs) h e = go (eqb (r .first) (suc i))
 
     go : (t : Bool) → Each (In i hi) (cond t (span i (r .end) ∷ rs) (span i (suc i) ∷ r ∷ rs))
     go true = (record { low = omega arith; some-bucket = omega (arith, e .0 .low, e .0 .some-bucket); high = e .0 .high }, later)
-    go false =
-        (
-          record { low = omega arith; some-bucket = omega arith; high = omega arith },
-          (wider (suc i) i hi hi (omega arith) (omega arith) r (e .0), later),
-        )
+    go false = (
+      record { low = omega arith; some-bucket = omega arith; high = omega arith },
+      (wider (suc i) i hi hi (omega arith) (omega arith) r (e .0), later),
+    )
 
 buckets-in : (p : ℕ → Bool) (i hi : ℕ) (bs : List ℕ) → i + length bs ≤ hi → Each (In i hi) (bucket-runs p i bs)
 unfolding bucket-runs

@@ -24,20 +24,8 @@ fn tag(layer: bool, at: Alpha) -> u32
     ensures { λ r. ⌜ r ≡ tag-of layer (alpha at) ⌝ }
 {
     match at {
-        Alpha::Solid => {
-            if layer {
-                3
-            } else {
-                1
-            }
-        }
-        Alpha::At(_) => {
-            if layer {
-                4
-            } else {
-                2
-            }
-        }
+        Alpha::Solid => { if layer { 3 } else { 1 } }
+        Alpha::At(_) => { if layer { 4 } else { 2 } }
     }
 }
 

@@ -200,7 +200,16 @@ pub fn step_row(
     if k < renders {
         return match read_command(render, wide(k)) {
             ReadCmd::Bad => refused(4),
-            ReadCmd::Cmd(cmd) => step_command(cmd, depth, painting, paint_attrs, paints, layer_attrs, layers, list),
+            ReadCmd::Cmd(cmd) => step_command(
+                cmd,
+                depth,
+                painting,
+                paint_attrs,
+                paints,
+                layer_attrs,
+                layers,
+                list,
+            ),
         };
     }
     Painted {

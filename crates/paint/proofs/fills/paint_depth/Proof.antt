@@ -1,94 +1,67 @@
-use mathlib.Core.Path.{sym, ap, _∙_}
+use mathlib.Core.Path.{sym}
 use Rattle.paint.proofs.Listing.{lent-length}
 use Rattle.paint.proofs.Filling.{depth-refused, depth-ready, depth-done}
 use borrow.Author.Needs.{needs}
 use Rattle.paint.proofs.fills.paint_depth.Statement.{statement}
 use Rattle.paint.proofs.fills.paint_depth.Tie as tie
-use Rattle.paint.proofs.fills.paint_depth.Reads as reads
-use Rattle.paint.proofs.fills.paint_depth.Lts as lts
-use Rattle.cmd.proofs.Answer.number.Reads as number-reads
-use Rattle.depth.proofs.unset_runs_and_write.Reads as unset-runs-and-write-reads
-use Rattle.paint.proofs.listed.Reads as listed-reads
-use Rattle.paint.proofs.pieces.spread.Reads as spread-reads
-use Rattle.paint.proofs.refused.Reads as refused-reads
 
--- src/fills.rt:41:62
 mul-unset-runs-and-write : tie.Need-mul-unset-runs-and-write
 mul-unset-runs-and-write c = search needs
 
--- src/fills.rt:41:50
 slice-relend-prefix-unset-runs-and-write : tie.Need-slice-relend-prefix-unset-runs-and-write
 slice-relend-prefix-unset-runs-and-write c = search needs
 
--- src/fills.rt:41:50
 slice-aggregate-unset-runs-and-write : tie.Need-slice-aggregate-unset-runs-and-write
 slice-aggregate-unset-runs-and-write c = sym (lent-length (c .before .before .before .before .before .before .args .list .now))
 
--- src/fills.rt:41:11
 unset-runs-and-write-requires : tie.Need-unset-runs-and-write-requires
 unset-runs-and-write-requires c κs = search needs
 
--- src/fills.rt:42:23
 enum-known-answer : tie.Need-enum-known-answer
 enum-known-answer c = search needs
 
--- src/fills.rt:42:42
 number-requires : tie.Need-number-requires
 number-requires c κs = search needs
 
--- src/fills.rt:42:34
 refused-requires : tie.Need-refused-requires
 refused-requires c κs = search needs
 
--- src/fills.rt:43:22
 enum-known-n : tie.Need-enum-known-n
 enum-known-n c = search needs
 
--- src/fills.rt:51:13
 spread-requires : tie.Need-spread-requires
 spread-requires c κs = depth-ready _ (c .before .before .before .before .before .before .before .before .before .before .before .before .before .before .before .args .painting .now) (c .before .before .before .before .before .before .before .before .before .before .before .before .before .before .before .args .list .now) _ _ _ (c .before .before .before .before .before .before .before .before .before .before .before .before .before .before .before .args .fill .«attrs_idx») (c .before .before .before .before .before .before .before .before .before .before .before .before .before .before .before .args .fill .buckets) (c .before .before .before .before .before .before .before .before .before .before .before .before .before .before .before .pre .0 .0) (c .before .before .before .before .before .before .before .before .before .before .before .before .before .before .before .pre .0 .1) (c .before .before .before .before .before .before .before .before .before .before .before .before .before .before .before .pre .0 .3) _ (c .before .before .before .before .before .before .before .before .unset-runs-and-write .ensures) _ (c .before .before .n .given .1) (c .before .before .before .before .before .before .before .before .before .before .before .before .before .before .before .pre .0 .2)
 
--- src/fills.rt:52:27
 slice-read-painting : tie.Need-slice-read-painting
 slice-read-painting c = search needs
 
--- src/fills.rt:52:27
 add-painting : tie.Need-add-painting
 add-painting c = search needs
 
--- src/fills.rt:52:13
 slice-write-painting : tie.Need-slice-write-painting
 slice-write-painting c = search needs
 
--- src/fills.rt:53:13
 listed-requires : tie.Need-listed-requires
 listed-requires c κs = search needs
 
--- src/fills.rt:28:1
 same-length : tie.Need-same-length
 same-length c = search needs
 
--- src/fills.rt:28:1
 same-length-2 : tie.Need-same-length-2
 same-length-2 c = search needs
 
--- src/fills.rt:28:1
 returns : tie.Need-returns
 returns c = depth-refused _ _ (c .before .before .before .before .before .before .before .before .before .before .before .before .before .before .before .before .args .list .now) _ _ _ _ (c .before .before .before .before .before .before .before .before .before .before .before .before .before .before .before .before .args .fill .buckets) (c .before .before .before .before .before .before .before .before .before .before .before .before .before .before .before .before .pre .0 .0) (c .before .before .before .before .before .before .before .before .before .before .before .before .before .before .before .before .pre .0 .1) (c .before .before .before .before .before .before .before .before .before .before .before .before .before .before .before .before .pre .0 .3) _ (c .before .before .before .before .before .before .before .before .before .unset-runs-and-write .ensures) _ _ _ (c .before .before .before .answer .given .1) (c .before .number .ensures) (c .refused .ensures)
 
--- src/fills.rt:28:1
 same-length-3 : tie.Need-same-length-3
 same-length-3 c = search needs
 
--- src/fills.rt:28:1
 same-length-4 : tie.Need-same-length-4
 same-length-4 c = search needs
 
--- src/fills.rt:28:1
 same-length-5 : tie.Need-same-length-5
 same-length-5 c = search needs
 
--- src/fills.rt:28:1
 returns-2 : tie.Need-returns-2
 returns-2 c = depth-done _ (c .before .before .before .before .before .before .before .before .before .before .before .before .before .before .before .before .before .before .before .before .args .painting .now) (c .before .before .before .before .before .before .before .before .before .before .before .before .before .before .before .before .before .before .before .before .args .list .now) _ _ _ _ (c .before .before .before .before .before .before .before .before .before .before .before .before .before .before .before .before .before .before .before .before .args .fill .buckets) (c .before .before .before .before .before .before .before .before .before .before .before .before .before .before .before .before .before .before .before .before .pre .0 .0) (c .before .before .before .before .before .before .before .before .before .before .before .before .before .before .before .before .before .before .before .before .pre .0 .1) (c .before .before .before .before .before .before .before .before .before .before .before .before .before .before .before .before .before .before .before .before .pre .0 .3) _ (c .before .before .before .before .before .before .before .before .before .before .before .before .before .unset-runs-and-write .ensures) _ (c .before .before .before .before .before .before .before .n .given .1) _ _ (c .listed .ensures) (c .before .before .before .before .before .before .before .before .before .before .before .before .before .before .before .before .before .before .before .before .pre .1 .0) (c .before .before .before .before .spread .ensures)
 

@@ -1,5 +1,4 @@
 use mathlib.Core.List.{[], _∷_}
-use mathlib.Core.Path.{_∙_}
 use Prim.Native.Nat.{_*_}
 use native.Mathlib.Omega.{arith}
 use lib.ListN.{length-set}
@@ -7,105 +6,76 @@ use Rattle.cmd.proofs.Tables.{stored}
 use borrow.Author.Needs.{needs}
 use Rattle.paint.proofs.pieces.put_piece.Statement.{statement}
 use Rattle.paint.proofs.pieces.put_piece.Tie as tie
-use Rattle.paint.proofs.pieces.put_piece.Reads as reads
-use Rattle.paint.proofs.pieces.put_piece.Lts as lts
-use Rattle.paint.proofs.pieces.index.Reads as index-reads
-use Rattle.paint.proofs.pieces.tag.Reads as tag-reads
-use Rattle.span.proofs.Alpha.moved.Reads as moved-reads
 
--- src/pieces.rt:60:29
 sub-moved : tie.Need-sub-moved
 sub-moved c = search needs
 
--- src/pieces.rt:60:9
 moved-requires : tie.Need-moved-requires
 moved-requires c κs = search needs
 
--- src/pieces.rt:61:14
 mul-at : tie.Need-mul-at
 mul-at c = search needs
 
--- src/pieces.rt:62:16
 tag-requires : tie.Need-tag-requires
 tag-requires c κs = search needs
 
--- src/pieces.rt:62:5
 mul-list : tie.Need-mul-list
 mul-list c = search needs
 
--- src/pieces.rt:62:5
 slice-write-list : tie.Need-slice-write-list
 slice-write-list c = search needs
 
--- src/pieces.rt:63:10
 add-list : tie.Need-add-list
 add-list c = search needs
 
--- src/pieces.rt:63:5
 mul-list-2 : tie.Need-mul-list-2
 mul-list-2 c = search needs
 
--- src/pieces.rt:63:5
 slice-write-list-2 : tie.Need-slice-write-list-2
 slice-write-list-2 c = simp length-set (omega arith)
 
--- src/pieces.rt:64:10
 add-list-2 : tie.Need-add-list-2
 add-list-2 c = search needs
 
--- src/pieces.rt:64:5
 mul-list-3 : tie.Need-mul-list-3
 mul-list-3 c = search needs
 
--- src/pieces.rt:64:5
 slice-write-list-3 : tie.Need-slice-write-list-3
 slice-write-list-3 c = simp length-set (omega arith)
 
--- src/pieces.rt:65:10
 add-list-3 : tie.Need-add-list-3
 add-list-3 c = search needs
 
--- src/pieces.rt:65:5
 mul-list-4 : tie.Need-mul-list-4
 mul-list-4 c = search needs
 
--- src/pieces.rt:65:5
 slice-write-list-4 : tie.Need-slice-write-list-4
 slice-write-list-4 c = simp length-set (omega arith)
 
--- src/pieces.rt:66:20
 index-requires : tie.Need-index-requires
 index-requires c κs = search needs
 
--- src/pieces.rt:66:10
 add-list-4 : tie.Need-add-list-4
 add-list-4 c = search needs
 
--- src/pieces.rt:66:5
 mul-list-5 : tie.Need-mul-list-5
 mul-list-5 c = search needs
 
--- src/pieces.rt:66:5
 slice-write-list-5 : tie.Need-slice-write-list-5
 slice-write-list-5 c = simp length-set (omega arith)
 
--- src/pieces.rt:67:10
 add-list-5 : tie.Need-add-list-5
 add-list-5 c = search needs
 
--- src/pieces.rt:67:5
 mul-list-6 : tie.Need-mul-list-6
 mul-list-6 c = search needs
 
--- src/pieces.rt:67:5
 slice-write-list-6 : tie.Need-slice-write-list-6
 slice-write-list-6 c = simp length-set (omega arith)
 
--- src/pieces.rt:55:1
 same-length : tie.Need-same-length
 same-length c = simp length-set
 
--- src/pieces.rt:55:1
 returns : tie.Need-returns
 returns c = rw (c .before .tag .ensures, c .index .ensures, c .before .before .moved .ensures) (stored _ (6 * c .before .before .before .before .before .args .k) _ (_ ∷ _ ∷ _ ∷ _ ∷ _ ∷ []) (omega arith))
 

@@ -1,11 +1,7 @@
 use native.Mathlib.Omega.{arith}
-use borrow.Author.Needs.{needs}
 use Rattle.paint.proofs.Spreading.{Spreading, spread-first, spread-fits, spread-again, spread-end}
 use Rattle.paint.proofs.pieces.spread.Statement.{statement}
 use Rattle.paint.proofs.pieces.spread.Tie as tie
-use Rattle.paint.proofs.pieces.spread.Reads as reads
-use Rattle.paint.proofs.pieces.spread.Lts as lts
-use Rattle.paint.proofs.pieces.put_piece.Reads as put-piece-reads
 
 abbrev Inv-loop : tie.InvT-loop
 Inv-loop list₀ n width brush left₀ list left = Spreading width brush list₀ n left list
@@ -13,69 +9,53 @@ Inv-loop list₀ n width brush left₀ list left = Spreading width brush list₀
 abbrev μ-loop : tie.MeasureT-loop
 μ-loop list₀ n width brush left₀ list left = left
 
--- src/pieces.rt:76:5
 loop-holds : tie.Need-loop-holds Inv-loop μ-loop
 loop-holds c = spread-first _ _ _ _ (c .before .pre .0) (c .before .pre .1)
 
--- src/pieces.rt:77:17
 sub-k : tie.Need-sub-k Inv-loop μ-loop
 sub-k c = omega arith
 
--- src/pieces.rt:78:22
 mul-a : tie.Need-mul-a Inv-loop μ-loop
 mul-a c = omega arith
 
--- src/pieces.rt:78:17
 mul-a-2 : tie.Need-mul-a-2 Inv-loop μ-loop
 mul-a-2 c = omega arith
 
--- src/pieces.rt:78:17
 slice-read-a : tie.Need-slice-read-a Inv-loop μ-loop
 slice-read-a c = omega arith
 
--- src/pieces.rt:78:17
 mul-a-3 : tie.Need-mul-a-3 Inv-loop μ-loop
 mul-a-3 c = omega (arith, spread-fits _ _ _ _ _ _ (c .before .before .loop .inv) (c .before .loop-test .taken) .small-first)
 
--- src/pieces.rt:79:22
 mul-b : tie.Need-mul-b Inv-loop μ-loop
 mul-b c = omega arith
 
--- src/pieces.rt:79:22
 add-b : tie.Need-add-b Inv-loop μ-loop
 add-b c = omega arith
 
--- src/pieces.rt:79:17
 mul-b-2 : tie.Need-mul-b-2 Inv-loop μ-loop
 mul-b-2 c = omega arith
 
--- src/pieces.rt:79:17
 slice-read-b : tie.Need-slice-read-b Inv-loop μ-loop
 slice-read-b c = omega arith
 
--- src/pieces.rt:79:17
 mul-b-3 : tie.Need-mul-b-3 Inv-loop μ-loop
 mul-b-3 c = omega (arith, spread-fits _ _ _ _ _ _ (c .before .before .before .loop .inv) (c .before .before .loop-test .taken) .small-end)
 
--- src/pieces.rt:80:9
 put-piece-requires : tie.Need-put-piece-requires Inv-loop μ-loop
 put-piece-requires c κs =
     let f = spread-fits _ _ _ _ _ _ (c .before .before .before .before .loop .inv) (c .before .before .before .loop-test .taken) in
     (omega (arith, c .before .before .before .before .loop .inv .room), f .begun, f .moves)
 
--- src/pieces.rt:76:5
 loop-less : tie.Need-loop-less Inv-loop μ-loop
 loop-less c = omega arith
 
--- src/pieces.rt:76:5
 loop-again : tie.Need-loop-again Inv-loop μ-loop
 loop-again c = spread-again _ _ _ _ _ _ (c .before .before .before .before .before .before .before .loop .inv) _ (c .before .before .before .before .before .before .loop-test .taken) (c .before .before .put-piece .ensures)
 
--- src/pieces.rt:71:1
 same-length : tie.Need-same-length Inv-loop μ-loop
 same-length c = c .before .loop .inv .kept
 
--- src/pieces.rt:71:1
 returns : tie.Need-returns Inv-loop μ-loop
 returns c = spread-end _ _ _ _ _ _ (c .before .loop .inv) (c .loop-test .left)
 

@@ -1,141 +1,101 @@
-use native.Mathlib.Omega.{arith}
 use Rattle.paint.proofs.Steps.{paint-forged, paint-taken, layer-forged, layer-taken, push-forged, pushed, pop-forged, popped, paint-good, layer-good}
 use borrow.Author.Needs.{needs}
 use Rattle.paint.proofs.row.step_command.Statement.{statement}
 use Rattle.paint.proofs.row.step_command.Tie as tie
-use Rattle.paint.proofs.row.step_command.Reads as reads
-use Rattle.paint.proofs.row.step_command.Lts as lts
-use Rattle.paint.proofs.fills.paint_fill.Reads as paint-fill-reads
-use Rattle.paint.proofs.refused.Reads as refused-reads
-use Rattle.paint.proofs.row.layer_taken.Reads as layer-taken-reads
-use Rattle.paint.proofs.row.nest.Reads as nest-reads
-use Rattle.paint.proofs.row.paint_taken.Reads as paint-taken-reads
 
--- src/row.rt:117:30
 enum-known-cmd : tie.Need-enum-known-cmd
 enum-known-cmd c = search needs
 
--- src/row.rt:118:17
 paint-taken-requires : tie.Need-paint-taken-requires
 paint-taken-requires c κs = search needs
 
--- src/row.rt:120:17
 refused-requires : tie.Need-refused-requires
 refused-requires c κs = search needs
 
--- src/row.rt:120:17
 returns : tie.Need-returns
 returns c = paint-forged _ _ _ _ _ (c .before .before .before .before .before .before .before .before .before .before .before .args .painting .now) _ _ _ (c .before .before .before .before .cmd .given .1) _ (c .before .before .paint-taken .ensures) _ (c .before .if1 .taken) (c .refused .ensures)
 
--- src/row.rt:122:13
 paint-fill-requires : tie.Need-paint-fill-requires
 paint-fill-requires c κs = (paint-good _ _ (c .before .before .before .before .before .cmd .given .1) (c .before .before .before .before .before .before .before .before .before .before .before .before .pre .1 .0), (c .before .before .before .before .before .before .before .before .before .before .before .before .pre .1 .1, c .before .before .before .before .before .before .before .before .before .before .before .before .pre .1 .2))
 
--- src/row.rt:124:30
 enum-known-cmd-2 : tie.Need-enum-known-cmd-2
 enum-known-cmd-2 c = search needs
 
--- src/row.rt:125:17
 layer-taken-requires : tie.Need-layer-taken-requires
 layer-taken-requires c κs = search needs
 
--- src/row.rt:127:17
 refused-requires-2 : tie.Need-refused-requires-2
 refused-requires-2 c κs = search needs
 
--- src/row.rt:127:17
 returns-2 : tie.Need-returns-2
 returns-2 c = layer-forged _ _ _ _ _ (c .before .before .before .before .before .before .before .before .before .before .before .args .painting .now) _ _ _ (c .before .before .before .before .cmd2 .given .1) _ (c .before .before .layer-taken .ensures) _ (c .before .if2 .taken) (c .refused2 .ensures)
 
--- src/row.rt:129:13
 paint-fill-requires-2 : tie.Need-paint-fill-requires-2
 paint-fill-requires-2 c κs = (layer-good _ _ (c .before .before .before .before .before .cmd2 .given .1) (c .before .before .before .before .before .before .before .before .before .before .before .before .pre .1 .0), (c .before .before .before .before .before .before .before .before .before .before .before .before .pre .1 .1, c .before .before .before .before .before .before .before .before .before .before .before .before .pre .1 .2))
 
--- src/row.rt:132:27
 enum-told : tie.Need-enum-told
 enum-told c = search needs
 
--- src/row.rt:132:27
 slice-read-nesting : tie.Need-slice-read-nesting
 slice-read-nesting c = search needs
 
--- src/row.rt:134:39
 add-nest : tie.Need-add-nest
 add-nest c = search needs
 
--- src/row.rt:134:17
 nest-requires : tie.Need-nest-requires
 nest-requires c κs = search needs
 
--- src/row.rt:134:17
 same-length : tie.Need-same-length
 same-length c = search needs
 
--- src/row.rt:134:17
 returns-3 : tie.Need-returns-3
 returns-3 c = pushed _ _ _ _ _ (c .before .before .before .before .before .before .before .before .before .before .before .before .before .args .painting .now) _ _ _ (c .before .before .before .before .before .before .enum-told .given .1) _ _ (c .before .before .before .before .if3 .taken) (c .before .before .nest .ensures)
 
--- src/row.rt:136:13
 refused-requires-3 : tie.Need-refused-requires-3
 refused-requires-3 c κs = search needs
 
--- src/row.rt:139:27
 enum-told-2 : tie.Need-enum-told-2
 enum-told-2 c = search needs
 
--- src/row.rt:139:27
 slice-read-nesting-2 : tie.Need-slice-read-nesting-2
 slice-read-nesting-2 c = search needs
 
--- src/row.rt:141:39
 sub-nest : tie.Need-sub-nest
 sub-nest c = search needs
 
--- src/row.rt:141:17
 nest-requires-2 : tie.Need-nest-requires-2
 nest-requires-2 c κs = search needs
 
--- src/row.rt:141:17
 same-length-2 : tie.Need-same-length-2
 same-length-2 c = search needs
 
--- src/row.rt:141:17
 returns-4 : tie.Need-returns-4
 returns-4 c = popped _ _ _ _ _ (c .before .before .before .before .before .before .before .before .before .before .before .before .before .args .painting .now) _ _ (c .before .before .before .before .before .before .enum-told2 .given .1) _ _ (c .before .before .before .before .if4 .taken) (c .before .before .nest2 .ensures)
 
--- src/row.rt:143:13
 refused-requires-4 : tie.Need-refused-requires-4
 refused-requires-4 c κs = search needs
 
--- src/row.rt:102:1
 same-length-3 : tie.Need-same-length-3
 same-length-3 c = search needs
 
--- src/row.rt:102:1
 same-length-4 : tie.Need-same-length-4
 same-length-4 c = search needs
 
--- src/row.rt:102:1
 returns-5 : tie.Need-returns-5
 returns-5 c = paint-taken _ _ _ _ _ (c .before .before .before .before .before .before .before .before .before .before .before .before .before .before .before .before .before .args .painting .now) _ _ _ (c .before .before .before .before .before .before .before .before .before .before .cmd .given .1) _ (c .before .before .before .before .before .before .before .before .paint-taken .ensures) _ (c .before .before .before .before .before .before .before .if1 .left) (c .before .before .before .before .paint-fill .ensures)
 
--- src/row.rt:102:1
 same-length-5 : tie.Need-same-length-5
 same-length-5 c = search needs
 
--- src/row.rt:102:1
 same-length-6 : tie.Need-same-length-6
 same-length-6 c = search needs
 
--- src/row.rt:102:1
 returns-6 : tie.Need-returns-6
 returns-6 c = layer-taken _ _ _ _ _ (c .before .before .before .before .before .before .before .before .before .before .before .before .before .before .before .before .before .args .painting .now) _ _ _ (c .before .before .before .before .before .before .before .before .before .before .cmd2 .given .1) _ (c .before .before .before .before .before .before .before .before .layer-taken .ensures) _ (c .before .before .before .before .before .before .before .if2 .left) (c .before .before .before .before .paint-fill2 .ensures)
 
--- src/row.rt:102:1
 returns-7 : tie.Need-returns-7
 returns-7 c = push-forged _ _ _ _ _ (c .before .before .before .before .before .before .before .before .before .before .args .painting .now) _ _ _ (c .before .before .before .enum-told .given .1) _ (c .before .if3 .left) (c .refused3 .ensures)
 
--- src/row.rt:102:1
 returns-8 : tie.Need-returns-8
 returns-8 c = pop-forged _ _ _ _ _ (c .before .before .before .before .before .before .before .before .before .before .args .painting .now) _ _ (c .before .before .before .enum-told2 .given .1) _ (c .before .if4 .left) (c .refused4 .ensures)
 

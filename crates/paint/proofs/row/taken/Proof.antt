@@ -1,14 +1,10 @@
 use Rattle.paint.proofs.Judging.{taken-good, taken-large}
 use Rattle.paint.proofs.row.taken.Statement.{statement}
 use Rattle.paint.proofs.row.taken.Tie as tie
-use Rattle.paint.proofs.row.taken.Reads as reads
-use Rattle.paint.proofs.row.taken.Lts as lts
 
--- src/row.rt:32:1
 returns : tie.Need-returns
 returns c = taken-good _ (c .if1 .taken)
 
--- src/row.rt:32:1
 returns-2 : tie.Need-returns-2
 returns-2 c = taken-large _ (c .if1 .left)
 

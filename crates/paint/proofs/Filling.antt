@@ -6,7 +6,7 @@ use mathlib.Core.Option.{some}
 use Prim.Native.Nat.{ℕ, _≤_, _<_, _+_, _-_, _*_, _/_}
 use native.Mathlib.Nat.{mul-one}
 use native.Mathlib.Omega.{arith}
-use lib.ListN.{length, length-map, set}
+use lib.ListN.{length, length-map}
 use lib.Dec.{ltb, eqb}
 use borrow.Author.Tests.{le-ltb, ne-eqb}
 use Rattle.rules.specs.Answers.{settle}
@@ -29,8 +29,7 @@ use Rattle.depth.specs.Listing as depth
 use Rattle.paint.specs.declared.Painted.{Painted}
 use Rattle.paint.specs.declared.pieces.Brush.{Brush}
 use Rattle.paint.specs.Pieces.{laid, Fits, run-at, runs-at}
-use Rattle.paint.specs.Painting.{word, out, painter-at, refused, listed, settled}
-use Rattle.paint.proofs.Judging.{two-set}
+use Rattle.paint.specs.Painting.{word, out, painter-at, refused, listed, Advanced, advanced, settled}
 use Rattle.paint.proofs.Spreading.{piece}
 use Rattle.paint.proofs.Within.{fill-fits, depth-fits}
 use Rattle.paint.proofs.Listing.{lent, lent-room, back, Listed, listed-room, listed-at, listed-spread, when-refused, when-listed}
@@ -84,22 +83,22 @@ module _ (D P l ys : List ℕ) (layer : Bool) (id i : ℕ) (t : TileSpan) (a : A
       listed-at runs l n (back l ys) found (Fits 1 brush) (fill-fits D id (tiles t) brush h g refl m),
     )
 
-    pub fill-done : (p : Painted) (l′ : List ℕ) → p ≡ listed n → length P ≡ 2
+    pub fill-done : (p : Painted) (P′ l′ : List ℕ) → advanced p P′ ≡ advanced (listed n) ((word P 0 + 1) ∷ word P 1 ∷ [])
         → l′ ≡ laid (map (piece 1 brush) (runs-at n (back l ys))) (back l ys)
-        → out p D (set P 0 (word P 0 + 1)) l′
+        → out p D P′ l′
         ≡ settled (some (paint-fill-runs 32 no-attrs layer id i (tiles t) (alpha a) (painter-at D P))) D P l
     unfolding paint-fill-runs runs
-    fill-done p l′ u two v =
+    fill-done p P′ l′ u v =
         let f : Span → Piece = fill-piece 32 no-attrs layer i (tiles t) (alpha a) (word P 1) in
         let same : map (piece 1 brush) runs ≡ map f runs = same-map (piece 1 brush) f (λ x. simp mul-one) runs in
-        rw u
-        (room D P l _ D (set P 0 (word P 0 + 1)) l′ n
+        ap (λ (x : Advanced). out (x .answer) D (x .painting) l′) u
+        ∙ room D P l _ D ((word P 0 + 1) ∷ word P 1 ∷ []) l′ n
         (rw length-map (found .roomy))
         refl
         (found .many ∙ rw length-map)
         refl
-        (two-set P (word P 0 + 1) two)
-        (listed-spread runs l n (back l ys) found 1 brush l′ v ∙ ap (λ (x : List Piece). laid x l) same))
+        refl
+        (listed-spread runs l n (back l ys) found 1 brush l′ v ∙ ap (λ (x : List Piece). laid x l) same)
 
 -- a depth fill's call over its buckets, which writes
 module _ (D P l ys D′ : List ℕ) (id i : ℕ) (b : BucketRange) (h : b .first ≤ b .end) (g : b .end ≤ length D) (k : 0 < id)
@@ -150,16 +149,16 @@ module _ (D P l ys D′ : List ℕ) (id i : ℕ) (b : BucketRange) (h : b .first
       listed-at unset l n (back l ys) found-unset (Fits 32 depth-brush) (depth-fits D (buckets b) depth-brush h m refl refl),
     )
 
-    pub depth-done : (p : Painted) (l′ : List ℕ) → p ≡ listed n → length P ≡ 2
+    pub depth-done : (p : Painted) (P′ l′ : List ℕ) → advanced p P′ ≡ advanced (listed n) ((word P 0 + 1) ∷ word P 1 ∷ [])
         → l′ ≡ laid (map (piece 32 depth-brush) (runs-at n (back l ys))) (back l ys)
-        → out p D′ (set P 0 (word P 0 + 1)) l′ ≡ settled (some marked) D P l
+        → out p D′ P′ l′ ≡ settled (some marked) D P l
     unfolding unset
-    depth-done p l′ u two v =
-        rw u
-        (room D P l marked D′ (set P 0 (word P 0 + 1)) l′ n
+    depth-done p P′ l′ u v =
+        ap (λ (x : Advanced). out (x .answer) D′ (x .painting) l′) u
+        ∙ room D P l marked D′ ((word P 0 + 1) ∷ word P 1 ∷ []) l′ n
         (rw length-map (found-unset .roomy))
         refl
         (found-unset .many ∙ rw length-map)
         (after false (found-unset .roomy))
-        (two-set P (word P 0 + 1) two)
-        (listed-spread unset l n (back l ys) found-unset 32 depth-brush l′ v))
+        refl
+        (listed-spread unset l n (back l ys) found-unset 32 depth-brush l′ v)

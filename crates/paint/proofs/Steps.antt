@@ -32,7 +32,7 @@ use Rattle.cmd.specs.DepthFills.{depth-fill, read-depth-of}
 use Rattle.cmd.specs.Good.{GoodAlpha, GoodCommand}
 use Rattle.cmd.proofs.BothWays.{depth-reads-good, reads-good}
 use Rattle.paint.specs.declared.Painted.{Painted}
-use Rattle.paint.specs.Painting.{word, attrs-at, Lent, lent, Out, out, painter-at, good-id, given, depth-step, command-step, depth-fill-at, command-at, bad-counts, next-step, refused, listed, Nested, nested, settled, painted-row}
+use Rattle.paint.specs.Painting.{word, attrs-at, Lent, lent, Out, out, painter-at, good-id, given, depth-step, command-step, depth-fill-at, command-at, bad-counts, next-step, refused, listed, Advanced, advanced, settled, painted-row}
 use Rattle.paint.proofs.Judging.{given-none, given-some, paint-id-is, layer-id-is, good-paint-is, good-layer-is, two-same}
 
 module _ (D P l : List ℕ) where
@@ -144,11 +144,11 @@ module _ (ps : List ℕ) (paints : ℕ) (ls : List ℕ) (layers : ℕ) (D P l : 
     unfolding command-step
     push-forged p h q = forged D P l _ p (rw (e, le-ltb (word P 1) 16 h)) q
 
-    pub pushed : (p : Painted) (P′ : List ℕ) → word P 1 < 16 → nested p P′ ≡ nested (listed 0) ((word P 0 + 1) ∷ (word P 1 + 1) ∷ [])
+    pub pushed : (p : Painted) (P′ : List ℕ) → word P 1 < 16 → advanced p P′ ≡ advanced (listed 0) ((word P 0 + 1) ∷ (word P 1 + 1) ∷ [])
         → out p D P′ l ≡ settled (command-step attrs (painter-at D P) (some (command c))) D P l
     unfolding command-step paint-command
     pushed p P′ h q =
-        ap (λ (x : Nested). out (x .answer) D (x .painting) l) q
+        ap (λ (x : Advanced). out (x .answer) D (x .painting) l) q
         ∙ bare D P l false (record { buckets = D; steps = word P 0 + 1; nesting = word P 1 + 1 }) refl
         ∙ rw (e, lt-ltb (word P 1) 16 h)
 
@@ -158,11 +158,11 @@ module _ (ps : List ℕ) (paints : ℕ) (ls : List ℕ) (layers : ℕ) (D P l : 
     unfolding command-step
     pop-forged p h q = forged D P l _ p (rw (e, le-ltb 0 (word P 1) h)) q
 
-    pub popped : (p : Painted) (P′ : List ℕ) → 0 < word P 1 → nested p P′ ≡ nested (listed 0) ((word P 0 + 1) ∷ (word P 1 - 1) ∷ [])
+    pub popped : (p : Painted) (P′ : List ℕ) → 0 < word P 1 → advanced p P′ ≡ advanced (listed 0) ((word P 0 + 1) ∷ (word P 1 - 1) ∷ [])
         → out p D P′ l ≡ settled (command-step attrs (painter-at D P) (some (command c))) D P l
     unfolding command-step paint-command
     popped p P′ h q =
-        ap (λ (x : Nested). out (x .answer) D (x .painting) l) q
+        ap (λ (x : Advanced). out (x .answer) D (x .painting) l) q
         ∙ bare D P l false (record { buckets = D; steps = word P 0 + 1; nesting = word P 1 - 1 }) refl
         ∙ rw (e, lt-ltb 0 (word P 1) h)
 

@@ -121,12 +121,12 @@ refused n = record { number = n; finished = false; pieces = 0 }
 abbrev pub listed : ℕ → Painted
 listed n = record { number = Done; finished = false; pieces = n }
 
-pub record Nested : Type 0 where
+pub record Advanced : Type 0 where
   pub answer : Painted
   pub painting : List ℕ
 
-abbrev pub nested : Painted → List ℕ → Nested
-nested r p = record { answer = r; painting = p }
+abbrev pub advanced : Painted → List ℕ → Advanced
+advanced r p = record { answer = r; painting = p }
 
 abbrev pub left : rules.Painted → List ℕ → Out
 left o l =

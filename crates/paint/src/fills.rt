@@ -1,6 +1,6 @@
 // The doing halves of a step: the runs of a judged fill become pieces, and the row's steps go up by one.
 use crate::Painted;
-use crate::listed;
+use crate::advance;
 use crate::pieces::Brush;
 use crate::pieces::spread;
 use crate::refused;
@@ -49,8 +49,8 @@ pub fn paint_depth(
                 nesting: 0,
             };
             spread(list, n, BUCKET, brush);
-            painting[0] = painting[0] + 1;
-            listed(n)
+            let nesting = painting[1];
+            advance(painting, nesting, n)
         }
     }
 }
@@ -74,16 +74,16 @@ pub fn paint_fill(
         Runs::Refused(answer) => refused(answer.number()),
         Runs::Listed(n) => {
             let start = fill.alpha;
+            let nesting = painting[1];
             let brush = Brush {
                 layer,
                 attrs_idx: fill.attrs_idx,
                 first: span.first,
                 alpha: start,
-                nesting: painting[1],
+                nesting,
             };
             spread(list, n, 1, brush);
-            painting[0] = painting[0] + 1;
-            listed(n)
+            advance(painting, nesting, n)
         }
     }
 }

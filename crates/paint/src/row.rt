@@ -1,8 +1,8 @@
 // One step of one row: judged first, then done.
 use crate::Painted;
+use crate::advance;
 use crate::fills::paint_depth;
 use crate::fills::paint_fill;
-use crate::listed;
 use crate::refused;
 use cmd::attrs::layer_id;
 use cmd::attrs::paint_id;
@@ -13,14 +13,14 @@ use cmd::depth_fill::DepthWords;
 use cmd::depth_fill::ReadDepth;
 ghost use mathlib.Core.Path.{_≡_};
 ghost use mathlib.Core.Bool.{true};
-ghost use mathlib.Core.List.{[], _∷_};
+ghost use mathlib.Core.List.{[]};
 ghost use mathlib.Core.Option.{some};
 ghost use Prim.Native.Nat.{_+_, _*_, _≤_, _<_};
 ghost use lib.ListN.{length};
 ghost use lib.Dec.{ltb};
 ghost use Rattle.cmd.specs.Commands.{command, read-of};
 ghost use Rattle.cmd.specs.Good.{GoodCommand};
-ghost use Rattle.paint.specs.Painting.{word, attrs-at, lent, out, painter-at, given, depth-step, command-step, depth-fill-at, command-at, listed, nested, settled, painted-row};
+ghost use Rattle.paint.specs.Painting.{word, attrs-at, lent, out, painter-at, given, depth-step, command-step, depth-fill-at, command-at, settled, painted-row};
 
 fn wide(x: u32) -> usize
     ensures { λ r. ⌜ r ≡ x ⌝ }
@@ -88,16 +88,6 @@ fn step_depth(
     }
 }
 
-// A buffer gives no piece but changes the nesting.
-fn nest(painting: &mut [u32], nesting: u32) -> Painted
-    requires { ⌜ (length (now painting) ≡ 2) × (word (now painting) 0 < 4294967295) ⌝ }
-    ensures { λ r. ⌜ nested r (now (painting .exit)) ≡ nested (listed 0) ((word (now (painting .entry)) 0 + 1) ∷ nesting ∷ []) ⌝ }
-{
-    painting[0] = painting[0] + 1;
-    painting[1] = nesting;
-    listed(0)
-}
-
 // A command that words stand for.
 fn step_command(
     cmd: RenderCmd,
@@ -131,14 +121,14 @@ fn step_command(
         RenderCmd::PushBuf(_) => {
             let nesting = painting[1];
             if nesting < 16 {
-                return nest(painting, nesting + 1);
+                return advance(painting, nesting + 1, 0);
             }
             refused(4)
         }
         RenderCmd::PopBuf => {
             let nesting = painting[1];
             if 0 < nesting {
-                return nest(painting, nesting - 1);
+                return advance(painting, nesting - 1, 0);
             }
             refused(4)
         }

@@ -32,17 +32,11 @@ enum-known-n c = search needs
 spread-requires : tie.Need-spread-requires
 spread-requires c κs = depth-ready _ (c .before .before .before .before .before .before .before .before .before .before .before .before .before .before .before .args .painting .now) (c .before .before .before .before .before .before .before .before .before .before .before .before .before .before .before .args .list .now) _ _ _ (c .before .before .before .before .before .before .before .before .before .before .before .before .before .before .before .args .fill .«attrs_idx») (c .before .before .before .before .before .before .before .before .before .before .before .before .before .before .before .args .fill .buckets) (c .before .before .before .before .before .before .before .before .before .before .before .before .before .before .before .pre .0 .0) (c .before .before .before .before .before .before .before .before .before .before .before .before .before .before .before .pre .0 .1) (c .before .before .before .before .before .before .before .before .before .before .before .before .before .before .before .pre .0 .3) _ (c .before .before .before .before .before .before .before .before .unset-runs-and-write .ensures) _ (c .before .before .n .given .1) (c .before .before .before .before .before .before .before .before .before .before .before .before .before .before .before .pre .0 .2)
 
-slice-read-painting : tie.Need-slice-read-painting
-slice-read-painting c = search needs
+slice-read-nesting : tie.Need-slice-read-nesting
+slice-read-nesting c = search needs
 
-add-painting : tie.Need-add-painting
-add-painting c = search needs
-
-slice-write-painting : tie.Need-slice-write-painting
-slice-write-painting c = search needs
-
-listed-requires : tie.Need-listed-requires
-listed-requires c κs = search needs
+advance-requires : tie.Need-advance-requires
+advance-requires c κs = search needs
 
 same-length : tie.Need-same-length
 same-length c = search needs
@@ -63,7 +57,7 @@ same-length-5 : tie.Need-same-length-5
 same-length-5 c = search needs
 
 returns-2 : tie.Need-returns-2
-returns-2 c = depth-done _ (c .before .before .before .before .before .before .before .before .before .before .before .before .before .before .before .before .before .before .before .before .args .painting .now) (c .before .before .before .before .before .before .before .before .before .before .before .before .before .before .before .before .before .before .before .before .args .list .now) _ _ _ _ (c .before .before .before .before .before .before .before .before .before .before .before .before .before .before .before .before .before .before .before .before .args .fill .buckets) (c .before .before .before .before .before .before .before .before .before .before .before .before .before .before .before .before .before .before .before .before .pre .0 .0) (c .before .before .before .before .before .before .before .before .before .before .before .before .before .before .before .before .before .before .before .before .pre .0 .1) (c .before .before .before .before .before .before .before .before .before .before .before .before .before .before .before .before .before .before .before .before .pre .0 .3) _ (c .before .before .before .before .before .before .before .before .before .before .before .before .before .unset-runs-and-write .ensures) _ (c .before .before .before .before .before .before .before .n .given .1) _ _ (c .listed .ensures) (c .before .before .before .before .before .before .before .before .before .before .before .before .before .before .before .before .before .before .before .before .pre .1 .0) (c .before .before .before .before .spread .ensures)
+returns-2 c = depth-done _ (c .before .before .before .before .before .before .before .before .before .before .before .before .before .before .before .before .before .before .before .before .before .before .before .args .painting .now) (c .before .before .before .before .before .before .before .before .before .before .before .before .before .before .before .before .before .before .before .before .before .before .before .args .list .now) _ _ _ _ (c .before .before .before .before .before .before .before .before .before .before .before .before .before .before .before .before .before .before .before .before .before .before .before .args .fill .buckets) (c .before .before .before .before .before .before .before .before .before .before .before .before .before .before .before .before .before .before .before .before .before .before .before .pre .0 .0) (c .before .before .before .before .before .before .before .before .before .before .before .before .before .before .before .before .before .before .before .before .before .before .before .pre .0 .1) (c .before .before .before .before .before .before .before .before .before .before .before .before .before .before .before .before .before .before .before .before .before .before .before .pre .0 .3) _ (c .before .before .before .before .before .before .before .before .before .before .before .before .before .before .before .before .unset-runs-and-write .ensures) _ (c .before .before .before .before .before .before .before .before .before .before .n .given .1) _ _ _ (c .before .before .advance .ensures) (c .before .before .before .before .before .before .before .spread .ensures)
 
 pub paint-depth-spec : {M : Type 1} → statement M
 paint-depth-spec =
@@ -78,10 +72,8 @@ paint-depth-spec =
     refused-requires
     enum-known-n
     spread-requires
-    slice-read-painting
-    add-painting
-    slice-write-painting
-    listed-requires
+    slice-read-nesting
+    advance-requires
     same-length
     same-length-2
     returns

@@ -29,23 +29,14 @@ refused-requires c κs = search needs
 enum-known-n : tie.Need-enum-known-n
 enum-known-n c = search needs
 
-slice-read-painting : tie.Need-slice-read-painting
-slice-read-painting c = search needs
+slice-read-nesting : tie.Need-slice-read-nesting
+slice-read-nesting c = search needs
 
 spread-requires : tie.Need-spread-requires
 spread-requires c κs = fill-ready _ (c .before .before .before .before .before .before .before .before .before .before .before .before .before .args .painting .now) (c .before .before .before .before .before .before .before .before .before .before .before .before .before .args .list .now) _ (c .before .before .before .before .before .before .before .before .before .before .before .before .before .args .layer) _ (c .before .before .before .before .before .before .before .before .before .before .before .before .before .args .fill .«attrs_idx») (c .before .before .before .before .before .before .before .before .before .before .before .before .before .args .fill .span) (c .before .before .before .before .before .before .before .before .before .before .before .before .before .args .fill .alpha) (c .before .before .before .before .before .before .before .before .before .before .before .before .before .pre .0 .0) (c .before .before .before .before .before .before .before .before .before .before .before .before .before .pre .0 .1) _ (c .before .before .before .before .before .before .before .visible-runs .ensures) _ (c .before .before .before .n .given .1) (c .before .before .before .before .before .before .before .before .before .before .before .before .before .pre .0 .2)
 
-slice-read-painting-2 : tie.Need-slice-read-painting-2
-slice-read-painting-2 c = search needs
-
-add-painting : tie.Need-add-painting
-add-painting c = search needs
-
-slice-write-painting : tie.Need-slice-write-painting
-slice-write-painting c = search needs
-
-listed-requires : tie.Need-listed-requires
-listed-requires c κs = search needs
+advance-requires : tie.Need-advance-requires
+advance-requires c κs = search needs
 
 same-length : tie.Need-same-length
 same-length c = search needs
@@ -60,7 +51,7 @@ same-length-3 : tie.Need-same-length-3
 same-length-3 c = search needs
 
 returns-2 : tie.Need-returns-2
-returns-2 c = fill-done _ (c .before .before .before .before .before .before .before .before .before .before .before .before .before .before .before .before .before .before .args .painting .now) (c .before .before .before .before .before .before .before .before .before .before .before .before .before .before .before .before .before .before .args .list .now) _ _ _ _ (c .before .before .before .before .before .before .before .before .before .before .before .before .before .before .before .before .before .before .args .fill .span) (c .before .before .before .before .before .before .before .before .before .before .before .before .before .before .before .before .before .before .args .fill .alpha) (c .before .before .before .before .before .before .before .before .before .before .before .before .before .before .before .before .before .before .pre .0 .0) (c .before .before .before .before .before .before .before .before .before .before .before .before .before .before .before .before .before .before .pre .0 .1) _ (c .before .before .before .before .before .before .before .before .before .before .before .before .visible-runs .ensures) _ (c .before .before .before .before .before .before .before .before .n .given .1) _ _ (c .listed .ensures) (c .before .before .before .before .before .before .before .before .before .before .before .before .before .before .before .before .before .before .pre .1 .0) (c .before .before .before .before .spread .ensures)
+returns-2 c = fill-done _ (c .before .before .before .before .before .before .before .before .before .before .before .before .before .before .before .before .before .before .before .before .args .painting .now) (c .before .before .before .before .before .before .before .before .before .before .before .before .before .before .before .before .before .before .before .before .args .list .now) _ _ _ _ (c .before .before .before .before .before .before .before .before .before .before .before .before .before .before .before .before .before .before .before .before .args .fill .span) (c .before .before .before .before .before .before .before .before .before .before .before .before .before .before .before .before .before .before .before .before .args .fill .alpha) (c .before .before .before .before .before .before .before .before .before .before .before .before .before .before .before .before .before .before .before .before .pre .0 .0) (c .before .before .before .before .before .before .before .before .before .before .before .before .before .before .before .before .before .before .before .before .pre .0 .1) _ (c .before .before .before .before .before .before .before .before .before .before .before .before .before .before .visible-runs .ensures) _ (c .before .before .before .before .before .before .before .before .before .before .n .given .1) _ _ _ (c .before .before .advance .ensures) (c .before .before .before .before .before .before .spread .ensures)
 
 pub paint-fill-spec : {M : Type 1} → statement M
 paint-fill-spec =
@@ -74,12 +65,9 @@ paint-fill-spec =
     number-requires
     refused-requires
     enum-known-n
-    slice-read-painting
+    slice-read-nesting
     spread-requires
-    slice-read-painting-2
-    add-painting
-    slice-write-painting
-    listed-requires
+    advance-requires
     same-length
     returns
     same-length-2

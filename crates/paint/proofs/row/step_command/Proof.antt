@@ -39,17 +39,17 @@ enum-told c = search needs
 slice-read-nesting : tie.Need-slice-read-nesting
 slice-read-nesting c = search needs
 
-add-nest : tie.Need-add-nest
-add-nest c = search needs
+add-advance : tie.Need-add-advance
+add-advance c = search needs
 
-nest-requires : tie.Need-nest-requires
-nest-requires c κs = search needs
+advance-requires : tie.Need-advance-requires
+advance-requires c κs = search needs
 
 same-length : tie.Need-same-length
 same-length c = search needs
 
 returns-3 : tie.Need-returns-3
-returns-3 c = pushed _ _ _ _ _ (c .before .before .before .before .before .before .before .before .before .before .before .before .before .args .painting .now) _ _ _ (c .before .before .before .before .before .before .enum-told .given .1) _ _ (c .before .before .before .before .if3 .taken) (c .before .before .nest .ensures)
+returns-3 c = pushed _ _ _ _ _ (c .before .before .before .before .before .before .before .before .before .before .before .before .before .args .painting .now) _ _ _ (c .before .before .before .before .before .before .enum-told .given .1) _ _ (c .before .before .before .before .if3 .taken) (c .before .before .advance .ensures)
 
 refused-requires-3 : tie.Need-refused-requires-3
 refused-requires-3 c κs = search needs
@@ -60,17 +60,17 @@ enum-told-2 c = search needs
 slice-read-nesting-2 : tie.Need-slice-read-nesting-2
 slice-read-nesting-2 c = search needs
 
-sub-nest : tie.Need-sub-nest
-sub-nest c = search needs
+sub-advance : tie.Need-sub-advance
+sub-advance c = search needs
 
-nest-requires-2 : tie.Need-nest-requires-2
-nest-requires-2 c κs = search needs
+advance-requires-2 : tie.Need-advance-requires-2
+advance-requires-2 c κs = search needs
 
 same-length-2 : tie.Need-same-length-2
 same-length-2 c = search needs
 
 returns-4 : tie.Need-returns-4
-returns-4 c = popped _ _ _ _ _ (c .before .before .before .before .before .before .before .before .before .before .before .before .before .args .painting .now) _ _ (c .before .before .before .before .before .before .enum-told2 .given .1) _ _ (c .before .before .before .before .if4 .taken) (c .before .before .nest2 .ensures)
+returns-4 c = popped _ _ _ _ _ (c .before .before .before .before .before .before .before .before .before .before .before .before .before .args .painting .now) _ _ (c .before .before .before .before .before .before .enum-told2 .given .1) _ _ (c .before .before .before .before .if4 .taken) (c .before .before .advance2 .ensures)
 
 refused-requires-4 : tie.Need-refused-requires-4
 refused-requires-4 c κs = search needs
@@ -115,15 +115,15 @@ step-command-spec =
     paint-fill-requires-2
     enum-told
     slice-read-nesting
-    add-nest
-    nest-requires
+    add-advance
+    advance-requires
     same-length
     returns-3
     refused-requires-3
     enum-told-2
     slice-read-nesting-2
-    sub-nest
-    nest-requires-2
+    sub-advance
+    advance-requires-2
     same-length-2
     returns-4
     refused-requires-4

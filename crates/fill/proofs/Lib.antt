@@ -1,0 +1,4 @@
+pub mod Inputs
+pub mod Planned
+pub mod Numbers
+pub mod Done

@@ -1,0 +1,23 @@
+use Rattle.fill.proofs.Inputs.{small-both, scene-is}
+use borrow.Author.Needs.{needs}
+use Rattle.fill.proofs.job_of.Statement.{statement}
+use Rattle.fill.proofs.job_of.Tie as tie
+use Rattle.fill.proofs.job_of.Reads as reads
+use Rattle.fill.proofs.job_of.Lts as lts
+use Rattle.fill.proofs.is_eligible.Reads as is-eligible-reads
+use Rattle.segments.proofs.scene_of.Reads as scene-of-reads
+
+-- src/lib.rt:93:9
+scene-of-requires : tie.Need-scene-of-requires
+scene-of-requires c κs = small-both _ (c .before .before .before .pre .0)
+
+-- src/lib.rt:99:19
+is-eligible-requires : tie.Need-is-eligible-requires
+is-eligible-requires c κs = search needs
+
+-- src/lib.rt:87:1
+returns : tie.Need-returns
+returns c = rw (scene-is _ _ _ (c .before .scene-of .ensures), c .is-eligible .ensures)
+
+pub job-of-spec : {M : Type 1} → statement M
+job-of-spec = tie.close (tie.spec scene-of-requires is-eligible-requires returns)

@@ -1,10 +1,11 @@
 -- What callers may use of a row's step. Assumes nothing.
-use mathlib.Core.Path.{_≡_, refl, ap, _∙_}
+use mathlib.Core.Path.{_≡_, refl, sym, ap, _∙_}
 use mathlib.Core.Bool.{Bool, true, false, cond}
 use mathlib.Core.List.{List}
 use mathlib.Core.Logic.{_⊎_, inl, inr}
 use mathlib.Core.Option.{Option, none, some}
-use Prim.Native.Nat.{ℕ, _≤_, _-_, _/_}
+use Prim.Native.Nat.{ℕ, _≤_, _+_, _-_, _*_, _/_}
+use native.Mathlib.Omega.{arith}
 use lib.ListN.{length}
 use lib.Dec.{ltb}
 use borrow.Author.Tests.{le-ltb}
@@ -15,6 +16,7 @@ use Rattle.rules.specs.Painting.{paint-step}
 use Rattle.paint.specs.declared.Painted.{Painted}
 use Rattle.paint.specs.Painting.{word, attrs-at, Lent, lent, Out, out, painter-at, refused, left, next-step, settled, painted-row}
 use Rattle.paint.specs.Standing.{Stands, Ready, Holds}
+use Rattle.paint.proofs.Steps.{then-finished}
 use Rattle.paint.proofs.ByRules.{held, same-row, next}
 
 -- the contract's equation allows one result
@@ -61,3 +63,10 @@ settles (some o) d p l = go (ltb (length l / 6) (length (o .pieces)))
 pub done-or-kept : (a : Attrs) (w : Lent) → Settled (painted-row a w) (w .depth) (w .painting) (w .list)
 unfolding painted-row
 done-or-kept a w = settles (next-step a w) (w .depth) (w .painting) (w .list)
+
+-- After the last step: finished, no piece, and nothing changes.
+pub at-the-end : (ps : List ℕ) (paints : ℕ) (ls : List ℕ) (layers : ℕ) (s re fi D P l : List ℕ)
+    → 4 * word s 0 ≤ length re → 2 * word s 1 ≤ length fi → word P 1 ≤ 16 → word P 0 ≡ word s 1 + word s 0 → length P ≡ 2
+    → painted-row (attrs-at ps paints ls layers) (lent s re fi D P l) ≡ out (record { number = 0; finished = true; pieces = 0 }) D P l
+at-the-end ps paints ls layers s re fi D P l h1 h2 h3 e two =
+    sym (then-finished ps paints ls layers D P l s re fi h1 h2 h3 (omega arith) (omega arith) _ refl (omega arith) two)

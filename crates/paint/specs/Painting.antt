@@ -56,7 +56,7 @@ out r d p l = record { answer = r; depth = d; painting = p; list = l }
 abbrev pub painter-at : List ℕ → List ℕ → Painter
 painter-at d p = record { buckets = d; steps = word p 0; nesting = word p 1 }
 
--- Judging. An id was taken by a draw, an attribute is there and has one.
+-- Judging. An id that a draw can have taken.
 abbrev pub good-id : ℕ → Bool
 good-id id = ltb 0 id && leb id 1048576
 
@@ -65,13 +65,14 @@ unfoldable pub given : Bool → ℕ → ℕ
 given there id = cond (there && good-id id) id 0
 
 module _ (attrs : Attrs) where
+  -- an attribute that is there, with such an id
   abbrev pub good-paint : ℕ → Bool
   good-paint i = ltb i (length (attrs .paints)) && good-id (paint-id attrs i)
 
   abbrev pub good-layer : ℕ → Bool
   good-layer i = ltb i (length (attrs .layers)) && good-id (layer-id attrs i)
 
-  -- a fill's attribute; a push at nesting 16, a pop at nesting 0
+  -- a fill whose attribute is good, a push below nesting 16, a pop above nesting 0
   abbrev pub good-command : ℕ → Command → Bool
   good-command n (paint-fill s a i) = good-paint i
   good-command n (layer-fill s a i) = good-layer i
@@ -114,13 +115,14 @@ next-step attrs w =
     (cond (ltb (p .steps - depths) renders) (command-step attrs p (command-at (w .render) (p .steps - depths)))
     (some (record { finished = true; pieces = []; painter = p }))))
 
--- What is left of it in the words: 4 if there is no step, 14 if the list has no room for its pieces. A refusal changes nothing.
+-- What the step leaves in the words: 4 if there is none, 14 if the list has no room for its pieces. A refusal changes nothing.
 abbrev pub refused : ℕ → Painted
 refused n = record { number = n; finished = false; pieces = 0 }
 
 abbrev pub listed : ℕ → Painted
 listed n = record { number = Done; finished = false; pieces = n }
 
+-- an answer with the painting words alone
 pub record Advanced : Type 0 where
   pub answer : Painted
   pub painting : List ℕ

@@ -259,3 +259,14 @@ paint-adds n t i h w l k =
       renders = ap (word 0) e ∙ cmd-renders (ensured n w) (q .grown .state ∙ l) (paint-fill t none i) ∙ omega (arith, r .0);
       depths = ap (word 1) e ∙ cmd-depths (ensured n w) (q .grown .state ∙ l) (paint-fill t none i) ∙ r .1;
     }
+
+-- a run's number is 4, 10 or 0
+pub run-told : (c d n : ℕ) (ws rs : List ℕ) → (strip-number c d n ws rs ≡ 4 → ⊥) → cond (eqb (strip-number c d n ws rs) 10) 10 0 ≡ strip-number c d n ws rs
+unfolding strip-number
+run-told c d n ws rs h =
+    by (every (λ (r : ℕ). good-row c d n (record-of ws r)) rs) (some-of (λ (r : ℕ). is-full c n (record-of ws r)) rs) h
+  where
+    by : (g f : Bool) → (told g f ≡ 4 → ⊥) → cond (eqb (told g f) 10) 10 0 ≡ told g f
+    by true true h = refl
+    by true false h = refl
+    by false f h = absurd (h refl)

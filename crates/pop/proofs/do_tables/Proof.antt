@@ -1,0 +1,92 @@
+use mathlib.Core.Path.{refl}
+use Rattle.pop.proofs.Popping.{tables-done}
+use borrow.Author.Needs.{needs}
+use Rattle.pop.proofs.do_tables.Statement.{statement}
+use Rattle.pop.proofs.do_tables.Tie as tie
+use Rattle.pop.proofs.do_tables.Reads as reads
+use Rattle.pop.proofs.do_tables.Lts as lts
+use Rattle.cmd.proofs.attrs.put_layer_attrs.Reads as put-layer-attrs-reads
+use Rattle.layers.proofs.drop_layer.Reads as drop-layer-reads
+use Rattle.layers.proofs.open_layer.Reads as open-layer-reads
+use Rattle.pop.proofs.thread_of.Reads as thread-of-reads
+use Rattle.row.proofs.wide.Reads as wide-reads
+
+-- src/lib.rt:314:13
+sub-k : tie.Need-sub-k
+sub-k c = search needs
+
+-- src/lib.rt:315:9
+open-layer-requires : tie.Need-open-layer-requires
+open-layer-requires c κs = search needs
+
+-- src/lib.rt:317:9
+wide-requires : tie.Need-wide-requires
+wide-requires c κs = search needs
+
+-- src/lib.rt:318:19
+mul-opacity : tie.Need-mul-opacity
+mul-opacity c = search needs
+
+-- src/lib.rt:318:19
+slice-read-opacity : tie.Need-slice-read-opacity
+slice-read-opacity c = search needs
+
+-- src/lib.rt:325:21
+thread-of-requires : tie.Need-thread-of-requires
+thread-of-requires c κs = search needs
+
+-- src/lib.rt:327:45
+wide-requires-2 : tie.Need-wide-requires-2
+wide-requires-2 c κs = search needs
+
+-- src/lib.rt:327:5
+put-layer-attrs-requires : tie.Need-put-layer-attrs-requires
+put-layer-attrs-requires c κs = search needs
+
+-- src/lib.rt:328:5
+mul-opacities : tie.Need-mul-opacities
+mul-opacities c = search needs
+
+-- src/lib.rt:328:5
+slice-write-opacities : tie.Need-slice-write-opacities
+slice-write-opacities c = search needs
+
+-- src/lib.rt:329:5
+drop-layer-requires : tie.Need-drop-layer-requires
+drop-layer-requires c κs = search needs
+
+-- src/lib.rt:304:1
+same-length : tie.Need-same-length
+same-length c = search needs
+
+-- src/lib.rt:304:1
+same-length-2 : tie.Need-same-length-2
+same-length-2 c = search needs
+
+-- src/lib.rt:304:1
+same-length-3 : tie.Need-same-length-3
+same-length-3 c = search needs
+
+-- src/lib.rt:304:1
+returns : tie.Need-returns
+returns c = tables-done (c .before .before .before .before .before .before .before .before .before .before .before .before .before .before .before .before .before .before .before .before .before .before .args .screen) (c .before .before .before .before .before .before .before .before .before .before .before .before .before .before .before .before .before .before .before .before .before .before .args .layers .now) (c .before .before .before .before .before .before .before .before .before .before .before .before .before .before .before .before .before .before .before .before .before .before .args .opacities .now) (c .before .before .before .before .before .before .before .before .before .before .before .before .before .before .before .before .before .before .before .before .before .before .args .layer-attrs .now) (c .before .before .before .before .before .before .before .before .before .before .before .before .before .before .before .before .open-layer .ensures) (c .before .before .before .before .before .before .before .before .before .wide2 .ensures) (c .before .before .before .before .before .before .before .before .before .before .before .before .before .before .wide .ensures) (c .before .before .before .before .before .before .before .before .before .before .before .before .thread-of .ensures) (c .before .before .drop-layer .ensures) (c .before .before .before .before .before .before .before .before .put-layer-attrs .ensures) refl
+
+pub do-tables-spec : {M : Type 1} → statement M
+do-tables-spec =
+    tie.close
+    (tie.spec
+    sub-k
+    open-layer-requires
+    wide-requires
+    mul-opacity
+    slice-read-opacity
+    thread-of-requires
+    wide-requires-2
+    put-layer-attrs-requires
+    mul-opacities
+    slice-write-opacities
+    drop-layer-requires
+    same-length
+    same-length-2
+    same-length-3
+    returns)

@@ -1,0 +1,49 @@
+use mathlib.Core.Path.{refl, sym, _∙_}
+use Rattle.pop.proofs.Numbers.{late-rows, late-ids, late-attrs, late-full, late-done}
+use borrow.Author.Needs.{needs}
+use Rattle.pop.proofs.judge_plain.Statement.{statement}
+use Rattle.pop.proofs.judge_plain.Tie as tie
+use Rattle.pop.proofs.judge_plain.Reads as reads
+use Rattle.pop.proofs.judge_plain.Lts as lts
+use Rattle.closing.proofs.is_full.Reads as is-full-reads
+use Rattle.closing.proofs.judge_pop_rows.Reads as judge-pop-rows-reads
+
+-- src/lib.rt:120:9
+judge-pop-rows-requires : tie.Need-judge-pop-rows-requires
+judge-pop-rows-requires c κs = search needs
+
+-- src/lib.rt:121:9
+returns : tie.Need-returns
+returns c = late-rows _ _ _ _ _ (c .before .judge-pop-rows .ensures) (c .if1 .taken)
+
+-- src/lib.rt:124:9
+returns-2 : tie.Need-returns-2
+returns-2 c = late-ids _ _ _ _ _ (c .before .before .before .judge-pop-rows .ensures) (c .before .before .if1 .left) refl (c .if2 .taken)
+
+-- src/lib.rt:127:9
+returns-3 : tie.Need-returns-3
+returns-3 c = late-attrs _ _ _ _ _ (c .before .before .before .before .before .judge-pop-rows .ensures) (c .before .before .before .before .if1 .left) refl (c .before .before .if2 .left) (c .if3 .taken)
+
+-- src/lib.rt:129:8
+is-full-requires : tie.Need-is-full-requires
+is-full-requires c κs = search needs
+
+-- src/lib.rt:130:9
+returns-4 : tie.Need-returns-4
+returns-4 c = late-full _ _ _ _ _ (c .before .before .before .before .before .before .before .judge-pop-rows .ensures) (c .before .before .before .before .before .before .if1 .left) refl (c .before .before .before .before .if2 .left) (c .before .before .if3 .left) (sym (c .before .is-full .ensures) ∙ c .if4 .taken)
+
+-- src/lib.rt:108:1
+returns-5 : tie.Need-returns-5
+returns-5 c = late-done _ _ _ _ _ (c .before .before .before .before .before .before .before .judge-pop-rows .ensures) (c .before .before .before .before .before .before .if1 .left) refl (c .before .before .before .before .if2 .left) (c .before .before .if3 .left) (sym (c .before .is-full .ensures) ∙ c .if4 .left)
+
+pub judge-plain-spec : {M : Type 1} → statement M
+judge-plain-spec =
+    tie.close
+    (tie.spec
+    judge-pop-rows-requires
+    returns
+    returns-2
+    returns-3
+    is-full-requires
+    returns-4
+    returns-5)

@@ -39,7 +39,7 @@ cuts (s ∷ ss) ws (x ∷ xs) = cut (s .0) ws x ∷ cuts ss ws xs
 abbrev whole : List (ℕ × Bool) → List ℕ → ℕ → Option (List (List (List ℕ)))
 whole ss ws p = cond (fits ss ws p) (some (cuts ss ws (laid ss ws p))) none
 
-picked : (t : Bool) (x y : Option (List (List (List ℕ)))) → elim t [ | true ↦ x | false ↦ y ] ≡ cond t x y
+picked : (t : Bool) (x y : Option (List (List (List ℕ)))) → elim t [ true ↦ x | false ↦ y ] ≡ cond t x y
 picked true x y = refl
 picked false x y = refl
 
@@ -53,7 +53,7 @@ module _ (k : ℕ) (fixed : Bool) (ss : List (ℕ × Bool)) (ws : List ℕ) (p :
 
   opened : sections ((k, fixed) ∷ ss) (count ∷ drop (p + 1) ws)
       ≡ cond (good-count fixed count && leb (count * k) (length (drop (p + 1) ws)))
-        (cons-section (records k count (drop (p + 1) ws)) (sections ss (drop (count * k) (drop (p + 1) ws)))) none
+      (cons-section (records k count (drop (p + 1) ws)) (sections ss (drop (count * k) (drop (p + 1) ws)))) none
   unfolding sections
   opened = picked (good-count fixed count && leb (count * k) (length (drop (p + 1) ws))) _ _
 
@@ -61,7 +61,7 @@ module _ (k : ℕ) (fixed : Bool) (ss : List (ℕ × Bool)) (ws : List ℕ) (p :
   here : p < length ws
       → sections ((k, fixed) ∷ ss) (drop p ws)
       ≡ cond (good-count fixed count && leb (count * k) (length ws - (p + 1)))
-        (cons-section (cut k ws (section-from ws p)) (sections ss (drop (past k (section-from ws p)) ws))) none
+      (cons-section (cut k ws (section-from ws p)) (sections ss (drop (past k (section-from ws p)) ws))) none
   here h = rw (starts h, opened, length-drop (p + 1) ws, drop-drop (count * k) (p + 1) ws)
 
 -- the sections of a shape from place p on are those laid there, or none

@@ -19,11 +19,8 @@ use Rattle.form.specs.declared.Form.{Form}
 use Rattle.form.specs.declared.Form.the-variants as form
 use Rattle.form.specs.declared.Found.{Found}
 use Rattle.form.specs.declared.Found.the-variants as found
+use Rattle.form.proofs.Eaches.{both}
 use Rattle.form.specs.Layouts.{section-from, past, stands, found-if, section-at, laid, layout-of, layout, formed, form-of, cut, viewport, sections-at, Within, Fits}
-
-both : (x y : Bool) → (x && y) ≡ true → (x ≡ true) × (y ≡ true)
-both true y p = (refl, p)
-both false y p = let z : _≡_ {A = ℕ} 0 1 = cc in absurd (omega arith)
 
 -- every section stands, and the words end there
 unfoldable pub fits : List (ℕ × Bool) → List ℕ → ℕ → Bool

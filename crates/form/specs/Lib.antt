@@ -1,1 +1,4 @@
+pub mod Each
 pub mod Layouts
+pub mod Places
+pub mod Words

@@ -1,9 +1,10 @@
 // The recording file's form (answer 3): where each section stands. A section is a part of the caller's words, not a copy.
 ghost use mathlib.Core.Path.{_≡_};
-ghost use Prim.Native.Nat.{_+_, _*_, _/_, _≤_};
+ghost use Prim.Native.Nat.{_+_, _*_, _/_, _≤_, _<_};
 ghost use lib.ListN.{length};
 ghost use Rattle.rules.specs.Recording.{good-count};
 ghost use Rattle.form.specs.Layouts.{section-at, form-of};
+ghost use Rattle.form.specs.Words.{word-from, filled, filled-with};
 
 // Its first record's place, and how many records it has.
 pub struct Section {
@@ -105,4 +106,36 @@ pub fn read_form(words: &[u32]) -> Form
         nodes,
         root,
     })
+}
+
+fn byte(x: u8) -> u32
+    ensures { λ r. ⌜ (r ≡ x) × (r < 256) ⌝ }
+{
+    x as u32
+}
+
+// The little-endian word whose first byte stands at place at.
+fn word_at(bytes: &[u8], at: usize) -> u32
+    requires { ⌜ at + 4 ≤ length (now bytes) ⌝ }
+    ensures { λ r. ⌜ r ≡ word-from (now (bytes .entry)) at ⌝ }
+{
+    let a = byte(bytes[at]);
+    let b = byte(bytes[at + 1]);
+    let c = byte(bytes[at + 2]);
+    let d = byte(bytes[at + 3]);
+    a + 256 * (b + 256 * (c + 256 * d))
+}
+
+// The bytes' whole words, put first in words; how many there are. Up to three bytes left over are not read: their file is refused by 3.
+pub fn words_of_bytes(bytes: &[u8], words: &mut [u32]) -> usize
+    requires { ⌜ length (now bytes) / 4 ≤ length (now words) ⌝ }
+    ensures { λ r. ⌜ filled r (now (words .exit)) ≡ filled-with (now (bytes .entry)) (now (words .entry)) ⌝ }
+{
+    let n = bytes.len() / 4;
+    let mut i = 0;
+    while i < n {
+        words[i] = word_at(bytes, 4 * i);
+        i += 1;
+    }
+    n
 }

@@ -11,7 +11,6 @@ use Rattle.form.proofs.read_form.Reads as reads
 use Rattle.form.proofs.read_form.Lts as lts
 use Rattle.form.proofs.find_section.Reads as find-section-reads
 
--- src/lib.rt:76:27
 -- what is found so far, after each section
 abbrev words-viewport : tie.After-known-told → List ℕ
 words-viewport c = c .before .before .before .before .before .args .words .now
@@ -79,119 +78,90 @@ root-read c = more (nodes-read (c .before .before .before .before)) (sym (c .bef
 find-section-requires : tie.Need-find-section-requires
 find-section-requires c κs = search needs
 
--- src/lib.rt:76:22
 enum-known-a : tie.Need-enum-known-a
 enum-known-a c = search needs
 
--- src/lib.rt:77:9
 enum-told : tie.Need-enum-told
 enum-told c = search needs
 
--- src/lib.rt:77:9
 returns : tie.Need-returns
 returns c = lacking (begin _) (sym (c .enum-told .given .1) ∙ c .before .before .find-section .ensures)
 
--- src/lib.rt:79:32
 find-section-requires-2 : tie.Need-find-section-requires-2
 find-section-requires-2 c κs = search needs
 
--- src/lib.rt:79:19
 enum-known-paints : tie.Need-enum-known-paints
 enum-known-paints c = search needs
 
--- src/lib.rt:80:9
 enum-told-2 : tie.Need-enum-told-2
 enum-told-2 c = search needs
 
--- src/lib.rt:80:9
 returns-2 : tie.Need-returns-2
 returns-2 c = lacking (viewport-read (c .before .before .before)) (sym (c .enum-told2 .given .1) ∙ c .before .before .find-section2 .ensures)
 
--- src/lib.rt:82:34
 find-section-requires-3 : tie.Need-find-section-requires-3
 find-section-requires-3 c κs = search needs
 
--- src/lib.rt:82:19
 enum-known-segments : tie.Need-enum-known-segments
 enum-known-segments c = search needs
 
--- src/lib.rt:83:9
 enum-told-3 : tie.Need-enum-told-3
 enum-told-3 c = search needs
 
--- src/lib.rt:83:9
 returns-3 : tie.Need-returns-3
 returns-3 c = lacking (paints-read (c .before .before .before)) (sym (c .enum-told3 .given .1) ∙ c .before .before .find-section3 .ensures)
 
--- src/lib.rt:85:31
 find-section-requires-4 : tie.Need-find-section-requires-4
 find-section-requires-4 c κs = search needs
 
--- src/lib.rt:85:19
 enum-known-draws : tie.Need-enum-known-draws
 enum-known-draws c = search needs
 
--- src/lib.rt:86:9
 enum-told-4 : tie.Need-enum-told-4
 enum-told-4 c = search needs
 
--- src/lib.rt:86:9
 returns-4 : tie.Need-returns-4
 returns-4 c = lacking (segments-read (c .before .before .before)) (sym (c .enum-told4 .given .1) ∙ c .before .before .find-section4 .ensures)
 
--- src/lib.rt:88:32
 find-section-requires-5 : tie.Need-find-section-requires-5
 find-section-requires-5 c κs = search needs
 
--- src/lib.rt:88:19
 enum-known-layers : tie.Need-enum-known-layers
 enum-known-layers c = search needs
 
--- src/lib.rt:89:9
 enum-told-5 : tie.Need-enum-told-5
 enum-told-5 c = search needs
 
--- src/lib.rt:89:9
 returns-5 : tie.Need-returns-5
 returns-5 c = lacking (draws-read (c .before .before .before)) (sym (c .enum-told5 .given .1) ∙ c .before .before .find-section5 .ensures)
 
--- src/lib.rt:91:31
 find-section-requires-6 : tie.Need-find-section-requires-6
 find-section-requires-6 c κs = search needs
 
--- src/lib.rt:91:19
 enum-known-nodes : tie.Need-enum-known-nodes
 enum-known-nodes c = search needs
 
--- src/lib.rt:92:9
 enum-told-6 : tie.Need-enum-told-6
 enum-told-6 c = search needs
 
--- src/lib.rt:92:9
 returns-6 : tie.Need-returns-6
 returns-6 c = lacking (layers-read (c .before .before .before)) (sym (c .enum-told6 .given .1) ∙ c .before .before .find-section6 .ensures)
 
--- src/lib.rt:94:30
 find-section-requires-7 : tie.Need-find-section-requires-7
 find-section-requires-7 c κs = search needs
 
--- src/lib.rt:94:19
 enum-known-root : tie.Need-enum-known-root
 enum-known-root c = search needs
 
--- src/lib.rt:95:9
 enum-told-7 : tie.Need-enum-told-7
 enum-told-7 c = search needs
 
--- src/lib.rt:95:9
 returns-7 : tie.Need-returns-7
 returns-7 c = lacking (nodes-read (c .before .before .before)) (sym (c .enum-told7 .given .1) ∙ c .before .before .find-section7 .ensures)
 
--- src/lib.rt:98:9
 returns-8 : tie.Need-returns-8
 returns-8 c = longer (root-read (c .before)) (c .if1 .taken)
 
--- src/lib.rt:73:1
 returns-9 : tie.Need-returns-9
 returns-9 c = exact (root-read (c .before)) (c .if1 .left)
 

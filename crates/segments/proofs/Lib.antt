@@ -1,0 +1,3 @@
+pub mod Cutting
+pub mod Laws
+pub mod Judging

@@ -1,0 +1,131 @@
+use borrow.Author.Needs.{needs}
+use Rattle.recording.proofs.good_records.Statement.{statement}
+use Rattle.recording.proofs.good_records.Tie as tie
+use Rattle.recording.proofs.good_records.Reads as reads
+use Rattle.recording.proofs.good_records.Lts as lts
+use Rattle.recording.proofs.good_draws.Reads as good-draws-reads
+use Rattle.recording.proofs.good_layers.Reads as good-layers-reads
+use Rattle.recording.proofs.good_nodes.Reads as good-nodes-reads
+use Rattle.recording.proofs.good_paints.Reads as good-paints-reads
+use Rattle.recording.proofs.good_segments.Reads as good-segments-reads
+use Rattle.recording.proofs.is_good_range.Reads as is-good-range-reads
+
+-- src/lib.rt:282:9
+good-paints-requires : tie.Need-good-paints-requires
+good-paints-requires c κs = search needs
+
+-- src/lib.rt:283:9
+returns : tie.Need-returns
+returns c = ?
+
+-- src/lib.rt:286:17
+mul-e : tie.Need-mul-e
+mul-e c = search needs
+
+-- src/lib.rt:286:13
+add-e : tie.Need-add-e
+add-e c = search needs
+
+-- src/lib.rt:287:23
+mul-good-segments : tie.Need-mul-good-segments
+mul-good-segments c = search needs
+
+-- src/lib.rt:287:23
+sub-good-segments : tie.Need-sub-good-segments
+sub-good-segments c = search needs
+
+-- src/lib.rt:287:23
+part-good-segments-start : tie.Need-part-good-segments-start
+part-good-segments-start c = search needs
+
+-- src/lib.rt:287:23
+part-good-segments-end : tie.Need-part-good-segments-end
+part-good-segments-end c = search needs
+
+-- src/lib.rt:287:9
+good-segments-requires : tie.Need-good-segments-requires
+good-segments-requires c κs = search needs
+
+-- src/lib.rt:288:9
+returns-2 : tie.Need-returns-2
+returns-2 c = ?
+
+-- src/lib.rt:290:9
+good-draws-requires : tie.Need-good-draws-requires
+good-draws-requires c κs = search needs
+
+-- src/lib.rt:291:9
+returns-3 : tie.Need-returns-3
+returns-3 c = ?
+
+-- src/lib.rt:293:9
+good-layers-requires : tie.Need-good-layers-requires
+good-layers-requires c κs = search needs
+
+-- src/lib.rt:294:9
+returns-4 : tie.Need-returns-4
+returns-4 c = ?
+
+-- src/lib.rt:296:9
+good-nodes-requires : tie.Need-good-nodes-requires
+good-nodes-requires c κs = search needs
+
+-- src/lib.rt:297:9
+returns-5 : tie.Need-returns-5
+returns-5 c = ?
+
+-- src/lib.rt:300:19
+mul-is-good-range : tie.Need-mul-is-good-range
+mul-is-good-range c = search needs
+
+-- src/lib.rt:300:19
+shared-slice-read-is-good-range : tie.Need-shared-slice-read-is-good-range
+shared-slice-read-is-good-range c = search needs
+
+-- src/lib.rt:300:27
+add-is-good-range : tie.Need-add-is-good-range
+add-is-good-range c = search needs
+
+-- src/lib.rt:300:25
+mul-is-good-range-2 : tie.Need-mul-is-good-range-2
+mul-is-good-range-2 c = search needs
+
+-- src/lib.rt:300:25
+shared-slice-read-is-good-range-2 : tie.Need-shared-slice-read-is-good-range-2
+shared-slice-read-is-good-range-2 c = search needs
+
+-- src/lib.rt:300:5
+is-good-range-requires : tie.Need-is-good-range-requires
+is-good-range-requires c κs = search needs
+
+-- src/lib.rt:272:1
+returns-6 : tie.Need-returns-6
+returns-6 c = ?
+
+pub good-records-spec : {M : Type 1} → statement M
+good-records-spec =
+    tie.close
+    (tie.spec
+    good-paints-requires
+    returns
+    mul-e
+    add-e
+    mul-good-segments
+    sub-good-segments
+    part-good-segments-start
+    part-good-segments-end
+    good-segments-requires
+    returns-2
+    good-draws-requires
+    returns-3
+    good-layers-requires
+    returns-4
+    good-nodes-requires
+    returns-5
+    mul-is-good-range
+    shared-slice-read-is-good-range
+    add-is-good-range
+    mul-is-good-range-2
+    shared-slice-read-is-good-range-2
+    is-good-range-requires
+    returns-6)

@@ -1,0 +1,71 @@
+use borrow.Author.Needs.{needs}
+use Rattle.recording.proofs.is_clip_ordered.Statement.{statement}
+use Rattle.recording.proofs.is_clip_ordered.Tie as tie
+use Rattle.recording.proofs.is_clip_ordered.Reads as reads
+use Rattle.recording.proofs.is_clip_ordered.Lts as lts
+use Rattle.recording.proofs.is_ordered.Reads as is-ordered-reads
+
+-- src/lib.rt:316:10
+add-if1 : tie.Need-add-if1
+add-if1 c = search needs
+
+-- src/lib.rt:316:8
+mul-if1 : tie.Need-mul-if1
+mul-if1 c = search needs
+
+-- src/lib.rt:316:8
+shared-slice-read-if1 : tie.Need-shared-slice-read-if1
+shared-slice-read-if1 c = search needs
+
+-- src/lib.rt:317:35
+add-is-ordered : tie.Need-add-is-ordered
+add-is-ordered c = search needs
+
+-- src/lib.rt:317:33
+mul-is-ordered : tie.Need-mul-is-ordered
+mul-is-ordered c = search needs
+
+-- src/lib.rt:317:33
+shared-slice-read-is-ordered : tie.Need-shared-slice-read-is-ordered
+shared-slice-read-is-ordered c = search needs
+
+-- src/lib.rt:317:47
+add-is-ordered-2 : tie.Need-add-is-ordered-2
+add-is-ordered-2 c = search needs
+
+-- src/lib.rt:317:45
+mul-is-ordered-2 : tie.Need-mul-is-ordered-2
+mul-is-ordered-2 c = search needs
+
+-- src/lib.rt:317:45
+shared-slice-read-is-ordered-2 : tie.Need-shared-slice-read-is-ordered-2
+shared-slice-read-is-ordered-2 c = search needs
+
+-- src/lib.rt:317:9
+is-ordered-requires : tie.Need-is-ordered-requires
+is-ordered-requires c κs = ?
+
+-- src/lib.rt:317:9
+returns : tie.Need-returns
+returns c = ?
+
+-- src/lib.rt:312:1
+returns-2 : tie.Need-returns-2
+returns-2 c = ?
+
+pub is-clip-ordered-spec : {M : Type 1} → statement M
+is-clip-ordered-spec =
+    tie.close
+    (tie.spec
+    add-if1
+    mul-if1
+    shared-slice-read-if1
+    add-is-ordered
+    mul-is-ordered
+    shared-slice-read-is-ordered
+    add-is-ordered-2
+    mul-is-ordered-2
+    shared-slice-read-is-ordered-2
+    is-ordered-requires
+    returns
+    returns-2)

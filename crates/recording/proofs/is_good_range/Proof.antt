@@ -1,0 +1,22 @@
+use borrow.Author.Tests.{le-leb, lt-leb}
+use borrow.Author.Needs.{needs}
+use Rattle.recording.proofs.is_good_range.Statement.{statement}
+use Rattle.recording.proofs.is_good_range.Tie as tie
+use Rattle.recording.proofs.is_good_range.Reads as reads
+use Rattle.recording.proofs.is_good_range.Lts as lts
+use Rattle.recording.proofs.wide.Reads as wide-reads
+
+-- src/lib.rt:48:9
+returns : tie.Need-returns
+returns c = rw (lt-leb _ _ (c .if1 .taken))
+
+-- src/lib.rt:50:5
+wide-requires : tie.Need-wide-requires
+wide-requires c κs = search needs
+
+-- src/lib.rt:44:1
+returns-2 : tie.Need-returns-2
+returns-2 c = rw (le-leb _ _ (c .before .if1 .left), c .wide .ensures)
+
+pub is-good-range-spec : {M : Type 1} → statement M
+is-good-range-spec = tie.close (tie.spec returns wide-requires returns-2)

@@ -1,0 +1,27 @@
+use borrow.Author.Needs.{needs}
+use Rattle.recording.proofs.is_ordered.Statement.{statement}
+use Rattle.recording.proofs.is_ordered.Tie as tie
+use Rattle.recording.proofs.is_ordered.Reads as reads
+use Rattle.recording.proofs.is_ordered.Lts as lts
+use Rattle.recording.proofs.wide.Reads as wide-reads
+use Rattle.segments.proofs.judge_segments.Reads as judge-segments-reads
+
+-- src/lib.rt:308:26
+wide-requires : tie.Need-wide-requires
+wide-requires c κs = search needs
+
+-- src/lib.rt:308:39
+wide-requires-2 : tie.Need-wide-requires-2
+wide-requires-2 c κs = search needs
+
+-- src/lib.rt:308:5
+judge-segments-requires : tie.Need-judge-segments-requires
+judge-segments-requires c κs = ?
+
+-- src/lib.rt:304:1
+returns : tie.Need-returns
+returns c = ?
+
+pub is-ordered-spec : {M : Type 1} → statement M
+is-ordered-spec =
+    tie.close (tie.spec wide-requires wide-requires-2 judge-segments-requires returns)

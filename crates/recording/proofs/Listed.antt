@@ -47,7 +47,7 @@ module _ (ws : List ℕ) (a n m : ℕ) (e : m ≡ 5 * n) (fits : a + m ≤ lengt
   one-part : (i : ℕ) → i < n → seg-at part i ≡ segment-from ws (a + 5 * i)
   unfolding seg-at segment-from
   one-part i h =
-      let z : getD part (5 * i) 0 ≡ getD ws (a + 5 * i) 0 = rw (add-zero, add-zero) at (in-part i 0 (omega arith)) in
+      let z : getD part (5 * i) 0 ≡ getD ws (a + 5 * i) 0 = rw (add-zero (5 * i), add-zero (a + 5 * i)) at (in-part i 0 (omega arith)) in
       rw (z, in-part i 1 (omega arith), in-part i 2 (omega arith), in-part i 3 (omega arith), in-part i 4 (omega arith))
 
   from-part : (k i : ℕ) → i + k ≤ n → segs part i k ≡ each segment-from 5 ws (a + 5 * i) k
@@ -66,3 +66,58 @@ module _ (ws : List ℕ) (a n m : ℕ) (e : m ≡ 5 * n) (fits : a + m ≤ lengt
   -- the segment section, lent as a part of the words, is the recording's segment list
   pub part-segments : segs-of part ≡ each segment-from 5 ws a n
   part-segments = rw part-count (rw (mul-zero, add-zero) at (from-part n 0 (omega arith)))
+
+-- the part that the code lends: n segments from place a on
+module _ (ws : List ℕ) (a n : ℕ) (fits : a + n * 5 ≤ length ws) where
+  abbrev pub lent : List ℕ
+  lent = take (a + 5 * n - a) (drop a ws)
+
+  width : a + 5 * n - a ≡ 5 * n
+  width = omega arith
+
+  room : a + (a + 5 * n - a) ≤ length ws
+  room = omega arith
+
+  pub lent-count : length lent / 5 ≡ n
+  lent-count = part-count ws a n (a + 5 * n - a) width room
+
+  pub lent-segments : segs-of lent ≡ each segment-from 5 ws a n
+  lent-segments = part-segments ws a n (a + 5 * n - a) width room
+
+module _ {A : Type 0} (test : A → Bool) where
+  every-drop : (n : ℕ) (xs : List A) → every test xs ≡ true → every test (drop n xs) ≡ true
+  every-drop zero xs q = q
+  every-drop (suc n) [] q = q
+  every-drop (suc n) (x ∷ xs) q = every-drop n xs (both (test x) (every test xs) q .1)
+
+  every-take : (n : ℕ) (xs : List A) → every test xs ≡ true → every test (take n xs) ≡ true
+  every-take zero xs q = refl
+  every-take (suc n) [] q = q
+  every-take (suc n) (x ∷ xs) q =
+      let h = both (test x) (every test xs) q in
+      rw (h .0) (every-take n xs (h .1))
+
+only-order : (t : Bool) → eqb (cond (not t) 5 0) 0 ≡ t
+only-order true = refl
+only-order false = refl
+
+judged-good : (ss : List Segment) → every good-segment ss ≡ true → eqb (judge-segments false ss) 0 ≡ ordered ss
+unfolding judge-segments
+judged-good ss q = rw q (only-order (ordered ss))
+
+-- a range of a list of good segments: only its order is left to be judged
+module _ (ws : List ℕ) (a b : ℕ) (g : good-range a b (length ws / 5) ≡ true) where
+  range-order : a ≤ b
+  range-order = leb-true a b (both (leb a b) (leb b (length ws / 5)) g .0)
+
+  range-end : b ≤ length ws / 5
+  range-end = leb-true b (length ws / 5) (both (leb a b) (leb b (length ws / 5)) g .1)
+
+  pub range-fits : (a ≤ b) × (5 * b ≤ length ws)
+  range-fits = let h = range-end in (range-order, omega arith)
+
+  pub range-judged : every good-segment (segs-of ws) ≡ true
+      → eqb (judge-segments false (segs ws a (b - a))) 0 ≡ ordered (slice a b (segs-of ws))
+  range-judged q =
+      rw (segs-slice ws a b range-order range-end)
+      (judged-good (slice a b (segs-of ws)) (every-take good-segment (b - a) (drop a (segs-of ws)) (every-drop good-segment a (segs-of ws) q)))

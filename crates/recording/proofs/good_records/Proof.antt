@@ -1,3 +1,9 @@
+use mathlib.Core.Path.{sym, ap, _∙_}
+use borrow.Author.Tests.{not-true, not-false}
+use Rattle.rules.specs.Lists.{every}
+use Rattle.rules.specs.Segments.{good-segment}
+use Rattle.recording.proofs.Listed.{lent-segments}
+use Rattle.recording.proofs.Counted.{bad-paints, bad-segments, bad-draws, bad-layers, bad-nodes, up-to-root}
 use borrow.Author.Needs.{needs}
 use Rattle.recording.proofs.good_records.Statement.{statement}
 use Rattle.recording.proofs.good_records.Tie as tie
@@ -16,7 +22,7 @@ good-paints-requires c κs = search needs
 
 -- src/lib.rt:283:9
 returns : tie.Need-returns
-returns c = ?
+returns c = bad-paints (c .before .before .before .before .before .before .before .before .before .pre) (sym (c .before .good-paints .ensures) ∙ not-true _ (c .if1 .taken))
 
 -- src/lib.rt:286:17
 mul-e : tie.Need-mul-e
@@ -48,7 +54,7 @@ good-segments-requires c κs = search needs
 
 -- src/lib.rt:288:9
 returns-2 : tie.Need-returns-2
-returns-2 c = ?
+returns-2 c = bad-segments (c .before .before .before .before .before .before .before .before .before .before .before .before .before .pre) (sym (c .before .before .before .before .before .good-paints .ensures) ∙ not-false _ (c .before .before .before .before .if1 .left)) (sym (c .before .good-segments .ensures ∙ ap (every good-segment) (lent-segments _ _ _ (c .before .before .before .before .before .before .before .before .before .before .before .before .before .pre .segments .ends))) ∙ not-true _ (c .if2 .taken))
 
 -- src/lib.rt:290:9
 good-draws-requires : tie.Need-good-draws-requires
@@ -56,7 +62,7 @@ good-draws-requires c κs = search needs
 
 -- src/lib.rt:291:9
 returns-3 : tie.Need-returns-3
-returns-3 c = ?
+returns-3 c = bad-draws (c .before .before .before .before .before .before .before .before .before .before .before .before .before .before .before .pre) (sym (c .before .before .before .before .before .before .before .good-paints .ensures) ∙ not-false _ (c .before .before .before .before .before .before .if1 .left)) (sym (c .before .before .before .good-segments .ensures ∙ ap (every good-segment) (lent-segments _ _ _ (c .before .before .before .before .before .before .before .before .before .before .before .before .before .before .before .pre .segments .ends))) ∙ not-false _ (c .before .before .if2 .left)) (sym (c .before .good-draws .ensures) ∙ not-true _ (c .if3 .taken))
 
 -- src/lib.rt:293:9
 good-layers-requires : tie.Need-good-layers-requires
@@ -64,7 +70,7 @@ good-layers-requires c κs = search needs
 
 -- src/lib.rt:294:9
 returns-4 : tie.Need-returns-4
-returns-4 c = ?
+returns-4 c = bad-layers (c .before .before .before .before .before .before .before .before .before .before .before .before .before .before .before .before .before .pre) (sym (c .before .before .before .before .before .before .before .before .before .good-paints .ensures) ∙ not-false _ (c .before .before .before .before .before .before .before .before .if1 .left)) (sym (c .before .before .before .before .before .good-segments .ensures ∙ ap (every good-segment) (lent-segments _ _ _ (c .before .before .before .before .before .before .before .before .before .before .before .before .before .before .before .before .before .pre .segments .ends))) ∙ not-false _ (c .before .before .before .before .if2 .left)) (sym (c .before .before .before .good-draws .ensures) ∙ not-false _ (c .before .before .if3 .left)) (sym (c .before .good-layers .ensures) ∙ not-true _ (c .if4 .taken))
 
 -- src/lib.rt:296:9
 good-nodes-requires : tie.Need-good-nodes-requires
@@ -72,7 +78,7 @@ good-nodes-requires c κs = search needs
 
 -- src/lib.rt:297:9
 returns-5 : tie.Need-returns-5
-returns-5 c = ?
+returns-5 c = bad-nodes (c .before .before .before .before .before .before .before .before .before .before .before .before .before .before .before .before .before .before .before .pre) (sym (c .before .before .before .before .before .before .before .before .before .before .before .good-paints .ensures) ∙ not-false _ (c .before .before .before .before .before .before .before .before .before .before .if1 .left)) (sym (c .before .before .before .before .before .before .before .good-segments .ensures ∙ ap (every good-segment) (lent-segments _ _ _ (c .before .before .before .before .before .before .before .before .before .before .before .before .before .before .before .before .before .before .before .pre .segments .ends))) ∙ not-false _ (c .before .before .before .before .before .before .if2 .left)) (sym (c .before .before .before .before .before .good-draws .ensures) ∙ not-false _ (c .before .before .before .before .if3 .left)) (sym (c .before .before .before .good-layers .ensures) ∙ not-false _ (c .before .before .if4 .left)) (sym (c .before .good-nodes .ensures) ∙ not-true _ (c .if5 .taken))
 
 -- src/lib.rt:300:19
 mul-is-good-range : tie.Need-mul-is-good-range
@@ -100,7 +106,7 @@ is-good-range-requires c κs = search needs
 
 -- src/lib.rt:272:1
 returns-6 : tie.Need-returns-6
-returns-6 c = ?
+returns-6 c = c .is-good-range .ensures ∙ up-to-root (c .before .before .before .before .before .before .before .before .before .before .before .before .before .before .before .before .before .before .before .before .before .before .pre) (sym (c .before .before .before .before .before .before .before .before .before .before .before .before .before .before .good-paints .ensures) ∙ not-false _ (c .before .before .before .before .before .before .before .before .before .before .before .before .before .if1 .left)) (sym (c .before .before .before .before .before .before .before .before .before .before .good-segments .ensures ∙ ap (every good-segment) (lent-segments _ _ _ (c .before .before .before .before .before .before .before .before .before .before .before .before .before .before .before .before .before .before .before .before .before .before .pre .segments .ends))) ∙ not-false _ (c .before .before .before .before .before .before .before .before .before .if2 .left)) (sym (c .before .before .before .before .before .before .before .before .good-draws .ensures) ∙ not-false _ (c .before .before .before .before .before .before .before .if3 .left)) (sym (c .before .before .before .before .before .before .good-layers .ensures) ∙ not-false _ (c .before .before .before .before .before .if4 .left)) (sym (c .before .before .before .before .good-nodes .ensures) ∙ not-false _ (c .before .before .before .if5 .left))
 
 pub good-records-spec : {M : Type 1} → statement M
 good-records-spec =

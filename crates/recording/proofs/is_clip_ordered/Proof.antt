@@ -1,3 +1,6 @@
+use borrow.Author.Tests.{eq-eqb, ne-eqb}
+use Rattle.form.specs.Places.{layer-from, clip-from}
+use Rattle.recording.specs.Judging.{clip-range, clip-ordered}
 use borrow.Author.Needs.{needs}
 use Rattle.recording.proofs.is_clip_ordered.Statement.{statement}
 use Rattle.recording.proofs.is_clip_ordered.Tie as tie
@@ -43,15 +46,18 @@ shared-slice-read-is-ordered-2 c = search needs
 
 -- src/lib.rt:317:9
 is-ordered-requires : tie.Need-is-ordered-requires
-is-ordered-requires c κs = ?
+unfolding clip-range layer-from clip-from
+is-ordered-requires c κs = (rw (eq-eqb _ _ (c .before .before .if1 .taken)) at (c .before .before .before .before .before .before .pre .1 .0), c .before .before .before .before .before .before .pre .1 .1)
 
 -- src/lib.rt:317:9
 returns : tie.Need-returns
-returns c = ?
+unfolding clip-ordered layer-from clip-from
+returns c = rw (eq-eqb _ _ (c .before .before .before .if1 .taken)) (c .is-ordered .ensures)
 
 -- src/lib.rt:312:1
 returns-2 : tie.Need-returns-2
-returns-2 c = ?
+unfolding clip-ordered layer-from clip-from
+returns-2 c = rw (ne-eqb _ _ (c .if1 .left))
 
 pub is-clip-ordered-spec : {M : Type 1} → statement M
 is-clip-ordered-spec =

@@ -1,3 +1,5 @@
+use native.Mathlib.Omega.{arith}
+use Rattle.recording.proofs.Listed.{range-fits, range-judged}
 use borrow.Author.Needs.{needs}
 use Rattle.recording.proofs.is_ordered.Statement.{statement}
 use Rattle.recording.proofs.is_ordered.Tie as tie
@@ -16,11 +18,11 @@ wide-requires-2 c κs = search needs
 
 -- src/lib.rt:308:5
 judge-segments-requires : tie.Need-judge-segments-requires
-judge-segments-requires c κs = ?
+judge-segments-requires c κs = rw (c .before .wide .ensures, c .wide2 .ensures) (range-fits (c .before .before .before .args .list .now) _ _ (c .before .before .before .pre .0))
 
 -- src/lib.rt:304:1
 returns : tie.Need-returns
-returns c = ?
+returns c = rw (c .judge-segments .ensures, c .before .before .wide .ensures, c .before .wide2 .ensures) (range-judged _ _ _ (c .before .before .before .before .pre .0) (c .before .before .before .before .pre .1))
 
 pub is-ordered-spec : {M : Type 1} → statement M
 is-ordered-spec =

@@ -1,3 +1,4 @@
+pub mod Counted
 pub mod Fields
 pub mod Listed
-pub mod Counted
+pub mod Orders

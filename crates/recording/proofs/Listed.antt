@@ -68,20 +68,20 @@ module _ (ws : List ℕ) (a n m : ℕ) (e : m ≡ 5 * n) (fits : a + m ≤ lengt
   part-segments = rw part-count (rw (mul-zero, add-zero) at (from-part n 0 (omega arith)))
 
 -- the part that the code lends: n segments from place a on
-module _ (ws : List ℕ) (a n : ℕ) (fits : a + n * 5 ≤ length ws) where
-  abbrev pub lent : List ℕ
-  lent = take (a + 5 * n - a) (drop a ws)
+abbrev pub lent : List ℕ → ℕ → ℕ → List ℕ
+lent ws a n = take (a + 5 * n - a) (drop a ws)
 
+module _ (ws : List ℕ) (a n : ℕ) (fits : a + n * 5 ≤ length ws) where
   width : a + 5 * n - a ≡ 5 * n
   width = omega arith
 
   room : a + (a + 5 * n - a) ≤ length ws
   room = omega arith
 
-  pub lent-count : length lent / 5 ≡ n
+  pub lent-count : length (lent ws a n) / 5 ≡ n
   lent-count = part-count ws a n (a + 5 * n - a) width room
 
-  pub lent-segments : segs-of lent ≡ each segment-from 5 ws a n
+  pub lent-segments : segs-of (lent ws a n) ≡ each segment-from 5 ws a n
   lent-segments = part-segments ws a n (a + 5 * n - a) width room
 
 module _ {A : Type 0} (test : A → Bool) where

@@ -6,51 +6,39 @@ use Rattle.recording.proofs.box_at.Tie as tie
 use Rattle.recording.proofs.box_at.Reads as reads
 use Rattle.recording.proofs.box_at.Lts as lts
 
--- src/lib.rt:36:13
 mul-t3 : tie.Need-mul-t3
 mul-t3 c = search needs
 
--- src/lib.rt:36:13
 shared-slice-read-t5 : tie.Need-shared-slice-read-t5
 shared-slice-read-t5 c = search needs
 
--- src/lib.rt:37:15
 add-t6 : tie.Need-add-t6
 add-t6 c = search needs
 
--- src/lib.rt:37:13
 mul-t7 : tie.Need-mul-t7
 mul-t7 c = search needs
 
--- src/lib.rt:37:13
 shared-slice-read-t9 : tie.Need-shared-slice-read-t9
 shared-slice-read-t9 c = search needs
 
--- src/lib.rt:38:15
 add-t10 : tie.Need-add-t10
 add-t10 c = search needs
 
--- src/lib.rt:38:13
 mul-t11 : tie.Need-mul-t11
 mul-t11 c = search needs
 
--- src/lib.rt:38:13
 shared-slice-read-t13 : tie.Need-shared-slice-read-t13
 shared-slice-read-t13 c = search needs
 
--- src/lib.rt:39:15
 add-t14 : tie.Need-add-t14
 add-t14 c = search needs
 
--- src/lib.rt:39:13
 mul-t15 : tie.Need-mul-t15
 mul-t15 c = search needs
 
--- src/lib.rt:39:13
 shared-slice-read-t17 : tie.Need-shared-slice-read-t17
 shared-slice-read-t17 c = search needs
 
--- src/lib.rt:31:1
 returns : tie.Need-returns
 unfolding box-from
 returns c = refl

@@ -19,39 +19,30 @@ Inv-loop w at n list i₀ i = (i ≤ n) × Rest layer-from 22 w (clip-ordered (s
 abbrev μ-loop : tie.MeasureT-loop
 μ-loop w at n list i₀ i = n - i
 
--- src/lib.rt:342:5
 loop-holds : tie.Need-loop-holds Inv-loop μ-loop
 loop-holds c = (omega arith, begun layer-from 22 _ (clip-ordered (segs-of (c .before .before .args .list .now))) _ _)
 
--- src/lib.rt:343:37
 mul-is-clip-ordered : tie.Need-mul-is-clip-ordered Inv-loop μ-loop
 mul-is-clip-ordered c = omega arith
 
--- src/lib.rt:343:32
 add-is-clip-ordered : tie.Need-add-is-clip-ordered Inv-loop μ-loop
 add-is-clip-ordered c = omega arith
 
--- src/lib.rt:343:13
 is-clip-ordered-requires : tie.Need-is-clip-ordered-requires Inv-loop μ-loop
 is-clip-ordered-requires c κs = (omega arith, (every-at layer-from 22 _ (clip-range (length (c .before .before .before .before .args .list .now) / 5)) _ _ _ (omega arith) (c .before .before .before .before .pre .1 .0), c .before .before .before .before .pre .1 .1))
 
--- src/lib.rt:344:13
 returns : tie.Need-returns Inv-loop μ-loop
 returns c = refused layer-from 22 _ (clip-ordered (segs-of (c .before .before .before .before .before .before .args .list .now))) _ _ _ (omega arith) (c .before .before .before .loop .inv .1) (sym (c .before .is-clip-ordered .ensures) ∙ not-true _ (c .if1 .taken))
 
--- src/lib.rt:346:9
 add-i : tie.Need-add-i Inv-loop μ-loop
 add-i c = omega arith
 
--- src/lib.rt:342:5
 loop-less : tie.Need-loop-less Inv-loop μ-loop
 loop-less c = omega arith
 
--- src/lib.rt:342:5
 loop-again : tie.Need-loop-again Inv-loop μ-loop
 loop-again c = (omega arith, turned layer-from 22 _ (clip-ordered (segs-of (c .before .before .before .before .before .before .args .list .now))) _ _ _ (omega arith) (c .before .before .before .loop .inv .1) (sym (c .before .is-clip-ordered .ensures) ∙ not-false _ (c .if1 .left)))
 
--- src/lib.rt:337:1
 returns-2 : tie.Need-returns-2 Inv-loop μ-loop
 returns-2 c = ended layer-from 22 _ (clip-ordered (segs-of (c .before .before .before .before .args .list .now))) _ _ _ (omega arith) (c .before .loop .inv .1)
 

@@ -19,66 +19,51 @@ Inv-loop w at n list i₀ i = (i ≤ n) × Rest draw-from 7 w (draw-ordered (seg
 abbrev μ-loop : tie.MeasureT-loop
 μ-loop w at n list i₀ i = n - i
 
--- src/lib.rt:327:5
 loop-holds : tie.Need-loop-holds Inv-loop μ-loop
 loop-holds c = (omega arith, begun draw-from 7 _ (draw-ordered (segs-of (c .before .before .args .list .now))) _ _)
 
--- src/lib.rt:328:22
 mul-a : tie.Need-mul-a Inv-loop μ-loop
 mul-a c = omega arith
 
--- src/lib.rt:328:17
 add-a : tie.Need-add-a Inv-loop μ-loop
 add-a c = omega arith
 
--- src/lib.rt:329:32
 add-is-ordered : tie.Need-add-is-ordered Inv-loop μ-loop
 add-is-ordered c = omega arith
 
--- src/lib.rt:329:30
 mul-is-ordered : tie.Need-mul-is-ordered Inv-loop μ-loop
 mul-is-ordered c = omega arith
 
--- src/lib.rt:329:30
 shared-slice-read-is-ordered : tie.Need-shared-slice-read-is-ordered Inv-loop μ-loop
 shared-slice-read-is-ordered c = omega arith
 
--- src/lib.rt:329:42
 add-is-ordered-2 : tie.Need-add-is-ordered-2 Inv-loop μ-loop
 add-is-ordered-2 c = omega arith
 
--- src/lib.rt:329:40
 mul-is-ordered-2 : tie.Need-mul-is-ordered-2 Inv-loop μ-loop
 mul-is-ordered-2 c = omega arith
 
--- src/lib.rt:329:40
 shared-slice-read-is-ordered-2 : tie.Need-shared-slice-read-is-ordered-2 Inv-loop μ-loop
 shared-slice-read-is-ordered-2 c = omega arith
 
--- src/lib.rt:329:13
 is-ordered-requires : tie.Need-is-ordered-requires Inv-loop μ-loop
 unfolding draw-range draw-from
 is-ordered-requires c κs = (every-at draw-from 7 _ (draw-range (length (c .before .before .before .before .before .before .args .list .now) / 5)) _ _ _ (omega arith) (c .before .before .before .before .before .before .pre .1 .0), c .before .before .before .before .before .before .pre .1 .1)
 
--- src/lib.rt:330:13
 returns : tie.Need-returns Inv-loop μ-loop
 unfolding draw-ordered draw-from
 returns c = refused draw-from 7 _ (draw-ordered (segs-of (c .before .before .before .before .before .before .before .before .args .list .now))) _ _ _ (omega arith) (c .before .before .before .before .before .loop .inv .1) (sym (c .before .is-ordered .ensures) ∙ not-true _ (c .if1 .taken))
 
--- src/lib.rt:332:9
 add-i : tie.Need-add-i Inv-loop μ-loop
 add-i c = omega arith
 
--- src/lib.rt:327:5
 loop-less : tie.Need-loop-less Inv-loop μ-loop
 loop-less c = omega arith
 
--- src/lib.rt:327:5
 loop-again : tie.Need-loop-again Inv-loop μ-loop
 unfolding draw-ordered draw-from
 loop-again c = (omega arith, turned draw-from 7 _ (draw-ordered (segs-of (c .before .before .before .before .before .before .before .before .args .list .now))) _ _ _ (omega arith) (c .before .before .before .before .before .loop .inv .1) (sym (c .before .is-ordered .ensures) ∙ not-false _ (c .if1 .left)))
 
--- src/lib.rt:322:1
 returns-2 : tie.Need-returns-2 Inv-loop μ-loop
 returns-2 c = ended draw-from 7 _ (draw-ordered (segs-of (c .before .before .before .before .args .list .now))) _ _ _ (omega arith) (c .before .loop .inv .1)
 

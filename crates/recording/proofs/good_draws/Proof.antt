@@ -17,39 +17,30 @@ Inv-loop w at n paints segments i₀ i = (i ≤ n) × Rest draw-from 7 w (draw-f
 abbrev μ-loop : tie.MeasureT-loop
 μ-loop w at n paints segments i₀ i = n - i
 
--- src/lib.rt:235:5
 loop-holds : tie.Need-loop-holds Inv-loop μ-loop
 loop-holds c = (omega arith, begun draw-from 7 _ (draw-fields (c .before .args .paints) (c .before .args .segments)) _ _)
 
--- src/lib.rt:236:34
 mul-is-good-draw : tie.Need-mul-is-good-draw Inv-loop μ-loop
 mul-is-good-draw c = omega arith
 
--- src/lib.rt:236:29
 add-is-good-draw : tie.Need-add-is-good-draw Inv-loop μ-loop
 add-is-good-draw c = omega arith
 
--- src/lib.rt:236:13
 is-good-draw-requires : tie.Need-is-good-draw-requires Inv-loop μ-loop
 is-good-draw-requires c κs = omega arith
 
--- src/lib.rt:237:13
 returns : tie.Need-returns Inv-loop μ-loop
 returns c = refused draw-from 7 _ (draw-fields (c .before .before .before .before .before .args .paints) (c .before .before .before .before .before .args .segments)) _ _ _ (omega arith) (c .before .before .before .loop .inv .1) (sym (c .before .is-good-draw .ensures) ∙ not-true _ (c .if1 .taken))
 
--- src/lib.rt:239:9
 add-i : tie.Need-add-i Inv-loop μ-loop
 add-i c = omega arith
 
--- src/lib.rt:235:5
 loop-less : tie.Need-loop-less Inv-loop μ-loop
 loop-less c = omega arith
 
--- src/lib.rt:235:5
 loop-again : tie.Need-loop-again Inv-loop μ-loop
 loop-again c = (omega arith, turned draw-from 7 _ (draw-fields (c .before .before .before .before .before .args .paints) (c .before .before .before .before .before .args .segments)) _ _ _ (omega arith) (c .before .before .before .loop .inv .1) (sym (c .before .is-good-draw .ensures) ∙ not-false _ (c .if1 .left)))
 
--- src/lib.rt:230:1
 returns-2 : tie.Need-returns-2 Inv-loop μ-loop
 returns-2 c = ended draw-from 7 _ (draw-fields (c .before .before .before .args .paints) (c .before .before .before .args .segments)) _ _ _ (omega arith) (c .before .loop .inv .1)
 

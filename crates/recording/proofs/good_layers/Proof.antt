@@ -17,39 +17,30 @@ Inv-loop w at n nodes segments i₀ i = (i ≤ n) × Rest layer-from 22 w (layer
 abbrev μ-loop : tie.MeasureT-loop
 μ-loop w at n nodes segments i₀ i = n - i
 
--- src/lib.rt:248:5
 loop-holds : tie.Need-loop-holds Inv-loop μ-loop
 loop-holds c = (omega arith, begun layer-from 22 _ (layer-fields (c .before .args .nodes) (c .before .args .segments)) _ _)
 
--- src/lib.rt:249:35
 mul-is-good-layer : tie.Need-mul-is-good-layer Inv-loop μ-loop
 mul-is-good-layer c = omega arith
 
--- src/lib.rt:249:30
 add-is-good-layer : tie.Need-add-is-good-layer Inv-loop μ-loop
 add-is-good-layer c = omega arith
 
--- src/lib.rt:249:13
 is-good-layer-requires : tie.Need-is-good-layer-requires Inv-loop μ-loop
 is-good-layer-requires c κs = omega arith
 
--- src/lib.rt:250:13
 returns : tie.Need-returns Inv-loop μ-loop
 returns c = refused layer-from 22 _ (layer-fields (c .before .before .before .before .before .args .nodes) (c .before .before .before .before .before .args .segments)) _ _ _ (omega arith) (c .before .before .before .loop .inv .1) (sym (c .before .is-good-layer .ensures) ∙ not-true _ (c .if1 .taken))
 
--- src/lib.rt:252:9
 add-i : tie.Need-add-i Inv-loop μ-loop
 add-i c = omega arith
 
--- src/lib.rt:248:5
 loop-less : tie.Need-loop-less Inv-loop μ-loop
 loop-less c = omega arith
 
--- src/lib.rt:248:5
 loop-again : tie.Need-loop-again Inv-loop μ-loop
 loop-again c = (omega arith, turned layer-from 22 _ (layer-fields (c .before .before .before .before .before .args .nodes) (c .before .before .before .before .before .args .segments)) _ _ _ (omega arith) (c .before .before .before .loop .inv .1) (sym (c .before .is-good-layer .ensures) ∙ not-false _ (c .if1 .left)))
 
--- src/lib.rt:243:1
 returns-2 : tie.Need-returns-2 Inv-loop μ-loop
 returns-2 c = ended layer-from 22 _ (layer-fields (c .before .before .before .args .nodes) (c .before .before .before .args .segments)) _ _ _ (omega arith) (c .before .loop .inv .1)
 

@@ -17,39 +17,30 @@ Inv-loop w at n draws layers i₀ i = (i ≤ n) × Rest node-from 3 w (node-fiel
 abbrev μ-loop : tie.MeasureT-loop
 μ-loop w at n draws layers i₀ i = n - i
 
--- src/lib.rt:263:5
 loop-holds : tie.Need-loop-holds Inv-loop μ-loop
 loop-holds c = (omega arith, begun node-from 3 _ (node-fields (c .before .args .draws) (c .before .args .layers)) _ _)
 
--- src/lib.rt:264:34
 mul-is-good-node : tie.Need-mul-is-good-node Inv-loop μ-loop
 mul-is-good-node c = omega arith
 
--- src/lib.rt:264:29
 add-is-good-node : tie.Need-add-is-good-node Inv-loop μ-loop
 add-is-good-node c = omega arith
 
--- src/lib.rt:264:13
 is-good-node-requires : tie.Need-is-good-node-requires Inv-loop μ-loop
 is-good-node-requires c κs = omega arith
 
--- src/lib.rt:265:13
 returns : tie.Need-returns Inv-loop μ-loop
 returns c = refused node-from 3 _ (node-fields (c .before .before .before .before .before .args .draws) (c .before .before .before .before .before .args .layers)) _ _ _ (omega arith) (c .before .before .before .loop .inv .1) (sym (c .before .is-good-node .ensures) ∙ not-true _ (c .if1 .taken))
 
--- src/lib.rt:267:9
 add-i : tie.Need-add-i Inv-loop μ-loop
 add-i c = omega arith
 
--- src/lib.rt:263:5
 loop-less : tie.Need-loop-less Inv-loop μ-loop
 loop-less c = omega arith
 
--- src/lib.rt:263:5
 loop-again : tie.Need-loop-again Inv-loop μ-loop
 loop-again c = (omega arith, turned node-from 3 _ (node-fields (c .before .before .before .before .before .args .draws) (c .before .before .before .before .before .args .layers)) _ _ _ (omega arith) (c .before .before .before .loop .inv .1) (sym (c .before .is-good-node .ensures) ∙ not-false _ (c .if1 .left)))
 
--- src/lib.rt:258:1
 returns-2 : tie.Need-returns-2 Inv-loop μ-loop
 returns-2 c = ended node-from 3 _ (node-fields (c .before .before .before .args .draws) (c .before .before .before .args .layers)) _ _ _ (omega arith) (c .before .loop .inv .1)
 

@@ -17,39 +17,30 @@ Inv-loop w at n i₀ i = (i ≤ n) × Rest paint-from 4 w good-paint at n i
 abbrev μ-loop : tie.MeasureT-loop
 μ-loop w at n i₀ i = n - i
 
--- src/lib.rt:206:5
 loop-holds : tie.Need-loop-holds Inv-loop μ-loop
 loop-holds c = (omega arith, begun paint-from 4 _ good-paint _ _)
 
--- src/lib.rt:207:35
 mul-is-good-paint : tie.Need-mul-is-good-paint Inv-loop μ-loop
 mul-is-good-paint c = omega arith
 
--- src/lib.rt:207:30
 add-is-good-paint : tie.Need-add-is-good-paint Inv-loop μ-loop
 add-is-good-paint c = omega arith
 
--- src/lib.rt:207:13
 is-good-paint-requires : tie.Need-is-good-paint-requires Inv-loop μ-loop
 is-good-paint-requires c κs = omega arith
 
--- src/lib.rt:208:13
 returns : tie.Need-returns Inv-loop μ-loop
 returns c = refused paint-from 4 _ good-paint _ _ _ (omega arith) (c .before .before .before .loop .inv .1) (sym (c .before .is-good-paint .ensures) ∙ not-true _ (c .if1 .taken))
 
--- src/lib.rt:210:9
 add-i : tie.Need-add-i Inv-loop μ-loop
 add-i c = omega arith
 
--- src/lib.rt:206:5
 loop-less : tie.Need-loop-less Inv-loop μ-loop
 loop-less c = omega arith
 
--- src/lib.rt:206:5
 loop-again : tie.Need-loop-again Inv-loop μ-loop
 loop-again c = (omega arith, turned paint-from 4 _ good-paint _ _ _ (omega arith) (c .before .before .before .loop .inv .1) (sym (c .before .is-good-paint .ensures) ∙ not-false _ (c .if1 .left)))
 
--- src/lib.rt:201:1
 returns-2 : tie.Need-returns-2 Inv-loop μ-loop
 returns-2 c = ended paint-from 4 _ good-paint _ _ _ (omega arith) (c .before .loop .inv .1)
 

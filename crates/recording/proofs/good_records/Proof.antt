@@ -16,95 +16,72 @@ use Rattle.recording.proofs.good_paints.Reads as good-paints-reads
 use Rattle.recording.proofs.good_segments.Reads as good-segments-reads
 use Rattle.recording.proofs.is_good_range.Reads as is-good-range-reads
 
--- src/lib.rt:282:9
 good-paints-requires : tie.Need-good-paints-requires
 good-paints-requires c κs = search needs
 
--- src/lib.rt:283:9
 returns : tie.Need-returns
 returns c = bad-paints (c .before .before .before .before .before .before .before .before .before .pre) (sym (c .before .good-paints .ensures) ∙ not-true _ (c .if1 .taken))
 
--- src/lib.rt:286:17
 mul-e : tie.Need-mul-e
 mul-e c = search needs
 
--- src/lib.rt:286:13
 add-e : tie.Need-add-e
 add-e c = search needs
 
--- src/lib.rt:287:23
 mul-good-segments : tie.Need-mul-good-segments
 mul-good-segments c = search needs
 
--- src/lib.rt:287:23
 sub-good-segments : tie.Need-sub-good-segments
 sub-good-segments c = search needs
 
--- src/lib.rt:287:23
 part-good-segments-start : tie.Need-part-good-segments-start
 part-good-segments-start c = search needs
 
--- src/lib.rt:287:23
 part-good-segments-end : tie.Need-part-good-segments-end
 part-good-segments-end c = search needs
 
--- src/lib.rt:287:9
 good-segments-requires : tie.Need-good-segments-requires
 good-segments-requires c κs = search needs
 
--- src/lib.rt:288:9
 returns-2 : tie.Need-returns-2
 returns-2 c = bad-segments (c .before .before .before .before .before .before .before .before .before .before .before .before .before .pre) (sym (c .before .before .before .before .before .good-paints .ensures) ∙ not-false _ (c .before .before .before .before .if1 .left)) (sym (c .before .good-segments .ensures ∙ ap (every good-segment) (lent-segments _ _ _ (c .before .before .before .before .before .before .before .before .before .before .before .before .before .pre .segments .ends))) ∙ not-true _ (c .if2 .taken))
 
--- src/lib.rt:290:9
 good-draws-requires : tie.Need-good-draws-requires
 good-draws-requires c κs = search needs
 
--- src/lib.rt:291:9
 returns-3 : tie.Need-returns-3
 returns-3 c = bad-draws (c .before .before .before .before .before .before .before .before .before .before .before .before .before .before .before .pre) (sym (c .before .before .before .before .before .before .before .good-paints .ensures) ∙ not-false _ (c .before .before .before .before .before .before .if1 .left)) (sym (c .before .before .before .good-segments .ensures ∙ ap (every good-segment) (lent-segments _ _ _ (c .before .before .before .before .before .before .before .before .before .before .before .before .before .before .before .pre .segments .ends))) ∙ not-false _ (c .before .before .if2 .left)) (sym (c .before .good-draws .ensures) ∙ not-true _ (c .if3 .taken))
 
--- src/lib.rt:293:9
 good-layers-requires : tie.Need-good-layers-requires
 good-layers-requires c κs = search needs
 
--- src/lib.rt:294:9
 returns-4 : tie.Need-returns-4
 returns-4 c = bad-layers (c .before .before .before .before .before .before .before .before .before .before .before .before .before .before .before .before .before .pre) (sym (c .before .before .before .before .before .before .before .before .before .good-paints .ensures) ∙ not-false _ (c .before .before .before .before .before .before .before .before .if1 .left)) (sym (c .before .before .before .before .before .good-segments .ensures ∙ ap (every good-segment) (lent-segments _ _ _ (c .before .before .before .before .before .before .before .before .before .before .before .before .before .before .before .before .before .pre .segments .ends))) ∙ not-false _ (c .before .before .before .before .if2 .left)) (sym (c .before .before .before .good-draws .ensures) ∙ not-false _ (c .before .before .if3 .left)) (sym (c .before .good-layers .ensures) ∙ not-true _ (c .if4 .taken))
 
--- src/lib.rt:296:9
 good-nodes-requires : tie.Need-good-nodes-requires
 good-nodes-requires c κs = search needs
 
--- src/lib.rt:297:9
 returns-5 : tie.Need-returns-5
 returns-5 c = bad-nodes (c .before .before .before .before .before .before .before .before .before .before .before .before .before .before .before .before .before .before .before .pre) (sym (c .before .before .before .before .before .before .before .before .before .before .before .good-paints .ensures) ∙ not-false _ (c .before .before .before .before .before .before .before .before .before .before .if1 .left)) (sym (c .before .before .before .before .before .before .before .good-segments .ensures ∙ ap (every good-segment) (lent-segments _ _ _ (c .before .before .before .before .before .before .before .before .before .before .before .before .before .before .before .before .before .before .before .pre .segments .ends))) ∙ not-false _ (c .before .before .before .before .before .before .if2 .left)) (sym (c .before .before .before .before .before .good-draws .ensures) ∙ not-false _ (c .before .before .before .before .if3 .left)) (sym (c .before .before .before .good-layers .ensures) ∙ not-false _ (c .before .before .if4 .left)) (sym (c .before .good-nodes .ensures) ∙ not-true _ (c .if5 .taken))
 
--- src/lib.rt:300:19
 mul-is-good-range : tie.Need-mul-is-good-range
 mul-is-good-range c = search needs
 
--- src/lib.rt:300:19
 shared-slice-read-is-good-range : tie.Need-shared-slice-read-is-good-range
 shared-slice-read-is-good-range c = search needs
 
--- src/lib.rt:300:27
 add-is-good-range : tie.Need-add-is-good-range
 add-is-good-range c = search needs
 
--- src/lib.rt:300:25
 mul-is-good-range-2 : tie.Need-mul-is-good-range-2
 mul-is-good-range-2 c = search needs
 
--- src/lib.rt:300:25
 shared-slice-read-is-good-range-2 : tie.Need-shared-slice-read-is-good-range-2
 shared-slice-read-is-good-range-2 c = search needs
 
--- src/lib.rt:300:5
 is-good-range-requires : tie.Need-is-good-range-requires
 is-good-range-requires c κs = search needs
 
--- src/lib.rt:272:1
 returns-6 : tie.Need-returns-6
 returns-6 c = c .is-good-range .ensures ∙ up-to-root (c .before .before .before .before .before .before .before .before .before .before .before .before .before .before .before .before .before .before .before .before .before .before .pre) (sym (c .before .before .before .before .before .before .before .before .before .before .before .before .before .before .good-paints .ensures) ∙ not-false _ (c .before .before .before .before .before .before .before .before .before .before .before .before .before .if1 .left)) (sym (c .before .before .before .before .before .before .before .before .before .before .good-segments .ensures ∙ ap (every good-segment) (lent-segments _ _ _ (c .before .before .before .before .before .before .before .before .before .before .before .before .before .before .before .before .before .before .before .before .before .before .pre .segments .ends))) ∙ not-false _ (c .before .before .before .before .before .before .before .before .before .if2 .left)) (sym (c .before .before .before .before .before .before .before .before .good-draws .ensures) ∙ not-false _ (c .before .before .before .before .before .before .before .if3 .left)) (sym (c .before .before .before .before .before .before .good-layers .ensures) ∙ not-false _ (c .before .before .before .before .before .if4 .left)) (sym (c .before .before .before .before .good-nodes .ensures) ∙ not-false _ (c .before .before .before .if5 .left))
 

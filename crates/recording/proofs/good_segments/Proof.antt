@@ -17,35 +17,27 @@ Inv-loop list n i₀ i = (i ≤ length list / 5) × Left list (length list / 5) 
 abbrev μ-loop : tie.MeasureT-loop
 μ-loop list n i₀ i = length list / 5 - i
 
--- src/lib.rt:220:5
 loop-holds : tie.Need-loop-holds Inv-loop μ-loop
 loop-holds c = (omega arith, all-left _ _)
 
--- src/lib.rt:221:13
 segment-at-requires : tie.Need-segment-at-requires Inv-loop μ-loop
 segment-at-requires c κs = omega arith
 
--- src/lib.rt:222:13
 is-good-requires : tie.Need-is-good-requires Inv-loop μ-loop
 is-good-requires c κs = tt
 
--- src/lib.rt:223:13
 returns : tie.Need-returns Inv-loop μ-loop
 returns c = bad-one _ _ _ (omega arith) (c .before .before .before .before .loop .inv .1) _ (c .before .before .segment-at .ensures) (sym (c .before .is-good .ensures) ∙ not-true _ (c .if1 .taken))
 
--- src/lib.rt:225:9
 add-i : tie.Need-add-i Inv-loop μ-loop
 add-i c = omega arith
 
--- src/lib.rt:220:5
 loop-less : tie.Need-loop-less Inv-loop μ-loop
 loop-less c = omega arith
 
--- src/lib.rt:220:5
 loop-again : tie.Need-loop-again Inv-loop μ-loop
 loop-again c = (omega arith, good-one _ _ _ (omega arith) (c .before .before .before .before .loop .inv .1) _ (c .before .before .segment-at .ensures) (sym (c .before .is-good .ensures) ∙ not-false _ (c .if1 .left)))
 
--- src/lib.rt:215:1
 returns-2 : tie.Need-returns-2 Inv-loop μ-loop
 returns-2 c = none-left _ _ _ (omega arith) (c .before .loop .inv .1)
 

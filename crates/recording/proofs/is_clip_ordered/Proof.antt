@@ -8,53 +8,41 @@ use Rattle.recording.proofs.is_clip_ordered.Reads as reads
 use Rattle.recording.proofs.is_clip_ordered.Lts as lts
 use Rattle.recording.proofs.is_ordered.Reads as is-ordered-reads
 
--- src/lib.rt:316:10
 add-if1 : tie.Need-add-if1
 add-if1 c = search needs
 
--- src/lib.rt:316:8
 mul-if1 : tie.Need-mul-if1
 mul-if1 c = search needs
 
--- src/lib.rt:316:8
 shared-slice-read-if1 : tie.Need-shared-slice-read-if1
 shared-slice-read-if1 c = search needs
 
--- src/lib.rt:317:35
 add-is-ordered : tie.Need-add-is-ordered
 add-is-ordered c = search needs
 
--- src/lib.rt:317:33
 mul-is-ordered : tie.Need-mul-is-ordered
 mul-is-ordered c = search needs
 
--- src/lib.rt:317:33
 shared-slice-read-is-ordered : tie.Need-shared-slice-read-is-ordered
 shared-slice-read-is-ordered c = search needs
 
--- src/lib.rt:317:47
 add-is-ordered-2 : tie.Need-add-is-ordered-2
 add-is-ordered-2 c = search needs
 
--- src/lib.rt:317:45
 mul-is-ordered-2 : tie.Need-mul-is-ordered-2
 mul-is-ordered-2 c = search needs
 
--- src/lib.rt:317:45
 shared-slice-read-is-ordered-2 : tie.Need-shared-slice-read-is-ordered-2
 shared-slice-read-is-ordered-2 c = search needs
 
--- src/lib.rt:317:9
 is-ordered-requires : tie.Need-is-ordered-requires
 unfolding clip-range layer-from clip-from
 is-ordered-requires c κs = (rw (eq-eqb _ _ (c .before .before .if1 .taken)) at (c .before .before .before .before .before .before .pre .1 .0), c .before .before .before .before .before .before .pre .1 .1)
 
--- src/lib.rt:317:9
 returns : tie.Need-returns
 unfolding clip-ordered layer-from clip-from
 returns c = rw (eq-eqb _ _ (c .before .before .before .if1 .taken)) (c .is-ordered .ensures)
 
--- src/lib.rt:312:1
 returns-2 : tie.Need-returns-2
 unfolding clip-ordered layer-from clip-from
 returns-2 c = rw (ne-eqb _ _ (c .if1 .left))

@@ -13,86 +13,66 @@ use Rattle.recording.proofs.box_at.Reads as box-at-reads
 use Rattle.recording.proofs.wide.Reads as wide-reads
 use Rattle.rect.proofs.Rect.is_good.Reads as is-good-reads
 
--- src/lib.rt:110:23
 add-box-at : tie.Need-add-box-at
 add-box-at c = search needs
 
--- src/lib.rt:110:9
 box-at-requires : tie.Need-box-at-requires
 box-at-requires c κs = search needs
 
--- src/lib.rt:111:9
 is-good-requires : tie.Need-is-good-requires
 is-good-requires c κs = search needs
 
--- src/lib.rt:112:9
 returns : tie.Need-returns
 unfolding clip-fields clip-from
 returns c = rw (sym (c .before .is-good .ensures ∙ ap good-box (c .before .before .box-at .ensures ∙ clip-box _ _)) ∙ not-true _ (c .if1 .taken))
 
--- src/lib.rt:114:10
 add-if2 : tie.Need-add-if2
 add-if2 c = search needs
 
--- src/lib.rt:114:8
 mul-if2 : tie.Need-mul-if2
 mul-if2 c = search needs
 
--- src/lib.rt:114:8
 shared-slice-read-if2 : tie.Need-shared-slice-read-if2
 shared-slice-read-if2 c = search needs
 
--- src/lib.rt:114:23
 add-if2-2 : tie.Need-add-if2-2
 add-if2-2 c = search needs
 
--- src/lib.rt:114:21
 mul-if2-2 : tie.Need-mul-if2-2
 mul-if2-2 c = search needs
 
--- src/lib.rt:114:21
 shared-slice-read-if2-2 : tie.Need-shared-slice-read-if2-2
 shared-slice-read-if2-2 c = search needs
 
--- src/lib.rt:115:9
 returns-2 : tie.Need-returns-2
 unfolding clip-fields clip-from
 returns-2 c = rw (sym (c .before .before .before .before .is-good .ensures ∙ ap good-box (c .before .before .before .before .before .box-at .ensures ∙ clip-box _ _)) ∙ not-false _ (c .before .before .before .if1 .left), lt-leb _ _ (c .if2 .taken))
 
--- src/lib.rt:117:17
 add-if3 : tie.Need-add-if3
 add-if3 c = search needs
 
--- src/lib.rt:117:15
 mul-if3 : tie.Need-mul-if3
 mul-if3 c = search needs
 
--- src/lib.rt:117:15
 shared-slice-read-if3 : tie.Need-shared-slice-read-if3
 shared-slice-read-if3 c = search needs
 
--- src/lib.rt:118:9
 returns-3 : tie.Need-returns-3
 unfolding clip-fields clip-from
 returns-3 c = rw (sym (c .before .before .before .before .before .before .is-good .ensures ∙ ap good-box (c .before .before .before .before .before .before .before .box-at .ensures ∙ clip-box _ _)) ∙ not-false _ (c .before .before .before .before .before .if1 .left), le-leb _ _ (c .before .before .if2 .left), le-ltb _ _ (c .if3 .taken))
 
--- src/lib.rt:120:12
 add-wide : tie.Need-add-wide
 add-wide c = search needs
 
--- src/lib.rt:120:10
 mul-wide : tie.Need-mul-wide
 mul-wide c = search needs
 
--- src/lib.rt:120:10
 shared-slice-read-wide : tie.Need-shared-slice-read-wide
 shared-slice-read-wide c = search needs
 
--- src/lib.rt:120:5
 wide-requires : tie.Need-wide-requires
 wide-requires c κs = search needs
 
--- src/lib.rt:106:1
 returns-4 : tie.Need-returns-4
 unfolding clip-fields clip-from
 returns-4 c = rw (sym (c .before .before .before .before .before .before .before .before .is-good .ensures ∙ ap good-box (c .before .before .before .before .before .before .before .before .before .box-at .ensures ∙ clip-box _ _)) ∙ not-false _ (c .before .before .before .before .before .before .before .if1 .left), le-leb _ _ (c .before .before .before .before .if2 .left), lt-ltb _ _ (c .before .before .if3 .left), c .wide .ensures)

@@ -11,36 +11,28 @@ use Rattle.recording.proofs.is_good_clip_part.Lts as lts
 use Rattle.recording.proofs.is_good_clip.Reads as is-good-clip-reads
 use Rattle.recording.proofs.zeros.Reads as zeros-reads
 
--- src/lib.rt:128:10
 add-if1 : tie.Need-add-if1
 add-if1 c = search needs
 
--- src/lib.rt:128:8
 mul-if1 : tie.Need-mul-if1
 mul-if1 c = search needs
 
--- src/lib.rt:128:8
 shared-slice-read-if1 : tie.Need-shared-slice-read-if1
 shared-slice-read-if1 c = search needs
 
--- src/lib.rt:129:9
 is-good-clip-requires : tie.Need-is-good-clip-requires
 is-good-clip-requires c κs = search needs
 
--- src/lib.rt:129:9
 returns : tie.Need-returns
 unfolding clip-part layer-from
 returns c = rw (eq-eqb _ _ (c .before .if1 .taken)) (c .is-good-clip .ensures)
 
--- src/lib.rt:131:14
 add-zeros : tie.Need-add-zeros
 add-zeros c = search needs
 
--- src/lib.rt:131:5
 zeros-requires : tie.Need-zeros-requires
 zeros-requires c κs = search needs
 
--- src/lib.rt:124:1
 returns-2 : tie.Need-returns-2
 unfolding clip-part layer-from
 returns-2 c = rw (ne-eqb _ _ (c .before .if1 .left)) (c .zeros .ensures ∙ clip-zeros _ _)

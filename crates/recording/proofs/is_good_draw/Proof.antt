@@ -11,119 +11,91 @@ use Rattle.recording.proofs.is_good_blend.Reads as is-good-blend-reads
 use Rattle.recording.proofs.is_good_range.Reads as is-good-range-reads
 use Rattle.recording.proofs.wide.Reads as wide-reads
 
--- src/lib.rt:91:15
 mul-if1 : tie.Need-mul-if1
 mul-if1 c = search needs
 
--- src/lib.rt:91:15
 shared-slice-read-if1 : tie.Need-shared-slice-read-if1
 shared-slice-read-if1 c = search needs
 
--- src/lib.rt:92:9
 returns : tie.Need-returns
 unfolding draw-fields draw-from
 returns c = rw (le-ltb _ _ (c .if1 .taken))
 
--- src/lib.rt:94:25
 add-is-good-range : tie.Need-add-is-good-range
 add-is-good-range c = search needs
 
--- src/lib.rt:94:23
 mul-is-good-range : tie.Need-mul-is-good-range
 mul-is-good-range c = search needs
 
--- src/lib.rt:94:23
 shared-slice-read-is-good-range : tie.Need-shared-slice-read-is-good-range
 shared-slice-read-is-good-range c = search needs
 
--- src/lib.rt:94:36
 add-is-good-range-2 : tie.Need-add-is-good-range-2
 add-is-good-range-2 c = search needs
 
--- src/lib.rt:94:34
 mul-is-good-range-2 : tie.Need-mul-is-good-range-2
 mul-is-good-range-2 c = search needs
 
--- src/lib.rt:94:34
 shared-slice-read-is-good-range-2 : tie.Need-shared-slice-read-is-good-range-2
 shared-slice-read-is-good-range-2 c = search needs
 
--- src/lib.rt:94:9
 is-good-range-requires : tie.Need-is-good-range-requires
 is-good-range-requires c κs = search needs
 
--- src/lib.rt:95:9
 returns-2 : tie.Need-returns-2
 unfolding draw-fields draw-from
 returns-2 c = rw (lt-ltb _ _ (c .before .before .before .before .if1 .left), sym (c .before .is-good-range .ensures) ∙ not-true _ (c .if2 .taken))
 
--- src/lib.rt:97:25
 add-wide : tie.Need-add-wide
 add-wide c = search needs
 
--- src/lib.rt:97:23
 mul-wide : tie.Need-mul-wide
 mul-wide c = search needs
 
--- src/lib.rt:97:23
 shared-slice-read-wide : tie.Need-shared-slice-read-wide
 shared-slice-read-wide c = search needs
 
--- src/lib.rt:97:18
 wide-requires : tie.Need-wide-requires
 wide-requires c κs = search needs
 
--- src/lib.rt:98:9
 returns-3 : tie.Need-returns-3
 unfolding draw-fields draw-from
 returns-3 c = rw (lt-ltb _ _ (c .before .before .before .before .before .before .before .if1 .left), sym (c .before .before .before .before .is-good-range .ensures) ∙ not-false _ (c .before .before .before .if2 .left), le-ltb _ _ (rw (c .before .wide .ensures) at (c .if3 .taken)))
 
--- src/lib.rt:100:25
 add-is-good-blend : tie.Need-add-is-good-blend
 add-is-good-blend c = search needs
 
--- src/lib.rt:100:23
 mul-is-good-blend : tie.Need-mul-is-good-blend
 mul-is-good-blend c = search needs
 
--- src/lib.rt:100:23
 shared-slice-read-is-good-blend : tie.Need-shared-slice-read-is-good-blend
 shared-slice-read-is-good-blend c = search needs
 
--- src/lib.rt:100:36
 add-is-good-blend-2 : tie.Need-add-is-good-blend-2
 add-is-good-blend-2 c = search needs
 
--- src/lib.rt:100:34
 mul-is-good-blend-2 : tie.Need-mul-is-good-blend-2
 mul-is-good-blend-2 c = search needs
 
--- src/lib.rt:100:34
 shared-slice-read-is-good-blend-2 : tie.Need-shared-slice-read-is-good-blend-2
 shared-slice-read-is-good-blend-2 c = search needs
 
--- src/lib.rt:100:9
 is-good-blend-requires : tie.Need-is-good-blend-requires
 is-good-blend-requires c κs = search needs
 
--- src/lib.rt:101:9
 returns-4 : tie.Need-returns-4
 unfolding draw-fields draw-from
 returns-4 c = rw (lt-ltb _ _ (c .before .before .before .before .before .before .before .before .before .before .before .if1 .left), sym (c .before .before .before .before .before .before .before .before .is-good-range .ensures) ∙ not-false _ (c .before .before .before .before .before .before .before .if2 .left), lt-ltb _ _ (rw (c .before .before .before .before .before .wide .ensures) at (c .before .before .before .before .if3 .left)), sym (c .before .is-good-blend .ensures) ∙ not-true _ (c .if4 .taken))
 
--- src/lib.rt:103:7
 add-result : tie.Need-add-result
 add-result c = search needs
 
--- src/lib.rt:103:5
 mul-result : tie.Need-mul-result
 mul-result c = search needs
 
--- src/lib.rt:103:5
 shared-slice-read-result : tie.Need-shared-slice-read-result
 shared-slice-read-result c = search needs
 
--- src/lib.rt:87:1
 returns-5 : tie.Need-returns-5
 unfolding draw-fields draw-from
 returns-5 c = rw (lt-ltb _ _ (c .before .before .before .before .before .before .before .before .before .before .before .before .if1 .left), sym (c .before .before .before .before .before .before .before .before .before .is-good-range .ensures) ∙ not-false _ (c .before .before .before .before .before .before .before .before .if2 .left), lt-ltb _ _ (rw (c .before .before .before .before .before .before .wide .ensures) at (c .before .before .before .before .before .if3 .left)), sym (c .before .before .is-good-blend .ensures) ∙ not-false _ (c .before .if4 .left))

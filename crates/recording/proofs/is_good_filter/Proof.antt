@@ -11,70 +11,54 @@ use Rattle.recording.proofs.is_good_filter.Lts as lts
 use Rattle.recording.proofs.box_at.Reads as box-at-reads
 use Rattle.rect.proofs.Rect.is_good_dest.Reads as is-good-dest-reads
 
--- src/lib.rt:139:24
 add-if1 : tie.Need-add-if1
 add-if1 c = search needs
 
--- src/lib.rt:139:22
 mul-if1 : tie.Need-mul-if1
 mul-if1 c = search needs
 
--- src/lib.rt:139:22
 shared-slice-read-if1 : tie.Need-shared-slice-read-if1
 shared-slice-read-if1 c = search needs
 
--- src/lib.rt:140:9
 returns : tie.Need-returns
 unfolding filter-from
 returns c = rw (le-ltb _ _ (c .if1 .taken))
 
--- src/lib.rt:142:23
 add-box-at : tie.Need-add-box-at
 add-box-at c = search needs
 
--- src/lib.rt:142:9
 box-at-requires : tie.Need-box-at-requires
 box-at-requires c κs = search needs
 
--- src/lib.rt:143:9
 is-good-dest-requires : tie.Need-is-good-dest-requires
 is-good-dest-requires c κs = search needs
 
--- src/lib.rt:144:9
 returns-2 : tie.Need-returns-2
 unfolding filter-from
 returns-2 c = rw (lt-ltb _ _ (c .before .before .before .if1 .left), sym (c .before .is-good-dest .ensures ∙ ap good-dest (c .before .before .box-at .ensures ∙ filter-box _ _)) ∙ not-true _ (c .if2 .taken))
 
--- src/lib.rt:146:18
 add-if3 : tie.Need-add-if3
 add-if3 c = search needs
 
--- src/lib.rt:146:16
 mul-if3 : tie.Need-mul-if3
 mul-if3 c = search needs
 
--- src/lib.rt:146:16
 shared-slice-read-if3 : tie.Need-shared-slice-read-if3
 shared-slice-read-if3 c = search needs
 
--- src/lib.rt:147:9
 returns-3 : tie.Need-returns-3
 unfolding filter-from
 returns-3 c = rw (lt-ltb _ _ (c .before .before .before .before .before .if1 .left), sym (c .before .before .before .is-good-dest .ensures ∙ ap good-dest (c .before .before .before .before .box-at .ensures ∙ filter-box _ _)) ∙ not-false _ (c .before .before .if2 .left), lt-leb _ _ (c .if3 .taken))
 
--- src/lib.rt:149:7
 add-result : tie.Need-add-result
 add-result c = search needs
 
--- src/lib.rt:149:5
 mul-result : tie.Need-mul-result
 mul-result c = search needs
 
--- src/lib.rt:149:5
 shared-slice-read-result : tie.Need-shared-slice-read-result
 shared-slice-read-result c = search needs
 
--- src/lib.rt:135:1
 returns-4 : tie.Need-returns-4
 unfolding filter-from
 returns-4 c = rw (lt-ltb _ _ (c .before .before .before .before .before .before .if1 .left), sym (c .before .before .before .before .is-good-dest .ensures ∙ ap good-dest (c .before .before .before .before .before .box-at .ensures ∙ filter-box _ _)) ∙ not-false _ (c .before .before .before .if2 .left), le-leb _ _ (c .before .if3 .left))

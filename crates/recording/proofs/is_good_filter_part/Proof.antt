@@ -11,32 +11,25 @@ use Rattle.recording.proofs.is_good_filter_part.Lts as lts
 use Rattle.recording.proofs.is_good_filter.Reads as is-good-filter-reads
 use Rattle.recording.proofs.zeros.Reads as zeros-reads
 
--- src/lib.rt:157:8
 mul-if1 : tie.Need-mul-if1
 mul-if1 c = search needs
 
--- src/lib.rt:157:8
 shared-slice-read-if1 : tie.Need-shared-slice-read-if1
 shared-slice-read-if1 c = search needs
 
--- src/lib.rt:158:9
 is-good-filter-requires : tie.Need-is-good-filter-requires
 is-good-filter-requires c κs = search needs
 
--- src/lib.rt:158:9
 returns : tie.Need-returns
 unfolding filter-part layer-from
 returns c = rw (eq-eqb _ _ (c .before .if1 .taken)) (c .is-good-filter .ensures)
 
--- src/lib.rt:160:14
 add-zeros : tie.Need-add-zeros
 add-zeros c = search needs
 
--- src/lib.rt:160:5
 zeros-requires : tie.Need-zeros-requires
 zeros-requires c κs = search needs
 
--- src/lib.rt:153:1
 returns-2 : tie.Need-returns-2
 unfolding filter-part layer-from
 returns-2 c = rw (ne-eqb _ _ (c .before .if1 .left)) (c .zeros .ensures ∙ filter-zeros _ _)

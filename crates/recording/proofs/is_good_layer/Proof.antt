@@ -12,133 +12,102 @@ use Rattle.recording.proofs.is_good_clip_part.Reads as is-good-clip-par
 use Rattle.recording.proofs.is_good_filter_part.Reads as is-good-filter-part-reads
 use Rattle.recording.proofs.is_good_range.Reads as is-good-range-reads
 
--- src/lib.rt:168:12
 mul-if1 : tie.Need-mul-if1
 mul-if1 c = search needs
 
--- src/lib.rt:168:12
 shared-slice-read-if1 : tie.Need-shared-slice-read-if1
 shared-slice-read-if1 c = search needs
 
--- src/lib.rt:169:9
 returns : tie.Need-returns
 unfolding layer-fields layer-from
 returns c = rw (lt-leb _ _ (c .if1 .taken))
 
--- src/lib.rt:171:25
 add-is-good-range : tie.Need-add-is-good-range
 add-is-good-range c = search needs
 
--- src/lib.rt:171:23
 mul-is-good-range : tie.Need-mul-is-good-range
 mul-is-good-range c = search needs
 
--- src/lib.rt:171:23
 shared-slice-read-is-good-range : tie.Need-shared-slice-read-is-good-range
 shared-slice-read-is-good-range c = search needs
 
--- src/lib.rt:171:36
 add-is-good-range-2 : tie.Need-add-is-good-range-2
 add-is-good-range-2 c = search needs
 
--- src/lib.rt:171:34
 mul-is-good-range-2 : tie.Need-mul-is-good-range-2
 mul-is-good-range-2 c = search needs
 
--- src/lib.rt:171:34
 shared-slice-read-is-good-range-2 : tie.Need-shared-slice-read-is-good-range-2
 shared-slice-read-is-good-range-2 c = search needs
 
--- src/lib.rt:171:9
 is-good-range-requires : tie.Need-is-good-range-requires
 is-good-range-requires c κs = search needs
 
--- src/lib.rt:172:9
 returns-2 : tie.Need-returns-2
 unfolding layer-fields layer-from
 returns-2 c = rw (le-leb _ _ (c .before .before .before .before .if1 .left), sym (c .before .is-good-range .ensures) ∙ not-true _ (c .if2 .taken))
 
--- src/lib.rt:174:25
 add-is-good-blend : tie.Need-add-is-good-blend
 add-is-good-blend c = search needs
 
--- src/lib.rt:174:23
 mul-is-good-blend : tie.Need-mul-is-good-blend
 mul-is-good-blend c = search needs
 
--- src/lib.rt:174:23
 shared-slice-read-is-good-blend : tie.Need-shared-slice-read-is-good-blend
 shared-slice-read-is-good-blend c = search needs
 
--- src/lib.rt:174:36
 add-is-good-blend-2 : tie.Need-add-is-good-blend-2
 add-is-good-blend-2 c = search needs
 
--- src/lib.rt:174:34
 mul-is-good-blend-2 : tie.Need-mul-is-good-blend-2
 mul-is-good-blend-2 c = search needs
 
--- src/lib.rt:174:34
 shared-slice-read-is-good-blend-2 : tie.Need-shared-slice-read-is-good-blend-2
 shared-slice-read-is-good-blend-2 c = search needs
 
--- src/lib.rt:174:9
 is-good-blend-requires : tie.Need-is-good-blend-requires
 is-good-blend-requires c κs = search needs
 
--- src/lib.rt:175:9
 returns-3 : tie.Need-returns-3
 unfolding layer-fields layer-from
 returns-3 c = rw (le-leb _ _ (c .before .before .before .before .before .before .before .before .if1 .left), sym (c .before .before .before .before .before .is-good-range .ensures) ∙ not-false _ (c .before .before .before .before .if2 .left), sym (c .before .is-good-blend .ensures) ∙ not-true _ (c .if3 .taken))
 
--- src/lib.rt:177:24
 add-if4 : tie.Need-add-if4
 add-if4 c = search needs
 
--- src/lib.rt:177:22
 mul-if4 : tie.Need-mul-if4
 mul-if4 c = search needs
 
--- src/lib.rt:177:22
 shared-slice-read-if4 : tie.Need-shared-slice-read-if4
 shared-slice-read-if4 c = search needs
 
--- src/lib.rt:178:9
 returns-4 : tie.Need-returns-4
 unfolding layer-fields layer-from
 returns-4 c = rw (le-leb _ _ (c .before .before .before .before .before .before .before .before .before .before .if1 .left), sym (c .before .before .before .before .before .before .before .is-good-range .ensures) ∙ not-false _ (c .before .before .before .before .before .before .if2 .left), sym (c .before .before .before .is-good-blend .ensures) ∙ not-false _ (c .before .before .if3 .left), le-ltb _ _ (c .if4 .taken))
 
--- src/lib.rt:180:14
 add-if5 : tie.Need-add-if5
 add-if5 c = search needs
 
--- src/lib.rt:180:12
 mul-if5 : tie.Need-mul-if5
 mul-if5 c = search needs
 
--- src/lib.rt:180:12
 shared-slice-read-if5 : tie.Need-shared-slice-read-if5
 shared-slice-read-if5 c = search needs
 
--- src/lib.rt:181:9
 returns-5 : tie.Need-returns-5
 unfolding layer-fields layer-from
 returns-5 c = rw (le-leb _ _ (c .before .before .before .before .before .before .before .before .before .before .before .before .if1 .left), sym (c .before .before .before .before .before .before .before .before .before .is-good-range .ensures) ∙ not-false _ (c .before .before .before .before .before .before .before .before .if2 .left), sym (c .before .before .before .before .before .is-good-blend .ensures) ∙ not-false _ (c .before .before .before .before .if3 .left), lt-ltb _ _ (c .before .before .if4 .left), lt-leb _ _ (c .if5 .taken))
 
--- src/lib.rt:183:9
 is-good-clip-part-requires : tie.Need-is-good-clip-part-requires
 is-good-clip-part-requires c κs = search needs
 
--- src/lib.rt:184:9
 returns-6 : tie.Need-returns-6
 unfolding layer-fields layer-from
 returns-6 c = rw (le-leb _ _ (c .before .before .before .before .before .before .before .before .before .before .before .before .before .before .if1 .left), sym (c .before .before .before .before .before .before .before .before .before .before .before .is-good-range .ensures) ∙ not-false _ (c .before .before .before .before .before .before .before .before .before .before .if2 .left), sym (c .before .before .before .before .before .before .before .is-good-blend .ensures) ∙ not-false _ (c .before .before .before .before .before .before .if3 .left), lt-ltb _ _ (c .before .before .before .before .if4 .left), le-leb _ _ (c .before .before .if5 .left), sym (c .before .is-good-clip-part .ensures) ∙ not-true _ (c .if6 .taken))
 
--- src/lib.rt:186:5
 is-good-filter-part-requires : tie.Need-is-good-filter-part-requires
 is-good-filter-part-requires c κs = search needs
 
--- src/lib.rt:164:1
 returns-7 : tie.Need-returns-7
 unfolding layer-fields layer-from
 returns-7 c = rw (le-leb _ _ (c .before .before .before .before .before .before .before .before .before .before .before .before .before .before .before .if1 .left), sym (c .before .before .before .before .before .before .before .before .before .before .before .before .is-good-range .ensures) ∙ not-false _ (c .before .before .before .before .before .before .before .before .before .before .before .if2 .left), sym (c .before .before .before .before .before .before .before .before .is-good-blend .ensures) ∙ not-false _ (c .before .before .before .before .before .before .before .if3 .left), lt-ltb _ _ (c .before .before .before .before .before .if4 .left), le-leb _ _ (c .before .before .before .if5 .left), sym (c .before .before .is-good-clip-part .ensures) ∙ not-false _ (c .before .if6 .left)) (c .is-good-filter-part .ensures)

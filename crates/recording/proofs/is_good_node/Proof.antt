@@ -10,52 +10,40 @@ use Rattle.recording.proofs.is_good_node.Lts as lts
 use Rattle.recording.proofs.is_good_range.Reads as is-good-range-reads
 use Rattle.recording.proofs.wide.Reads as wide-reads
 
--- src/lib.rt:195:23
 mul-is-good-range : tie.Need-mul-is-good-range
 mul-is-good-range c = search needs
 
--- src/lib.rt:195:23
 shared-slice-read-is-good-range : tie.Need-shared-slice-read-is-good-range
 shared-slice-read-is-good-range c = search needs
 
--- src/lib.rt:195:32
 add-is-good-range : tie.Need-add-is-good-range
 add-is-good-range c = search needs
 
--- src/lib.rt:195:30
 mul-is-good-range-2 : tie.Need-mul-is-good-range-2
 mul-is-good-range-2 c = search needs
 
--- src/lib.rt:195:30
 shared-slice-read-is-good-range-2 : tie.Need-shared-slice-read-is-good-range-2
 shared-slice-read-is-good-range-2 c = search needs
 
--- src/lib.rt:195:9
 is-good-range-requires : tie.Need-is-good-range-requires
 is-good-range-requires c κs = search needs
 
--- src/lib.rt:196:9
 returns : tie.Need-returns
 unfolding node-fields node-from
 returns c = rw (sym (c .before .is-good-range .ensures) ∙ not-true _ (c .if1 .taken))
 
--- src/lib.rt:198:12
 add-wide : tie.Need-add-wide
 add-wide c = search needs
 
--- src/lib.rt:198:10
 mul-wide : tie.Need-mul-wide
 mul-wide c = search needs
 
--- src/lib.rt:198:10
 shared-slice-read-wide : tie.Need-shared-slice-read-wide
 shared-slice-read-wide c = search needs
 
--- src/lib.rt:198:5
 wide-requires : tie.Need-wide-requires
 wide-requires c κs = search needs
 
--- src/lib.rt:191:1
 returns-2 : tie.Need-returns-2
 unfolding node-fields node-from
 returns-2 c = rw (sym (c .before .before .before .is-good-range .ensures) ∙ not-false _ (c .before .before .if1 .left), c .wide .ensures)

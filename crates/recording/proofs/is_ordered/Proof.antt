@@ -8,19 +8,15 @@ use Rattle.recording.proofs.is_ordered.Lts as lts
 use Rattle.recording.proofs.wide.Reads as wide-reads
 use Rattle.segments.proofs.judge_segments.Reads as judge-segments-reads
 
--- src/lib.rt:308:26
 wide-requires : tie.Need-wide-requires
 wide-requires c κs = search needs
 
--- src/lib.rt:308:39
 wide-requires-2 : tie.Need-wide-requires-2
 wide-requires-2 c κs = search needs
 
--- src/lib.rt:308:5
 judge-segments-requires : tie.Need-judge-segments-requires
 judge-segments-requires c κs = rw (c .before .wide .ensures, c .wide2 .ensures) (range-fits (c .before .before .before .args .list .now) _ _ (c .before .before .before .pre .0))
 
--- src/lib.rt:304:1
 returns : tie.Need-returns
 returns c = rw (c .judge-segments .ensures, c .before .before .wide .ensures, c .before .wide2 .ensures) (range-judged _ _ _ (c .before .before .before .before .pre .0) (c .before .before .before .before .pre .1))
 

@@ -16,39 +16,30 @@ Inv-loop w a n i₀ i = (i ≤ n) × Rest word-from 1 w is-zero a n i
 abbrev μ-loop : tie.MeasureT-loop
 μ-loop w a n i₀ i = n - i
 
--- src/lib.rt:66:5
 loop-holds : tie.Need-loop-holds Inv-loop μ-loop
 loop-holds c = (omega arith, begun word-from 1 _ is-zero _ _)
 
--- src/lib.rt:67:14
 add-if1 : tie.Need-add-if1 Inv-loop μ-loop
 add-if1 c = omega arith
 
--- src/lib.rt:67:12
 mul-if1 : tie.Need-mul-if1 Inv-loop μ-loop
 mul-if1 c = omega arith
 
--- src/lib.rt:67:12
 shared-slice-read-if1 : tie.Need-shared-slice-read-if1 Inv-loop μ-loop
 shared-slice-read-if1 c = omega arith
 
--- src/lib.rt:68:13
 returns : tie.Need-returns Inv-loop μ-loop
 returns c = refused word-from 1 _ is-zero _ _ _ (omega arith) (c .before .before .before .loop .inv .1) (rw one-mul (ne-eqb _ _ (c .if1 .taken)))
 
--- src/lib.rt:70:9
 add-i : tie.Need-add-i Inv-loop μ-loop
 add-i c = omega arith
 
--- src/lib.rt:66:5
 loop-less : tie.Need-loop-less Inv-loop μ-loop
 loop-less c = omega arith
 
--- src/lib.rt:66:5
 loop-again : tie.Need-loop-again Inv-loop μ-loop
 loop-again c = (omega arith, turned word-from 1 _ is-zero _ _ _ (omega arith) (c .before .before .before .loop .inv .1) (rw one-mul (eq-eqb _ _ (c .if1 .left))))
 
--- src/lib.rt:61:1
 returns-2 : tie.Need-returns-2 Inv-loop μ-loop
 returns-2 c = ended word-from 1 _ is-zero _ _ _ (omega arith) (c .before .loop .inv .1)
 

@@ -11,22 +11,22 @@ use Rattle.recording.proofs.clips_ordered.Reads as clips-ordered-reads
 use Rattle.recording.proofs.draws_ordered.Reads as draws-ordered-reads
 
 mul-e : tie.Need-mul-e
-mul-e c = search needs
+mul-e c = omega arith
 
 add-e : tie.Need-add-e
-add-e c = search needs
+add-e c = omega arith
 
 mul-draws-ordered : tie.Need-mul-draws-ordered
-mul-draws-ordered c = search needs
+mul-draws-ordered c = omega arith
 
 sub-draws-ordered : tie.Need-sub-draws-ordered
-sub-draws-ordered c = search needs
+sub-draws-ordered c = omega arith
 
 part-draws-ordered-start : tie.Need-part-draws-ordered-start
-part-draws-ordered-start c = search needs
+part-draws-ordered-start c = omega arith
 
 part-draws-ordered-end : tie.Need-part-draws-ordered-end
-part-draws-ordered-end c = search needs
+part-draws-ordered-end c = omega arith
 
 draws-ordered-requires : tie.Need-draws-ordered-requires
 draws-ordered-requires c κs = let r = ready (c .before .before .before .before .before .before .pre .0) (c .before .before .before .before .before .before .pre .1) in (search needs, (r .draws, r .segments))
@@ -35,16 +35,16 @@ returns : tie.Need-returns
 returns c = bad-draw-order (c .before .before .before .before .before .before .before .before .pre .0) (sym (c .before .draws-ordered .ensures) ∙ not-true _ (c .if1 .taken))
 
 mul-clips-ordered : tie.Need-mul-clips-ordered
-mul-clips-ordered c = search needs
+mul-clips-ordered c = omega arith
 
 sub-clips-ordered : tie.Need-sub-clips-ordered
-sub-clips-ordered c = search needs
+sub-clips-ordered c = omega arith
 
 part-clips-ordered-start : tie.Need-part-clips-ordered-start
-part-clips-ordered-start c = search needs
+part-clips-ordered-start c = omega arith
 
 part-clips-ordered-end : tie.Need-part-clips-ordered-end
-part-clips-ordered-end c = search needs
+part-clips-ordered-end c = omega arith
 
 clips-ordered-requires : tie.Need-clips-ordered-requires
 clips-ordered-requires c κs = let r = ready (c .before .before .before .before .before .before .before .before .before .pre .0) (c .before .before .before .before .before .before .before .before .before .pre .1) in (search needs, (r .layers, r .segments))

@@ -1,3 +1,4 @@
+use native.Mathlib.Omega.{arith}
 use mathlib.Core.Path.{sym, ap, _∙_}
 use borrow.Author.Tests.{not-true, not-false}
 use Rattle.rules.specs.Lists.{every}
@@ -23,22 +24,22 @@ returns : tie.Need-returns
 returns c = bad-paints (c .before .before .before .before .before .before .before .before .before .pre) (sym (c .before .good-paints .ensures) ∙ not-true _ (c .if1 .taken))
 
 mul-e : tie.Need-mul-e
-mul-e c = search needs
+mul-e c = omega arith
 
 add-e : tie.Need-add-e
-add-e c = search needs
+add-e c = omega arith
 
 mul-good-segments : tie.Need-mul-good-segments
-mul-good-segments c = search needs
+mul-good-segments c = omega arith
 
 sub-good-segments : tie.Need-sub-good-segments
-sub-good-segments c = search needs
+sub-good-segments c = omega arith
 
 part-good-segments-start : tie.Need-part-good-segments-start
-part-good-segments-start c = search needs
+part-good-segments-start c = omega arith
 
 part-good-segments-end : tie.Need-part-good-segments-end
-part-good-segments-end c = search needs
+part-good-segments-end c = omega arith
 
 good-segments-requires : tie.Need-good-segments-requires
 good-segments-requires c κs = search needs
@@ -65,19 +66,19 @@ returns-5 : tie.Need-returns-5
 returns-5 c = bad-nodes (c .before .before .before .before .before .before .before .before .before .before .before .before .before .before .before .before .before .before .before .pre) (sym (c .before .before .before .before .before .before .before .before .before .before .before .good-paints .ensures) ∙ not-false _ (c .before .before .before .before .before .before .before .before .before .before .if1 .left)) (sym (c .before .before .before .before .before .before .before .good-segments .ensures ∙ ap (every good-segment) (lent-segments _ _ _ (c .before .before .before .before .before .before .before .before .before .before .before .before .before .before .before .before .before .before .before .pre .segments .ends))) ∙ not-false _ (c .before .before .before .before .before .before .if2 .left)) (sym (c .before .before .before .before .before .good-draws .ensures) ∙ not-false _ (c .before .before .before .before .if3 .left)) (sym (c .before .before .before .good-layers .ensures) ∙ not-false _ (c .before .before .if4 .left)) (sym (c .before .good-nodes .ensures) ∙ not-true _ (c .if5 .taken))
 
 mul-is-good-range : tie.Need-mul-is-good-range
-mul-is-good-range c = search needs
+mul-is-good-range c = omega arith
 
 shared-slice-read-is-good-range : tie.Need-shared-slice-read-is-good-range
-shared-slice-read-is-good-range c = search needs
+shared-slice-read-is-good-range c = omega arith
 
 add-is-good-range : tie.Need-add-is-good-range
-add-is-good-range c = search needs
+add-is-good-range c = omega arith
 
 mul-is-good-range-2 : tie.Need-mul-is-good-range-2
-mul-is-good-range-2 c = search needs
+mul-is-good-range-2 c = omega arith
 
 shared-slice-read-is-good-range-2 : tie.Need-shared-slice-read-is-good-range-2
-shared-slice-read-is-good-range-2 c = search needs
+shared-slice-read-is-good-range-2 c = omega arith
 
 is-good-range-requires : tie.Need-is-good-range-requires
 is-good-range-requires c κs = search needs

@@ -1,7 +1,7 @@
+use native.Mathlib.Omega.{arith}
 use borrow.Author.Tests.{eq-eqb, ne-eqb}
 use Rattle.form.specs.Places.{layer-from, clip-from}
 use Rattle.recording.specs.Judging.{clip-range, clip-ordered}
-use borrow.Author.Needs.{needs}
 use Rattle.recording.proofs.is_clip_ordered.Statement.{statement}
 use Rattle.recording.proofs.is_clip_ordered.Tie as tie
 use Rattle.recording.proofs.is_clip_ordered.Reads as reads
@@ -9,31 +9,31 @@ use Rattle.recording.proofs.is_clip_ordered.Lts as lts
 use Rattle.recording.proofs.is_ordered.Reads as is-ordered-reads
 
 add-if1 : tie.Need-add-if1
-add-if1 c = search needs
+add-if1 c = omega arith
 
 mul-if1 : tie.Need-mul-if1
-mul-if1 c = search needs
+mul-if1 c = omega arith
 
 shared-slice-read-if1 : tie.Need-shared-slice-read-if1
-shared-slice-read-if1 c = search needs
+shared-slice-read-if1 c = omega arith
 
 add-is-ordered : tie.Need-add-is-ordered
-add-is-ordered c = search needs
+add-is-ordered c = omega arith
 
 mul-is-ordered : tie.Need-mul-is-ordered
-mul-is-ordered c = search needs
+mul-is-ordered c = omega arith
 
 shared-slice-read-is-ordered : tie.Need-shared-slice-read-is-ordered
-shared-slice-read-is-ordered c = search needs
+shared-slice-read-is-ordered c = omega arith
 
 add-is-ordered-2 : tie.Need-add-is-ordered-2
-add-is-ordered-2 c = search needs
+add-is-ordered-2 c = omega arith
 
 mul-is-ordered-2 : tie.Need-mul-is-ordered-2
-mul-is-ordered-2 c = search needs
+mul-is-ordered-2 c = omega arith
 
 shared-slice-read-is-ordered-2 : tie.Need-shared-slice-read-is-ordered-2
-shared-slice-read-is-ordered-2 c = search needs
+shared-slice-read-is-ordered-2 c = omega arith
 
 is-ordered-requires : tie.Need-is-ordered-requires
 unfolding clip-range layer-from clip-from

@@ -1,3 +1,4 @@
+use native.Mathlib.Omega.{arith}
 use mathlib.Core.Path.{_∙_}
 use borrow.Author.Tests.{eq-eqb, ne-eqb}
 use Rattle.form.specs.Places.{layer-from}
@@ -12,13 +13,13 @@ use Rattle.recording.proofs.is_good_clip.Reads as is-good-clip-reads
 use Rattle.recording.proofs.zeros.Reads as zeros-reads
 
 add-if1 : tie.Need-add-if1
-add-if1 c = search needs
+add-if1 c = omega arith
 
 mul-if1 : tie.Need-mul-if1
-mul-if1 c = search needs
+mul-if1 c = omega arith
 
 shared-slice-read-if1 : tie.Need-shared-slice-read-if1
-shared-slice-read-if1 c = search needs
+shared-slice-read-if1 c = omega arith
 
 is-good-clip-requires : tie.Need-is-good-clip-requires
 is-good-clip-requires c κs = search needs
@@ -28,7 +29,7 @@ unfolding clip-part layer-from
 returns c = rw (eq-eqb _ _ (c .before .if1 .taken)) (c .is-good-clip .ensures)
 
 add-zeros : tie.Need-add-zeros
-add-zeros c = search needs
+add-zeros c = omega arith
 
 zeros-requires : tie.Need-zeros-requires
 zeros-requires c κs = search needs

@@ -1,3 +1,4 @@
+use native.Mathlib.Omega.{arith}
 use mathlib.Core.Path.{_∙_}
 use borrow.Author.Tests.{eq-eqb, ne-eqb}
 use Rattle.form.specs.Places.{layer-from}
@@ -12,10 +13,10 @@ use Rattle.recording.proofs.is_good_filter.Reads as is-good-filter-read
 use Rattle.recording.proofs.zeros.Reads as zeros-reads
 
 mul-if1 : tie.Need-mul-if1
-mul-if1 c = search needs
+mul-if1 c = omega arith
 
 shared-slice-read-if1 : tie.Need-shared-slice-read-if1
-shared-slice-read-if1 c = search needs
+shared-slice-read-if1 c = omega arith
 
 is-good-filter-requires : tie.Need-is-good-filter-requires
 is-good-filter-requires c κs = search needs
@@ -25,7 +26,7 @@ unfolding filter-part layer-from
 returns c = rw (eq-eqb _ _ (c .before .if1 .taken)) (c .is-good-filter .ensures)
 
 add-zeros : tie.Need-add-zeros
-add-zeros c = search needs
+add-zeros c = omega arith
 
 zeros-requires : tie.Need-zeros-requires
 zeros-requires c κs = search needs

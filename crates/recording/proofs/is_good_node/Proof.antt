@@ -1,3 +1,4 @@
+use native.Mathlib.Omega.{arith}
 use mathlib.Core.Path.{sym, _∙_}
 use borrow.Author.Tests.{not-true, not-false}
 use Rattle.form.specs.Places.{node-from}
@@ -11,19 +12,19 @@ use Rattle.recording.proofs.is_good_range.Reads as is-good-range-reads
 use Rattle.recording.proofs.wide.Reads as wide-reads
 
 mul-is-good-range : tie.Need-mul-is-good-range
-mul-is-good-range c = search needs
+mul-is-good-range c = omega arith
 
 shared-slice-read-is-good-range : tie.Need-shared-slice-read-is-good-range
-shared-slice-read-is-good-range c = search needs
+shared-slice-read-is-good-range c = omega arith
 
 add-is-good-range : tie.Need-add-is-good-range
-add-is-good-range c = search needs
+add-is-good-range c = omega arith
 
 mul-is-good-range-2 : tie.Need-mul-is-good-range-2
-mul-is-good-range-2 c = search needs
+mul-is-good-range-2 c = omega arith
 
 shared-slice-read-is-good-range-2 : tie.Need-shared-slice-read-is-good-range-2
-shared-slice-read-is-good-range-2 c = search needs
+shared-slice-read-is-good-range-2 c = omega arith
 
 is-good-range-requires : tie.Need-is-good-range-requires
 is-good-range-requires c κs = search needs
@@ -33,13 +34,13 @@ unfolding node-fields node-from
 returns c = rw (sym (c .before .is-good-range .ensures) ∙ not-true _ (c .if1 .taken))
 
 add-wide : tie.Need-add-wide
-add-wide c = search needs
+add-wide c = omega arith
 
 mul-wide : tie.Need-mul-wide
-mul-wide c = search needs
+mul-wide c = omega arith
 
 shared-slice-read-wide : tie.Need-shared-slice-read-wide
-shared-slice-read-wide c = search needs
+shared-slice-read-wide c = omega arith
 
 wide-requires : tie.Need-wide-requires
 wide-requires c κs = search needs

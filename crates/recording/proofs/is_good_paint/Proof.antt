@@ -1,29 +1,29 @@
+use native.Mathlib.Omega.{arith}
 use borrow.Author.Tests.{le-leb, lt-leb}
 use Rattle.form.specs.Places.{paint-from}
-use borrow.Author.Needs.{needs}
 use Rattle.recording.proofs.is_good_paint.Statement.{statement}
 use Rattle.recording.proofs.is_good_paint.Tie as tie
 use Rattle.recording.proofs.is_good_paint.Reads as reads
 use Rattle.recording.proofs.is_good_paint.Lts as lts
 
 mul-if1 : tie.Need-mul-if1
-mul-if1 c = search needs
+mul-if1 c = omega arith
 
 shared-slice-read-if1 : tie.Need-shared-slice-read-if1
-shared-slice-read-if1 c = search needs
+shared-slice-read-if1 c = omega arith
 
 returns : tie.Need-returns
 unfolding paint-from
 returns c = rw (lt-leb _ _ (c .if1 .taken))
 
 add-result : tie.Need-add-result
-add-result c = search needs
+add-result c = omega arith
 
 mul-result : tie.Need-mul-result
-mul-result c = search needs
+mul-result c = omega arith
 
 shared-slice-read-result : tie.Need-shared-slice-read-result
-shared-slice-read-result c = search needs
+shared-slice-read-result c = omega arith
 
 returns-2 : tie.Need-returns-2
 unfolding paint-from

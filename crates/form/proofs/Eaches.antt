@@ -43,6 +43,18 @@ module _ {A : Type 0} (f : List ℕ → ℕ → A) (k : ℕ) (ws : List ℕ) whe
   each-record g e p zero = refl
   each-record g e p (suc n) = rw (e p, drop-drop k p ws, each-record g e (p + k) n)
 
+  -- records within a part of the words, where f reads only its own k words
+  module _ (a m : ℕ) (near : (i : ℕ) → i + k ≤ m → f (take m (drop a ws)) i ≡ f ws (a + i)) where
+    by-part : (n i : ℕ) → i + k * n ≤ m → each f k (take m (drop a ws)) i n ≡ each f k ws (a + i) n
+    unfolding each
+    by-part zero i h = refl
+    by-part (suc n) i h =
+        let e : i + k * suc n ≡ i + k + k * n = rw (mul-suc k n) (omega arith) in
+        rw (near i (omega arith), by-part n (i + k) (omega arith), add-assoc a i k)
+
+    pub each-part : (n : ℕ) → k * n ≤ m → each f k (take m (drop a ws)) 0 n ≡ each f k ws a n
+    each-part n h = rw (add-zero a) at (by-part n 0 (omega arith))
+
   by-none : (p m : ℕ) → m ≡ 0 → each f k ws p m ≡ []
   unfolding each
   by-none p m e = rw e

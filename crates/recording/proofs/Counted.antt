@@ -21,7 +21,7 @@ use Rattle.form.proofs.Reading.{reads}
 use Rattle.recording.specs.Judging.{draw-fields, clip-fields, clip-part, filter-part, layer-fields, node-fields, draw-range, clip-range, draw-ordered, clip-ordered, judged}
 
 -- what a test says of every element, it says of each
-every-getD : {A : Type 0} (test : A → Bool) (xs : List A) (i : ℕ) (d : A) → i < length xs → every test xs ≡ true → test (getD xs i d) ≡ true
+pub every-getD : {A : Type 0} (test : A → Bool) (xs : List A) (i : ℕ) (d : A) → i < length xs → every test xs ≡ true → test (getD xs i d) ≡ true
 every-getD test [] i d h q = absurd (omega arith)
 every-getD test (x ∷ xs) zero d h q = both (test x) (every test xs) q .0
 every-getD test (x ∷ xs) (suc i) d h q = every-getD test xs i d (omega arith) (both (test x) (every test xs) q .1)

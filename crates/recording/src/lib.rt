@@ -258,12 +258,12 @@ fn good_nodes(w: &[u32], at: usize, n: usize, draws: usize, layers: usize) -> bo
     requires { ⌜ at + 3 * n ≤ length (now w) ⌝ }
     ensures { λ r. ⌜ r ≡ every (node-fields draws layers) (each node-from 3 (now (w .entry)) at n) ⌝ }
 {
-    let mut i = 0;
-    while i < n {
-        if !is_good_node(w, at + 3 * i, draws, layers) {
+    let mut node = 0;
+    while node < n {
+        if !is_good_node(w, at + 3 * node, draws, layers) {
             return false;
         }
-        i += 1;
+        node += 1;
     }
     true
 }

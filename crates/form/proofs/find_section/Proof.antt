@@ -7,10 +7,6 @@ use Rattle.form.proofs.Laid.{product}
 use borrow.Author.Needs.{needs}
 use Rattle.form.proofs.find_section.Statement.{statement}
 use Rattle.form.proofs.find_section.Tie as tie
-use Rattle.form.proofs.find_section.Reads as reads
-use Rattle.form.proofs.find_section.Lts as lts
-use Rattle.form.proofs.is_good_count.Reads as is-good-count-reads
-use Rattle.form.proofs.wide.Reads as wide-reads
 
 returns : tie.Need-returns
 unfolding stands

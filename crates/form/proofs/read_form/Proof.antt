@@ -1,5 +1,6 @@
+use native.Mathlib.Omega.{arith}
 use mathlib.Core.Path.{sym, _∙_}
-use mathlib.Core.Bool.{Bool, true, false}
+use mathlib.Core.Bool.{true, false}
 use mathlib.Core.List.{List, [], _∷_, _++_}
 use Prim.Native.Nat.{ℕ}
 use Rattle.form.specs.declared.Section.{Section}
@@ -7,9 +8,6 @@ use Rattle.form.proofs.Laid.{Upto, begin, more, lacking, longer, exact}
 use borrow.Author.Needs.{needs}
 use Rattle.form.proofs.read_form.Statement.{statement}
 use Rattle.form.proofs.read_form.Tie as tie
-use Rattle.form.proofs.read_form.Reads as reads
-use Rattle.form.proofs.read_form.Lts as lts
-use Rattle.form.proofs.find_section.Reads as find-section-reads
 
 -- what is found so far, after each section
 abbrev words-viewport : tie.After-known-told → List ℕ
@@ -160,7 +158,7 @@ returns-7 : tie.Need-returns-7
 returns-7 c = lacking (nodes-read (c .before .before .before)) (sym (c .enum-told7 .given .1) ∙ c .before .before .find-section7 .ensures)
 
 returns-8 : tie.Need-returns-8
-returns-8 c = longer (root-read (c .before)) (c .if1 .taken)
+returns-8 c = longer (root-read (c .before)) (λ e. omega arith)
 
 returns-9 : tie.Need-returns-9
 returns-9 c = exact (root-read (c .before)) (c .if1 .left)

@@ -2,9 +2,6 @@ use Rattle.form.specs.Words.{word-from}
 use borrow.Author.Needs.{needs}
 use Rattle.form.proofs.word_at.Statement.{statement}
 use Rattle.form.proofs.word_at.Tie as tie
-use Rattle.form.proofs.word_at.Reads as reads
-use Rattle.form.proofs.word_at.Lts as lts
-use Rattle.form.proofs.byte.Reads as byte-reads
 
 shared-slice-read-byte : tie.Need-shared-slice-read-byte
 shared-slice-read-byte c = search needs

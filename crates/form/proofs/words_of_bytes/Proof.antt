@@ -6,9 +6,6 @@ use mathlib.Core.Path.{refl}
 use Rattle.form.specs.Each.{each}
 use Rattle.form.proofs.words_of_bytes.Statement.{statement}
 use Rattle.form.proofs.words_of_bytes.Tie as tie
-use Rattle.form.proofs.words_of_bytes.Reads as reads
-use Rattle.form.proofs.words_of_bytes.Lts as lts
-use Rattle.form.proofs.word_at.Reads as word-at-reads
 
 abbrev Inv-loop : tie.InvT-loop
 Inv-loop bytes words₀ n i₀ words i = (i ≤ length bytes / 4) × Put bytes words₀ i words

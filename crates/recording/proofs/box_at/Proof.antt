@@ -3,8 +3,6 @@ use mathlib.Core.Path.{refl}
 use Rattle.recording.specs.Judging.{box-from}
 use Rattle.recording.proofs.box_at.Statement.{statement}
 use Rattle.recording.proofs.box_at.Tie as tie
-use Rattle.recording.proofs.box_at.Reads as reads
-use Rattle.recording.proofs.box_at.Lts as lts
 
 mul-t3 : tie.Need-mul-t3
 mul-t3 c = omega arith

@@ -9,9 +9,6 @@ use Rattle.segments.specs.Segs.{segs-of}
 use Rattle.recording.specs.Judging.{clip-ordered, clip-range}
 use Rattle.recording.proofs.clips_ordered.Statement.{statement}
 use Rattle.recording.proofs.clips_ordered.Tie as tie
-use Rattle.recording.proofs.clips_ordered.Reads as reads
-use Rattle.recording.proofs.clips_ordered.Lts as lts
-use Rattle.recording.proofs.is_clip_ordered.Reads as is-clip-ordered-reads
 
 abbrev Inv-loop : tie.InvT-loop
 Inv-loop w at n list i₀ i = (i ≤ n) × Rest layer-from 22 w (clip-ordered (segs-of list)) at n i

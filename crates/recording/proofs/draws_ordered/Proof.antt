@@ -9,9 +9,6 @@ use Rattle.segments.specs.Segs.{segs-of}
 use Rattle.recording.specs.Judging.{draw-ordered, draw-range}
 use Rattle.recording.proofs.draws_ordered.Statement.{statement}
 use Rattle.recording.proofs.draws_ordered.Tie as tie
-use Rattle.recording.proofs.draws_ordered.Reads as reads
-use Rattle.recording.proofs.draws_ordered.Lts as lts
-use Rattle.recording.proofs.is_ordered.Reads as is-ordered-reads
 
 abbrev Inv-loop : tie.InvT-loop
 Inv-loop w at n list i₀ i = (i ≤ n) × Rest draw-from 7 w (draw-ordered (segs-of list)) at n i

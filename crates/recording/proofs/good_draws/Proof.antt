@@ -7,9 +7,6 @@ use Rattle.form.specs.Places.{draw-from}
 use Rattle.form.proofs.Eaches.{Rest, begun, ended, refused, turned}
 use Rattle.recording.proofs.good_draws.Statement.{statement}
 use Rattle.recording.proofs.good_draws.Tie as tie
-use Rattle.recording.proofs.good_draws.Reads as reads
-use Rattle.recording.proofs.good_draws.Lts as lts
-use Rattle.recording.proofs.is_good_draw.Reads as is-good-draw-reads
 
 abbrev Inv-loop : tie.InvT-loop
 Inv-loop w at n paints segments i₀ i = (i ≤ n) × Rest draw-from 7 w (draw-fields paints segments) at n i

@@ -7,9 +7,6 @@ use Rattle.form.specs.Places.{layer-from}
 use Rattle.form.proofs.Eaches.{Rest, begun, ended, refused, turned}
 use Rattle.recording.proofs.good_layers.Statement.{statement}
 use Rattle.recording.proofs.good_layers.Tie as tie
-use Rattle.recording.proofs.good_layers.Reads as reads
-use Rattle.recording.proofs.good_layers.Lts as lts
-use Rattle.recording.proofs.is_good_layer.Reads as is-good-layer-reads
 
 abbrev Inv-loop : tie.InvT-loop
 Inv-loop w at n nodes segments i₀ i = (i ≤ n) × Rest layer-from 22 w (layer-fields nodes segments) at n i

@@ -7,15 +7,12 @@ use Rattle.form.specs.Places.{node-from}
 use Rattle.form.proofs.Eaches.{Rest, begun, ended, refused, turned}
 use Rattle.recording.proofs.good_nodes.Statement.{statement}
 use Rattle.recording.proofs.good_nodes.Tie as tie
-use Rattle.recording.proofs.good_nodes.Reads as reads
-use Rattle.recording.proofs.good_nodes.Lts as lts
-use Rattle.recording.proofs.is_good_node.Reads as is-good-node-reads
 
 abbrev Inv-loop : tie.InvT-loop
-Inv-loop w at n draws layers i₀ i = (i ≤ n) × Rest node-from 3 w (node-fields draws layers) at n i
+Inv-loop w at n draws layers node₀ node = (node ≤ n) × Rest node-from 3 w (node-fields draws layers) at n node
 
 abbrev μ-loop : tie.MeasureT-loop
-μ-loop w at n draws layers i₀ i = n - i
+μ-loop w at n draws layers node₀ node = n - node
 
 loop-holds : tie.Need-loop-holds Inv-loop μ-loop
 loop-holds c = (omega arith, begun node-from 3 _ (node-fields (c .before .args .draws) (c .before .args .layers)) _ _)
@@ -32,8 +29,8 @@ is-good-node-requires c κs = omega arith
 returns : tie.Need-returns Inv-loop μ-loop
 returns c = refused node-from 3 _ (node-fields (c .before .before .before .before .before .args .draws) (c .before .before .before .before .before .args .layers)) _ _ _ (omega arith) (c .before .before .before .loop .inv .1) (sym (c .before .is-good-node .ensures) ∙ not-true _ (c .if1 .taken))
 
-add-i : tie.Need-add-i Inv-loop μ-loop
-add-i c = omega arith
+add-node : tie.Need-add-node Inv-loop μ-loop
+add-node c = omega arith
 
 loop-less : tie.Need-loop-less Inv-loop μ-loop
 loop-less c = omega arith
@@ -55,7 +52,7 @@ good-nodes-spec =
     add-is-good-node
     is-good-node-requires
     returns
-    add-i
+    add-node
     loop-less
     loop-again
     returns-2)

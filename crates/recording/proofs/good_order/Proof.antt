@@ -5,10 +5,6 @@ use Rattle.recording.proofs.Orders.{ready, bad-draw-order, clips-left}
 use borrow.Author.Needs.{needs}
 use Rattle.recording.proofs.good_order.Statement.{statement}
 use Rattle.recording.proofs.good_order.Tie as tie
-use Rattle.recording.proofs.good_order.Reads as reads
-use Rattle.recording.proofs.good_order.Lts as lts
-use Rattle.recording.proofs.clips_ordered.Reads as clips-ordered-reads
-use Rattle.recording.proofs.draws_ordered.Reads as draws-ordered-reads
 
 mul-e : tie.Need-mul-e
 mul-e c = omega arith

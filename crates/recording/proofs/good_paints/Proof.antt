@@ -7,9 +7,6 @@ use Rattle.form.specs.Places.{paint-from}
 use Rattle.form.proofs.Eaches.{Rest, begun, ended, refused, turned}
 use Rattle.recording.proofs.good_paints.Statement.{statement}
 use Rattle.recording.proofs.good_paints.Tie as tie
-use Rattle.recording.proofs.good_paints.Reads as reads
-use Rattle.recording.proofs.good_paints.Lts as lts
-use Rattle.recording.proofs.is_good_paint.Reads as is-good-paint-reads
 
 abbrev Inv-loop : tie.InvT-loop
 Inv-loop w at n i₀ i = (i ≤ n) × Rest paint-from 4 w good-paint at n i

@@ -8,14 +8,6 @@ use Rattle.recording.proofs.Counted.{bad-paints, bad-segments, bad-draw
 use borrow.Author.Needs.{needs}
 use Rattle.recording.proofs.good_records.Statement.{statement}
 use Rattle.recording.proofs.good_records.Tie as tie
-use Rattle.recording.proofs.good_records.Reads as reads
-use Rattle.recording.proofs.good_records.Lts as lts
-use Rattle.recording.proofs.good_draws.Reads as good-draws-reads
-use Rattle.recording.proofs.good_layers.Reads as good-layers-reads
-use Rattle.recording.proofs.good_nodes.Reads as good-nodes-reads
-use Rattle.recording.proofs.good_paints.Reads as good-paints-reads
-use Rattle.recording.proofs.good_segments.Reads as good-segments-reads
-use Rattle.recording.proofs.is_good_range.Reads as is-good-range-reads
 
 good-paints-requires : tie.Need-good-paints-requires
 good-paints-requires c κs = search needs

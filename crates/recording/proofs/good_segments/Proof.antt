@@ -6,10 +6,6 @@ use borrow.Author.Tests.{not-true, not-false}
 use Rattle.recording.proofs.Listed.{Left, all-left, none-left, bad-one, good-one}
 use Rattle.recording.proofs.good_segments.Statement.{statement}
 use Rattle.recording.proofs.good_segments.Tie as tie
-use Rattle.recording.proofs.good_segments.Reads as reads
-use Rattle.recording.proofs.good_segments.Lts as lts
-use Rattle.segments.proofs.Segment.is_good.Reads as is-good-reads
-use Rattle.segments.proofs.segment_at.Reads as segment-at-reads
 
 abbrev Inv-loop : tie.InvT-loop
 Inv-loop list n i₀ i = (i ≤ length list / 5) × Left list (length list / 5) i

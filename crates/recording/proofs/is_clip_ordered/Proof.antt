@@ -4,9 +4,6 @@ use Rattle.form.specs.Places.{layer-from, clip-from}
 use Rattle.recording.specs.Judging.{clip-range, clip-ordered}
 use Rattle.recording.proofs.is_clip_ordered.Statement.{statement}
 use Rattle.recording.proofs.is_clip_ordered.Tie as tie
-use Rattle.recording.proofs.is_clip_ordered.Reads as reads
-use Rattle.recording.proofs.is_clip_ordered.Lts as lts
-use Rattle.recording.proofs.is_ordered.Reads as is-ordered-reads
 
 add-if1 : tie.Need-add-if1
 add-if1 c = omega arith

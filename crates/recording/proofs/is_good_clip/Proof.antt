@@ -8,11 +8,6 @@ use Rattle.recording.proofs.Fields.{clip-box}
 use borrow.Author.Needs.{needs}
 use Rattle.recording.proofs.is_good_clip.Statement.{statement}
 use Rattle.recording.proofs.is_good_clip.Tie as tie
-use Rattle.recording.proofs.is_good_clip.Reads as reads
-use Rattle.recording.proofs.is_good_clip.Lts as lts
-use Rattle.recording.proofs.box_at.Reads as box-at-reads
-use Rattle.recording.proofs.wide.Reads as wide-reads
-use Rattle.rect.proofs.Rect.is_good.Reads as is-good-reads
 
 add-box-at : tie.Need-add-box-at
 add-box-at c = omega arith

@@ -7,10 +7,6 @@ use Rattle.recording.proofs.Fields.{clip-zeros}
 use borrow.Author.Needs.{needs}
 use Rattle.recording.proofs.is_good_clip_part.Statement.{statement}
 use Rattle.recording.proofs.is_good_clip_part.Tie as tie
-use Rattle.recording.proofs.is_good_clip_part.Reads as reads
-use Rattle.recording.proofs.is_good_clip_part.Lts as lts
-use Rattle.recording.proofs.is_good_clip.Reads as is-good-clip-reads
-use Rattle.recording.proofs.zeros.Reads as zeros-reads
 
 add-if1 : tie.Need-add-if1
 add-if1 c = omega arith

@@ -6,11 +6,6 @@ use Rattle.recording.specs.Judging.{draw-fields}
 use borrow.Author.Needs.{needs}
 use Rattle.recording.proofs.is_good_draw.Statement.{statement}
 use Rattle.recording.proofs.is_good_draw.Tie as tie
-use Rattle.recording.proofs.is_good_draw.Reads as reads
-use Rattle.recording.proofs.is_good_draw.Lts as lts
-use Rattle.recording.proofs.is_good_blend.Reads as is-good-blend-reads
-use Rattle.recording.proofs.is_good_range.Reads as is-good-range-reads
-use Rattle.recording.proofs.wide.Reads as wide-reads
 
 mul-if1 : tie.Need-mul-if1
 mul-if1 c = omega arith

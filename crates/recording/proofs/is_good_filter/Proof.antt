@@ -7,10 +7,6 @@ use Rattle.recording.proofs.Fields.{filter-box}
 use borrow.Author.Needs.{needs}
 use Rattle.recording.proofs.is_good_filter.Statement.{statement}
 use Rattle.recording.proofs.is_good_filter.Tie as tie
-use Rattle.recording.proofs.is_good_filter.Reads as reads
-use Rattle.recording.proofs.is_good_filter.Lts as lts
-use Rattle.recording.proofs.box_at.Reads as box-at-reads
-use Rattle.rect.proofs.Rect.is_good_dest.Reads as is-good-dest-reads
 
 add-if1 : tie.Need-add-if1
 add-if1 c = omega arith

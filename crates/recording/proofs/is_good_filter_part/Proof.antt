@@ -7,10 +7,6 @@ use Rattle.recording.proofs.Fields.{filter-zeros}
 use borrow.Author.Needs.{needs}
 use Rattle.recording.proofs.is_good_filter_part.Statement.{statement}
 use Rattle.recording.proofs.is_good_filter_part.Tie as tie
-use Rattle.recording.proofs.is_good_filter_part.Reads as reads
-use Rattle.recording.proofs.is_good_filter_part.Lts as lts
-use Rattle.recording.proofs.is_good_filter.Reads as is-good-filter-reads
-use Rattle.recording.proofs.zeros.Reads as zeros-reads
 
 mul-if1 : tie.Need-mul-if1
 mul-if1 c = omega arith

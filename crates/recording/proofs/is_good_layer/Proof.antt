@@ -6,12 +6,6 @@ use Rattle.recording.specs.Judging.{layer-fields}
 use borrow.Author.Needs.{needs}
 use Rattle.recording.proofs.is_good_layer.Statement.{statement}
 use Rattle.recording.proofs.is_good_layer.Tie as tie
-use Rattle.recording.proofs.is_good_layer.Reads as reads
-use Rattle.recording.proofs.is_good_layer.Lts as lts
-use Rattle.recording.proofs.is_good_blend.Reads as is-good-blend-reads
-use Rattle.recording.proofs.is_good_clip_part.Reads as is-good-clip-part-reads
-use Rattle.recording.proofs.is_good_filter_part.Reads as is-good-filter-part-reads
-use Rattle.recording.proofs.is_good_range.Reads as is-good-range-reads
 
 mul-if1 : tie.Need-mul-if1
 mul-if1 c = omega arith

@@ -6,10 +6,6 @@ use Rattle.recording.specs.Judging.{node-fields}
 use borrow.Author.Needs.{needs}
 use Rattle.recording.proofs.is_good_node.Statement.{statement}
 use Rattle.recording.proofs.is_good_node.Tie as tie
-use Rattle.recording.proofs.is_good_node.Reads as reads
-use Rattle.recording.proofs.is_good_node.Lts as lts
-use Rattle.recording.proofs.is_good_range.Reads as is-good-range-reads
-use Rattle.recording.proofs.wide.Reads as wide-reads
 
 mul-is-good-range : tie.Need-mul-is-good-range
 mul-is-good-range c = omega arith

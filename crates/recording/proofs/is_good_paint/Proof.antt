@@ -3,8 +3,6 @@ use borrow.Author.Tests.{le-leb, lt-leb}
 use Rattle.form.specs.Places.{paint-from}
 use Rattle.recording.proofs.is_good_paint.Statement.{statement}
 use Rattle.recording.proofs.is_good_paint.Tie as tie
-use Rattle.recording.proofs.is_good_paint.Reads as reads
-use Rattle.recording.proofs.is_good_paint.Lts as lts
 
 mul-if1 : tie.Need-mul-if1
 mul-if1 c = omega arith

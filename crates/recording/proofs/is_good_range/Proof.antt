@@ -2,9 +2,6 @@ use borrow.Author.Tests.{le-leb, lt-leb}
 use borrow.Author.Needs.{needs}
 use Rattle.recording.proofs.is_good_range.Statement.{statement}
 use Rattle.recording.proofs.is_good_range.Tie as tie
-use Rattle.recording.proofs.is_good_range.Reads as reads
-use Rattle.recording.proofs.is_good_range.Lts as lts
-use Rattle.recording.proofs.wide.Reads as wide-reads
 
 returns : tie.Need-returns
 returns c = rw (lt-leb _ _ (c .if1 .taken))

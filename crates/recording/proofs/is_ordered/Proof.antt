@@ -1,12 +1,7 @@
-use native.Mathlib.Omega.{arith}
 use Rattle.recording.proofs.Listed.{range-fits, range-judged}
 use borrow.Author.Needs.{needs}
 use Rattle.recording.proofs.is_ordered.Statement.{statement}
 use Rattle.recording.proofs.is_ordered.Tie as tie
-use Rattle.recording.proofs.is_ordered.Reads as reads
-use Rattle.recording.proofs.is_ordered.Lts as lts
-use Rattle.recording.proofs.wide.Reads as wide-reads
-use Rattle.segments.proofs.judge_segments.Reads as judge-segments-reads
 
 wide-requires : tie.Need-wide-requires
 wide-requires c κs = search needs

@@ -3,10 +3,6 @@ use borrow.Author.Tests.{not-true, not-false}
 use borrow.Author.Needs.{needs}
 use Rattle.recording.proofs.judge_records.Statement.{statement}
 use Rattle.recording.proofs.judge_records.Tie as tie
-use Rattle.recording.proofs.judge_records.Reads as reads
-use Rattle.recording.proofs.judge_records.Lts as lts
-use Rattle.recording.proofs.good_order.Reads as good-order-reads
-use Rattle.recording.proofs.good_records.Reads as good-records-reads
 
 good-records-requires : tie.Need-good-records-requires
 good-records-requires c κs = search needs

@@ -1,14 +1,11 @@
 use Prim.Native.Nat.{_≤_, _-_}
 use native.Mathlib.Omega.{arith}
 use native.Mathlib.Nat.{one-mul}
-use mathlib.Core.Path.{_≡_, ap}
 use borrow.Author.Tests.{eq-eqb, ne-eqb}
 use Rattle.recording.specs.Judging.{word-from, is-zero}
 use Rattle.form.proofs.Eaches.{Rest, begun, ended, refused, turned}
 use Rattle.recording.proofs.zeros.Statement.{statement}
 use Rattle.recording.proofs.zeros.Tie as tie
-use Rattle.recording.proofs.zeros.Reads as reads
-use Rattle.recording.proofs.zeros.Lts as lts
 
 abbrev Inv-loop : tie.InvT-loop
 Inv-loop w a n i₀ i = (i ≤ n) × Rest word-from 1 w is-zero a n i

@@ -1,0 +1,4 @@
+pub mod Bytes
+pub mod Eaches
+pub mod Laid
+pub mod Reading

@@ -1,0 +1,4 @@
+pub mod Each
+pub mod Layouts
+pub mod Places
+pub mod Words

@@ -1,25 +1,24 @@
 -- What a fill's number 0 gives, and what a done fill leaves. Assumes nothing.
 use mathlib.Core.Path.{_≡_, refl, sym, ap, _∙_}
-use mathlib.Core.Bool.{Bool, true, false, _&&_, _||_, not, cond}
-use mathlib.Core.List.{List, [], _∷_, _++_, append-nil}
-use Prim.Native.Nat.{ℕ, zero, suc, _+_, _-_, _*_, _/_, _≤_, _<_}
+use mathlib.Core.Bool.{Bool, true, false, _&&_, not, cond}
+use mathlib.Core.List.{List, [], _∷_, append-nil}
+use Prim.Native.Nat.{ℕ, _+_, _-_, _*_, _≤_, _<_}
 use native.Mathlib.Omega.{arith}
 use lib.Dec.{ltb, eqb}
-use lib.ListN.{length, take, drop, take-append-drop}
+use lib.ListN.{length, drop, take-append-drop}
 use lib.Seq.{drop-at, drop-length}
 use borrow.Author.Tests.{eqb-true, eqb-false, ne-eqb, ltb-true, ltb-false}
-use Rattle.rules.specs.Lists.{join, every, keep}
-use Rattle.rules.specs.Answers.{Answer, answer, settle, Done, BadRecord, first-of}
-use Rattle.rules.specs.Boxes.{Box, good-viewport, rows-of}
+use Rattle.rules.specs.Lists.{join, every}
+use Rattle.rules.specs.Answers.{answer, Done, BadRecord, first-of}
+use Rattle.rules.specs.Boxes.{good-viewport, rows-of}
 use Rattle.rules.specs.Segments.{Segment, good-segment, ordered, judge-segments}
 use Rattle.rules.specs.Inputs.{good-draw, draw-segments}
 use Rattle.rules.specs.Attributes.{attrs-full, paint-attr-words}
-use Rattle.rules.specs.Plans.{Plan, draw-puts, with-paint, plan-fill}
+use Rattle.rules.specs.Plans.{Plan, draw-puts, plan-fill}
 use Rattle.rules.proofs.All.{never}
 use Rattle.rules.specs.Steps as steps
 use Rattle.rules.specs.Steps.{do-puts, done, passes, refusal}
-use Rattle.cmd.specs.Blends.{blend-of}
-use Rattle.cmd.specs.Attrs.{words-at, paint-words, put-paint}
+use Rattle.cmd.specs.Attrs.{words-at, put-paint}
 use Rattle.cmd.specs.declared.attrs.PaintFillAttrs.{PaintFillAttrs}
 use Rattle.row.specs.Words.{Words, word, word-ops}
 use Rattle.arena.specs.Arena.{sizes, lay}
@@ -34,16 +33,15 @@ use Rattle.segments.specs.Segs as segs
 use Rattle.segments.specs.Segs.{segs-of}
 use Rattle.segments.proofs.Laws as listed
 use Rattle.fillrows.specs.Filling as filling
-use Rattle.fillrows.specs.Filling.{count-rows, puts-of, Roomy, Whole, Ready}
-use Rattle.fillrows.proofs.Laws.{rows-counted}
+use Rattle.fillrows.specs.Filling.{puts-of, Ready}
 use Rattle.tally.specs.Tallies.{cuts-of}
 use Rattle.tally.proofs.Rising.{rising}
 use Rattle.tally.proofs.Judged.{all-landed, roomy-judged}
 use Rattle.fill.specs.declared.Draw.{Draw}
 use Rattle.fill.specs.Fills.{draw-of, paints-of, job-of, Passing, Lent, lent, fill-plan, good-lists, first-number, first-of-lent, fill-number, fill-done, filled}
 use Rattle.fill.proofs.Inputs.{GoodDraw, draw-facts}
-use Rattle.fill.proofs.Planned.{good-unless, state-frame, state-next, plan-layers, plan-next, refused-bad, refused-are, puts-are, rows-are, attrs-same, attrs-more, room-for-one, full-attrs, paints-more, filters-same}
-use Rattle.fill.proofs.Numbers.{right-lengths, passing, long, rowed, good-are}
+use Rattle.fill.proofs.Planned.{state-frame, state-next, plan-layers, plan-next, refused-bad, refused-are, puts-are, rows-are, attrs-same, attrs-more, full-attrs, paints-more, filters-same}
+use Rattle.fill.proofs.Numbers.{passing, long, rowed, good-are}
 
 -- every number is an answer's
 if-small : (b : Bool) (x : ℕ) {y : ℕ} → x ≤ 14 → y ≤ 14 → cond b x y ≤ 14

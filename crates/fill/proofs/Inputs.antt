@@ -1,13 +1,13 @@
 -- The inputs of a fill: paints as words, and the scene of a judged screen. Assumes nothing.
-use mathlib.Core.Path.{_≡_, refl, sym, ap, _∙_}
+use mathlib.Core.Path.{_≡_, refl, sym, ap}
 use mathlib.Core.Bool.{Bool, true, false, _&&_}
-use mathlib.Core.List.{List, [], _∷_}
-use Prim.Native.Nat.{ℕ, zero, suc, _+_, _-_, _*_, _/_, _%_, _≤_, _<_}
+use mathlib.Core.List.{List}
+use Prim.Native.Nat.{ℕ, zero, suc, _+_, _/_, _≤_, _<_}
 use native.Mathlib.Omega.{arith}
 use lib.Dec.{leb, ltb}
 use lib.ListN.{length, getD}
 use borrow.Author.Tests.{leb-true, leb-false, ltb-true, lt-ltb, le-ltb}
-use Rattle.rules.specs.Boxes.{Box, box, scene-tiles}
+use Rattle.rules.specs.Boxes.{Box, scene-tiles}
 use Rattle.rules.specs.Blends.{good-blend}
 use Rattle.rules.specs.Inputs.{Paint, good-paint, good-handle, good-draw, draw-paint}
 use Rattle.rules.proofs.All.{both}
@@ -15,7 +15,7 @@ use Rattle.rect.specs.Rects.{box-of}
 use Rattle.screen.specs.declared.Screen.{Screen}
 use Rattle.screen.proofs.Laws.{view, clip, good-clip-of}
 use Rattle.segments.specs.declared.Scene.{Scene}
-use Rattle.segments.specs.Segs.{segs-of, origin, bounds, Small, SceneOf}
+use Rattle.segments.specs.Segs.{segs-of, Small, SceneOf}
 use Rattle.segments.proofs.Laws.{small-viewport, segs-count}
 use Rattle.fill.specs.declared.Draw.{Draw}
 use Rattle.fill.specs.Fills.{draw-of, paint-at, paints, paints-of, scene-at, Passing}

@@ -2,3 +2,4 @@ pub mod Inputs
 pub mod Planned
 pub mod Numbers
 pub mod Done
+pub mod Example

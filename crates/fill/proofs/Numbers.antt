@@ -1,27 +1,24 @@
 -- A fill's number, for each way through its judge. Assumes nothing.
-use mathlib.Core.Path.{_≡_, refl, sym, ap, _∙_}
-use mathlib.Core.Bool.{Bool, true, false, _&&_, _||_, not, cond}
-use mathlib.Core.List.{List, [], _∷_}
-use Prim.Native.Nat.{ℕ, zero, suc, _+_, _-_, _*_, _/_, _%_, _≤_, _<_}
+use mathlib.Core.Path.{_≡_, refl, sym, _∙_}
+use mathlib.Core.Bool.{Bool, true, false, _&&_, cond}
+use mathlib.Core.List.{List}
+use Prim.Native.Nat.{ℕ, _+_, _-_, _%_, _≤_, _<_}
 use native.Mathlib.Omega.{arith}
 use lib.Dec.{ltb, eqb}
 use lib.ListN.{length}
 use borrow.Author.Tests.{eqb-true, eqb-false, eq-eqb, ne-eqb, lt-ltb, le-ltb}
 use Rattle.rules.specs.Lists.{every}
-use Rattle.rules.specs.Answers.{Done, BadRecord, first-of}
-use Rattle.rules.specs.Boxes.{Box, rows-of}
-use Rattle.rules.specs.Segments.{Segment, good-segment, ordered, judge-segments}
+use Rattle.rules.specs.Answers.{Done, BadRecord}
+use Rattle.rules.specs.Boxes.{rows-of}
+use Rattle.rules.specs.Segments.{good-segment, judge-segments}
 use Rattle.rules.specs.Inputs.{good-draw}
 use Rattle.rules.specs.Attributes.{attrs-full}
-use Rattle.rules.specs.Plans.{Plan}
-use Rattle.rules.specs.Steps as steps
 use Rattle.rules.specs.Steps.{done, passes, refusal}
-use Rattle.rules.proofs.All.{both, never}
+use Rattle.rules.proofs.All.{both}
 use Rattle.row.specs.Words.{Words, word, word-ops}
 use Rattle.arena.specs.Arena.{sizes, Long}
 use Rattle.building.specs.Building.{screen-at, good-rows, step-number}
 use Rattle.rect.specs.Rects.{box-of}
-use Rattle.screen.specs.declared.Screen.{Screen}
 use Rattle.screen.specs.Screens.{frame-of, state-of}
 use Rattle.screen.specs.Judging.{judged}
 use Rattle.screen.proofs.Laws as laws
@@ -37,9 +34,9 @@ use Rattle.fillrows.proofs.Laws.{rows-counted}
 use Rattle.tally.specs.declared.Tally.{Tally}
 use Rattle.tally.specs.Tallies.{tally-cuts, verdict, cuts-of, none-yet, Rowed, Listed}
 use Rattle.tally.proofs.Rising.{rising}
-use Rattle.tally.proofs.Judged.{run, flags, verdict-any, verdict-is, all-landed, roomy-judged}
+use Rattle.tally.proofs.Judged.{run, flags, verdict-any, verdict-is, all-landed}
 use Rattle.fill.specs.declared.Draw.{Draw}
-use Rattle.fill.specs.Fills.{draw-of, paints-of, scene-at, job-of, Passing, Lent, fill-plan, good-lists, first-number, first-of-lent, fill-number}
+use Rattle.fill.specs.Fills.{draw-of, paints-of, job-of, Passing, Lent, fill-plan, good-lists, first-number, first-of-lent, fill-number}
 use Rattle.fill.proofs.Inputs.{GoodDraw, draw-facts, scene-of-it}
 use Rattle.fill.proofs.Planned.{good-unless, state-frame, plan-layers, plan-next, refused-bad, refused-are, puts-are, rows-are, attrs-same, attrs-more, not-full, full-attrs, room-for-one}
 

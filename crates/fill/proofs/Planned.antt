@@ -1,19 +1,19 @@
 -- The plan of a fill, by the code's own numbers. Assumes nothing.
 use mathlib.Core.Path.{_≡_, refl, sym, ap, _∙_}
-use mathlib.Core.Bool.{Bool, true, false, _||_, not, cond}
-use mathlib.Core.List.{List, [], _∷_, _++_}
-use Prim.Native.Nat.{ℕ, zero, suc, _+_, _-_, _*_, _/_, _≤_, _<_}
+use mathlib.Core.Bool.{Bool, true, false, not, cond}
+use mathlib.Core.List.{List, [], _∷_}
+use Prim.Native.Nat.{ℕ, _+_, _-_, _≤_, _<_}
 use native.Mathlib.Omega.{arith}
-use lib.Dec.{ltb, eqb}
+use lib.Dec.{ltb}
 use lib.ListN.{length, length-append}
 use borrow.Author.Tests.{lt-ltb, le-ltb}
 use Rattle.rules.specs.Lists.{join, every, is-empty}
 use Rattle.rules.specs.Answers.{Done, BadRecord, BadOrder}
-use Rattle.rules.specs.Boxes.{Box, rows-of}
-use Rattle.rules.specs.Segments.{Segment, good-segment, ordered, judge-segments, Cut, cut-in, cuts}
+use Rattle.rules.specs.Boxes.{rows-of}
+use Rattle.rules.specs.Segments.{Segment, good-segment, ordered, judge-segments, cut-in, cuts}
 use Rattle.rules.specs.Inputs.{good-draw, draw-segments}
-use Rattle.rules.specs.Attributes.{Attrs, attrs-full}
-use Rattle.rules.specs.Plans.{Plan, with-paint, draw-puts, plan-fill}
+use Rattle.rules.specs.Attributes.{attrs-full}
+use Rattle.rules.specs.Plans.{with-paint, draw-puts, plan-fill}
 use Rattle.rules.specs.Steps.{done}
 use Rattle.cmd.specs.Blends.{blend-of}
 use Rattle.row.specs.Words.{Words, word-ops}
@@ -29,7 +29,7 @@ use Rattle.fillrows.specs.Filling as filling
 use Rattle.fillrows.specs.Filling.{puts-of}
 use Rattle.tally.specs.Tallies.{cuts-of}
 use Rattle.fill.specs.declared.Draw.{Draw}
-use Rattle.fill.specs.Fills.{draw-of, paints-of, scene-at, job-of, Passing, fill-plan}
+use Rattle.fill.specs.Fills.{draw-of, paints-of, job-of, Passing, fill-plan}
 use Rattle.fill.proofs.Inputs.{GoodDraw, scene-of-it}
 
 -- a list that is not refused by 4 has good segments
@@ -110,9 +110,6 @@ module _ (s : Screen) (o : Passing s) where
       rw (paint-count s, layer-attr-count s, filter-count s, le-ltb 1024 (s .«paint_attrs») (b .paints), le-ltb 1024 (s .«layer_attrs») (b .layer-attrs), le-ltb 256 (s .«filter_paints») (b .filters))
 
   module _ (d : Draw) where
-    abbrev more : Attrs
-    more = with-paint (state-of s) (d .paint) (blend-of (d .blend)) (d .mask) (d .thread) []
-
     pub paints-more : length (with-paint (state-of s) (d .paint) (blend-of (d .blend)) (d .mask) (d .thread) [] .paints) ≡ s .«paint_attrs» + 1
     paints-more = length-append (state-of s .attrs .paints) _ ∙ ap (λ (n : ℕ). n + 1) (paint-count s)
 

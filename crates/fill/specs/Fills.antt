@@ -12,7 +12,7 @@ use Rattle.rules.specs.Inputs.{Paint, draw-paint}
 use Rattle.rules.specs.Inputs as rule
 use Rattle.rules.specs.Attributes.{paint-attr-words}
 use Rattle.rules.specs.Plans.{Plan, eligible, plan-fill}
-use Rattle.rules.specs.Steps.{refusal, done}
+use Rattle.rules.specs.Steps.{done}
 use Rattle.cmd.specs.Blends.{blend-of}
 use Rattle.cmd.specs.Attrs.{words-at}
 use Rattle.row.specs.Words.{Words, word-ops}

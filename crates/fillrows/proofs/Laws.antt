@@ -1,21 +1,20 @@
 -- What a fill's puts do to a screen's rows of words. Assumes nothing.
 use mathlib.Core.Path.{_≡_, refl, sym, ap, _∙_}
-use mathlib.Core.Bool.{Bool, true, false, _&&_}
+use mathlib.Core.Bool.{true}
 use mathlib.Core.List.{List, [], _∷_, _++_}
-use Prim.Native.Nat.{ℕ, zero, suc, _+_, _-_, _*_, _/_, _≤_, _<_}
+use Prim.Native.Nat.{ℕ, _+_, _-_, _*_, _≤_, _<_}
 use native.Mathlib.Omega.{arith}
 use lib.ListN.{length, getD}
-use Rattle.rules.specs.Lists.{join, every, change}
-use Rattle.rules.specs.Spans.{Span, span}
+use Rattle.rules.specs.Lists.{join, change}
 use Rattle.rules.specs.Segments.{Segment, Cut, good-segment, cut-in}
-use Rattle.rules.specs.Plans.{Act, Put, on, draw-act, draw-puts}
-use Rattle.rules.specs.Steps.{do-act, do-puts}
+use Rattle.rules.specs.Plans.{Put, on, draw-act, draw-puts}
+use Rattle.rules.specs.Steps.{do-puts}
 use Rattle.rules.proofs.Changes.{change-same, change-at, puts-append}
-use Rattle.row.specs.Words.{Words, words, word, word-ops, Room, Grown}
+use Rattle.row.specs.Words.{Words, words, word, word-ops, Room}
 use Rattle.row.proofs.Laws.{room-first, grown-refl}
-use Rattle.act.specs.Acts.{acted, drawn}
+use Rattle.act.specs.Acts.{acted}
 use Rattle.act.proofs.Laws.{Sound, sound-trans, room-after, acted-sound}
-use Rattle.arena.specs.Arena.{nowhere, Sizes, sizes, cut, lay, Long}
+use Rattle.arena.specs.Arena.{nowhere, Sizes, sizes, lay, Long}
 use Rattle.arena.proofs.Laws.{cut-length, lay-cut}
 use Rattle.row.specs.Cmds.{Short}
 use Rattle.segments.specs.declared.Scene.{Scene}
@@ -31,9 +30,6 @@ rows-counted s n e = omega arith
 
 -- one segment
 module _ (j : Job) (g : Segment) (rs : List Words) where
-  put-here : List Put
-  put-here = puts-of j (cut-in (origin (j .scene)) (bounds (j .scene)) g)
-
   pub one-none : [] ≡ cut-in (origin (j .scene)) (bounds (j .scene)) g → done j (puts-of j (cut-in (origin (j .scene)) (bounds (j .scene)) g)) rs ≡ rs
   unfolding do-puts draw-puts
   one-none e = rw (← e)

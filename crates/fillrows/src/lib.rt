@@ -14,7 +14,6 @@ ghost use Rattle.rules.specs.Segments.{good-segment};
 ghost use Rattle.span.specs.Spans.{tiles, alpha};
 ghost use Rattle.row.specs.Words.{words, Room};
 ghost use Rattle.row.specs.Cmds.{Short};
-ghost use Rattle.act.specs.Acts.{drawn};
 ghost use Rattle.arena.specs.Arena.{nowhere, lay};
 ghost use Rattle.segments.specs.Segs.{seg-at};
 ghost use Rattle.fillrows.specs.Filling.{count-rows, rows-of, draws, one-put, puts, done, Roomy, Whole, Ready};

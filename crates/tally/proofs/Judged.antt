@@ -6,20 +6,20 @@ use mathlib.Core.Option.{Option, none, some}
 use Prim.Native.Nat.{ℕ, zero, suc, _*_, _≤_, _<_}
 use native.Mathlib.Omega.{arith}
 use lib.Dec.{ltb, eqb}
-use lib.ListN.{length, getD, take, drop}
+use lib.ListN.{length, getD}
 use borrow.Author.Tests.{ltb-false, eqb-true, eqb-false, ne-eqb}
 use Rattle.rules.specs.Lists.{every, join, change}
 use Rattle.rules.specs.Boxes.{Box}
 use Rattle.rules.specs.Segments.{Segment, good-segment, Cut, cut-in}
 use Rattle.rules.specs.Plans.{Frame, Put, on, draw-act, draw-puts}
-use Rattle.rules.specs.Steps.{do-act, do-puts, passes}
+use Rattle.rules.specs.Steps.{passes}
 use Rattle.rules.proofs.All.{All, nil, cons, both, all-map, all-join, every-all, none-of}
 use Rattle.rules.proofs.Maps.{ActOk, paints, splits, follows-act}
 use Rattle.rules.proofs.Changes.{change-length, change-same, change-else}
-use Rattle.row.specs.Words.{Words, word, word-ops, Room, Grown}
-use Rattle.arena.specs.Arena.{nowhere, sizes, cut, row-at, Long}
+use Rattle.row.specs.Words.{Words, word, word-ops, Room}
+use Rattle.arena.specs.Arena.{nowhere, sizes, Long}
 use Rattle.arena.proofs.Laws.{cut-length, cut-at, at-state, at-render, at-fills}
-use Rattle.counts.specs.Counts.{Counts, counts, count, count-ops}
+use Rattle.counts.specs.Counts.{count}
 use Rattle.counts.proofs.Laws.{Sane, any, counted}
 use Rattle.building.specs.Building.{good-row, good-at, good-rows}
 use Rattle.segments.specs.Segs.{origin, bounds}
@@ -29,7 +29,7 @@ use Rattle.tally.specs.declared.Tally.{Tally}
 use Rattle.tally.specs.Tallies.{stored, known, drawn-counts, tally-of, tallied, record-at, tally-cuts, verdict, none-yet, Rowed}
 use Rattle.tally.proofs.Laws.{good-small, at-most-one, lands}
 use Rattle.tally.proofs.Running.{full-at, running, SaneAt, sane-after, runs, passes-are}
-use Rattle.tally.proofs.Rising.{Rising, no-more, then}
+use Rattle.tally.proofs.Rising.{Rising, then}
 
 -- the tally without the records' test
 abbrev pub run : Job → List ℕ → Tally → List Cut → Tally
@@ -66,9 +66,6 @@ Fine n us k = (k .row < n) × Sane (getD us (k .row) nowhere)
 
 module _ (j : Job) (n : ℕ) (rows : List ℕ) (m : j .layers ≤ 16) where
   module _ (t : Tally) (us : List Words) (r : ℕ) (k : Cut) (l : length us ≡ n) (h : r ≤ k .row) (f : Fine n us k) (o : Knows n rows t us r) where
-    us′ : List Words
-    us′ = change (draws j (k .tiles) (k .alpha)) (k .row) us
-
     -- the row after its act
     after-act : getD (change (draws j (k .tiles) (k .alpha)) (k .row) us) (k .row) nowhere ≡ draws j (k .tiles) (k .alpha) (getD us (k .row) nowhere)
     after-act = change-same (draws j (k .tiles) (k .alpha)) (k .row) us nowhere (rw l (f .0))
@@ -119,9 +116,6 @@ module _ (j : Job) (n : ℕ) (rows : List ℕ) (m : j .layers ≤ 16) where
 
 -- rows of words
 module _ (j : Job) (v : Box) (n : ℕ) (w : Words) (m : j .layers ≤ 16) (l : Long (sizes (j .c) (j .d)) n w) where
-  abbrev frame : Frame
-  frame = record { viewport = v; c = j .c; d = j .d }
-
   state-is : (x : ℕ) → x < n → getD (rows-of j n w) x nowhere .state ≡ record-at (w .state) x
   state-is x h = ap (λ (u : Words). u .state) (cut-at (sizes (j .c) (j .d)) n x w nowhere h)
 

@@ -1,5 +1,5 @@
 -- What a stretch adds to the counts of a row, and the tally's turns. Assumes nothing.
-use mathlib.Core.Path.{_≡_, refl, sym, ap, _∙_}
+use mathlib.Core.Path.{_≡_, refl, ap, _∙_}
 use mathlib.Core.Bool.{Bool, true, false, _&&_, _||_, cond}
 use mathlib.Core.List.{List, [], _∷_, _++_, foldl}
 use mathlib.Core.Option.{Option, none, some}
@@ -7,9 +7,9 @@ use Prim.Native.Nat.{ℕ, zero, suc, _+_, _-_, _*_, _/_, _≤_, _<_}
 use native.Mathlib.Omega.{arith}
 use lib.Dec.{leb, ltb, eqb}
 use lib.ListN.{length, getD, take, drop}
-use borrow.Author.Tests.{le-leb, lt-leb, leb-true, leb-false, eqb-true}
-use Rattle.rules.specs.Lists.{times, keep, every, join}
-use Rattle.rules.proofs.All.{both, never}
+use borrow.Author.Tests.{le-leb, lt-leb, leb-true, leb-false}
+use Rattle.rules.specs.Lists.{times, keep}
+use Rattle.rules.proofs.All.{both}
 use Rattle.rules.specs.Spans.{Span, span, Stretch, cut-to}
 use Rattle.rules.specs.Split.{Part, regular, buckets, split, raised, lowered}
 use Rattle.rules.specs.Boxes.{Box}
@@ -19,10 +19,10 @@ use Rattle.rules.specs.Steps.{do-act, put-part, ensure}
 use Rattle.counts.specs.Counts.{Counts, counts, count-ops}
 use Rattle.fillrows.specs.declared.Job.{Job}
 use Rattle.building.specs.Building.{good-row, good-summary, good-top}
-use Rattle.segments.specs.Segs.{seg-at, segs, origin, bounds}
+use Rattle.segments.specs.Segs.{seg-at, origin, bounds}
 use Rattle.segments.proofs.Laws.{segs-end, segs-first, good-first, good-rest, landed}
 use Rattle.tally.specs.declared.Tally.{Tally}
-use Rattle.tally.specs.Tallies.{edge-count, added, stored, known, drawn-counts, tally-of, tallied, record-at, tally-cuts, verdict, cuts-of, none-yet, Low, Fits, Rowed, Listed}
+use Rattle.tally.specs.Tallies.{edge-count, added, stored, known, tallied, record-at, tally-cuts, verdict, cuts-of, none-yet, Low, Fits, Rowed, Listed}
 
 -- the parts of a split span: how many are regular, and how many are depth fills
 abbrev regulars : List Part → ℕ

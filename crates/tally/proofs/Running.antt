@@ -5,14 +5,14 @@ use mathlib.Core.List.{List, [], _∷_}
 use Prim.Native.Nat.{ℕ, zero, suc, _≤_}
 use native.Mathlib.Omega.{arith}
 use lib.Dec.{ltb, eqb}
-use lib.ListN.{length, getD}
+use lib.ListN.{getD}
 use borrow.Author.Tests.{ltb-false, le-ltb, eqb-true}
 use Rattle.rules.specs.Lists.{some-of, change}
 use Rattle.rules.specs.Plans.{Put}
 use Rattle.rules.specs.Steps.{do-puts, row-passes, passes}
-use Rattle.rules.proofs.All.{All, nil, cons, never, neither, all-map}
+use Rattle.rules.proofs.All.{All, cons, never, neither, all-map}
 use Rattle.rules.proofs.Changes.{change-at, puts-on, untouched}
-use Rattle.row.specs.Words.{Words, word, word-ops, Grown}
+use Rattle.row.specs.Words.{Words, word-ops, Grown}
 use Rattle.act.specs.Acts.{acted}
 use Rattle.act.proofs.Laws.{acted-sound}
 use Rattle.arena.specs.Arena.{nowhere}

@@ -1,5 +1,4 @@
 use Rattle.span.specs.Spans.{tiles}
-use mathlib.Core.Path.{sym, ap, _∙_}
 use native.Mathlib.Omega.{arith}
 use Rattle.tally.proofs.Laws.{added-alpha, added-plain, added-one, added-more, edge-small}
 use Prim.Native.Nat.{_+_, _*_, _/_}

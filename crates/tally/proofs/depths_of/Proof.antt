@@ -1,8 +1,5 @@
 use Rattle.span.specs.Spans.{tiles}
-use mathlib.Core.Path.{sym, ap, _∙_}
-use native.Mathlib.Omega.{arith}
-use Rattle.tally.proofs.Laws.{added-alpha, added-plain, added-one, added-more, edge-small}
-use Prim.Native.Nat.{_+_, _*_, _/_}
+use Rattle.tally.proofs.Laws.{added-alpha, added-plain, added-one, added-more}
 use borrow.Author.Needs.{needs}
 use Rattle.tally.proofs.depths_of.Statement.{statement}
 use Rattle.tally.proofs.depths_of.Tie as tie

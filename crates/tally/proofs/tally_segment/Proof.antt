@@ -3,7 +3,6 @@ use native.Mathlib.Omega.{arith}
 use Rattle.rules.specs.Segments.{good-segment}
 use Rattle.segments.specs.Segs.{seg-at}
 use Rattle.fillrows.proofs.Laws.{placed-at}
-use Rattle.tally.specs.Tallies.{record-at}
 use Rattle.tally.proofs.Laws.{lands, low-known, row-part, took-none, took-bad, took-good}
 use borrow.Author.Needs.{needs}
 use Rattle.tally.proofs.tally_segment.Statement.{statement}

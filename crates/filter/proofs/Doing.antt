@@ -20,9 +20,10 @@ use Rattle.rect.specs.declared.Rect.{Rect}
 use Rattle.rect.specs.Rects.{box-of}
 use Rattle.screen.specs.declared.Screen.{Screen}
 use Rattle.screen.specs.Screens.{counted}
+use Rattle.screen.proofs.Laws.{bounds}
 use Rattle.band.specs.Band.{each, rows-on, OnRows}
 use Rattle.filter.specs.Filter.{Given, filter-of, paint-from, attrs-of, lent, filter-number, after, own-box, Drawing}
-use Rattle.filter.proofs.Laws.{told-by, Sound, sound, Ready, ready, Free, free, bottom-small, paint-asked, after-drawn, after-nothing}
+use Rattle.filter.proofs.Laws.{told-by, Sound, sound, Ready, ready, Free, free, bottom-small, paint-asked, after-drawn, after-nothing, fit}
 
 module _ {g : Given} {s : Screen} {w : Words} {ps : List ℕ} {fs : List ℤ} {b : Rect} (q : Drawing g (lent s w ps fs) b) where
   able : Ready g s w ps fs
@@ -56,16 +57,24 @@ module _ {g : Given} {s : Screen} {w : Words} {ps : List ℕ} {fs : List ℤ} {b
       → Short t × OnRows s (s .layers) (acted (s .layers) (paint t none (s .«paint_attrs»))) (b .y0 / 4) ((b .y1 + 3) / 4) w
   rows-needs t = paint-asked g s w ps fs (q .number) draws b t (q .bounds)
 
-  pub counts-needs : (s .«next_draw_id» ≤ 1048576) × (s .«paint_attrs» ≤ 1024) × (s .«filter_paints» ≤ 256)
-  counts-needs = (omega (arith, room .id), omega (arith, room .attr), omega (arith, room .paint))
+  pub counts-needs : (1 ≤ 1) × (s .«next_draw_id» ≤ 1048577) × (s .«paint_attrs» ≤ 1024) × (s .«filter_paints» ≤ 256)
+  counts-needs = (omega arith, omega (arith, room .id), omega (arith, room .attr), omega (arith, room .paint))
 
   pub leaves : (x : Screen) (ws : Words) (t : Span) → t ≡ span-of (box-of b)
       → x ≡ counted s (s .«next_draw_id» + 1) (s .«paint_attrs» + 1) (s .«layer_attrs») (s .«filter_paints» + 1)
       → ws ≡ lay (each (acted (s .layers) (paint t none (s .«paint_attrs»))) (range (b .y0 / 4) ((b .y1 + 3) / 4)) (rows-on s w))
-      → lent x ws (put-paint ps (s .«paint_attrs») (attrs-of s (g .count))) (put-filter fs (s .«filter_paints») (paint-from (g .placement) (g .pixmap))) ≡ after g (lent s w ps fs)
+      → lent x ws (put-paint ps (s .«paint_attrs») (attrs-of s (g .count))) (put-filter fs (s .«filter_paints») (paint-from (g .placement .dest) (g .placement .«source_x») (g .placement .«source_y») (g .pixmap))) ≡ after g (lent s w ps fs)
   leaves x ws t = after-drawn g s w ps fs able draws x ws t b (q .bounds)
 
 -- where nothing is drawn
-pub nothing-left : (g : Given) (s x : Screen) (w : Words) (ps : List ℕ) (fs : List ℤ) (b : Rect) → filter-number g (lent s w ps fs) ≡ 0 → box-of b ≡ own-box g s
-    → draws-nothing (filter-of g) (box-of b) ≡ true → x ≡ counted s (s .«next_draw_id») (s .«paint_attrs») (s .«layer_attrs») (s .«filter_paints») → lent x w ps fs ≡ after g (lent s w ps fs)
-nothing-left g s x w ps fs b q e d = after-nothing g s w ps fs (ready g s w ps fs q) x (told-by g s b true e d)
+module _ (g : Given) (s : Screen) (w : Words) (ps : List ℕ) (fs : List ℤ) (q : filter-number g (lent s w ps fs) ≡ 0) where
+  pub nothing-needs : (0 ≤ 1) × (s .«next_draw_id» ≤ 1048577) × (s .«paint_attrs» ≤ 1024) × (s .«filter_paints» ≤ 256)
+  nothing-needs = let k = bounds s (fit g s w ps fs (ready g s w ps fs q .zero) .screen) in (omega arith, k .ids, k .paints, k .filters)
+
+  pub nothing-left : (x : Screen) (b : Rect) → box-of b ≡ own-box g s → draws-nothing (filter-of g) (box-of b) ≡ true
+      → x ≡ counted s (s .«next_draw_id» + 0) (s .«paint_attrs» + 0) (s .«layer_attrs») (s .«filter_paints» + 0) → lent x w ps fs ≡ after g (lent s w ps fs)
+  nothing-left x b e d h =
+      let i : s .«next_draw_id» + 0 ≡ s .«next_draw_id» = omega arith in
+      let j : s .«paint_attrs» + 0 ≡ s .«paint_attrs» = omega arith in
+      let k : s .«filter_paints» + 0 ≡ s .«filter_paints» = omega arith in
+      after-nothing g s w ps fs (ready g s w ps fs q) x (told-by g s b true e d) (rw (i, j, k) at h)

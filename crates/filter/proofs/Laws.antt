@@ -435,7 +435,7 @@ module _ (g : Given) (s : Screen) (w : Words) (ps : List ℕ) (fs : List ℤ) (y
     pub after-drawn : (x : Screen) (ws : Words) (t : Span) (b : Rect) → box-of b ≡ own-box g s → t ≡ span-of (box-of b)
         → x ≡ counted s (s .«next_draw_id» + 1) (s .«paint_attrs» + 1) (s .«layer_attrs») (s .«filter_paints» + 1)
         → ws ≡ lay (each (acted (s .layers) (paint t none (s .«paint_attrs»))) (range (b .y0 / 4) ((b .y1 + 3) / 4)) (rows-on s w))
-        → lent x ws (put-paint ps (s .«paint_attrs») (attrs-of s (g .count))) (put-filter fs (s .«filter_paints») (paint-from (g .placement) (g .pixmap))) ≡ after g (lent s w ps fs)
+        → lent x ws (put-paint ps (s .«paint_attrs») (attrs-of s (g .count))) (put-filter fs (s .«filter_paints») (paint-from (g .placement .dest) (g .placement .«source_x») (g .placement .«source_y») (g .pixmap))) ≡ after g (lent s w ps fs)
     unfolding after
     after-drawn x ws t b e f h i =
         rw (

@@ -48,13 +48,8 @@ abbrev pub good-given : Given → Bool
 good-given g = good-filter (filter-of g) && leb (g .count) 4096
 
 -- the paint and the attribute that the code adds
-abbrev pub paint-from : Placement → ℕ → cmd.FilterPaint
-paint-from p m =
-    record {
-      pixmap = m;
-      «shift_x» = subℕ (p .«source_x») (p .dest .x0);
-      «shift_y» = subℕ (p .«source_y») (p .dest .y0);
-    }
+abbrev pub paint-from : Rect → ℕ → ℕ → ℕ → cmd.FilterPaint
+paint-from d x y m = record { pixmap = m; «shift_x» = subℕ x (d .x0); «shift_y» = subℕ y (d .y0) }
 
 abbrev pub attrs-of : Screen → ℕ → PaintFillAttrs
 attrs-of s count =

@@ -79,15 +79,14 @@ fn draws_nothing(pixmap: u32, bbox: Rect) -> bool
 }
 
 // The paint that a filter fill adds. The dest box is the one given, not made local.
-fn filter_paint(placement: Placement, pixmap: u32) -> FilterPaint
-    requires { ⌜ (placement .«source_x» ≤ 32768) × (placement .«source_y» ≤ 32768) × (placement .dest .x0 ≤ 32768) × (placement .dest .y0 ≤ 32768) ⌝ }
-    ensures { λ r. ⌜ r ≡ paint-from placement pixmap ⌝ }
+fn filter_paint(dest: Rect, source_x: u32, source_y: u32, pixmap: u32) -> FilterPaint
+    requires { ⌜ («source_x» ≤ 32768) × («source_y» ≤ 32768) × (dest .x0 ≤ 32768) × (dest .y0 ≤ 32768) ⌝ }
+    ensures { λ r. ⌜ r ≡ paint-from dest «source_x» «source_y» pixmap ⌝ }
 {
-    let dest = placement.dest;
     FilterPaint {
         pixmap,
-        shift_x: shift(placement.source_x, dest.x0),
-        shift_y: shift(placement.source_y, dest.y0),
+        shift_x: shift(source_x, dest.x0),
+        shift_y: shift(source_y, dest.y0),
     }
 }
 
@@ -109,24 +108,15 @@ fn filter_attrs(screen: Screen, paint_count: u32) -> PaintFillAttrs
     }
 }
 
-// Painting has ended.
-fn ended(screen: Screen) -> Screen
-    ensures { λ r. ⌜ r ≡ counted screen (screen .«next_draw_id») (screen .«paint_attrs») (screen .«layer_attrs») (screen .«filter_paints») ⌝ }
+// The screen after a filter fill that took `more` of each: an id, an attribute, a filter paint.
+fn taken(screen: Screen, more: u32) -> Screen
+    requires { ⌜ (more ≤ 1) × (screen .«next_draw_id» ≤ 1048577) × (screen .«paint_attrs» ≤ 1024) × (screen .«filter_paints» ≤ 256) ⌝ }
+    ensures { λ r. ⌜ r ≡ counted screen (screen .«next_draw_id» + more) (screen .«paint_attrs» + more) (screen .«layer_attrs») (screen .«filter_paints» + more) ⌝ }
 {
     let mut next = screen;
-    next.painting = false;
-    next
-}
-
-// .. and one id, one attribute, one filter paint are taken.
-fn one_more(screen: Screen) -> Screen
-    requires { ⌜ (screen .«next_draw_id» ≤ 1048576) × (screen .«paint_attrs» ≤ 1024) × (screen .«filter_paints» ≤ 256) ⌝ }
-    ensures { λ r. ⌜ r ≡ counted screen (screen .«next_draw_id» + 1) (screen .«paint_attrs» + 1) (screen .«layer_attrs») (screen .«filter_paints» + 1) ⌝ }
-{
-    let mut next = screen;
-    next.next_draw_id = screen.next_draw_id + 1;
-    next.paint_attrs = screen.paint_attrs + 1;
-    next.filter_paints = screen.filter_paints + 1;
+    next.next_draw_id = screen.next_draw_id + more;
+    next.paint_attrs = screen.paint_attrs + more;
+    next.filter_paints = screen.filter_paints + more;
     next.painting = false;
     next
 }
@@ -203,7 +193,8 @@ fn do_filter(
     ensures { λ r. ⌜ lent r (words (now (rows .exit)) (now (render .exit)) (now (fills .exit))) (now («paint_attrs» .exit)) (now («filter_paints» .exit))
         ≡ after (given placement pixmap «paint_count») (lent screen (words (now (rows .entry)) (now (render .entry)) (now (fills .entry))) (now («paint_attrs» .entry)) (now («filter_paints» .entry))) ⌝ }
 {
-    let paint = filter_paint(placement, pixmap);
+    let dest = placement.dest;
+    let paint = filter_paint(dest, placement.source_x, placement.source_y, pixmap);
     let attrs = filter_attrs(screen, paint_count);
     put_filter_paint(filter_paints, screen.filter_paints as usize, paint);
     put_paint_attrs(paint_attrs, screen.paint_attrs as usize, attrs);
@@ -218,7 +209,7 @@ fn do_filter(
         bbox.bbox_span(),
         screen.paint_attrs,
     );
-    one_more(screen)
+    taken(screen, 1)
 }
 
 // Rule 11: one id, one filter paint, one attribute, and a fill on each row of the box; or nothing.
@@ -258,7 +249,7 @@ pub fn filter_fill(
     let dest = placement.dest;
     let bbox = filter_box(viewport, clip, dest);
     if draws_nothing(pixmap, bbox) {
-        let same = ended(screen);
+        let same = taken(screen, 0);
         return Built {
             answer: Answer::Done,
             screen: same,

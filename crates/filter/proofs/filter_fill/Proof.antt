@@ -1,6 +1,6 @@
 use mathlib.Core.Path.{sym, _∙_}
 use Rattle.filter.proofs.Laws.{small, refused-is, done-is}
-use Rattle.filter.proofs.Doing.{nothing-left}
+use Rattle.filter.proofs.Doing.{nothing-needs, nothing-left}
 use borrow.Author.Needs.{needs}
 use Rattle.filter.proofs.filter_fill.Statement.{statement}
 use Rattle.filter.proofs.filter_fill.Tie as tie
@@ -35,8 +35,8 @@ filter-box-requires c κs = search needs
 draws-nothing-requires : tie.Need-draws-nothing-requires
 draws-nothing-requires c κs = search needs
 
-ended-requires : tie.Need-ended-requires
-ended-requires c κs = search needs
+taken-requires : tie.Need-taken-requires
+taken-requires c κs = nothing-needs _ _ _ _ _ (sym (c .before .before .before .before .before .before .before .judge-filter .ensures) ∙ c .before .before .before .before .before .before .if1 .left)
 
 same-length-6 : tie.Need-same-length-6
 same-length-6 c = search needs
@@ -54,7 +54,7 @@ same-length-10 : tie.Need-same-length-10
 same-length-10 c = search needs
 
 returns-2 : tie.Need-returns-2
-returns-2 c = let q = sym (c .before .before .before .before .before .before .before .before .judge-filter .ensures) ∙ c .before .before .before .before .before .before .before .if1 .left in done-is _ _ _ q (nothing-left _ _ _ _ _ _ _ q (c .before .before .before .filter-box .ensures) (sym (c .before .before .draws-nothing .ensures) ∙ c .before .if2 .taken) (c .ended .ensures))
+returns-2 c = let q = sym (c .before .before .before .before .before .before .before .before .judge-filter .ensures) ∙ c .before .before .before .before .before .before .before .if1 .left in done-is _ _ _ q (nothing-left _ _ _ _ _ q _ _ (c .before .before .before .filter-box .ensures) (sym (c .before .before .draws-nothing .ensures) ∙ c .before .if2 .taken) (c .taken .ensures))
 
 do-filter-requires : tie.Need-do-filter-requires
 do-filter-requires c κs = record { number = sym (c .before .before .before .before .before .before .before .before .before .before .before .before .judge-filter .ensures) ∙ c .before .before .before .before .before .before .before .before .before .before .before .if1 .left; bounds = c .before .before .before .before .before .before .before .filter-box .ensures; drawn = sym (c .before .before .before .before .before .before .draws-nothing .ensures) ∙ c .before .before .before .before .before .if2 .left }
@@ -91,7 +91,7 @@ filter-fill-spec =
     returns
     filter-box-requires
     draws-nothing-requires
-    ended-requires
+    taken-requires
     same-length-6
     same-length-7
     same-length-8

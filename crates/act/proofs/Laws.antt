@@ -1,22 +1,34 @@
 -- What the acts do to a row of words. Assumes nothing.
-use mathlib.Core.Path.{_≡_, refl, _∙_}
-use mathlib.Core.Bool.{Bool, true, false, cond}
+use mathlib.Core.Path.{_≡_, refl, sym, ap, _∙_}
+use mathlib.Core.Bool.{Bool, true, false, _||_, cond}
 use mathlib.Core.List.{List, [], _∷_, foldl}
 use mathlib.Core.Option.{Option, none, some}
 use Prim.Native.Nat.{ℕ, zero, suc, _+_, _-_, _/_, _≤_, _<_}
 use native.Mathlib.Omega.{arith}
-use lib.Dec.{ltb}
+use lib.Dec.{leb, ltb}
 use lib.ListN.{length}
-use borrow.Author.Tests.{lt-ltb, le-ltb, le-leb, lt-leb}
+use borrow.Author.Tests.{le-leb, ltb-true}
 use Rattle.rules.specs.Lists.{times, keep}
-use Rattle.rules.specs.Spans.{Span, span}
-use Rattle.rules.specs.Split.{Part, regular, buckets, split, raised, lowered}
+use Rattle.rules.specs.Answers.{Answer, answer}
+use Rattle.rules.specs.Spans.{Span, span, bad-range}
+use Rattle.rules.specs.Split.{Part, regular, buckets, split, split-answer, raised, lowered}
 use Rattle.rules.specs.Plans.{Act, paint, opaque, touch, close, pop, draw-act}
 use Rattle.rules.specs.Steps.{do-act, put-part}
 use Rattle.rules.specs.Commands.{Command, paint-fill, layer-fill, DepthFill}
+use Rattle.rules.proofs.All.{All, nil, cons, head, tail, all-if, all-keep}
+use Rattle.span.specs.Spans.{tiles, buckets as bucket-span}
+use Rattle.span.specs.declared.TileSpan.{TileSpan}
+use Rattle.span.specs.declared.BucketRange.{BucketRange}
+use Rattle.cmd.specs.declared.Answer as Answers
+use Rattle.depth.specs.declared.split.Edge.{Edge}
+use Rattle.depth.specs.declared.split.Edge.the-variants.{Absent, Tiles}
+use Rattle.depth.specs.declared.split.Split.{Split}
+use Rattle.depth.specs.declared.split.Split.the-variants.{Refused, Whole, Opaque}
+use Rattle.depth.specs.Answers.{refusal, beside, split-of}
+use Rattle.row.specs.Cmds.{Short}
 use Rattle.row.specs.Words.{Words, word, put-command, put-buf, end-buf, put-depth, word-ops, Room, Grown}
 use Rattle.row.proofs.Laws.{cmd-grown, cmd-levels, buf-grown, buf-levels, fill-grown, fill-levels, end-grown, end-levels, grown-refl, grown-trans, room-first, room-rest}
-use Rattle.act.specs.Acts.{ensured, acted, parted, edge, drawn}
+use Rattle.act.specs.Acts.{ensured, acted, parted, ShortEdge, edged, drawn}
 
 -- w′ is w grown, and its levels are at most 16
 pub record Sound (w w′ : Words) : Type 0 where
@@ -43,13 +55,9 @@ module _ (w : Words) (l : length (w .state) ≡ 54) (k : word 5 w ≤ 16) where
   pub same-sound : Sound w w
   same-sound = record { grown = grown-refl w; levels = k }
 
-  if-sound : (b : Bool) {u : Words} → Sound w u → Sound w (cond b u w)
-  if-sound true s = s
-  if-sound false s = same-sound
-
-  pub edge-sound : (s : Span) (i : ℕ) → Sound w (edge s i w)
-  unfolding edge
-  edge-sound s i = if-sound (ltb (s .first) (s .end)) (cmd-sound (paint-fill s none i))
+  pub edge-sound : (e : Edge) (i : ℕ) → Sound w (edged e i w)
+  edge-sound Absent i = same-sound
+  edge-sound (Tiles s) i = cmd-sound (paint-fill (tiles s) none i)
 
 state-long : {w w′ : Words} → Sound w w′ → length (w .state) ≡ 54 → length (w′ .state) ≡ 54
 state-long s l = s .grown .state ∙ l
@@ -107,17 +115,8 @@ module _ {n k : ℕ} {s t w : Words} (v : Layering n t s k w) where
         })
 
 -- rule 7
-module _ (s : Span) (i : ℕ) (w : Words) where
-  pub edge-some : s .first < s .end → edge s i w ≡ put-command (paint-fill s none i) w
-  unfolding edge
-  edge-some h = rw (lt-ltb (s .first) (s .end) h)
-
-  pub edge-none : s .end ≤ s .first → edge s i w ≡ w
-  unfolding edge
-  edge-none h = rw (le-ltb (s .first) (s .end) h)
-
-abbrev deep : ℕ → ℕ → ℕ → DepthFill
-deep x y i = record { buckets = span x y; attribute = i }
+abbrev deep : Span → ℕ → DepthFill
+deep s i = record { buckets = s; attribute = i }
 
 module _ (i id : ℕ) where
   part-sound : (w : Words) → length (w .state) ≡ 54 → word 5 w ≤ 16 → (p : Part) → Sound w (put-part Words word-ops 32 i id w p)
@@ -130,49 +129,122 @@ module _ (i id : ℕ) where
       let s : Sound w (put-part Words word-ops 32 i id w p) = part-sound w l k p in
       sound-trans s (parts-sound ps (put-part Words word-ops 32 i id w p) (state-long s l) (s .levels))
 
-module _ (i id : ℕ) (w : Words) (s : Span) where
-  folded : (c d : Bool) (a b x y : ℕ)
-      → foldl (put-part Words word-ops 32 i id) w (keep c (regular (span (s .first) a)) (buckets (span x y) ∷ keep d (regular (span b (s .end))) []))
-      ≡ cond d (put-command (paint-fill (span b (s .end)) none i) (put-depth 32 (deep x y i) id (cond c (put-command (paint-fill (span (s .first) a) none i) w) w)))
-      (put-depth 32 (deep x y i) id (cond c (put-command (paint-fill (span (s .first) a) none i) w) w))
-  folded true true a b x y = refl
-  folded true false a b x y = refl
-  folded false true a b x y = refl
-  folded false false a b x y = refl
+-- what the split of a span says of its parts
+abbrev ShortPart : Part → Type 0
+ShortPart (regular s) = Short s
+ShortPart (buckets s) = Short s
 
-  pub parted-one : lowered 32 (s .end) ≤ raised 32 (s .first) → parted i id s w ≡ put-command (paint-fill s none i) w
+parts-short : (s : Span) → Short s → All ShortPart (split 32 s)
+unfolding split
+parts-short s h =
+    let a = raised 32 (s .first) in
+    let b = lowered 32 (s .end) in
+    all-if (leb b a) (cons h nil)
+    (all-keep (ltb (s .first) a) (regular (span (s .first) a)) (h .0, omega arith)
+    (cons (omega arith, omega arith) (all-keep (ltb b (s .end)) (regular (span b (s .end))) (omega arith, h .1) nil)))
+
+told-by : (s : Span) (ps : List Part) (t : Bool) → answer 0 ps ≡ cond t (answer 12 []) (answer 0 (split 32 s)) → split 32 s ≡ ps
+told-by s ps true e = let z : _≡_ {A = ℕ} 0 12 = ap (λ (x : Answer (List Part)). x .number) e in absurd (omega arith)
+told-by s ps false e = sym (ap (λ (x : Answer (List Part)). x .value) e)
+
+split-told : (s : Span) (ps : List Part) → answer 0 ps ≡ split-answer 32 s → split 32 s ≡ ps
+unfolding split-answer
+split-told s ps e = told-by s ps (bad-range 8192 s) e
+
+some-parts : (t c d : Bool) (x y z v : Part) → 1 ≤ length (cond t (x ∷ []) (keep c y (z ∷ keep d v [])))
+some-parts true c d x y z v = omega arith
+some-parts false true d x y z v = omega arith
+some-parts false false d x y z v = omega arith
+
+split-some : (s : Span) → 1 ≤ length (split 32 s)
+unfolding split
+split-some s =
+    let a = raised 32 (s .first) in
+    let b = lowered 32 (s .end) in
+    some-parts (leb b a) (ltb (s .first) a) (ltb b (s .end)) (regular s) (regular (span (s .first) a)) (buckets (span (a / 32) (b / 32))) (regular (span b (s .end)))
+
+-- a span that is refused starts after its end
+backwards : (s : Span) → s .end ≤ 8192 → (n : ℕ) (b c : Bool) → ltb (s .end) (s .first) ≡ b → ltb 8192 (s .end) ≡ c
+    → answer n [] ≡ cond (b || c) (answer 12 []) (answer 0 (split 32 s)) → s .end ≤ s .first
+backwards s h n true c p q e = omega (arith, ltb-true (s .end) (s .first) p)
+backwards s h n false true p q e = absurd (omega (arith, ltb-true 8192 (s .end) q))
+backwards s h n false false p q e =
+    let z : _≡_ {A = ℕ} 0 (length (split 32 s)) = ap (λ (x : Answer (List Part)). length (x .value)) e in
+    absurd (omega (arith, split-some s))
+
+refused-back : (s : Span) → s .end ≤ 8192 → (n : ℕ) → answer n [] ≡ split-answer 32 s → s .end ≤ s .first
+unfolding split-answer
+refused-back s h n e = backwards s h n _ _ refl refl e
+
+-- by what the code finds of a span's split: its parts are short, they come to the whole, and each has room
+module _ (i id : ℕ) (s : Span) (h : Short s) (w : Words) (o : Room w (parted i id s w)) {r : Split} (e : split-of r ≡ split-answer 32 s) where
+  pub refused-is : (n : Answers.Answer) → r ≡ Refused n → parted i id s w ≡ put-command (paint-fill s none i) w
   unfolding split
-  parted-one h = rw (le-leb _ _ h)
+  refused-is n t = rw (le-leb (lowered 32 (s .end)) (raised 32 (s .first)) (omega (arith, refused-back s (h .1) (refusal n) (ap split-of (sym t) ∙ e))))
 
-  pub parted-more : raised 32 (s .first) < lowered 32 (s .end)
-      → parted i id s w
-      ≡ edge (span (lowered 32 (s .end)) (s .end)) i
-      (put-depth 32 (deep (raised 32 (s .first) / 32) (lowered 32 (s .end) / 32) i) id (edge (span (s .first) (raised 32 (s .first))) i w))
-  unfolding split edge
-  parted-more h =
-      let a = raised 32 (s .first) in
-      let b = lowered 32 (s .end) in
-      rw (lt-leb (lowered 32 (s .end)) (raised 32 (s .first)) h) (folded (ltb (s .first) a) (ltb b (s .end)) a b (a / 32) (b / 32))
+  pub refused-asks : (n : Answers.Answer) → r ≡ Refused n → Short s × Room w (put-command (paint-fill s none i) w)
+  refused-asks n t = (h, rw (refused-is n t) at o)
 
--- room through the three parts
-module _ (i id : ℕ) (s t : Span) (f : DepthFill) (w : Words) (r : Room w (edge t i (put-depth 32 f id (edge s i w)))) where
-  s1 : Sound w (edge s i w)
-  s1 = edge-sound w (r .state) (r .levels) s i
+  module _ (u : TileSpan) (t : r ≡ Whole u) where
+    only : split 32 s ≡ regular (tiles u) ∷ []
+    only = split-told s (regular (tiles u) ∷ []) (ap split-of (sym t) ∙ e)
 
-  s2 : Sound (edge s i w) (put-depth 32 f id (edge s i w))
-  s2 = fill-sound (edge s i w) (state-long s1 (r .state)) (s1 .levels) 32 f id
+    pub whole-is : parted i id s w ≡ put-command (paint-fill (tiles u) none i) w
+    whole-is = ap (λ (ps : List Part). foldl (put-part Words word-ops 32 i id) w ps) only
 
-  s3 : Sound (put-depth 32 f id (edge s i w)) (edge t i (put-depth 32 f id (edge s i w)))
-  s3 = edge-sound (put-depth 32 f id (edge s i w)) (state-long (sound-trans s1 s2) (r .state)) (s2 .levels) t i
+    pub whole-asks : Short (tiles u) × Room w (put-command (paint-fill (tiles u) none i) w)
+    whole-asks = (head (rw only at (parts-short s h)), rw whole-is at o)
 
-  pub parts-1 : Room w (edge s i w)
-  parts-1 = room-first (sound-trans s2 s3 .grown) r
+  module _ (a : Edge) (b : BucketRange) (c : Edge) (t : r ≡ Opaque a b c) where
+    three : split 32 s ≡ beside a (buckets (bucket-span b) ∷ beside c [])
+    three = split-told s (beside a (buckets (bucket-span b) ∷ beside c [])) (ap split-of (sym t) ∙ e)
 
-  pub parts-2 : {u : Words} → u ≡ edge s i w → Room u (put-depth 32 f id u)
-  parts-2 p = rw p (room-first (s3 .grown) (room-after s1 r))
+    abbrev mid : Words
+    mid = put-depth 32 (deep (bucket-span b) i) id (edged a i w)
 
-  pub parts-3 : {u v : Words} → u ≡ edge s i w → v ≡ put-depth 32 f id u → Room v (edge t i v)
-  parts-3 p q = rw (q, p) (room-after (sound-trans s1 s2) r)
+    folded : (x y : Edge) → foldl (put-part Words word-ops 32 i id) w (beside x (buckets (bucket-span b) ∷ beside y [])) ≡ edged y i (put-depth 32 (deep (bucket-span b) i) id (edged x i w))
+    folded Absent Absent = refl
+    folded Absent (Tiles v) = refl
+    folded (Tiles u) Absent = refl
+    folded (Tiles u) (Tiles v) = refl
+
+    pieces-are : parted i id s w ≡ edged c i mid
+    pieces-are = ap (λ (ps : List Part). foldl (put-part Words word-ops 32 i id) w ps) three ∙ folded a c
+
+    all-short : (x y : Edge) → All ShortPart (beside x (buckets (bucket-span b) ∷ beside y [])) → ShortEdge x × Short (bucket-span b) × ShortEdge y
+    all-short Absent Absent k = (tt, head k, tt)
+    all-short Absent (Tiles v) k = (tt, head k, head (tail k))
+    all-short (Tiles u) Absent k = (head k, head (tail k), tt)
+    all-short (Tiles u) (Tiles v) k = (head k, head (tail k), head (tail (tail k)))
+
+    short : ShortEdge a × Short (bucket-span b) × ShortEdge c
+    short = all-short a c (rw three at (parts-short s h))
+
+    room : Room w (edged c i mid)
+    room = rw pieces-are at o
+
+    s1 : Sound w (edged a i w)
+    s1 = edge-sound w (o .state) (o .levels) a i
+
+    s2 : Sound (edged a i w) mid
+    s2 = fill-sound (edged a i w) (state-long s1 (o .state)) (s1 .levels) 32 (deep (bucket-span b) i) id
+
+    s3 : Sound mid (edged c i mid)
+    s3 = edge-sound mid (state-long (sound-trans s1 s2) (o .state)) (s2 .levels) c i
+
+    pub before-asks : ShortEdge a × Room w (edged a i w)
+    before-asks = (short .0, room-first (sound-trans s2 s3 .grown) room)
+
+    module _ {u : Words} (p : u ≡ edged a i w) where
+      pub buckets-ask : Short (bucket-span b) × Room u (put-depth 32 (deep (bucket-span b) i) id u)
+      buckets-ask = (short .1, rw p (room-first (s3 .grown) (room-after s1 room)))
+
+      module _ {v : Words} (q : v ≡ put-depth 32 (deep (bucket-span b) i) id u) where
+        pub after-asks : ShortEdge c × Room v (edged c i v)
+        after-asks = (short .2, rw (q, p) (room-after (sound-trans s1 s2) room))
+
+        pub pieces-done : {x : Words} → x ≡ edged c i v → x ≡ parted i id s w
+        pieces-done k = rw (k, q, p) (sym pieces-are)
 
 -- rules 5 to 7
 module _ (n : ℕ) (s : Span) (i id : ℕ) (w : Words) where

@@ -1,17 +1,19 @@
 -- The rules' acts, at rows of words and 32 tiles a bucket.
 use Prim.Native.Nat.{ℕ}
-use mathlib.Core.Bool.{Bool, cond}
+use mathlib.Core.Bool.{Bool}
 use mathlib.Core.List.{foldl}
 use mathlib.Core.Option.{Option, none}
-use lib.Dec.{ltb}
 use Rattle.rules.specs.Spans.{Span}
 use Rattle.rules.specs.Split.{split}
 use Rattle.rules.specs.Commands.{paint-fill}
 use Rattle.rules.specs.Plans.{Act, draw-act}
 use Rattle.rules.specs.Steps.{ensure, put-part, do-act}
 use Rattle.span.specs.declared.Alpha.{Alpha}
-use Rattle.span.specs.Spans.{alpha}
+use Rattle.span.specs.Spans.{alpha, tiles}
+use Rattle.depth.specs.declared.split.Edge.{Edge}
+use Rattle.depth.specs.declared.split.Edge.the-variants.{Absent, Tiles}
 use Rattle.row.specs.Words.{Words, put-command, word-ops}
+use Rattle.row.specs.Cmds.{Short}
 
 -- a fill's alpha index, none where it is solid
 abbrev pub alpha-of : Alpha → Option ℕ
@@ -29,9 +31,14 @@ acted n a w = do-act Words word-ops 32 n a w
 abbrev pub parted : ℕ → ℕ → Span → Words → Words
 parted i id s w = foldl (put-part Words word-ops 32 i id) w (split 32 s)
 
--- the regular piece on one side of a depth fill, or nothing where it is empty
-unfoldable pub edge : Span → ℕ → Words → Words
-edge s i w = cond (ltb (s .first) (s .end)) (put-command (paint-fill s none i) w) w
+-- the regular piece on one side of a depth fill, where there is one
+abbrev pub edged : Edge → ℕ → Words → Words
+edged Absent i w = w
+edged (Tiles s) i w = put-command (paint-fill (tiles s) none i) w
+
+abbrev pub ShortEdge : Edge → Type 0
+ShortEdge Absent = Unit
+ShortEdge (Tiles s) = Short (tiles s)
 
 -- rules 5 to 7: what is left of a segment; `e` says that the draw is eligible
 abbrev pub drawn : ℕ → Bool → Span → Option ℕ → ℕ → ℕ → Words → Words

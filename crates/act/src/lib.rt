@@ -3,11 +3,13 @@
 use cmd::command::Fill;
 use cmd::command::RenderCmd;
 use cmd::depth_fill::DepthFill;
+use depth::Edge;
+use depth::Split;
+use depth::split_opaque_span;
 use row::push_buf;
 use row::push_cmd;
 use row::push_depth_fill;
 use span::Alpha;
-use span::BucketRange;
 use span::TileSpan;
 ghost use mathlib.Core.Path.{_≡_};
 ghost use Prim.Native.Nat.{_≤_};
@@ -15,7 +17,7 @@ ghost use Rattle.rules.specs.Commands.{paint-fill, layer-fill};
 ghost use Rattle.span.specs.Spans.{tiles};
 ghost use Rattle.row.specs.Words.{words, put-command, Room};
 ghost use Rattle.row.specs.Cmds.{Short};
-ghost use Rattle.act.specs.Acts.{alpha-of, ensured, parted, edge, drawn};
+ghost use Rattle.act.specs.Acts.{alpha-of, ensured, parted, ShortEdge, edged, drawn};
 
 // Rule 5: a PushBuf for each open layer that the row lacks. A destructive push does this alone (rule 8).
 pub fn ensure_row_layers(state: &mut [u32], render: &mut [u32], fills: &mut [u32], n: u32)
@@ -49,23 +51,20 @@ fn push_paint(
     push_cmd(state, render, fills, RenderCmd::PaintFill(fill));
 }
 
-// Rule 7: the regular piece on one side of a depth fill, if it has tiles.
-fn push_edge(
-    state: &mut [u32],
-    render: &mut [u32],
-    fills: &mut [u32],
-    span: TileSpan,
-    attrs_idx: u32,
-)
-    requires { ⌜ Short (tiles span) × Room (words (now state) (now render) (now fills)) (edge (tiles span) «attrs_idx» (words (now state) (now render) (now fills))) ⌝ }
-    ensures { λ _. ⌜ words (now (state .exit)) (now (render .exit)) (now (fills .exit)) ≡ edge (tiles span) «attrs_idx» (words (now (state .entry)) (now (render .entry)) (now (fills .entry))) ⌝ }
+// Rule 7: the regular piece on one side of a depth fill, where there is one.
+fn push_edge(state: &mut [u32], render: &mut [u32], fills: &mut [u32], edge: Edge, attrs_idx: u32)
+    requires { ⌜ ShortEdge edge × Room (words (now state) (now render) (now fills)) (edged edge «attrs_idx» (words (now state) (now render) (now fills))) ⌝ }
+    ensures { λ _. ⌜ words (now (state .exit)) (now (render .exit)) (now (fills .exit)) ≡ edged edge «attrs_idx» (words (now (state .entry)) (now (render .entry)) (now (fills .entry))) ⌝ }
 {
-    if span.first < span.end {
-        push_paint(state, render, fills, span, Alpha::Solid, attrs_idx);
+    match edge {
+        Edge::Absent => {}
+        Edge::Tiles(span) => {
+            push_paint(state, render, fills, span, Alpha::Solid, attrs_idx);
+        }
     }
 }
 
-// Rule 7: an eligible span, split over buckets of 32 tiles.
+// Rule 7: an eligible span, split over buckets of 32 tiles. No caller has a span that starts after its end; it would stay whole.
 fn push_opaque(
     state: &mut [u32],
     render: &mut [u32],
@@ -77,33 +76,30 @@ fn push_opaque(
     requires { ⌜ Short (tiles span) × Room (words (now state) (now render) (now fills)) (parted «attrs_idx» «draw_id» (tiles span) (words (now state) (now render) (now fills))) ⌝ }
     ensures { λ _. ⌜ words (now (state .exit)) (now (render .exit)) (now (fills .exit)) ≡ parted «attrs_idx» «draw_id» (tiles span) (words (now (state .entry)) (now (render .entry)) (now (fills .entry))) ⌝ }
 {
-    let a = (span.first + 31) / 32 * 32;
-    let b = span.end / 32 * 32;
-    if b <= a {
-        push_paint(state, render, fills, span, Alpha::Solid, attrs_idx);
-        return;
+    let split = split_opaque_span(span);
+    match split {
+        Split::Refused(_) => {
+            push_paint(state, render, fills, span, Alpha::Solid, attrs_idx);
+        }
+        Split::Whole(whole) => {
+            push_paint(state, render, fills, whole, Alpha::Solid, attrs_idx);
+        }
+        Split::Opaque {
+            before,
+            buckets,
+            after,
+        } => {
+            push_edge(state, render, fills, before, attrs_idx);
+            push_depth_fill(
+                state,
+                render,
+                fills,
+                DepthFill { buckets, attrs_idx },
+                draw_id,
+            );
+            push_edge(state, render, fills, after, attrs_idx);
+        }
     }
-    let left = TileSpan {
-        first: span.first,
-        end: a,
-    };
-    let right = TileSpan {
-        first: b,
-        end: span.end,
-    };
-    let buckets = BucketRange {
-        first: a / 32,
-        end: b / 32,
-    };
-    push_edge(state, render, fills, left, attrs_idx);
-    push_depth_fill(
-        state,
-        render,
-        fills,
-        DepthFill { buckets, attrs_idx },
-        draw_id,
-    );
-    push_edge(state, render, fills, right, attrs_idx);
 }
 
 // Rules 5 to 7: what is left of a segment, on its row. `eligible` is rule 6's, for the whole draw.

@@ -1,22 +1,36 @@
 use mathlib.Core.Path.{sym, _∙_}
-use native.Mathlib.Omega.{arith}
+use Rattle.act.proofs.Laws.{refused-is, refused-asks, whole-is, whole-asks, before-asks, buckets-ask, after-asks, pieces-done}
 use Rattle.span.specs.Spans.{tiles}
-use Rattle.act.proofs.Laws.{parted-one, parted-more, parts-1, parts-2, parts-3}
 use borrow.Author.Needs.{needs}
 use Rattle.act.proofs.push_opaque.Statement.{statement}
 use Rattle.act.proofs.push_opaque.Tie as tie
 
-add-a : tie.Need-add-a
-add-a c = search needs
+split-opaque-span-requires : tie.Need-split-opaque-span-requires
+split-opaque-span-requires c κs = search needs
 
-mul-a : tie.Need-mul-a
-mul-a c = search needs
-
-mul-b : tie.Need-mul-b
-mul-b c = search needs
+enum-told : tie.Need-enum-told
+enum-told c = search needs
 
 push-paint-requires : tie.Need-push-paint-requires
-push-paint-requires c κs = (c .before .before .before .before .before .before .before .before .before .pre .0, rw (parted-one _ _ _ (tiles (c .before .before .before .before .before .before .before .before .before .args .span)) (c .before .before .before .if1 .taken)) at (c .before .before .before .before .before .before .before .before .before .pre .1))
+push-paint-requires c κs = refused-asks _ _ (tiles (c .before .before .before .before .before .before .before .before .before .args .span)) (c .before .before .before .before .before .before .before .before .before .pre .0) _ (c .before .before .before .before .before .before .before .before .before .pre .1) (c .before .before .before .before .before .split-opaque-span .ensures) _ (c .before .before .before .enum-told .given .1)
+
+enum-known-split : tie.Need-enum-known-split
+enum-known-split c = search needs
+
+push-paint-requires-2 : tie.Need-push-paint-requires-2
+push-paint-requires-2 c κs = whole-asks _ _ (tiles (c .before .before .before .before .before .before .before .before .before .before .args .span)) (c .before .before .before .before .before .before .before .before .before .before .pre .0) _ (c .before .before .before .before .before .before .before .before .before .before .pre .1) (c .before .before .before .before .before .before .split-opaque-span .ensures) _ (c .before .before .before .before .split .given .1)
+
+enum-known-split-2 : tie.Need-enum-known-split-2
+enum-known-split-2 c = search needs
+
+push-edge-requires : tie.Need-push-edge-requires
+push-edge-requires c κs = before-asks _ _ (tiles (c .before .before .before .before .before .before .before .before .before .before .args .span)) (c .before .before .before .before .before .before .before .before .before .before .pre .0) _ (c .before .before .before .before .before .before .before .before .before .before .pre .1) (c .before .before .before .before .before .before .split-opaque-span .ensures) _ _ _ (c .before .before .before .before .split2 .given .1)
+
+push-depth-fill-requires : tie.Need-push-depth-fill-requires
+push-depth-fill-requires c κs = buckets-ask _ _ (tiles (c .before .before .before .before .before .before .before .before .before .before .before .before .before .before .before .before .before .before .before .before .args .span)) (c .before .before .before .before .before .before .before .before .before .before .before .before .before .before .before .before .before .before .before .before .pre .0) _ (c .before .before .before .before .before .before .before .before .before .before .before .before .before .before .before .before .before .before .before .before .pre .1) (c .before .before .before .before .before .before .before .before .before .before .before .before .before .before .before .before .split-opaque-span .ensures) _ _ _ (c .before .before .before .before .before .before .before .before .before .before .before .before .before .before .split2 .given .1) (c .before .before .before .before .before .before .before .before .before .push-edge .ensures)
+
+push-edge-requires-2 : tie.Need-push-edge-requires-2
+push-edge-requires-2 c κs = after-asks _ _ (tiles (c .before .before .before .before .before .before .before .before .before .before .before .before .before .before .before .before .before .before .before .before .before .before .before .before .before .before .before .before .before .before .args .span)) (c .before .before .before .before .before .before .before .before .before .before .before .before .before .before .before .before .before .before .before .before .before .before .before .before .before .before .before .before .before .before .pre .0) _ (c .before .before .before .before .before .before .before .before .before .before .before .before .before .before .before .before .before .before .before .before .before .before .before .before .before .before .before .before .before .before .pre .1) (c .before .before .before .before .before .before .before .before .before .before .before .before .before .before .before .before .before .before .before .before .before .before .before .before .before .before .split-opaque-span .ensures) _ _ _ (c .before .before .before .before .before .before .before .before .before .before .before .before .before .before .before .before .before .before .before .before .before .before .before .before .split2 .given .1) (c .before .before .before .before .before .before .before .before .before .before .before .before .before .before .before .before .before .before .before .push-edge .ensures) (c .before .before .before .before .before .before .before .before .before .push-depth-fill .ensures)
 
 same-length : tie.Need-same-length
 same-length c = search needs
@@ -28,16 +42,7 @@ same-length-3 : tie.Need-same-length-3
 same-length-3 c = search needs
 
 returns : tie.Need-returns
-returns c = c .before .before .before .before .before .before .push-paint .ensures ∙ sym (parted-one _ _ _ (tiles (c .before .before .before .before .before .before .before .before .before .before .before .before .before .before .before .before .args .span)) (c .before .before .before .before .before .before .before .before .before .before .if1 .taken))
-
-push-edge-requires : tie.Need-push-edge-requires
-push-edge-requires c κs = ((c .before .before .before .before .before .before .before .before .before .pre .0 .0, omega (arith, c .before .before .before .before .before .before .before .before .before .pre .0 .1)), parts-1 _ _ _ _ _ _ (rw (parted-more _ _ _ (tiles (c .before .before .before .before .before .before .before .before .before .args .span)) (c .before .before .before .if1 .left)) at (c .before .before .before .before .before .before .before .before .before .pre .1)))
-
-push-depth-fill-requires : tie.Need-push-depth-fill-requires
-push-depth-fill-requires c κs = ((omega (arith, c .before .before .before .before .before .before .before .before .before .before .before .before .before .before .before .before .before .before .before .pre .0 .1), omega (arith, c .before .before .before .before .before .before .before .before .before .before .before .before .before .before .before .before .before .before .before .pre .0 .1)), parts-2 _ _ _ _ _ _ (rw (parted-more _ _ _ (tiles (c .before .before .before .before .before .before .before .before .before .before .before .before .before .before .before .before .before .before .before .args .span)) (c .before .before .before .before .before .before .before .before .before .before .before .before .before .if1 .left)) at (c .before .before .before .before .before .before .before .before .before .before .before .before .before .before .before .before .before .before .before .pre .1)) (c .before .before .before .before .before .before .before .before .before .push-edge .ensures))
-
-push-edge-requires-2 : tie.Need-push-edge-requires-2
-push-edge-requires-2 c κs = ((omega (arith, c .before .before .before .before .before .before .before .before .before .before .before .before .before .before .before .before .before .before .before .before .before .before .before .before .before .before .before .before .before .pre .0 .1), c .before .before .before .before .before .before .before .before .before .before .before .before .before .before .before .before .before .before .before .before .before .before .before .before .before .before .before .before .before .pre .0 .1), parts-3 _ _ _ _ _ _ (rw (parted-more _ _ _ (tiles (c .before .before .before .before .before .before .before .before .before .before .before .before .before .before .before .before .before .before .before .before .before .before .before .before .before .before .before .before .before .args .span)) (c .before .before .before .before .before .before .before .before .before .before .before .before .before .before .before .before .before .before .before .before .before .before .before .if1 .left)) at (c .before .before .before .before .before .before .before .before .before .before .before .before .before .before .before .before .before .before .before .before .before .before .before .before .before .before .before .before .before .pre .1)) (c .before .before .before .before .before .before .before .before .before .before .before .before .before .before .before .before .before .before .before .push-edge .ensures) (c .before .before .before .before .before .before .before .before .before .push-depth-fill .ensures))
+returns c = c .before .before .before .before .before .before .push-paint .ensures ∙ sym (refused-is _ _ (tiles (c .before .before .before .before .before .before .before .before .before .before .before .before .before .before .before .before .args .span)) (c .before .before .before .before .before .before .before .before .before .before .before .before .before .before .before .before .pre .0) _ (c .before .before .before .before .before .before .before .before .before .before .before .before .before .before .before .before .pre .1) (c .before .before .before .before .before .before .before .before .before .before .before .before .split-opaque-span .ensures) _ (c .before .before .before .before .before .before .before .before .before .before .enum-told .given .1))
 
 same-length-4 : tie.Need-same-length-4
 same-length-4 c = search needs
@@ -49,24 +54,42 @@ same-length-6 : tie.Need-same-length-6
 same-length-6 c = search needs
 
 returns-2 : tie.Need-returns-2
-returns-2 c = rw (parted-more _ _ _ (tiles (c .before .before .before .before .before .before .before .before .before .before .before .before .before .before .before .before .before .before .before .before .before .before .before .before .before .before .before .before .before .before .before .before .before .before .before .before .args .span)) (c .before .before .before .before .before .before .before .before .before .before .before .before .before .before .before .before .before .before .before .before .before .before .before .before .before .before .before .before .before .before .if1 .left), ← c .before .before .before .before .before .before .before .before .before .before .before .before .before .before .before .before .before .before .before .before .before .before .before .before .before .before .push-edge .ensures, ← c .before .before .before .before .before .before .before .before .before .before .before .before .before .before .before .before .push-depth-fill .ensures) (c .before .before .before .before .before .before .push-edge2 .ensures)
+returns-2 c = c .before .before .before .before .before .before .push-paint2 .ensures ∙ sym (whole-is _ _ (tiles (c .before .before .before .before .before .before .before .before .before .before .before .before .before .before .before .before .before .args .span)) (c .before .before .before .before .before .before .before .before .before .before .before .before .before .before .before .before .before .pre .0) _ (c .before .before .before .before .before .before .before .before .before .before .before .before .before .before .before .before .before .pre .1) (c .before .before .before .before .before .before .before .before .before .before .before .before .before .split-opaque-span .ensures) _ (c .before .before .before .before .before .before .before .before .before .before .before .split .given .1))
+
+same-length-7 : tie.Need-same-length-7
+same-length-7 c = search needs
+
+same-length-8 : tie.Need-same-length-8
+same-length-8 c = search needs
+
+same-length-9 : tie.Need-same-length-9
+same-length-9 c = search needs
+
+returns-3 : tie.Need-returns-3
+returns-3 c = pieces-done _ _ (tiles (c .before .before .before .before .before .before .before .before .before .before .before .before .before .before .before .before .before .before .before .before .before .before .before .before .before .before .before .before .before .before .before .before .before .before .before .before .before .args .span)) (c .before .before .before .before .before .before .before .before .before .before .before .before .before .before .before .before .before .before .before .before .before .before .before .before .before .before .before .before .before .before .before .before .before .before .before .before .before .pre .0) _ (c .before .before .before .before .before .before .before .before .before .before .before .before .before .before .before .before .before .before .before .before .before .before .before .before .before .before .before .before .before .before .before .before .before .before .before .before .before .pre .1) (c .before .before .before .before .before .before .before .before .before .before .before .before .before .before .before .before .before .before .before .before .before .before .before .before .before .before .before .before .before .before .before .before .before .split-opaque-span .ensures) _ _ _ (c .before .before .before .before .before .before .before .before .before .before .before .before .before .before .before .before .before .before .before .before .before .before .before .before .before .before .before .before .before .before .before .split2 .given .1) (c .before .before .before .before .before .before .before .before .before .before .before .before .before .before .before .before .before .before .before .before .before .before .before .before .before .before .push-edge .ensures) (c .before .before .before .before .before .before .before .before .before .before .before .before .before .before .before .before .push-depth-fill .ensures) (c .before .before .before .before .before .before .push-edge2 .ensures)
 
 pub push-opaque-spec : {M : Type 1} → statement M
 push-opaque-spec =
     tie.close
     (tie.spec
-    add-a
-    mul-a
-    mul-b
+    split-opaque-span-requires
+    enum-told
     push-paint-requires
+    enum-known-split
+    push-paint-requires-2
+    enum-known-split-2
+    push-edge-requires
+    push-depth-fill-requires
+    push-edge-requires-2
     same-length
     same-length-2
     same-length-3
     returns
-    push-edge-requires
-    push-depth-fill-requires
-    push-edge-requires-2
     same-length-4
     same-length-5
     same-length-6
-    returns-2)
+    returns-2
+    same-length-7
+    same-length-8
+    same-length-9
+    returns-3)

@@ -19,7 +19,8 @@ use Rattle.rules.specs.Boxes.{Box, height, rows-of, good-viewport}
 use Rattle.row.specs.Words.{Words, word, word-ops}
 use Rattle.rect.specs.Rects.{box-of}
 use Rattle.screen.specs.declared.Screen.{Screen}
-use Rattle.screen.proofs.Laws.{few-rows, View, view}
+use Rattle.rect.proofs.Boxes.{View, view}
+use Rattle.screen.proofs.Laws.{few-rows}
 use Rattle.screen.proofs.Passed.{Passed}
 use Rattle.band.specs.Band.{Whole}
 

@@ -20,7 +20,7 @@ use Rattle.rules.specs.Boxes.{rows-of, good-viewport}
 use Rattle.rules.specs.Plans.{Put, Step, Frame}
 use Rattle.rules.specs.Steps.{Screen, reset, do-puts, touched, call}
 use Rattle.rules.proofs.All.{All, nil, cons, head, tail, all-keep, all-replicate}
-use Rattle.rules.proofs.Bounds.{Short, Framed, plan-ok, call-framed, reset-framed}
+use Rattle.rules.proofs.Bounds.{BoundedSpan, Framed, plan-ok, call-framed, reset-framed}
 use Rattle.rules.proofs.Maps.{Follows, PartOk, of-tiles, of-buckets, PutOk, screen-by, answer-by, follows-puts, follows-call}
 use Rattle.row.specs.Words.{Words, words, word-ops}
 use Rattle.encode.specs.Encode.{padded, stack, end-of, placed, encode, Fine}
@@ -58,7 +58,7 @@ spans-include : (s : Span) → s .end < 65536 → (ls : List Level) → All (λ 
 spans-include s g [] a = nil
 spans-include s g (l ∷ ls) a = cons (hull-end (l .union) s (head a) g) (tail a)
 
-fine-put : (c : Command) (s : Span) → adds c ≡ some s → Short s → (r : Row) → Fine r → Fine (put-command c r)
+fine-put : (c : Command) (s : Span) → adds c ≡ some s → BoundedSpan s → (r : Row) → Fine r → Fine (put-command c r)
 unfolding put-command
 fine-put c s e g r o =
     rw e
@@ -110,7 +110,7 @@ unfolding put-depth-fill
 fine-fill v f id r o = record { few = o .few; spans = o .spans; summary = some-more (r .fills) f; places = o .places }
 
 -- spans of the parts
-split-ok : (v : ℕ) (s : Span) → Short s → All (PartOk Short) (split v s)
+split-ok : (v : ℕ) (s : Span) → BoundedSpan s → All (PartOk BoundedSpan) (split v s)
 unfolding split
 split-ok v s g = go (leb (lowered v (s .end)) (raised v (s .first))) refl
   where
@@ -120,11 +120,11 @@ split-ok v s g = go (leb (lowered v (s .end)) (raised v (s .first))) refl
     below : leb (lowered v (s .end)) (raised v (s .first)) ≡ false → raised v (s .first) < lowered v (s .end)
     below e = leb-false (lowered v (s .end)) (raised v (s .first)) e
 
-    last : All (PartOk Short) (keep (ltb (lowered v (s .end)) (s .end)) (regular (span (lowered v (s .end)) (s .end))) [])
+    last : All (PartOk BoundedSpan) (keep (ltb (lowered v (s .end)) (s .end)) (regular (span (lowered v (s .end)) (s .end))) [])
     last = all-keep (ltb (lowered v (s .end)) (s .end)) (regular (span (lowered v (s .end)) (s .end))) (of-tiles (record { first = omega (arith, low, g .end); end = g .end })) nil
 
     go : (t : Bool) → leb (lowered v (s .end)) (raised v (s .first)) ≡ t
-        → All (PartOk Short) (cond t (regular s ∷ []) (around v s (raised v (s .first)) (lowered v (s .end))))
+        → All (PartOk BoundedSpan) (cond t (regular s ∷ []) (around v s (raised v (s .first)) (lowered v (s .end))))
     go true e = cons (of-tiles g) nil
     go false e =
         all-keep (ltb (s .first) (raised v (s .first))) (regular (span (s .first) (raised v (s .first))))
@@ -135,7 +135,7 @@ split-ok v s g = go (leb (lowered v (s .end)) (raised v (s .first))) refl
         })) last)
 
 -- the refinement, operation by operation: c and d are the room of a row, v the tiles of a bucket
-pub refines : (c d v : ℕ) → Follows Row Words row-ops word-ops (encode c d) Fine Short v
+pub refines : (c d v : ℕ) → Follows Row Words row-ops word-ops (encode c d) Fine BoundedSpan v
 unfolding encode put-push-buf put-pop-buf
 refines c d v =
     record {
@@ -153,7 +153,7 @@ refines c d v =
     }
 
 -- the words of the rows that puts make of the rules' rows are what the same puts make of the rows' words
-pub refined : (c d v n : ℕ) → n ≤ 16 → (ps : List Put) → All (PutOk Short) ps → (rows : List Row) → All Fine rows
+pub refined : (c d v n : ℕ) → n ≤ 16 → (ps : List Put) → All (PutOk BoundedSpan) ps → (rows : List Row) → All Fine rows
     → (map (encode c d) (do-puts Row row-ops v n ps rows) ≡ do-puts Words word-ops v n ps (map (encode c d) rows)) × All Fine (do-puts Row row-ops v n ps rows)
 refined c d v n m ps o rows f = follows-puts (refines c d v) n m o rows f
 

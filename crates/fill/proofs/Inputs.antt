@@ -11,12 +11,13 @@ use Rattle.rules.specs.Boxes.{Box, scene-tiles}
 use Rattle.rules.specs.Blends.{good-blend}
 use Rattle.rules.specs.Inputs.{Paint, good-paint, good-handle, good-draw, draw-paint}
 use Rattle.rules.proofs.All.{both}
-use Rattle.rect.specs.Rects.{box-of}
+use Rattle.rect.specs.Rects.{box-of, Small}
+use Rattle.rect.proofs.Boxes.{small-viewport, view}
 use Rattle.screen.specs.declared.Screen.{Screen}
-use Rattle.screen.proofs.Laws.{view, clip, good-clip-of}
+use Rattle.screen.proofs.Laws.{clip, good-clip-of}
 use Rattle.segments.specs.declared.Scene.{Scene}
-use Rattle.segments.specs.Segs.{segs-of, Small, SceneOf}
-use Rattle.segments.proofs.Laws.{small-viewport, segs-count}
+use Rattle.segments.specs.Segs.{segs-of, SceneOf}
+use Rattle.segments.proofs.Laws.{segs-count}
 use Rattle.fill.specs.declared.Draw.{Draw}
 use Rattle.fill.specs.Fills.{draw-of, paint-at, paints, paints-of, scene-at, Passing}
 

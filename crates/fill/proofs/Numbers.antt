@@ -22,7 +22,8 @@ use Rattle.rect.specs.Rects.{box-of}
 use Rattle.screen.specs.Screens.{frame-of, state-of}
 use Rattle.screen.specs.Judging.{judged}
 use Rattle.screen.proofs.Laws as laws
-use Rattle.screen.proofs.Laws.{view, few-rows, clip, good-clip-of, layer-count}
+use Rattle.rect.proofs.Boxes.{view}
+use Rattle.screen.proofs.Laws.{few-rows, clip, good-clip-of, layer-count}
 use Rattle.screen.proofs.Passed.{Passed, passed}
 use Rattle.segments.specs.Segs as segs
 use Rattle.segments.specs.Segs.{segs-of}

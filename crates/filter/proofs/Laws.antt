@@ -33,7 +33,8 @@ use Rattle.rect.specs.Rects.{box-of}
 use Rattle.screen.specs.declared.Screen.{Screen}
 use Rattle.screen.specs.Screens.{frame-of, state-of, screen-after, good-screen, counted}
 use Rattle.screen.specs.Judging.{judged}
-use Rattle.screen.proofs.Laws.{bounds, clip, good-clip-of, clip-of, same-layers, paint-count, layer-attr-count, filter-count, layer-count, view}
+use Rattle.rect.proofs.Boxes.{view}
+use Rattle.screen.proofs.Laws.{bounds, clip, good-clip-of, clip-of, same-layers, paint-count, layer-attr-count, filter-count, layer-count}
 use Rattle.screen.proofs.Passed.{Passed, passed}
 use Rattle.band.specs.Band.{band-number, each, rows-on, Whole, OnRows}
 use Rattle.band.proofs.Laws.{puts-each}

@@ -19,14 +19,16 @@ use Rattle.row.specs.Words.{Words, word-ops}
 use Rattle.row.specs.Cmds.{Short}
 use Rattle.arena.specs.Arena.{lay}
 use Rattle.rect.specs.declared.Rect.{Rect}
-use Rattle.rect.specs.Rects.{box-of}
+use Rattle.rect.specs.Rects.{box-of, Small}
+use Rattle.rect.proofs.Boxes as boxes
+use Rattle.rect.proofs.Boxes.{small-viewport}
 use Rattle.span.specs.declared.TileSpan.{TileSpan}
 use Rattle.span.specs.Spans.{tiles}
 use Rattle.screen.specs.declared.Screen as code
 use Rattle.screen.specs.Screens.{frame-of}
 use Rattle.segments.specs.declared.Scene.{Scene}
-use Rattle.segments.specs.Segs.{segs, segs-of, origin, bounds, Small, SceneOf, Starts}
-use Rattle.segments.proofs.Laws.{viewport-facts, small-viewport, scene-starts, judged as judged-list}
+use Rattle.segments.specs.Segs.{segs, segs-of, origin, bounds, SceneOf, Starts}
+use Rattle.segments.proofs.Laws.{scene-starts, judged as judged-list}
 use Rattle.building.specs.Building.{rows-at, screen-at}
 use Rattle.layers.specs.declared.OpenLayer.{OpenLayer}
 use Rattle.layers.specs.Layers.{layer-at, clip-in, open-at, good-layer, good-own-box}
@@ -78,11 +80,11 @@ module _ {s : code.Screen} {t ws : List ℕ} {w : Words} (j : Judged s t ws w) w
   bottom = last-row own-box
 
   pub short-span : Short (span-of (layer-at t (s .layers - 1) .bounds))
-  short-span = own-span own-box (viewport-facts view (seen .view) .wide)
+  short-span = own-span own-box (boxes.view view (seen .view) .wide)
 
   pub small-boxes : Small (box-of (s .viewport)) × Small (clip-box (box-of (s .viewport)) (layers-in t (s .layers - 1)))
   small-boxes =
-      let f = viewport-facts view (seen .view) in
+      let f = boxes.view view (seen .view) in
       (small-viewport view (seen .view), own-small (own-facts view parent (tests .2)) (f .wide) (f .high))
 
   -- without a clip

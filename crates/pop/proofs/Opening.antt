@@ -19,13 +19,15 @@ use Rattle.rules.proofs.All.{both, never}
 use Rattle.row.specs.Words.{Words}
 use Rattle.row.specs.Cmds.{Short}
 use Rattle.rect.specs.declared.Rect.{Rect}
-use Rattle.rect.specs.Rects.{box-of}
+use Rattle.rect.specs.Rects.{box-of, Small}
+use Rattle.rect.proofs.Boxes as boxes
+use Rattle.rect.proofs.Boxes.{small-viewport}
 use Rattle.cmd.specs.Blends.{blend-of}
 use Rattle.screen.specs.declared.Screen as code
 use Rattle.screen.specs.Screens.{frame-of}
 use Rattle.segments.specs.declared.Scene.{Scene}
-use Rattle.segments.specs.Segs.{segs, origin, bounds, Small, SceneOf, Starts}
-use Rattle.segments.proofs.Laws.{viewport-facts, small-viewport, scene-starts}
+use Rattle.segments.specs.Segs.{segs, origin, bounds, SceneOf, Starts}
+use Rattle.segments.proofs.Laws.{scene-starts}
 use Rattle.building.specs.Building.{rows-at}
 use Rattle.layers.specs.declared.OpenLayer.{OpenLayer}
 use Rattle.layers.specs.Layers.{layer-at, box-in, clip-in, open-at, good-layer, good-own-box}
@@ -155,7 +157,7 @@ module _ (s : code.Screen) (w : Words) (t ws : List ℕ) (low : 1 ≤ s .layers)
 
     pub open-small : Small (box-of (s .viewport)) × Small (box-of q)
     open-small =
-        let f = viewport-facts view (o .view) in
+        let f = boxes.view view (o .view) in
         (small-viewport view (o .view), own-small (own-facts view (box-of q) (tests .2)) (f .wide) (f .high))
 
     pub open-scene : (d : Scene) → SceneOf (box-of (s .viewport)) (box-of q) d → Starts (origin d) (bounds d)

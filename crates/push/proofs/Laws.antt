@@ -31,7 +31,8 @@ use Rattle.rect.specs.Rects.{box-of}
 use Rattle.screen.specs.declared.Screen.{Screen}
 use Rattle.screen.specs.Screens.{frame-of, state-of, screen-after, good-screen}
 use Rattle.screen.specs.Judging.{judged}
-use Rattle.screen.proofs.Laws.{bounds, clip, good-clip-of, clip-of, paint-count, layer-attr-count, filter-count, layer-count, view}
+use Rattle.rect.proofs.Boxes.{view}
+use Rattle.screen.proofs.Laws.{bounds, clip, good-clip-of, clip-of, paint-count, layer-attr-count, filter-count, layer-count}
 use Rattle.screen.proofs.Passed.{Passed, passed}
 use Rattle.layers.specs.declared.LayerProps.{LayerProps}
 use Rattle.layers.specs.Layers.{clip-of as clip-in, props-of, layer-of, layer-words}

@@ -1,4 +1,5 @@
 -- The code's boxes as the rules' boxes.
+use Prim.Native.Nat.{_≤_}
 use mathlib.Core.Bool.{Bool, _&&_}
 use lib.Dec.{eqb}
 use Rattle.rules.specs.Boxes.{Box, box}
@@ -9,3 +10,10 @@ box-of r = box (r .x0) (r .y0) (r .x1) (r .y1)
 
 abbrev pub same-box : Box → Box → Bool
 same-box a b = eqb (a .x0) (b .x0) && eqb (a .y0) (b .y0) && eqb (a .x1) (b .x1) && eqb (a .y1) (b .y1)
+
+-- no side past 32,768
+pub record Small (b : Box) : Type 0 where
+  pub left : b .x0 ≤ 32768
+  pub top : b .y0 ≤ 32768
+  pub right : b .x1 ≤ 32768
+  pub bottom : b .y1 ≤ 32768

@@ -22,12 +22,12 @@ use Rattle.rules.proofs.All.{All, nil, cons, head, tail, both, all-if, 
 use Rattle.rules.proofs.Maps.{ActOk, paints, splits, touches, closes, pops, PutOk, planned}
 
 -- both ends at tile 8,192 at the latest
-pub record Short (s : Span) : Type 0 where
+pub record BoundedSpan (s : Span) : Type 0 where
   pub first : s .first ≤ 8192
   pub end : s .end ≤ 8192
 
-pub record ShortCut (k : Cut) : Type 0 where
-  pub tiles : Short (k .tiles)
+pub record BoundedCut (k : Cut) : Type 0 where
+  pub tiles : BoundedSpan (k .tiles)
 
 -- a box that lies on the screen of the viewport v, unless it is empty
 pub record Inside (v b : Box) : Type 0 where
@@ -104,12 +104,12 @@ judged-facts bad ss p = let h = judged bad (every good-segment ss) (ordered ss) 
 -- rule 4: what is left of a good segment
 data Left : Option Stretch → Type 0 where
   nothing : Left none
-  something : (k : Stretch) → Short (k .tiles) → Left (some k)
+  something : (k : Stretch) → BoundedSpan (k .tiles) → Left (some k)
 
-localised-short : (v : Box) (row : ℕ) {o : Option Stretch} → Left o → All ShortCut (localised v row o)
+localised-short : (v : Box) (row : ℕ) {o : Option Stretch} → Left o → All BoundedCut (localised v row o)
 localised-short v row nothing = nil
 localised-short v row (something k s) =
-    let t : Short (span (k .tiles .first - v .x0 / 4) (k .tiles .end - v .x0 / 4)) = record { first = omega (arith, s .first); end = omega (arith, s .end) } in
+    let t : BoundedSpan (span (k .tiles .first - v .x0 / 4) (k .tiles .end - v .x0 / 4)) = record { first = omega (arith, s .first); end = omega (arith, s .end) } in
     cons (record { tiles = t }) nil
 
 left-if : (t : Bool) {o : Option Stretch} → Left o → Left (cond t o none)
@@ -124,16 +124,16 @@ cut-short b s h = go (ltb (common (s .tiles) b .first) (common (s .tiles) b .end
     go true e = something (cut-at s (common (s .tiles) b)) (record { first = omega (arith, ltb-true (max (s .tiles .first) (b .first)) (min (s .tiles .end) (b .end)) e); end = omega arith })
     go false e = nothing
 
-pub cut-in-short : (v b : Box) (s : Segment) → good-segment s ≡ true → All ShortCut (cut-in v b s)
+pub cut-in-short : (v b : Box) (s : Segment) → good-segment s ≡ true → All BoundedCut (cut-in v b s)
 unfolding cut-in
 cut-in-short v b s g = localised-short v (s .row) (left-if (leb (b .y0) (s .row) && ltb (s .row) (b .y1)) (cut-short (span (b .x0) (b .x1)) (stretch-of s) (good-facts s g .end)))
 
-pub cuts-short : (v c : Box) {ss : List Segment} → All (λ (s : Segment). good-segment s ≡ true) ss → All ShortCut (cuts v c ss)
+pub cuts-short : (v c : Box) {ss : List Segment} → All (λ (s : Segment). good-segment s ≡ true) ss → All BoundedCut (cuts v c ss)
 unfolding cuts
 cuts-short v c a = all-join (cut-in v (scene-tiles v c)) (cut-in-short v (scene-tiles v c)) a
 
 -- a box's span
-span-short : (b : Box) → b .x0 ≤ 32768 → b .x1 ≤ 32768 → Short (span-of b)
+span-short : (b : Box) → b .x0 ≤ 32768 → b .x1 ≤ 32768 → BoundedSpan (span-of b)
 unfolding span-of
 span-short b l r = record { first = omega arith; end = go (empty-box b) }
   where
@@ -142,19 +142,19 @@ span-short b l r = record { first = omega arith; end = go (empty-box b) }
     go false = omega arith
 
 -- what fills put on rows
-draw-ok : (e : Bool) (i id : ℕ) {s : Span} (a : Option ℕ) → Short s → ActOk Short (draw-act e i id s a)
+draw-ok : (e : Bool) (i id : ℕ) {s : Span} (a : Option ℕ) → BoundedSpan s → ActOk BoundedSpan (draw-act e i id s a)
 unfolding draw-act
 draw-ok true i id none h = splits h
 draw-ok true i id (some a) h = paints h
 draw-ok false i id none h = paints h
 draw-ok false i id (some a) h = paints h
 
-draws-ok : (e : Bool) (i id : ℕ) {ks : List Cut} → All ShortCut ks → All (PutOk Short) (draw-puts e i id ks)
+draws-ok : (e : Bool) (i id : ℕ) {ks : List Cut} → All BoundedCut ks → All (PutOk BoundedSpan) (draw-puts e i id ks)
 unfolding draw-puts
 draws-ok e i id nil = nil
 draws-ok e i id (cons {x = k} h hs) = cons (record { act = draw-ok e i id (k .alpha) (h .tiles) }) (draws-ok e i id hs)
 
-closes-ok : (i : ℕ) (touched : List ℕ) {ks : List Cut} → All ShortCut ks → All (PutOk Short) (close-puts i touched ks)
+closes-ok : (i : ℕ) (touched : List ℕ) {ks : List Cut} → All BoundedCut ks → All (PutOk BoundedSpan) (close-puts i touched ks)
 unfolding close-puts
 closes-ok i touched nil = nil
 closes-ok i touched (cons {x = k} h hs) =
@@ -182,28 +182,28 @@ module _ (s : State) (f : Framed s) where
       let i = box-inside in
       record { left = omega (arith, b .across, b .right, i .left); right = omega (arith, i .right); bottom = omega (arith, i .bottom) }
 
-  inside-short : (b : Box) → Inside (s .frame .viewport) b → Short (span-of b)
+  inside-short : (b : Box) → Inside (s .frame .viewport) b → BoundedSpan (span-of b)
   inside-short b i = span-short b (i .left) (omega (arith, i .right, f .wide))
 
   -- every span that a plan puts on rows is short, unless the plan is refused by its own number
-  fill-ok : (ps : List Paint) (ss : List Segment) (d : Draw) → plan-fill ps ss d s .refused ≡ Done → All (PutOk Short) (plan-fill ps ss d s .puts)
+  fill-ok : (ps : List Paint) (ss : List Segment) (d : Draw) → plan-fill ps ss d s .refused ≡ Done → All (PutOk BoundedSpan) (plan-fill ps ss d s .puts)
   unfolding plan-fill
   fill-ok ps ss d e =
       draws-ok _ (length (s .attrs .paints)) (s .next)
       (cuts-short (s .frame .viewport) (box-of s) (judged-facts (not (good-draw ps ss d)) (draw-segments ss d) e .1))
 
-  push-ok : (p : Props) → All (PutOk Short) (plan-push p s .puts)
+  push-ok : (p : Props) → All (PutOk BoundedSpan) (plan-push p s .puts)
   unfolding plan-push
   push-ok p = all-if (touches-all p (layer-box (s .frame .viewport) (box-of s) (p .clip))) (all-mapped (on touch) (λ i. record { act = touches }) (rows-in (layer-box (s .frame .viewport) (box-of s) (p .clip)))) nil
 
-  closing-ok : (c : Option Clip) (v own parent : Box) (i : ℕ) (ss : List Segment) (touched : List ℕ) → Short (span-of own)
-      → All (λ (x : Segment). good-segment x ≡ true) (clip-segments c ss) → All (PutOk Short) (closing c v own parent i ss touched)
+  closing-ok : (c : Option Clip) (v own parent : Box) (i : ℕ) (ss : List Segment) (touched : List ℕ) → BoundedSpan (span-of own)
+      → All (λ (x : Segment). good-segment x ≡ true) (clip-segments c ss) → All (PutOk BoundedSpan) (closing c v own parent i ss touched)
   unfolding closing
   closing-ok none v own parent i ss touched h g = all-mapped (on (close (span-of own) none i)) (λ x. record { act = closes h }) touched
   closing-ok (some c) v own parent i ss touched h g = closes-ok i touched (cuts-short v parent g)
 
   pop-ok : (ls : List Layer) (ss : List Segment) (touched : List ℕ) → All (λ (l : Layer). Inside (s .frame .viewport) (l .bounds)) ls
-      → plan-pop ls ss touched s .refused ≡ Done → All (PutOk Short) (plan-pop ls ss touched s .puts)
+      → plan-pop ls ss touched s .refused ≡ Done → All (PutOk BoundedSpan) (plan-pop ls ss touched s .puts)
   unfolding plan-pop
   pop-ok [] ss touched a e = nil
   pop-ok (l ∷ ls) ss touched a e =
@@ -212,11 +212,11 @@ module _ (s : State) (f : Framed s) where
       (judged-facts (not (clip-fits (l .props .clip) ss)) (clip-segments (l .props .clip) ss) e .1))
       (all-mapped (on pop) (λ x. record { act = pops }) touched)
 
-  filter-in-ok : (b : Box) (count : ℕ) (q : Filter) → Inside (s .frame .viewport) b → All (PutOk Short) (plan-filter-in b count q s .puts)
+  filter-in-ok : (b : Box) (count : ℕ) (q : Filter) → Inside (s .frame .viewport) b → All (PutOk BoundedSpan) (plan-filter-in b count q s .puts)
   unfolding plan-filter-in filter-puts
   filter-in-ok b count q i = all-mapped (on (paint (span-of b) none (length (s .attrs .paints)))) (λ x. record { act = paints (inside-short b i) }) (rows-in b)
 
-  filter-ok : (count : ℕ) (q : Filter) → All (PutOk Short) (plan-filter count q s .puts)
+  filter-ok : (count : ℕ) (q : Filter) → All (PutOk BoundedSpan) (plan-filter count q s .puts)
   unfolding plan-filter
   filter-ok count q = go (good-filter q && leb count 4096) (draws-nothing q (filter-box (s .frame .viewport) (box-of s) q)) refl
     where
@@ -224,12 +224,12 @@ module _ (s : State) (f : Framed s) where
       b = filter-box (s .frame .viewport) (box-of s) q
 
       go : (t u : Bool) → (good-filter q && leb count 4096) ≡ t
-          → All (PutOk Short) (cond (not t) (still BadRecord s) (cond u (still Done s) (plan-filter-in (filter-box (s .frame .viewport) (box-of s) q) count q s)) .puts)
+          → All (PutOk BoundedSpan) (cond (not t) (still BadRecord s) (cond u (still Done s) (plan-filter-in (filter-box (s .frame .viewport) (box-of s) q) count q s)) .puts)
       go false u e = nil
       go true true e = nil
       go true false e = filter-in-ok (filter-box (s .frame .viewport) (box-of s) q) count q (filter-inside q (both (good-filter q) (leb count 4096) e .0))
 
-  pub plan-ok : (x : Step) (touched : List ℕ) → plan x touched s .refused ≡ Done → All (PutOk Short) (plan x touched s .puts)
+  pub plan-ok : (x : Step) (touched : List ℕ) → plan x touched s .refused ≡ Done → All (PutOk BoundedSpan) (plan x touched s .puts)
   unfolding plan
   plan-ok (a-fill ps ss d) touched e = fill-ok ps ss d e
   plan-ok (a-push p) touched e = push-ok p

@@ -16,6 +16,7 @@ use Rattle.rules.specs.Steps.{reset-state}
 use Rattle.rules.specs.Walk.{good-room}
 use Rattle.rect.specs.declared.Rect.{Rect}
 use Rattle.rect.specs.Rects.{box-of, same-box}
+use Rattle.rect.proofs.Boxes.{View, view}
 use Rattle.screen.specs.declared.Screen.{Screen}
 use Rattle.screen.specs.Screens.{frame, in-tiles, good-clip, good-counts, good-screen, some-paint, some-layer, some-filter, layer-in, state-of, screen-after, counted, fresh-screen}
 use Rattle.screen.proofs.Numbers.{and-left, and-right, or-left, or-right}
@@ -31,53 +32,6 @@ room n h =
 -- the words of an arena's n rows, k for each command
 pub small : (n k c : ℕ) → n ≤ 512 → k ≤ 4 → good-room c ≡ true → n * (k * c) ≤ 2097152
 small n k c p q g = mul-le-mul {n₂ = 512} {m₂ = 4096} p (mul-le-mul {n₂ = 4} {m₂ = 1024} q (room c g .few))
-
--- what a good viewport is
-pub record View (v : Box) : Type 0 where
-  pub x0-by-4 : v .x0 % 4 ≡ 0
-  pub x1-by-4 : v .x1 % 4 ≡ 0
-  pub y0-by-4 : v .y0 % 4 ≡ 0
-  pub y1-by-4 : v .y1 % 4 ≡ 0
-  pub in-order : v .x0 ≤ v .x1
-  pub in-order-y : v .y0 ≤ v .y1
-  pub right : v .x1 ≤ 32768
-  pub bottom : v .y1 ≤ 32768
-  pub wide : width v ≤ 4096
-  pub high : height v ≤ 2048
-
-pub view : (v : Box) → good-viewport v ≡ true → View v
-unfolding good-viewport
-view v g =
-    let a1 = by-4 (v .x0) in
-    let a2 = by-4 (v .x1) in
-    let a3 = by-4 (v .y0) in
-    let a4 = by-4 (v .y1) in
-    let b1 = leb (v .x0) (v .x1) in
-    let b2 = leb (v .y0) (v .y1) in
-    let b3 = leb (v .x1) 32768 in
-    let b4 = leb (v .y1) 32768 in
-    let w = leb (width v) 4096 in
-    let t = leb (height v) 2048 in
-    let h2 : (good-box v && w) ≡ true = and-left (good-box v && w) t g in
-    let h1 : (a1 && a2 && a3 && a4 && bounded v) ≡ true = and-left (good-box v) w h2 in
-    let k4 : (a1 && a2 && a3 && a4) ≡ true = and-left (a1 && a2 && a3 && a4) (bounded v) h1 in
-    let k3 : (a1 && a2 && a3) ≡ true = and-left (a1 && a2 && a3) a4 k4 in
-    let k2 : (a1 && a2) ≡ true = and-left (a1 && a2) a3 k3 in
-    let m4 : (b1 && b2 && b3 && b4) ≡ true = and-right (a1 && a2 && a3 && a4) (bounded v) h1 in
-    let m3 : (b1 && b2 && b3) ≡ true = and-left (b1 && b2 && b3) b4 m4 in
-    let m2 : (b1 && b2) ≡ true = and-left (b1 && b2) b3 m3 in
-    record {
-      x0-by-4 = eqb-true _ _ (and-left a1 a2 k2);
-      x1-by-4 = eqb-true _ _ (and-right a1 a2 k2);
-      y0-by-4 = eqb-true _ _ (and-right (a1 && a2) a3 k3);
-      y1-by-4 = eqb-true _ _ (and-right (a1 && a2 && a3) a4 k4);
-      in-order = leb-true _ _ (and-left b1 b2 m2);
-      in-order-y = leb-true _ _ (and-right b1 b2 m2);
-      right = leb-true _ _ (and-right (b1 && b2) b3 m3);
-      bottom = leb-true _ _ (and-right (b1 && b2 && b3) b4 m4);
-      wide = leb-true _ _ (and-right (good-box v) w h2);
-      high = leb-true _ _ (and-right (good-box v && w) t g);
-    }
 
 module _ (v : Box) (g : good-viewport v ≡ true) where
   pub few-rows : rows-of v ≤ 512

@@ -17,7 +17,8 @@ use Rattle.span.specs.declared.Alpha.{Alpha}
 use Rattle.span.specs.declared.Alpha.the-variants.{Solid, At}
 use Rattle.span.specs.Spans.{alpha, Moves}
 use Rattle.segments.specs.declared.Scene.{Scene}
-use Rattle.segments.specs.Segs.{seg-at, segs, segs-of, origin, bounds, Small, Starts, SceneOf}
+use Rattle.rect.proofs.Boxes.{View, view}
+use Rattle.segments.specs.Segs.{seg-at, segs, segs-of, origin, bounds, Starts, SceneOf}
 use Rattle.segments.proofs.Cutting.{Left, left-in}
 
 -- the segments of a list's words
@@ -119,55 +120,6 @@ module _ (ws : List ℕ) (i n : ℕ) (h : i < n) (g : every good-segment (segs w
 
   pub good-rest : every good-segment (segs ws (i + 1) (n - (i + 1))) ≡ true
   good-rest = good-both .1
-
--- the boxes that are judged are small
-pub small : (b : Box) → bounded b ≡ true → Small b
-small b g =
-    let x = leb (b .x0) (b .x1) in
-    let y = leb (b .y0) (b .y1) in
-    let r = leb (b .x1) 32768 in
-    let h3 = both (x && y && r) (leb (b .y1) 32768) g in
-    let h2 = both (x && y) r (h3 .0) in
-    let h1 = both x y (h2 .0) in
-    let hx = leb-true (b .x0) (b .x1) (h1 .0) in
-    let hy = leb-true (b .y0) (b .y1) (h1 .1) in
-    let hr = leb-true (b .x1) 32768 (h2 .1) in
-    let hb = leb-true (b .y1) 32768 (h3 .1) in
-    record { left = omega arith; top = omega arith; right = hr; bottom = hb }
-
--- a good viewport, as facts
-pub record Viewport (v : Box) : Type 0 where
-  pub left : v .x0 % 4 ≡ 0
-  pub top : v .y0 % 4 ≡ 0
-  pub order : bounded v ≡ true
-  pub wide : width v ≤ 4096
-  pub high : height v ≤ 2048
-
-pub viewport-facts : (v : Box) → good-viewport v ≡ true → Viewport v
-unfolding good-viewport
-viewport-facts v g =
-    let x0 = by-4 (v .x0) in
-    let x1 = by-4 (v .x1) in
-    let y0 = by-4 (v .y0) in
-    let y1 = by-4 (v .y1) in
-    let o = bounded v in
-    let w = leb (width v) 4096 in
-    let h6 = both (x0 && x1 && y0 && y1 && o && w) (leb (height v) 2048) g in
-    let h5 = both (x0 && x1 && y0 && y1 && o) w (h6 .0) in
-    let h4 = both (x0 && x1 && y0 && y1) o (h5 .0) in
-    let h3 = both (x0 && x1 && y0) y1 (h4 .0) in
-    let h2 = both (x0 && x1) y0 (h3 .0) in
-    let h1 = both x0 x1 (h2 .0) in
-    record {
-      left = eqb-true _ _ (h1 .0);
-      top = eqb-true _ _ (h2 .1);
-      order = h4 .1;
-      wide = leb-true _ _ (h5 .1);
-      high = leb-true _ _ (h6 .1);
-    }
-
-pub small-viewport : (v : Box) → good-viewport v ≡ true → Small v
-small-viewport v g = small v (viewport-facts v g .order)
 
 -- the clip box in scene tiles begins at or after the viewport's origin
 pub starts : (v c : Box) → Starts v (scene-tiles v c)
@@ -276,11 +228,11 @@ pub record OnScreen (v : Box) (k : Cut) : Type 0 where
   pub row : k .row < rows-of v
   pub right : k .tiles .end ≤ width v / 4
 
-landed-on : (v c : Box) (k : Cut) → Viewport v → c .x1 ≤ width v → c .y1 ≤ height v → Landed v (scene-tiles v c) k → OnScreen v k
+landed-on : (v c : Box) (k : Cut) → View v → c .x1 ≤ width v → c .y1 ≤ height v → Landed v (scene-tiles v c) k → OnScreen v k
 unfolding scene-tiles
 landed-on v c k w x y l = record { row = omega arith; right = omega arith }
 
 -- what is cut to a clip box on the screen lies there
 pub on-screen : (v c : Box) (s : Segment) (k : Cut) → good-viewport v ≡ true → c .x1 ≤ width v → c .y1 ≤ height v
     → good-segment s ≡ true → k ∷ [] ≡ cut-in v (scene-tiles v c) s → OnScreen v k
-on-screen v c s k w x y g e = landed-on v c k (viewport-facts v w) x y (landed v (scene-tiles v c) s k g (starts v c) e)
+on-screen v c s k w x y g e = landed-on v c k (view v w) x y (landed v (scene-tiles v c) s k g (starts v c) e)

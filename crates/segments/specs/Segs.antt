@@ -46,12 +46,6 @@ abbrev pub placed-of : Placed → List Cut
 placed-of Nothing = []
 placed-of (On r s) = record { row = r; tiles = tiles (s .tiles); alpha = alpha (s .alpha) } ∷ []
 
-pub record Small (b : Box) : Type 0 where
-  pub left : b .x0 ≤ 32768
-  pub top : b .y0 ≤ 32768
-  pub right : b .x1 ≤ 32768
-  pub bottom : b .y1 ≤ 32768
-
 -- the scene tiles b begin at or after the origin of v
 pub record Starts (v b : Box) : Type 0 where
   pub left : v .x0 / 4 ≤ b .x0

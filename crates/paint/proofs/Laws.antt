@@ -4,7 +4,7 @@ use mathlib.Core.Bool.{Bool, true, false, cond}
 use mathlib.Core.List.{List}
 use mathlib.Core.Logic.{_⊎_, inl, inr}
 use mathlib.Core.Option.{Option, none, some}
-use Prim.Native.Nat.{ℕ, _≤_, _+_, _-_, _*_, _/_}
+use Prim.Native.Nat.{ℕ, _≤_, _+_, _*_, _/_}
 use native.Mathlib.Omega.{arith}
 use lib.ListN.{length}
 use lib.Dec.{ltb}
@@ -15,6 +15,7 @@ use Rattle.rules.specs.Painting as rules
 use Rattle.rules.specs.Painting.{paint-step}
 use Rattle.paint.specs.declared.Painted.{Painted}
 use Rattle.paint.specs.Painting.{word, attrs-at, Lent, lent, Out, out, painter-at, refused, left, next-step, settled, painted-row}
+use Rattle.paint.specs.Summaries.{good-summary, summary-at, Sound}
 use Rattle.paint.specs.Standing.{Stands, Ready, Holds}
 use Rattle.paint.proofs.Steps.{then-finished}
 use Rattle.paint.proofs.ByRules.{held, same-row, next}
@@ -24,12 +25,12 @@ pub once : (r q : Painted) (d d′ p p′ l l′ : List ℕ) → out r d p l ≡
 once r q d d′ p p′ l l′ e =
     (ap (λ (o : Out). o .answer) e, ap (λ (o : Out). o .depth) e, ap (λ (o : Out). o .painting) e, ap (λ (o : Out). o .list) e)
 
--- Nothing is forged: the step is the rules' step of the row. It is refused, by 14, only if the list is shorter than its pieces.
+-- Nothing is forged, and the summary is sound for the depth words: the step is the rules' step of the row. It is refused, by 14, only if the list is shorter than its pieces.
 module _ (a : Attrs) (ps : List ℕ) (paints : ℕ) (ls : List ℕ) (layers : ℕ) (h : Holds a ps paints ls layers)
-    (r : Row) (s re fi D P l : List ℕ) (g : Stands a (length D) r s re fi) (q : Ready a r (painter-at D P)) where
+    (r : Row) (s re fi D P l : List ℕ) (g : Stands a (length D) r s re fi) (q : Ready a r (painter-at D P)) (o : Sound (summary-at s) D) where
   stands : painted-row a (lent s re fi D P l) ≡ settled (some (paint-step 32 a r (painter-at D P))) D P l
   unfolding painted-row
-  stands = rw (next a r s re fi D P l g q)
+  stands = rw (next a r s re fi D P l g q o)
 
   pub by-rules : painted-row (attrs-at ps paints ls layers) (lent s re fi D P l) ≡ settled (some (paint-step 32 a r (painter-at D P))) D P l
   by-rules = same-row (attrs-at ps paints ls layers) a (held a ps paints ls layers h) (lent s re fi D P l) ∙ stands
@@ -66,7 +67,7 @@ done-or-kept a w = settles (next-step a w) (w .depth) (w .painting) (w .list)
 
 -- After the last step: finished, no piece, and nothing changes.
 pub at-the-end : (ps : List ℕ) (paints : ℕ) (ls : List ℕ) (layers : ℕ) (s re fi D P l : List ℕ)
-    → 4 * word s 0 ≤ length re → 2 * word s 1 ≤ length fi → word P 1 ≤ 16 → word P 0 ≡ word s 1 + word s 0 → length P ≡ 2
+    → 4 * word s 0 ≤ length re → 2 * word s 1 ≤ length fi → word P 1 ≤ 16 → good-summary s ≡ true → word P 0 ≡ word s 1 + word s 0 → length P ≡ 2
     → painted-row (attrs-at ps paints ls layers) (lent s re fi D P l) ≡ out (record { number = 0; finished = true; pieces = 0 }) D P l
-at-the-end ps paints ls layers s re fi D P l h1 h2 h3 e two =
-    sym (then-finished ps paints ls layers D P l s re fi h1 h2 h3 (omega arith) (omega arith) _ refl (omega arith) two)
+at-the-end ps paints ls layers s re fi D P l h1 h2 h3 h0 e two =
+    sym (then-finished ps paints ls layers D P l s re fi h1 h2 h3 (omega arith) h0 (omega arith) _ refl (omega arith) two)

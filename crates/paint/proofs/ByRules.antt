@@ -15,9 +15,9 @@ use Rattle.rules.specs.Attributes.{PaintAttr, LayerAttr, Attrs}
 use Rattle.rules.specs.Painting as rules
 use Rattle.rules.specs.Painting.{Painter, paint-id, layer-id, no-fill, paint-depth, paint-fill-runs, paint-command, paint-when, paint-step}
 use Rattle.paint.specs.Painting.{word, attrs-at, Lent, lent, painter-at, good-command, fill-shown, command-shown, depth-step, command-step, depth-fill-at, command-at, bad-row, next-step, painted-row}
-use Rattle.paint.specs.Summaries.{summary-at, Sound, Included}
+use Rattle.shown.specs.Summaries.{summary-at, Sound, Included}
 use Rattle.paint.specs.Standing.{Stands, Ready, Holds}
-use Rattle.paint.proofs.Skips.{same-runs, sound-after}
+use Rattle.shown.proofs.Skips.{same-runs, sound-after}
 use Rattle.paint.proofs.Judging.{length-count, no-paint, no-layer, paint-id-is, layer-id-is}
 
 -- attributes that a step cannot tell apart

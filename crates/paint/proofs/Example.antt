@@ -15,7 +15,7 @@ use Rattle.rules.specs.Depth.{no-depth, can-skip, bucket-runs, runs-in, runs, v
 use Rattle.rules.specs.Painting.{no-fill, paint-depth, paint-command}
 use Rattle.paint.specs.declared.Painted.{Painted}
 use Rattle.paint.specs.Painting.{attrs-at, painter-at, good-paint, command-at, depth-fill-at, lent, Out, out, refused, settled, fill-shown, command-shown, depth-step, command-step, next-step, painted-row}
-use Rattle.paint.specs.Summaries.{shown-runs}
+use Rattle.shown.specs.Summaries.{shown-runs}
 use Rattle.paint.specs.Standing.{Stands, Ready}
 
 -- one paint attribute and one layer attribute, with the ids 1 and 2

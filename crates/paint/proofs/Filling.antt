@@ -29,7 +29,7 @@ use Rattle.depth.specs.Listing as depth
 use Rattle.paint.specs.declared.Painted.{Painted}
 use Rattle.paint.specs.declared.pieces.Brush.{Brush}
 use Rattle.paint.specs.Pieces.{laid, Fits, run-at, runs-at}
-use Rattle.paint.specs.Summaries.{listing-out, shown-runs}
+use Rattle.shown.specs.Summaries.{listing-out, shown-runs}
 use Rattle.paint.specs.Painting.{word, out, painter-at, refused, listed, Advanced, advanced, fill-shown, settled}
 use Rattle.paint.proofs.Spreading.{piece}
 use Rattle.paint.proofs.Within.{shown-fits, depth-fits}

@@ -18,7 +18,7 @@ use Rattle.rules.specs.Painting as rules
 use Rattle.rules.specs.Painting.{paint-depth, paint-command, paint-step}
 use Rattle.paint.specs.declared.Painted.{Painted}
 use Rattle.paint.specs.Painting.{word, attrs-at, Lent, lent, Out, out, painter-at, good-paint, good-command, fill-shown, command-shown, depth-step, command-step, depth-fill-at, command-at, bad-row, refused, left, next-step, settled, painted-row}
-use Rattle.paint.specs.Summaries.{good-summary, summary-at, Sound}
+use Rattle.shown.specs.Summaries.{good-summary, summary-at, Sound}
 use Rattle.paint.specs.Standing.{Stands, Ready, Holds}
 use Rattle.paint.proofs.Steps.{then-finished}
 use Rattle.paint.proofs.ByRules.{held, same-row, next}

@@ -33,7 +33,7 @@ use Rattle.cmd.specs.Good.{GoodAlpha, GoodCommand}
 use Rattle.cmd.proofs.BothWays.{depth-reads-good, reads-good}
 use Rattle.paint.specs.declared.Painted.{Painted}
 use Rattle.paint.specs.Painting.{word, attrs-at, Lent, lent, Out, out, painter-at, good-id, given, fill-shown, command-shown, depth-step, command-step, depth-fill-at, command-at, bad-row, next-step, refused, listed, Advanced, advanced, settled, painted-row}
-use Rattle.paint.specs.Summaries.{good-summary, summary-at}
+use Rattle.shown.specs.Summaries.{good-summary, summary-at}
 use Rattle.paint.proofs.Judging.{given-none, given-some, paint-id-is, layer-id-is, good-paint-is, good-layer-is, two-same}
 
 module _ (D P l : List ℕ) where

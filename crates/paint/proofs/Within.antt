@@ -16,7 +16,7 @@ use Rattle.span.specs.declared.Alpha.the-variants.{Solid, At}
 use Rattle.span.specs.Spans.{Moves}
 use Rattle.paint.specs.declared.pieces.Brush.{Brush}
 use Rattle.paint.specs.Pieces.{Fits}
-use Rattle.paint.specs.Summaries.{whole-run, is-clear, shown-runs}
+use Rattle.shown.specs.Summaries.{whole-run, is-clear, shown-runs}
 
 -- what holds of each run
 module _ (P : Span → Type 0) where

@@ -1,4 +1,3 @@
-pub mod Summaries
 pub mod Pieces
 pub mod Painting
 pub mod Standing

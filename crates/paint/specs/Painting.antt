@@ -16,7 +16,7 @@ use Rattle.rules.specs.Painting as rules
 use Rattle.rules.specs.Painting.{Painter, paint-id, layer-id, painted, fill-piece, paint-depth, paint-command}
 use Rattle.paint.specs.declared.Painted.{Painted}
 use Rattle.paint.specs.Pieces.{laid}
-use Rattle.paint.specs.Summaries.{good-summary, summary-at, shown-runs}
+use Rattle.shown.specs.Summaries.{good-summary, summary-at, shown-runs}
 
 abbrev pub word : List ℕ → ℕ → ℕ
 word ws i = getD ws i 0

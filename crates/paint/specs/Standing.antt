@@ -9,7 +9,7 @@ use Rattle.rules.specs.Commands.{pop-buf}
 use Rattle.rules.specs.Rows.{Row}
 use Rattle.rules.specs.Attributes.{Attrs}
 use Rattle.rules.specs.Painting.{Painter, paint-id, layer-id, no-fill}
-use Rattle.paint.specs.Summaries.{good-summary}
+use Rattle.shown.specs.Summaries.{good-summary}
 use Rattle.paint.specs.Painting.{word, command-at, depth-fill-at, good-paint, good-command}
 
 -- the counts, a summary within bounds, and at each place the row's command or depth fill; n buckets

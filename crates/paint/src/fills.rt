@@ -4,29 +4,23 @@ use crate::advance;
 use crate::pieces::Brush;
 use crate::pieces::spread;
 use crate::refused;
-use cmd::Answer;
 use cmd::command::Fill;
 use cmd::depth_fill::DepthFill;
 use depth::DepthState;
 use depth::Runs;
-use depth::Skip;
 use depth::unset_runs_and_write;
-use depth::visible_runs;
+use shown::shown_runs;
 use span::Alpha;
-use span::TileSpan;
 ghost use mathlib.Core.Path.{_≡_};
 ghost use mathlib.Core.List.{map};
 ghost use mathlib.Core.Option.{some};
-ghost use mathlib.Core.Bool.{false};
-ghost use Prim.Native.Nat.{_+_, _-_, _/_, _≤_, _<_};
+ghost use Prim.Native.Nat.{_+_, _-_, _≤_, _<_};
 ghost use lib.ListN.{length};
 ghost use Rattle.rules.specs.Attributes.{no-attrs};
-ghost use Rattle.rules.specs.Depth.{listed, write-runs, written};
+ghost use Rattle.rules.specs.Depth.{write-runs, written};
 ghost use Rattle.rules.specs.Painting.{painted, depth-piece};
 ghost use Rattle.span.specs.Spans.{tiles, buckets, alpha, Moves};
 ghost use Rattle.depth.specs.Answers.{summary};
-ghost use Rattle.depth.specs.Listing.{listing};
-ghost use Rattle.paint.specs.Summaries.{listing-out, whole-run, is-clear, shown-runs};
 ghost use Rattle.paint.specs.Painting.{word, out, painter-at, settled, fill-shown};
 
 // Tiles in a depth bucket.
@@ -61,44 +55,6 @@ pub fn paint_depth(
             advance(painting, nesting, n)
         }
     }
-}
-
-// Whether the summary of a row of so many buckets says that nothing hides the span.
-fn is_clear(sum: DepthState, span: TileSpan, id: u32, buckets: usize) -> bool
-    requires { ⌜ (span .first ≤ span .«end») × (span .«end» ≤ 8192) × (buckets ≤ 65535) ⌝ }
-    ensures { λ r. ⌜ r ≡ is-clear (summary sum) buckets id (tiles span) ⌝ }
-{
-    match sum.can_skip(span, id) {
-        Skip::Yes => (span.end as usize) <= 32 * buckets,
-        Skip::No => false,
-        Skip::Refused(_) => false,
-    }
-}
-
-// The span as its one run.
-fn list_whole(span: TileSpan, list: &mut [u32]) -> Runs
-    ensures { λ r. ⌜ listing-out r (now (list .exit)) ≡ listing (listed false (length (now (list .entry)) / 2) (whole-run (tiles span))) (now (list .entry)) ⌝ }
-{
-    if span.end <= span.first {
-        return Runs::Listed(0);
-    }
-    if list.len() < 2 {
-        return Runs::Refused(Answer::NoRoom);
-    }
-    list[0] = span.first;
-    list[1] = span.end;
-    Runs::Listed(1)
-}
-
-// The runs of a fill, whole where the summary says so: only else are the depth words searched.
-fn shown_runs(depth: &[u32], sum: DepthState, span: TileSpan, id: u32, list: &mut [u32]) -> Runs
-    requires { ⌜ (span .first ≤ span .«end») × (span .«end» ≤ 8192) × (length (now depth) ≤ 65535) ⌝ }
-    ensures { λ r. ⌜ listing-out r (now (list .exit)) ≡ listing (listed false (length (now (list .entry)) / 2) (shown-runs (summary sum) (now (depth .entry)) id (tiles span))) (now (list .entry)) ⌝ }
-{
-    if is_clear(sum, span, id, depth.len()) {
-        return list_whole(span, list);
-    }
-    visible_runs(depth, span, id, list)
 }
 
 // A paint's or a layer's fill gives the runs that are shown for its attribute's id.

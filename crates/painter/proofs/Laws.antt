@@ -23,7 +23,7 @@ use Rattle.screen.specs.declared.Screen.{Screen}
 use Rattle.screen.specs.declared.Built.{Built}
 use Rattle.screen.proofs.Numbers.{and-left, and-right}
 use Rattle.paint.specs.Painting.{attrs-at, Lent, Out, out, painter-at, refused, settled, painted-row}
-use Rattle.paint.specs.Summaries.{summary-at, Sound}
+use Rattle.shown.specs.Summaries.{summary-at, Sound}
 use Rattle.paint.specs.Standing.{Stands, Ready, Holds}
 use Rattle.paint.proofs.Laws.{by-rules, same-lengths}
 use Rattle.painter.specs.declared.step.Stepped.{Stepped}

@@ -9,7 +9,7 @@ use Rattle.rules.specs.Spans.{Span}
 use Rattle.rules.specs.Depth.{unset-answer, visible-answer, can-skip-answer}
 use Rattle.depth.specs.Listing.{Out, OutWrite, out, listing, writing}
 use Rattle.screen.specs.declared.Screen.{Screen}
-use Rattle.paint.specs.Summaries.{good-summary, summary-at}
+use Rattle.shown.specs.Summaries.{good-summary, summary-at}
 use Rattle.painter.specs.declared.rows.Written.{Written}
 use Rattle.painter.specs.Judging.{wide, runs-number, skip-number}
 use Rattle.painter.specs.Beginning.{begun}

@@ -1,8 +1,8 @@
 use mathlib.Core.Path.{_∙_}
 use borrow.Author.Tests.{eq-eqb, ne-eqb}
 use borrow.Author.Needs.{needs}
-use Rattle.paint.proofs.summary.summary_of.Statement.{statement}
-use Rattle.paint.proofs.summary.summary_of.Tie as tie
+use Rattle.shown.proofs.summary.summary_of.Statement.{statement}
+use Rattle.shown.proofs.summary.summary_of.Tie as tie
 
 shared-slice-read-id : tie.Need-shared-slice-read-id
 shared-slice-read-id c = search needs

@@ -5,7 +5,7 @@ use span::TileSpan;
 ghost use mathlib.Core.Path.{_≡_};
 ghost use lib.ListN.{length};
 ghost use Rattle.depth.specs.Answers.{summary};
-ghost use Rattle.paint.specs.Summaries.{good-summary, summary-at};
+ghost use Rattle.shown.specs.Summaries.{good-summary, summary-at};
 
 // In order, up to tile 8,192, the id one that a draw can have taken.
 pub fn is_good_summary(state: &[u32]) -> bool

@@ -2,10 +2,10 @@ use mathlib.Core.Path.{ap, _∙_}
 use Rattle.span.specs.Spans.{tiles}
 use Rattle.depth.specs.declared.state.Skip.{Skip}
 use Rattle.depth.specs.Answers.{summary, skip-of}
-use Rattle.paint.proofs.Clear.{skip-said}
+use Rattle.shown.proofs.Clear.{skip-said}
 use borrow.Author.Needs.{needs}
-use Rattle.paint.proofs.fills.is_clear.Statement.{statement}
-use Rattle.paint.proofs.fills.is_clear.Tie as tie
+use Rattle.shown.proofs.runs.is_clear.Statement.{statement}
+use Rattle.shown.proofs.runs.is_clear.Tie as tie
 
 can-skip-requires : tie.Need-can-skip-requires
 can-skip-requires c κs = search needs

@@ -14,7 +14,7 @@ use Rattle.depth.specs.declared.runs.Runs.the-variants as runs
 use Rattle.depth.specs.declared.state.Skip.{Skip}
 use Rattle.depth.specs.Answers.{skip-of}
 use Rattle.depth.specs.Listing.{Out, numbers, listing}
-use Rattle.paint.specs.Summaries.{listing-out, whole-run, is-clear, shown-runs}
+use Rattle.shown.specs.Summaries.{listing-out, whole-run, is-clear, shown-runs}
 
 -- what the call says, it says of the definition
 pub skip-said : (u : Summary) (s : Span) (id : ℕ) (x : Skip) → s .first ≤ s .end → s .end ≤ 8192 → skip-of x ≡ can-skip-answer u s id

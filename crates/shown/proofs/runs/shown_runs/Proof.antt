@@ -1,10 +1,10 @@
 use mathlib.Core.Path.{sym, _∙_}
 use Rattle.span.specs.Spans.{tiles}
 use Rattle.depth.specs.Answers.{summary}
-use Rattle.paint.proofs.Clear.{shown-whole, shown-searched}
+use Rattle.shown.proofs.Clear.{shown-whole, shown-searched}
 use borrow.Author.Needs.{needs}
-use Rattle.paint.proofs.fills.shown_runs.Statement.{statement}
-use Rattle.paint.proofs.fills.shown_runs.Tie as tie
+use Rattle.shown.proofs.runs.shown_runs.Statement.{statement}
+use Rattle.shown.proofs.runs.shown_runs.Tie as tie
 
 is-clear-requires : tie.Need-is-clear-requires
 is-clear-requires c κs = search needs

@@ -1,8 +1,8 @@
 use Rattle.span.specs.Spans.{tiles}
-use Rattle.paint.proofs.Clear.{whole-none, whole-short, whole-one}
+use Rattle.shown.proofs.Clear.{whole-none, whole-short, whole-one}
 use borrow.Author.Needs.{needs}
-use Rattle.paint.proofs.fills.list_whole.Statement.{statement}
-use Rattle.paint.proofs.fills.list_whole.Tie as tie
+use Rattle.shown.proofs.runs.list_whole.Statement.{statement}
+use Rattle.shown.proofs.runs.list_whole.Tie as tie
 
 returns : tie.Need-returns
 returns c = whole-none (tiles (c .before .before .args .span)) _ (c .if1 .taken)

@@ -14,7 +14,7 @@ use borrow.Author.Tests.{eq-eqb, le-leb, leb-true, ltb-true, ltb-false}
 use Rattle.rules.specs.Lists.{slice}
 use Rattle.rules.specs.Spans.{Span, span, covers, hull, common}
 use Rattle.rules.specs.Depth.{Summary, included, apart, can-skip, bucket-runs, runs-in, runs, tiles-of, is-unset, is-visible, visible-runs, written-from, written}
-use Rattle.paint.specs.Summaries.{whole-run, shown-runs, Inside, Sound, Included}
+use Rattle.shown.specs.Summaries.{whole-run, shown-runs, Inside, Sound, Included}
 
 spans : {a b c d : ℕ} → a ≡ c → b ≡ d → span a b ≡ span c d
 spans p q = rw (p, q)

@@ -1,7 +1,7 @@
 use borrow.Author.Tests.{le-leb, lt-leb}
 use borrow.Author.Needs.{needs}
-use Rattle.paint.proofs.summary.is_good_summary.Statement.{statement}
-use Rattle.paint.proofs.summary.is_good_summary.Tie as tie
+use Rattle.shown.proofs.summary.is_good_summary.Statement.{statement}
+use Rattle.shown.proofs.summary.is_good_summary.Tie as tie
 
 shared-slice-read-if1 : tie.Need-shared-slice-read-if1
 shared-slice-read-if1 c = search needs

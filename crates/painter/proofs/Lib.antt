@@ -2,3 +2,4 @@ pub mod Judged
 pub mod Parts
 pub mod Runs
 pub mod Laws
+pub mod Example

@@ -82,7 +82,8 @@ module _ (u : Summary) (bs : List ℕ) (o : Sound u bs) (id : ℕ) (s : Span) wh
       go true p = absurd (outside (u .union) k e l m h (o .inside k (ltb-true _ _ p)))
       go false p = let x : getD bs k 0 ≤ 0 = ltb-false _ _ p in omega arith
 
-  passes : can-skip u s id ≡ true → (k : ℕ) → s .first / 32 ≤ k → k < (s .end + 31) / 32 → s .first < s .end → getD bs k 0 ≤ id
+  -- where `can_skip` says yes, every bucket that the span meets is visible
+  pub passes : can-skip u s id ≡ true → (k : ℕ) → s .first / 32 ≤ k → k < (s .end + 31) / 32 → s .first < s .end → getD bs k 0 ≤ id
   unfolding can-skip
   passes e k l m h = go (leb (u .largest) id) refl e
     where

@@ -1,11 +1,11 @@
-use Rattle.strip.proofs.Laws.{touch-room, touch-back}
+use Rattle.band.proofs.Laws.{touch-room, touch-back}
 use mathlib.Core.Path.{_∙_}
 use Prim.Native.Nat.{_*_}
 use native.Mathlib.Omega.{arith}
 use Rattle.arena.proofs.Laws.{within, small}
 use borrow.Author.Needs.{needs}
-use Rattle.strip.proofs.touch_row.Statement.{statement}
-use Rattle.strip.proofs.touch_row.Tie as tie
+use Rattle.band.proofs.touch_row.Statement.{statement}
+use Rattle.band.proofs.touch_row.Tie as tie
 
 cast-cw : tie.Need-cast-cw
 cast-cw c = search needs

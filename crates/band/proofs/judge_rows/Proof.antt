@@ -3,14 +3,14 @@ use mathlib.Core.Logic.{⊎-elim}
 use Prim.Native.Nat.{_-_, _*_}
 use native.Mathlib.Omega.{arith}
 use Rattle.rules.specs.Lists.{range}
-use Rattle.strip.proofs.Judging.{going, going-all, going-end, going-bad, going-full, going-fine, record-long}
-use Rattle.strip.specs.Strip.{strip-number}
+use Rattle.band.proofs.Judging.{going, going-all, going-end, going-bad, going-full, going-fine, record-long}
+use Rattle.band.specs.Band.{band-number}
 use borrow.Author.Needs.{needs}
-use Rattle.strip.proofs.judge_rows.Statement.{statement}
-use Rattle.strip.proofs.judge_rows.Tie as tie
+use Rattle.band.proofs.judge_rows.Statement.{statement}
+use Rattle.band.proofs.judge_rows.Tie as tie
 
 abbrev Inv-loop : tie.InvT-loop
-Inv-loop screen rows a b number₀ r₀ number r = going (screen .c) (screen .d) (screen .layers) rows number (range r b) ≡ strip-number (screen .c) (screen .d) (screen .layers) rows (range a b)
+Inv-loop screen rows a b number₀ r₀ number r = going (screen .c) (screen .d) (screen .layers) rows number (range r b) ≡ band-number (screen .c) (screen .d) (screen .layers) rows (range a b)
 
 abbrev μ-loop : tie.MeasureT-loop
 μ-loop screen rows a b number₀ r₀ number r = b - r

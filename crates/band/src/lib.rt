@@ -10,7 +10,7 @@ ghost use Rattle.row.specs.Words.{words};
 ghost use Rattle.row.specs.Cmds.{Short};
 ghost use Rattle.arena.specs.Arena.{lay};
 ghost use Rattle.act.specs.Acts.{acted};
-ghost use Rattle.strip.specs.Strip.{row-number, strip-number, rows-on, OnRow, OnRows, each};
+ghost use Rattle.band.specs.Band.{row-number, band-number, rows-on, OnRow, OnRows, each};
 use act::ensure_row_layers;
 use act::push_fill;
 use building::is_good_row;
@@ -36,7 +36,7 @@ fn judge_row(state: &[u32], c: u32, d: u32, open: u32) -> u32
 // The rows a to b: 4 for the record of one of them, then 10.
 pub fn judge_rows(screen: Screen, rows: &[u32], a: usize, b: usize) -> u32
     requires { ⌜ (screen .layers ≤ 16) × (screen .c ≤ 1024) × (b ≤ 512) × (b * 54 ≤ length (now rows)) ⌝ }
-    ensures { λ r. ⌜ r ≡ strip-number (screen .c) (screen .d) (screen .layers) (now (rows .entry)) (range a b) ⌝ }
+    ensures { λ r. ⌜ r ≡ band-number (screen .c) (screen .d) (screen .layers) (now (rows .entry)) (range a b) ⌝ }
 {
     let mut number: u32 = 0;
     let mut r = a;

@@ -21,7 +21,7 @@ use Rattle.rect.specs.Rects.{box-of}
 use Rattle.screen.specs.declared.Screen.{Screen}
 use Rattle.screen.proofs.Laws.{few-rows, View, view}
 use Rattle.screen.proofs.Passed.{Passed}
-use Rattle.strip.specs.Strip.{Whole}
+use Rattle.band.specs.Band.{Whole}
 
 pub passed-whole : (s : Screen) (w : Words) → Passed s (length (w .state)) (length (w .render)) (length (w .fills)) (rows-of (box-of (s .viewport))) → Whole s w
 passed-whole s w p =

@@ -11,7 +11,7 @@ use borrow.Author.Tests.{leb-true}
 use Rattle.rules.specs.Lists.{every, some-of, count-from, range}
 use Rattle.rules.proofs.All.{both}
 use Rattle.building.specs.Building.{good-summary, good-top, good-row}
-use Rattle.strip.specs.Strip.{record-of, is-full, row-number, strip-number}
+use Rattle.band.specs.Band.{record-of, is-full, row-number, band-number}
 
 -- what a good record says of its counts and levels
 pub record Counted (c d n : ℕ) (s : List ℕ) : Type 0 where
@@ -58,8 +58,8 @@ abbrev told : Bool → Bool → ℕ
 told g f = cond g (cond f 10 0) 4
 
 module _ (c d n : ℕ) (ws : List ℕ) where
-  pub going-all : (rs : List ℕ) → going c d n ws 0 rs ≡ strip-number c d n ws rs
-  unfolding going strip-number
+  pub going-all : (rs : List ℕ) → going c d n ws 0 rs ≡ band-number c d n ws rs
+  unfolding going band-number
   going-all rs = refl
 
   pub going-end : (x r b : ℕ) → b ≤ r → going c d n ws x (range r b) ≡ x

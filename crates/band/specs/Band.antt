@@ -27,8 +27,8 @@ abbrev pub row-number : ℕ → ℕ → ℕ → List ℕ → ℕ
 row-number c d n s = cond (good-row c d n s) (cond (is-full c n s) FullRow Done) BadRecord
 
 -- the same of the rows rs
-unfoldable pub strip-number : ℕ → ℕ → ℕ → List ℕ → List ℕ → ℕ
-strip-number c d n ws rs =
+unfoldable pub band-number : ℕ → ℕ → ℕ → List ℕ → List ℕ → ℕ
+band-number c d n ws rs =
     cond (every (λ (r : ℕ). good-row c d n (record-of ws r)) rs)
     (cond (some-of (λ (r : ℕ). is-full c n (record-of ws r)) rs) FullRow Done) BadRecord
 

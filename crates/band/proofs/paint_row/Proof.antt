@@ -1,12 +1,12 @@
-use Rattle.strip.proofs.Laws.{paint-room, paint-back}
+use Rattle.band.proofs.Laws.{paint-room, paint-back}
 use Rattle.span.specs.Spans.{tiles}
 use mathlib.Core.Path.{_∙_}
 use Prim.Native.Nat.{_*_}
 use native.Mathlib.Omega.{arith}
 use Rattle.arena.proofs.Laws.{within, small}
 use borrow.Author.Needs.{needs}
-use Rattle.strip.proofs.paint_row.Statement.{statement}
-use Rattle.strip.proofs.paint_row.Tie as tie
+use Rattle.band.proofs.paint_row.Statement.{statement}
+use Rattle.band.proofs.paint_row.Tie as tie
 
 cast-cw : tie.Need-cast-cw
 cast-cw c = search needs

@@ -22,7 +22,7 @@ use Rattle.act.specs.Acts.{acted, ensured, drawn}
 use Rattle.act.proofs.Laws.{acted-sound, touch-is, paint-is}
 use Rattle.rect.specs.Rects.{box-of}
 use Rattle.screen.specs.declared.Screen.{Screen}
-use Rattle.strip.specs.Strip.{each, rows-on, Whole, OnRow, OnRows}
+use Rattle.band.specs.Band.{each, rows-on, Whole, OnRow, OnRows}
 
 module _ (f : Words → Words) where
   pub each-length : (rs : List ℕ) (ws : List Words) → length (each f rs ws) ≡ length ws
@@ -54,12 +54,12 @@ puts-each n a [] ws = refl
 puts-each n a (r ∷ rs) ws = puts-each n a rs (change (acted n a) r ws)
 
 -- a loop over the rows a to b, at row r
-pub record Stripping (s : Screen) (n : ℕ) (f : Words → Words) (a b : ℕ) (w₀ : Words) (r : ℕ) (w : Words) : Type 0 where
+pub record Banding (s : Screen) (n : ℕ) (f : Words → Words) (a b : ℕ) (w₀ : Words) (r : ℕ) (w : Words) : Type 0 where
   pub on : OnRows s n f r b w
   pub rest : each f (range r b) (rows-on s w) ≡ each f (range a b) (rows-on s w₀)
 
-pub stripping : {s : Screen} {n : ℕ} {f : Words → Words} {a b : ℕ} {w : Words} → OnRows s n f a b w → Stripping s n f a b w a w
-stripping o = record { on = o; rest = refl }
+pub banding : {s : Screen} {n : ℕ} {f : Words → Words} {a b : ℕ} {w : Words} → OnRows s n f a b w → Banding s n f a b w a w
+banding o = record { on = o; rest = refl }
 
 one-less : (b r : ℕ) → r < b → b - r ≡ suc (b - (r + 1))
 one-less b r h = omega arith
@@ -70,19 +70,19 @@ none-left b r h = omega arith
 next : (r : ℕ) → suc r ≡ r + 1
 next r = omega arith
 
-module _ {s : Screen} {n : ℕ} {f : Words → Words} {a b : ℕ} {w₀ : Words} {r : ℕ} {w : Words} (v : Stripping s n f a b w₀ r w) where
-  pub strip-end : b ≤ r → w ≡ lay (each f (range a b) (rows-on s w₀))
+module _ {s : Screen} {n : ℕ} {f : Words → Words} {a b : ℕ} {w₀ : Words} {r : ℕ} {w : Words} (v : Banding s n f a b w₀ r w) where
+  pub band-end : b ≤ r → w ≡ lay (each f (range a b) (rows-on s w₀))
   unfolding each
-  strip-end h =
+  band-end h =
       let e : rows-on s w ≡ each f (range a b) (rows-on s w₀) = rw (none-left b r h) at (v .rest) in
       sym (lay-cut (sizes (s .c) (s .d)) (rows-of (box-of (s .viewport))) w (v .on .whole .long)) ∙ ap lay e
 
-  pub strip-row : r < b → OnRow s n f r w
-  strip-row h = record { whole = v .on .whole; layers = v .on .layers; within = omega (arith, v .on .within); room = v .on .room r (omega arith) h }
+  pub band-row : r < b → OnRow s n f r w
+  band-row h = record { whole = v .on .whole; layers = v .on .layers; within = omega (arith, v .on .within); room = v .on .room r (omega arith) h }
 
-  pub strip-again : r < b → (u : Words) → Long (sizes (s .c) (s .d)) (rows-of (box-of (s .viewport))) u → rows-on s u ≡ change f r (rows-on s w) → Stripping s n f a b w₀ (r + 1) u
+  pub band-again : r < b → (u : Words) → Long (sizes (s .c) (s .d)) (rows-of (box-of (s .viewport))) u → rows-on s u ≡ change f r (rows-on s w) → Banding s n f a b w₀ (r + 1) u
   unfolding each
-  strip-again h u l e =
+  band-again h u l e =
       record {
         on =
             record {

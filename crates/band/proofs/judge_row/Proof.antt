@@ -1,10 +1,10 @@
 use mathlib.Core.Path.{sym, _∙_}
 use native.Mathlib.Omega.{arith}
 use borrow.Author.Tests.{lt-ltb, le-ltb, not-true, not-false}
-use Rattle.strip.proofs.Judging.{counted}
+use Rattle.band.proofs.Judging.{counted}
 use borrow.Author.Needs.{needs}
-use Rattle.strip.proofs.judge_row.Statement.{statement}
-use Rattle.strip.proofs.judge_row.Tie as tie
+use Rattle.band.proofs.judge_row.Statement.{statement}
+use Rattle.band.proofs.judge_row.Tie as tie
 
 is-good-row-requires : tie.Need-is-good-row-requires
 is-good-row-requires c κs = search needs

@@ -27,9 +27,9 @@ use Rattle.building.specs.Building.{screen-at, good-row, good-at, good-rows, st
 use Rattle.rect.specs.Rects.{box-of}
 use Rattle.screen.specs.declared.Screen.{Screen}
 use Rattle.screen.specs.Screens.{frame-of, state-of}
-use Rattle.strip.specs.Strip.{record-of, is-full, strip-number, each, rows-on, Whole, OnRows}
-use Rattle.strip.proofs.Laws.{each-length, each-at, puts-each}
-use Rattle.strip.proofs.Judging.{Counted, counted}
+use Rattle.band.specs.Band.{record-of, is-full, band-number, each, rows-on, Whole, OnRows}
+use Rattle.band.proofs.Laws.{each-length, each-at, puts-each}
+use Rattle.band.proofs.Judging.{Counted, counted}
 
 -- facts of the numbers of a run
 run-all : {P : ℕ → Type 0} (x k : ℕ) → ((i : ℕ) → x ≤ i → i < x + k → P i) → All P (count-from x k)
@@ -144,8 +144,8 @@ module _ (s : Screen) (w : Words) (o : Whole s w) where
       deep-is a = some-map (on a) (λ (p : Put). row-passes Words word-ops 32 (word 1) (s .d) (p .row) (each f (range x b) (rows-on s w))) (range x b) ∙ some-none (in-run one-deep)
 
 -- a step's number where the run's is k: 4 for a row's record before 6, 8 and 9, and 10 after them
-unfoldable pub strip-answer : ℕ → Plan → ℕ
-strip-answer k p =
+unfoldable pub band-answer : ℕ → Plan → ℕ
+band-answer k p =
     cond (eqb k 4) 4
     (first-of
     ((ltb 16 (length (p .layers)), 6) ∷ (ltb 1048577 (p .next), 8) ∷ (attrs-full (p .attrs), 9) ∷ (eqb k 10, 10) ∷ []))
@@ -170,7 +170,7 @@ module _ (s : Screen) (w : Words) (o : Whole s w) (a : Act) (x b : ℕ) (m : b �
   full-run = some-of (λ (r : ℕ). is-full (s .c) (s .layers) (record-of (w .state) r)) (range x b)
 
   abbrev pub run-number : ℕ
-  run-number = strip-number (s .c) (s .d) (s .layers) (w .state) (range x b)
+  run-number = band-number (s .c) (s .d) (s .layers) (w .state) (range x b)
 
   module _ (p : Plan) (fine : p .refused ≡ 0) (puts : p .puts ≡ map (on a) (range x b)) (ad : length (p .layers) ≤ 16 → Adding (s .layers) (acted (length (p .layers)) a)) where
     refused : good-run ≡ true → (deep : Bool) → ltb 16 (length (p .layers)) ≡ deep
@@ -192,14 +192,14 @@ module _ (s : Screen) (w : Words) (o : Whole s w) (a : Act) (x b : ℕ) (m : b �
         (then-full full-run (ltb 1048577 (p .next)) (attrs-full (p .attrs)))
 
     numbered : (g : Bool) → good-run ≡ g
-        → cond g (refusal Words word-ops 32 p (done Words word-ops 32 p (screen-at (state-of s) w))) 4 ≡ strip-answer (told g full-run) p
-    unfolding strip-answer
+        → cond g (refusal Words word-ops 32 p (done Words word-ops 32 p (screen-at (state-of s) w))) 4 ≡ band-answer (told g full-run) p
+    unfolding band-answer
     numbered true e = refused e (ltb 16 (length (p .layers))) refl
     numbered false e = refl
 
-    pub strip-step : step-number 0 (good-rows (frame-of s) (s .layers) (p .puts) (rows-on s w)) p (screen-at (state-of s) w) ≡ strip-answer run-number p
-    unfolding step-number strip-number
-    strip-step =
+    pub band-step : step-number 0 (good-rows (frame-of s) (s .layers) (p .puts) (rows-on s w)) p (screen-at (state-of s) w) ≡ band-answer run-number p
+    unfolding step-number band-number
+    band-step =
         ap (λ (g : Bool). cond g (refusal Words word-ops 32 p (done Words word-ops 32 p (screen-at (state-of s) w))) 4)
         (ap (λ (ps : List Put). good-rows (frame-of s) (s .layers) ps (rows-on s w)) puts ∙ good-is s w o x b m (s .layers) a)
         ∙ numbered good-run refl
@@ -232,9 +232,9 @@ module _ (s : Screen) (w : Words) (o : Whole s w) (a : Act) (x b : ℕ) (m : b �
               };
         }
 
-    pub strip-room : run-number ≡ 0 → OnRows s n (acted n a) x b w
-    unfolding strip-number
-    strip-room z = room-of good-run full-run refl refl z
+    pub band-room : run-number ≡ 0 → OnRows s n (acted n a) x b w
+    unfolding band-number
+    band-room z = room-of good-run full-run refl refl z
 
 -- rule 5 alone, with one layer more than before
 pub layers-count : (j : ℕ) (w : Words) → length (w .state) ≡ 54 → word 5 w + j ≤ 16 → (word 0 (times j put-buf w) ≡ word 0 w + j) × (word 1 (times j put-buf w) ≡ word 1 w)
@@ -261,8 +261,8 @@ paint-adds n t i h w l k =
     }
 
 -- a run's number is 4, 10 or 0
-pub run-told : (c d n : ℕ) (ws rs : List ℕ) → (strip-number c d n ws rs ≡ 4 → ⊥) → cond (eqb (strip-number c d n ws rs) 10) 10 0 ≡ strip-number c d n ws rs
-unfolding strip-number
+pub run-told : (c d n : ℕ) (ws rs : List ℕ) → (band-number c d n ws rs ≡ 4 → ⊥) → cond (eqb (band-number c d n ws rs) 10) 10 0 ≡ band-number c d n ws rs
+unfolding band-number
 run-told c d n ws rs h =
     by (every (λ (r : ℕ). good-row c d n (record-of ws r)) rs) (some-of (λ (r : ℕ). is-full c n (record-of ws r)) rs) h
   where

@@ -4,22 +4,22 @@ use Prim.Native.Nat.{_-_}
 use native.Mathlib.Omega.{arith}
 use Rattle.row.specs.Words.{words}
 use Rattle.act.specs.Acts.{acted}
-use Rattle.strip.proofs.Laws.{Stripping, stripping, strip-end, strip-row, strip-again, long-after}
+use Rattle.band.proofs.Laws.{Banding, banding, band-end, band-row, band-again, long-after}
 use Rattle.rules.specs.Plans.{touch}
-use Rattle.strip.proofs.touch_rows.Statement.{statement}
-use Rattle.strip.proofs.touch_rows.Tie as tie
+use Rattle.band.proofs.touch_rows.Statement.{statement}
+use Rattle.band.proofs.touch_rows.Tie as tie
 
 abbrev Inv-loop : tie.InvT-loop
-Inv-loop screen rows₀ render₀ fills₀ a b n r₀ rows render fills r = Stripping screen n (acted n touch) a b (words rows₀ render₀ fills₀) r (words rows render fills)
+Inv-loop screen rows₀ render₀ fills₀ a b n r₀ rows render fills r = Banding screen n (acted n touch) a b (words rows₀ render₀ fills₀) r (words rows render fills)
 
 abbrev μ-loop : tie.MeasureT-loop
 μ-loop screen rows₀ render₀ fills₀ a b n r₀ rows render fills r = b - r
 
 loop-holds : tie.Need-loop-holds Inv-loop μ-loop
-loop-holds c = stripping (c .before .before .before .pre)
+loop-holds c = banding (c .before .before .before .pre)
 
 touch-row-requires : tie.Need-touch-row-requires Inv-loop μ-loop
-touch-row-requires c κs = strip-row (c .before .before .before .before .loop .inv) (c .before .before .before .loop-test .taken)
+touch-row-requires c κs = band-row (c .before .before .before .before .loop .inv) (c .before .before .before .loop-test .taken)
 
 add-r : tie.Need-add-r Inv-loop μ-loop
 add-r c = record { fits = omega arith }
@@ -28,7 +28,7 @@ loop-less : tie.Need-loop-less Inv-loop μ-loop
 loop-less c = omega arith
 
 loop-again : tie.Need-loop-again Inv-loop μ-loop
-loop-again c = strip-again (c .before .before .before .before .before .before .before .before .before .before .before .loop .inv) (c .before .before .before .before .before .before .before .before .before .before .loop-test .taken) _ (long-after (c .before .before .before .before .before .before .before .before .before .before .before .before .before .before .before .args .screen) _ _ _ _ (c .before .before .before .before .before .before .before .before .before .before .before .loop .inv .on .whole .long) (search needs) (search needs) (search needs)) (c .before .before .before .before .before .before .touch-row .ensures)
+loop-again c = band-again (c .before .before .before .before .before .before .before .before .before .before .before .loop .inv) (c .before .before .before .before .before .before .before .before .before .before .loop-test .taken) _ (long-after (c .before .before .before .before .before .before .before .before .before .before .before .before .before .before .before .args .screen) _ _ _ _ (c .before .before .before .before .before .before .before .before .before .before .before .loop .inv .on .whole .long) (search needs) (search needs) (search needs)) (c .before .before .before .before .before .before .touch-row .ensures)
 
 same-length : tie.Need-same-length Inv-loop μ-loop
 same-length c = c .before .loop .inv .on .whole .long .state ∙ sym (c .before .before .before .before .before .pre .whole .long .state)
@@ -40,7 +40,7 @@ same-length-3 : tie.Need-same-length-3 Inv-loop μ-loop
 same-length-3 c = c .before .loop .inv .on .whole .long .fills ∙ sym (c .before .before .before .before .before .pre .whole .long .fills)
 
 returns : tie.Need-returns Inv-loop μ-loop
-returns c = strip-end (c .before .loop .inv) (c .loop-test .left)
+returns c = band-end (c .before .loop .inv) (c .loop-test .left)
 
 pub touch-rows-spec : {M : Type 1} → statement M
 touch-rows-spec =

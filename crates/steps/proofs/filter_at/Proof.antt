@@ -40,7 +40,7 @@ same-length-5 c = search needs
 
 returns : tie.Need-returns
 unfolding filter-from
-returns c = c .before .before .before .before .before .before .before .before .before .filter-fill .ensures ∙ rw (c .before .before .before .before .before .before .before .before .before .before .before .before .before .before .before .before .before .placement-at .ensures, paints-count (c .before .before .before .before .before .before .before .before .before .before .before .before .before .before .before .before .before .before .before .before .before .before .before .before .args .l) (c .before .before .before .before .before .before .before .before .before .before .before .before .before .before .before .before .before .before .before .before .before .before .before .before .args .w .now) (c .before .before .before .before .before .before .before .before .before .before .before .before .before .before .before .before .before .before .before .before .before .before .before .before .pre .0))
+returns c = let s = c .before .before .before .before .before .before .before .before .before .before .before .before .before .before .before .before .before .before .before .before .before .before .before .before in c .before .before .before .before .before .before .before .before .before .filter-fill .ensures ∙ rw (c .before .before .before .before .before .before .before .before .before .before .before .before .before .before .before .before .before .placement-at .ensures, paints-count (s .args .l) (s .args .w .now) (s .pre .0))
 
 pub filter-at-spec : {M : Type 1} → statement M
 filter-at-spec =

@@ -11,7 +11,7 @@ answer-of-requires : tie.Need-answer-of-requires
 answer-of-requires c κs = an-answer _ _ (c .before .judge-records .ensures)
 
 returns : tie.Need-returns
-returns c = λ t. bad-records (c .before .before .before .before .before .before .before .before .before .before .before .args .l) (c .before .before .before .before .before .before .before .before .before .before .before .args .w .now) (c .before .before .before .before .before .before .before .before .before .before .before .pre) _ (c .before .before .judge-records .ensures) (c .before .if1 .taken) _ (c .answer-of .ensures) _
+returns c = let s = c .before .before .before .before .before .before .before .before .before .before .before in λ t. bad-records (s .args .l) (s .args .w .now) (s .pre) _ (c .before .before .judge-records .ensures) (c .before .if1 .taken) _ (c .answer-of .ensures) _
 
 mul-wide : tie.Need-mul-wide
 mul-wide c = search needs
@@ -35,7 +35,7 @@ wide-requires-2 : tie.Need-wide-requires-2
 wide-requires-2 c κs = search needs
 
 walk-nodes-requires : tie.Need-walk-nodes-requires
-walk-nodes-requires c κs = (ready (c .before .before .before .before .before .before .before .before .before .before .before .before .before .before .before .before .before .before .before .before .before .before .before .args .l) (c .before .before .before .before .before .before .before .before .before .before .before .before .before .before .before .before .before .before .before .before .before .before .before .args .w .now) (c .before .before .before .before .before .before .before .before .before .before .before .before .before .before .before .before .before .before .before .before .before .before .before .pre) _ (c .before .before .before .before .before .before .before .before .before .before .before .before .before .before .judge-records .ensures) (c .before .before .before .before .before .before .before .before .before .before .before .before .before .if1 .left), (omega (arith, c .before .before .before .before .before .before .before .before .before .before .wide .ensures, c .before .before .before .before .before .before .before .before .wide2 .ensures, root (c .before .before .before .before .before .before .before .before .before .before .before .before .before .before .before .before .before .before .before .before .before .before .before .args .l) (c .before .before .before .before .before .before .before .before .before .before .before .before .before .before .before .before .before .before .before .before .before .before .before .args .w .now) (c .before .before .before .before .before .before .before .before .before .before .before .before .before .before .before .before .before .before .before .before .before .before .before .pre) _ (c .before .before .before .before .before .before .before .before .before .before .before .before .before .before .judge-records .ensures) (c .before .before .before .before .before .before .before .before .before .before .before .before .before .if1 .left) .0), omega (arith, c .before .before .before .before .before .before .before .before .wide2 .ensures, root (c .before .before .before .before .before .before .before .before .before .before .before .before .before .before .before .before .before .before .before .before .before .before .before .args .l) (c .before .before .before .before .before .before .before .before .before .before .before .before .before .before .before .before .before .before .before .before .before .before .before .args .w .now) (c .before .before .before .before .before .before .before .before .before .before .before .before .before .before .before .before .before .before .before .before .before .before .before .pre) _ (c .before .before .before .before .before .before .before .before .before .before .before .before .before .before .judge-records .ensures) (c .before .before .before .before .before .before .before .before .before .before .before .before .before .if1 .left) .1)))
+walk-nodes-requires c κs = let s = c .before .before .before .before .before .before .before .before .before .before .before .before .before .before .before .before .before .before .before .before .before .before .before in (ready (s .args .l) (s .args .w .now) (s .pre) _ (c .before .before .before .before .before .before .before .before .before .before .before .before .before .before .judge-records .ensures) (c .before .before .before .before .before .before .before .before .before .before .before .before .before .if1 .left), (omega (arith, c .before .before .before .before .before .before .before .before .before .before .wide .ensures, c .before .before .before .before .before .before .before .before .wide2 .ensures, root (s .args .l) (s .args .w .now) (s .pre) _ (c .before .before .before .before .before .before .before .before .before .before .before .before .before .before .judge-records .ensures) (c .before .before .before .before .before .before .before .before .before .before .before .before .before .if1 .left) .0), omega (arith, c .before .before .before .before .before .before .before .before .wide2 .ensures, root (s .args .l) (s .args .w .now) (s .pre) _ (c .before .before .before .before .before .before .before .before .before .before .before .before .before .before .judge-records .ensures) (c .before .before .before .before .before .before .before .before .before .before .before .before .before .if1 .left) .1)))
 
 same-length : tie.Need-same-length
 same-length c = search needs
@@ -62,7 +62,7 @@ same-length-8 : tie.Need-same-length-8
 same-length-8 c = search needs
 
 returns-2 : tie.Need-returns-2
-returns-2 c = λ t. good-walk (c .before .before .before .before .before .before .before .before .before .before .before .before .before .before .before .before .before .before .before .before .before .before .before .before .before .before .before .before .before .before .before .before .before .before .before .before .before .before .before .args .l) (c .before .before .before .before .before .before .before .before .before .before .before .before .before .before .before .before .before .before .before .before .before .before .before .before .before .before .before .before .before .before .before .before .before .before .before .before .before .before .before .args .w .now) (c .before .before .before .before .before .before .before .before .before .before .before .before .before .before .before .before .before .before .before .before .before .before .before .before .before .before .before .before .before .before .before .before .before .before .before .before .before .before .before .pre) _ (c .before .before .before .before .before .before .before .before .before .before .before .before .before .before .before .before .before .before .before .before .before .before .before .before .before .before .before .before .before .before .judge-records .ensures) (c .before .before .before .before .before .before .before .before .before .before .before .before .before .before .before .before .before .before .before .before .before .before .before .before .before .before .before .before .before .if1 .left) _ _ (rw (c .before .before .before .before .before .before .before .before .before .before .before .before .before .before .before .before .before .before .before .before .before .before .before .before .before .before .wide .ensures, c .before .before .before .before .before .before .before .before .before .before .before .before .before .before .before .before .before .before .before .before .before .before .before .before .wide2 .ensures) at (c .before .before .before .before .before .before .before .before .before .before .before .before .before .before .before .walk-nodes .ensures t))
+returns-2 c = let s = c .before .before .before .before .before .before .before .before .before .before .before .before .before .before .before .before .before .before .before .before .before .before .before .before .before .before .before .before .before .before .before .before .before .before .before .before .before .before .before in λ t. good-walk (s .args .l) (s .args .w .now) (s .pre) _ (c .before .before .before .before .before .before .before .before .before .before .before .before .before .before .before .before .before .before .before .before .before .before .before .before .before .before .before .before .before .before .judge-records .ensures) (c .before .before .before .before .before .before .before .before .before .before .before .before .before .before .before .before .before .before .before .before .before .before .before .before .before .before .before .before .before .if1 .left) _ _ (rw (c .before .before .before .before .before .before .before .before .before .before .before .before .before .before .before .before .before .before .before .before .before .before .before .before .before .before .wide .ensures, c .before .before .before .before .before .before .before .before .before .before .before .before .before .before .before .before .before .before .before .before .before .before .before .before .wide2 .ensures) at (c .before .before .before .before .before .before .before .before .before .before .before .before .before .before .before .walk-nodes .ensures t))
 
 pub play-spec : {M : Type 1} → statement M
 play-spec =

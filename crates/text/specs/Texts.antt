@@ -1,8 +1,10 @@
 -- Text in a lent list of bytes, and the place where it goes on.
 use Prim.Native.Nat.{ℕ, _+_, _≤_}
 use mathlib.Core.Path.{_≡_}
-use mathlib.Core.List.{List, _++_}
+use mathlib.Core.List.{List, [], _∷_, _++_}
 use lib.ListN.{length, take, drop}
+use lib.IntN.{ℤ, pos, negsuc, natAbs}
+use Rattle.rules.specs.Lines.{digits, dash}
 
 pub record Text : Type 0 where
   pub bytes : List ℕ
@@ -21,3 +23,12 @@ pub record Wrote (ws : List ℕ) (most : ℕ) (before after : Text) : Type 0 whe
   pub started : before .at ≤ length (before .bytes)
   pub same : length (after .bytes) ≡ length (before .bytes)
   pub near : after .at ≤ before .at + most
+
+-- a space, and a minus sign below 0
+abbrev pub sign : ℤ → List ℕ
+sign (pos n) = 32 ∷ []
+sign (negsuc n) = dash
+
+-- a space and a number that may be negative
+abbrev pub signed : ℤ → List ℕ
+signed x = sign x ++ digits 10 (natAbs x)

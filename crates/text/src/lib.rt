@@ -4,8 +4,9 @@ ghost use mathlib.Core.Path.{_≡_};
 ghost use mathlib.Core.List.{[], _∷_};
 ghost use Prim.Native.Nat.{_+_, _≤_, _%_};
 ghost use lib.ListN.{length};
+ghost use lib.IntN.{natAbs};
 ghost use Rattle.rules.specs.Lines.{digits, number, dash};
-ghost use Rattle.text.specs.Texts.{text, Wrote};
+ghost use Rattle.text.specs.Texts.{sign, signed, text, Wrote};
 
 pub fn put_byte(out: &mut [u8], at: usize, b: u8) -> usize
     requires { ⌜ at + 1 ≤ length (now out) ⌝ }
@@ -67,4 +68,34 @@ pub fn put_dash(out: &mut [u8], at: usize) -> usize
 {
     let place = put_byte(out, at, b' ');
     put_byte(out, place, b'-')
+}
+
+// How far a number is from 0.
+pub fn magnitude(x: i32) -> u32
+    ensures { λ r. ⌜ r ≡ natAbs x ⌝ }
+{
+    if x < 0 {
+        return ((-1 - x) as u32) + 1;
+    }
+    x as u32
+}
+
+// A space, and a minus sign below 0.
+fn put_sign(out: &mut [u8], at: usize, x: i32) -> usize
+    requires { ⌜ at + 2 ≤ length (now out) ⌝ }
+    ensures { λ r. ⌜ Wrote (sign x) 2 (text (now (out .entry)) at) (text (now (out .exit)) r) ⌝ }
+{
+    if x < 0 {
+        return put_dash(out, at);
+    }
+    put_byte(out, at, b' ')
+}
+
+// A space and a number that may be negative.
+pub fn put_signed(out: &mut [u8], at: usize, x: i32) -> usize
+    requires { ⌜ at + 12 ≤ length (now out) ⌝ }
+    ensures { λ r. ⌜ Wrote (signed x) 12 (text (now (out .entry)) at) (text (now (out .exit)) r) ⌝ }
+{
+    let place = put_sign(out, at, x);
+    put_digits(out, place, magnitude(x), 10)
 }

@@ -1,16 +1,16 @@
 -- Runs of places, one by one. Assumes nothing.
 use mathlib.Core.Path.{_≡_, refl, sym, ap, _∙_}
 use mathlib.Core.Bool.{Bool, true, false, not}
-use mathlib.Core.List.{List, [], _∷_, _++_, append-assoc, append-nil}
+use mathlib.Core.List.{List, [], _∷_, _++_}
 use Prim.Native.Nat.{ℕ, zero, suc, _+_, _-_, _*_, _≤_, _<_}
-use native.Mathlib.Numerals.{add-one}
 use native.Mathlib.Omega.{arith}
 use lib.ListN.{length}
 use Rattle.rules.specs.Lines.{Line, row, line-bytes}
 use Rattle.row.specs.Words.{Words, word}
 use Rattle.rules.proofs.All.{never, both}
 use Rattle.text.specs.Texts.{Text, Wrote}
-use Rattle.text.proofs.Laws.{then, within, wrote-none}
+use Rattle.text.proofs.Laws.{within, wrote-none}
+use Rattle.list.proofs.Joins.{one-of, first-then, both-of, places-none, places-more, places-all}
 use Rattle.list.specs.Places.{all-below, joined}
 use Rattle.list.specs.Listed.{depth-lines, command-lines, row-lines, text-of}
 
@@ -66,11 +66,6 @@ module _ (p : ℕ → Bool) where
       go (suc n) e (suc j) q = go n (both (p n) (all-below p n) e .1) j (omega arith)
 
 -- the text of lines
-pub text-append : (a b : List Line) → text-of (a ++ b) ≡ text-of a ++ text-of b
-unfolding text-of
-text-append [] b = refl
-text-append (l ∷ a) b = rw (text-append a b, append-assoc (line-bytes l))
-
 pub no-lines : {n : ℕ} (t : Text) → t .at ≤ length (t .bytes) → Wrote (text-of []) n t t
 unfolding text-of
 no-lines t h = wrote-none t h
@@ -78,28 +73,30 @@ no-lines t h = wrote-none t h
 module _ {m : ℕ} {t u : Text} where
   pub one-line : (l : Line) → Wrote (line-bytes l) m t u → Wrote (text-of (l ∷ [])) m t u
   unfolding text-of
-  one-line l w = rw (append-nil (line-bytes l)) w
+  one-line l w = one-of line-bytes l w
 
   module _ {n : ℕ} {v : Text} where
     pub line-then : (l : Line) (ls : List Line) → Wrote (line-bytes l) m t u → Wrote (text-of ls) n u v → Wrote (text-of (l ∷ ls)) (m + n) t v
     unfolding text-of
-    line-then l ls w x = then w x
+    line-then l ls w x = first-then line-bytes l ls w x
 
     pub lines-then : (a b : List Line) → Wrote (text-of a) m t u → Wrote (text-of b) n u v → Wrote (text-of (a ++ b)) (m + n) t v
-    lines-then a b w x = rw (text-append a b) (then w x)
+    unfolding text-of
+    lines-then a b w x = both-of line-bytes a b w x
 
 -- lines place by place, the first to the last
 module _ (f : ℕ → List Line) where
   pub joined-none : {n : ℕ} (t : Text) → t .at ≤ length (t .bytes) → Wrote (text-of (joined f 0)) n t t
-  unfolding joined
-  joined-none t h = no-lines t h
+  unfolding text-of
+  joined-none t h = places-none line-bytes f t h
 
   pub joined-more : {m n o : ℕ} (k : ℕ) {t u v : Text} → m + n ≤ o → Wrote (text-of (joined f k)) m t u → Wrote (text-of (f k)) n u v → Wrote (text-of (joined f (k + 1))) o t v
-  unfolding joined
-  joined-more k h w x = rw add-one (within h (lines-then (joined f k) (f k) w x))
+  unfolding text-of
+  joined-more k h w x = places-more line-bytes f k h w x
 
   pub joined-all : (g : ℕ → ℕ) (i k : ℕ) {t u : Text} → k ≤ i → i ≤ k → Wrote (text-of (joined f i)) (g i) t u → Wrote (text-of (joined f k)) (g k) t u
-  joined-all g i k p q w = let e : i ≡ k = omega arith in rw e at w
+  unfolding text-of
+  joined-all g i k p q w = places-all line-bytes f g i k p q w
 
 -- a row: its own line, its depth fills, its commands
 pub row-written : (n r : ℕ) (w : Words) {a b : ℕ} {t u v x : Text} → a ≡ word 1 w → b ≡ word 0 w → Wrote (line-bytes (row r (word 1 w) (word 0 w))) 64 t u

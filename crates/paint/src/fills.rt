@@ -6,9 +6,10 @@ use crate::pieces::spread;
 use crate::refused;
 use cmd::command::Fill;
 use cmd::depth_fill::DepthFill;
+use depth::DepthState;
 use depth::Runs;
 use depth::unset_runs_and_write;
-use depth::visible_runs;
+use shown::shown_runs;
 use span::Alpha;
 ghost use mathlib.Core.Path.{_≡_};
 ghost use mathlib.Core.List.{map};
@@ -17,9 +18,10 @@ ghost use Prim.Native.Nat.{_+_, _-_, _≤_, _<_};
 ghost use lib.ListN.{length};
 ghost use Rattle.rules.specs.Attributes.{no-attrs};
 ghost use Rattle.rules.specs.Depth.{write-runs, written};
-ghost use Rattle.rules.specs.Painting.{painted, depth-piece, paint-fill-runs};
+ghost use Rattle.rules.specs.Painting.{painted, depth-piece};
 ghost use Rattle.span.specs.Spans.{tiles, buckets, alpha, Moves};
-ghost use Rattle.paint.specs.Painting.{word, out, painter-at, settled};
+ghost use Rattle.depth.specs.Answers.{summary};
+ghost use Rattle.paint.specs.Painting.{word, out, painter-at, settled, fill-shown};
 
 // Tiles in a depth bucket.
 const BUCKET: u32 = 32;
@@ -55,22 +57,23 @@ pub fn paint_depth(
     }
 }
 
-// A paint's or a layer's fill gives its visible runs for its attribute's id.
+// A paint's or a layer's fill gives the runs that are shown for its attribute's id.
 pub fn paint_fill(
     depth: &[u32],
     painting: &mut [u32],
+    sum: DepthState,
     layer: bool,
     fill: Fill,
     id: u32,
     list: &mut [u32],
 ) -> Painted
-    requires { ⌜ (fill .span .first ≤ fill .span .«end») × (fill .span .«end» ≤ 8192) × Moves (fill .alpha) (fill .span .«end» - fill .span .first) ⌝ }
+    requires { ⌜ (fill .span .first ≤ fill .span .«end») × (fill .span .«end» ≤ 8192) × Moves (fill .alpha) (fill .span .«end» - fill .span .first) × (length (now depth) ≤ 65535) ⌝ }
     requires { ⌜ (length (now painting) ≡ 2) × (word (now painting) 0 < 4294967295) ⌝ }
-    ensures { λ r. ⌜ out r (now (depth .entry)) (now (painting .exit)) (now (list .exit)) ≡ settled (some (paint-fill-runs 32 no-attrs layer id (fill .«attrs_idx») (tiles (fill .span)) (alpha (fill .alpha)) (painter-at (now (depth .entry)) (now (painting .entry))))) (now (depth .entry)) (now (painting .entry)) (now (list .entry)) ⌝ }
+    ensures { λ r. ⌜ out r (now (depth .entry)) (now (painting .exit)) (now (list .exit)) ≡ settled (some (fill-shown no-attrs (summary sum) layer id (fill .«attrs_idx») (tiles (fill .span)) (alpha (fill .alpha)) (painter-at (now (depth .entry)) (now (painting .entry))))) (now (depth .entry)) (now (painting .entry)) (now (list .entry)) ⌝ }
 {
     let room = list.len() / 6;
     let span = fill.span;
-    match visible_runs(depth, span, id, &mut list[..2 * room]) {
+    match shown_runs(depth, sum, span, id, &mut list[..2 * room]) {
         Runs::Refused(answer) => refused(answer.number()),
         Runs::Listed(n) => {
             let start = fill.alpha;

@@ -1,0 +1,5 @@
+pub mod Judged
+pub mod Parts
+pub mod Runs
+pub mod Laws
+pub mod Example

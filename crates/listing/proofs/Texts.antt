@@ -2,7 +2,8 @@
 use mathlib.Core.Path.{_≡_, ap, _∙_}
 use mathlib.Core.Bool.{true, false}
 use mathlib.Core.List.{List}
-use Prim.Native.Nat.{ℕ, _≤_, _<_}
+use Prim.Native.Nat.{ℕ, _*_, _≤_, _<_}
+use native.Mathlib.Nat.{mul-le-mul}
 use borrow.Author.Tests.{le-leb, lt-leb, eq-eqb, ne-eqb}
 use Rattle.rules.specs.Answers.{answer}
 use Rattle.rules.specs.Boxes.{Box, good-viewport, rows-of, buckets-of}
@@ -16,7 +17,8 @@ use Rattle.walk.specs.Recorded.{recorded}
 use Rattle.list.specs.declared.Listing.{Listing}
 use Rattle.list.specs.Listed.{Out, left, listed, refused-listed}
 use Rattle.listing.specs.declared.FileText.{FileText}
-use Rattle.listing.specs.Files.{nothing, Showed, showed, file-text, refusing, showing, file-out, recording-text, viewport-of, size, size-of}
+use Rattle.listing.specs.declared.Size.{Size}
+use Rattle.listing.specs.Files.{nothing, Showed, showed, file-text, refusing, showing, file-out, recording-text, viewport-of, size, size-of, cut-to, over, in-front, words-text}
 
 module _ (n : ℕ) (s : Screen) (bs : List ℕ) {r : Listing} {cs : List ℕ} where
   pub refused-as : left r cs ≡ refused-listed n bs → showed (file-text n (r .bytes) s) cs ≡ refusing n s bs
@@ -65,3 +67,16 @@ module _ (ws : List ℕ) where
       pub good-size : {m b : ℕ} → m ≡ rows-of v → b ≡ buckets-of 32 v → m ≤ 32 → size 0 m b ≡ size-of ws
       unfolding size-of
       good-size j k g = rw (← e, ← i, h, le-leb (rows-of v) 32 (rw j at g), j, k)
+
+-- a file's words in larger tables
+pub small : (n b : ℕ) → n ≤ 32 → b ≤ 32 → n * b ≤ 1024
+small n b h g = mul-le-mul {n₂ = 32} {m₂ = 32} h g
+
+module _ (ws : List ℕ) (t : Tables) (bs : List ℕ) {z : Size} (e : z ≡ size-of ws) {x : Showed} where
+  pub words-refused : {q : Screen} → q ≡ nothing → (z .number ≡ 0 → ⊥) → x ≡ refusing (z .number) q bs → file-out x t ≡ words-text ws t bs
+  unfolding words-text
+  words-refused p h g = rw (← e, ne-eqb (z .number) 0 h) (ap (λ (y : Showed). file-out y t) (rw p at g))
+
+  pub words-shown : {u : Tables} → z .number ≡ 0 → file-out x u ≡ recording-text ws (cut-to z t) bs → file-out x (over z t u) ≡ words-text ws t bs
+  unfolding words-text
+  words-shown h g = rw (← e, eq-eqb (z .number) 0 h) (ap (in-front z t) g)

@@ -1,7 +1,8 @@
 -- The text of a recording file: what `rowlist` prints of it, and what its words leave in the lent tables.
-use Prim.Native.Nat.{ℕ}
+use Prim.Native.Nat.{ℕ, _*_, _≤_}
 use mathlib.Core.Bool.{Bool, true, false, _&&_, cond}
-use mathlib.Core.List.{List}
+use mathlib.Core.List.{List, _++_}
+use lib.ListN.{length, take, drop}
 use lib.Dec.{leb, eqb}
 use Rattle.rules.specs.Answers.{Answer, Done, BadViewport, BadForm}
 use Rattle.rules.specs.Boxes.{Box, good-viewport, rows-of, buckets-of}
@@ -9,7 +10,7 @@ use Rattle.rect.specs.declared.Rect.{Rect}
 use Rattle.row.specs.Words.{Words, words}
 use Rattle.screen.specs.declared.Screen.{Screen}
 use Rattle.screen.specs.Screens.{fresh-screen}
-use Rattle.screen.specs.Tables.{Tables, Lent, lent}
+use Rattle.screen.specs.Tables.{Tables, tables, Lent, lent}
 use Rattle.form.specs.declared.Form.{Form}
 use Rattle.form.specs.declared.Form.the-variants as form
 use Rattle.form.specs.Layouts.{form-of}
@@ -85,3 +86,48 @@ sized (form.Good l) v = sized-if (good-viewport v && leb (rows-of v) 32) v
 
 unfoldable pub size-of : List ℕ → Size
 size-of ws = sized (form-of ws) (viewport-of ws)
+
+-- The tables that the programs have are for 32 rows of 32 buckets; a file's screen has their first words.
+abbrev pub cut-to : Size → Tables → Tables
+cut-to z t =
+    tables (take (z .rows * 256) (t .render)) (take (z .rows * 128) (t .fills)) (take (z .rows * z .buckets) (t .depth)) (take (z .rows * 54) (t .rows))
+    (take (z .rows * 2) (t .painting))
+    (t .layers)
+    (t .opacities)
+    (t .paint-attrs)
+    (t .layer-attrs)
+    (t .filter-paints)
+
+-- the first words anew, the others as before
+abbrev pub over : Size → Tables → Tables → Tables
+over z t u =
+    tables (u .render ++ drop (z .rows * 256) (t .render)) (u .fills ++ drop (z .rows * 128) (t .fills))
+    (u .depth ++ drop (z .rows * z .buckets) (t .depth))
+    (u .rows ++ drop (z .rows * 54) (t .rows))
+    (u .painting ++ drop (z .rows * 2) (t .painting))
+    (u .layers)
+    (u .opacities)
+    (u .paint-attrs)
+    (u .layer-attrs)
+    (u .filter-paints)
+
+abbrev pub in-front : Size → Tables → FileOut → FileOut
+in-front z t o = file-out (o .showed) (over z t (o .tables))
+
+abbrev pub refused-as-is : ℕ → Tables → List ℕ → FileOut
+refused-as-is n t bs = file-out (refusing n nothing bs) t
+
+abbrev pub text-in : Size → List ℕ → Tables → List ℕ → FileOut
+text-in z ws t bs = cond (eqb (z .number) Done) (in-front z t (recording-text ws (cut-to z t) bs)) (refused-as-is (z .number) t bs)
+
+-- a file's words
+unfoldable pub words-text : List ℕ → Tables → List ℕ → FileOut
+words-text ws t bs = text-in (size-of ws) ws t bs
+
+-- the tables' lengths
+pub record Roomy (t : Tables) : Type 0 where
+  pub render : 8192 ≤ length (t .render)
+  pub fills : 4096 ≤ length (t .fills)
+  pub depth : 1024 ≤ length (t .depth)
+  pub rows : 1728 ≤ length (t .rows)
+  pub painting : 64 ≤ length (t .painting)

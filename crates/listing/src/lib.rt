@@ -12,7 +12,7 @@ ghost use mathlib.Core.Path.{_≡_};
 ghost use Prim.Native.Nat.{_≤_};
 ghost use Rattle.screen.specs.Tables.{tables};
 ghost use Rattle.row.specs.Words.{words};
-ghost use Rattle.listing.specs.Files.{nothing, showed, file-out, refusing, showing, recording-text, size-of};
+ghost use Rattle.listing.specs.Files.{nothing, showed, file-out, refusing, showing, recording-text, size-of, words-text, Roomy};
 
 // number: document 01's answer. bytes: how many are written, at the start of the lent ones. screen: the screen afterwards.
 pub struct FileText {
@@ -148,4 +148,45 @@ pub fn size_of(file: &[u32]) -> Size
         rows,
         buckets: screen.buckets(),
     }
+}
+
+// A file's words, in tables for 32 rows of 32 buckets.
+fn words_text(
+    file: &[u32],
+    render: &mut [u32],
+    fills: &mut [u32],
+    depth: &mut [u32],
+    rows: &mut [u32],
+    painting: &mut [u32],
+    layers: &mut [u32],
+    opacities: &mut [f32],
+    paint_attrs: &mut [u32],
+    layer_attrs: &mut [u32],
+    filter_paints: &mut [i32],
+    out: &mut [u8],
+) -> FileText
+    requires { ⌜ Roomy (tables (now render) (now fills) (now depth) (now rows) (now painting) (now layers) (now opacities) (now «paint_attrs») (now «layer_attrs») (now «filter_paints»)) ⌝ }
+    ensures { λ r. ⌜ file-out (showed r (now (out .exit))) (tables (now (render .exit)) (now (fills .exit)) (now (depth .exit)) (now (rows .exit)) (now (painting .exit)) (now (layers .exit)) (now (opacities .exit)) (now («paint_attrs» .exit)) (now («layer_attrs» .exit)) (now («filter_paints» .exit)))
+        ≡ words-text (now (file .entry)) (tables (now (render .entry)) (now (fills .entry)) (now (depth .entry)) (now (rows .entry)) (now (painting .entry)) (now (layers .entry)) (now (opacities .entry)) (now («paint_attrs» .entry)) (now («layer_attrs» .entry)) (now («filter_paints» .entry))) (now (out .entry)) ⌝ }
+{
+    let size = size_of(file);
+    let n = size.rows;
+    let b = size.buckets;
+    if size.number != 0 {
+        return refuse(size.number, no_screen(), out);
+    }
+    recording_text(
+        file,
+        &mut render[..n * 256],
+        &mut fills[..n * 128],
+        &mut depth[..n * b],
+        &mut rows[..n * 54],
+        &mut painting[..n * 2],
+        layers,
+        opacities,
+        paint_attrs,
+        layer_attrs,
+        filter_paints,
+        out,
+    )
 }

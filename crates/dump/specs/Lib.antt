@@ -1,0 +1,2 @@
+pub mod Strokes
+pub mod Dumped

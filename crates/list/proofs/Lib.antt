@@ -1,0 +1,4 @@
+pub mod Joins
+pub mod Runs
+pub mod Judging
+pub mod Writing

@@ -1,0 +1,5 @@
+pub mod Calls
+pub mod Draws
+pub mod Filters
+pub mod Lists
+pub mod Runs

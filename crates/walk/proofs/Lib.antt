@@ -1,0 +1,4 @@
+pub mod Layers
+pub mod Nodes
+pub mod Places
+pub mod Recordings

@@ -35,10 +35,10 @@ use Rattle.screen.proofs.Laws.{bounds, clip, good-clip-of, clip-of, paint-count
 use Rattle.screen.proofs.Passed.{Passed, passed}
 use Rattle.layers.specs.declared.LayerProps.{LayerProps}
 use Rattle.layers.specs.Layers.{clip-of as clip-in, props-of, layer-of, layer-words}
-use Rattle.strip.specs.Strip.{strip-number, each, rows-on, Whole, OnRows}
-use Rattle.strip.proofs.Laws.{puts-each}
-use Rattle.strip.proofs.Numbers.{Adding, strip-answer, strip-step, strip-room, touch-adds, run-told}
-use Rattle.strip.proofs.Passing.{passed-whole, rows-within, judged-small, if-small, step-small, decide, surely, below}
+use Rattle.band.specs.Band.{band-number, each, rows-on, Whole, OnRows}
+use Rattle.band.proofs.Laws.{puts-each}
+use Rattle.band.proofs.Numbers.{Adding, band-answer, band-step, band-room, touch-adds, run-told}
+use Rattle.band.proofs.Passing.{passed-whole, rows-within, judged-small, if-small, step-small, decide, surely, below}
 use Rattle.push.specs.declared.Run.{Run}
 use Rattle.push.specs.Push.{Lent, lent, plan-of, first-number, push-number, after, pushed, no-run, box-run, touch-run, on-layer}
 
@@ -151,17 +151,17 @@ module _ (p : LayerProps) (s : Screen) (w : Words) (ls : List ℕ) (os : List Fl
 
       module _ (h : good-props (props-of p) ≡ true) where
         abbrev pub rows-number : ℕ
-        rows-number = strip-number (s .c) (s .d) (s .layers) (w .state) (range (own-run p s .a) (own-run p s .b))
+        rows-number = band-number (s .c) (s .d) (s .layers) (w .state) (range (own-run p s .a) (own-run p s .b))
 
-        number-is : push-number p (lent s w ls os) ≡ strip-answer rows-number (plan-of p s)
+        number-is : push-number p (lent s w ls os) ≡ band-answer rows-number (plan-of p s)
         unfolding push-number
         number-is =
             rw (z, eq-eqb _ _ e, eq-eqb _ _ f)
-            (strip-step s w whole touch (own-run p s .a) (own-run p s .b) (run-within p s (fit .screen) (fit .view)) (plan-of p s)
+            (band-step s w whole touch (own-run p s .a) (own-run p s .b) (run-within p s (fit .screen) (fit .view)) (plan-of p s)
             (plan-fine p s (fit .screen) h) (plan-puts p s (fit .screen)) (plan-adds p s (fit .screen)))
 
-        answer-is : strip-answer rows-number (plan-of p s) ≡ cond (eqb rows-number 4) 4 (cond (ltb 16 (s .layers + 1)) 6 (cond (eqb rows-number 10) 10 0))
-        unfolding strip-answer
+        answer-is : band-answer rows-number (plan-of p s) ≡ cond (eqb rows-number 4) 4 (cond (ltb 16 (s .layers + 1)) 6 (cond (eqb rows-number 10) 10 0))
+        unfolding band-answer
         answer-is =
             let b = bounds s (fit .screen) in
             rw (plan-deep p s (fit .screen), plan-next p s (fit .screen), le-ltb 1048577 (s .«next_draw_id») (b .ids), plan-attrs p s (fit .screen))
@@ -201,7 +201,7 @@ module _ (p : LayerProps) (s : Screen) (w : Words) (z : judged-at s w ≡ 0) (b 
         let o = passed-whole s w ok in
         (bounds s (ok .screen) .deep, o .c, omega (arith, o .rows), omega (arith, ok .row-words))
 
-    pub number-of-rows : (k : ℕ) → k ≡ strip-number (s .c) (s .d) (s .layers) (w .state) (range (r .a) (r .b)) → k ≡ strip-number (s .c) (s .d) (s .layers) (w .state) (range (own-run p s .a) (own-run p s .b))
+    pub number-of-rows : (k : ℕ) → k ≡ band-number (s .c) (s .d) (s .layers) (w .state) (range (r .a) (r .b)) → k ≡ band-number (s .c) (s .d) (s .layers) (w .state) (range (own-run p s .a) (own-run p s .b))
     number-of-rows k h = rw run-is at h
 
 -- what a push judged 0 may rely on
@@ -233,7 +233,7 @@ module _ (p : LayerProps) (s : Screen) (w : Words) (ls : List ℕ) (os : List Fl
         opacities = b;
         free = m;
         on =
-            strip-room s w (passed-whole s w f) touch (own-run p s .a) (own-run p s .b) (run-within p s (f .screen) (f .view)) (s .layers + 1) (omega arith)
+            band-room s w (passed-whole s w f) touch (own-run p s .a) (own-run p s .b) (run-within p s (f .screen) (f .view)) (s .layers + 1) (omega arith)
             (omega arith) (touch-adds (s .layers) (omega arith)) t;
       }
 

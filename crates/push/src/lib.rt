@@ -6,6 +6,8 @@ ghost use Rattle.cmd.specs.Answers.{number-of};
 ghost use Rattle.rect.specs.Rects.{box-of};
 ghost use Rattle.row.specs.Words.{words};
 ghost use Rattle.push.specs.Push.{touch-run, on-layer, lent, push-number, after, pushed};
+use band::judge_rows;
+use band::touch_rows;
 use cmd::Answer;
 use cmd::blend::Blend;
 use layers::LayerProps;
@@ -17,8 +19,6 @@ use screen::Built;
 use screen::Screen;
 use screen::answer_of;
 use screen::judge_screen;
-use strip::judge_rows;
-use strip::touch_rows;
 
 // Rows a to b.
 struct Run {

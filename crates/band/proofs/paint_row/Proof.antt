@@ -1,0 +1,122 @@
+use Rattle.band.proofs.Laws.{paint-room, paint-back}
+use Rattle.span.specs.Spans.{tiles}
+use mathlib.Core.Path.{_∙_}
+use Prim.Native.Nat.{_*_}
+use native.Mathlib.Omega.{arith}
+use Rattle.arena.proofs.Laws.{within, small}
+use borrow.Author.Needs.{needs}
+use Rattle.band.proofs.paint_row.Statement.{statement}
+use Rattle.band.proofs.paint_row.Tie as tie
+
+cast-cw : tie.Need-cast-cw
+cast-cw c = search needs
+
+mul-cw : tie.Need-mul-cw
+mul-cw c = search needs
+
+cast-dw : tie.Need-cast-dw
+cast-dw c = search needs
+
+mul-dw : tie.Need-mul-dw
+mul-dw c = search needs
+
+mul-x : tie.Need-mul-x
+mul-x c = search needs
+
+mul-y : tie.Need-mul-y
+mul-y c = record { fits = omega (arith, small _ _ (4 * c .before .before .before .before .before .args .screen .c) (c .before .before .before .before .before .pre .1 .within) (c .before .before .before .before .before .pre .1 .whole .rows) (omega (arith, c .before .before .before .before .before .pre .1 .whole .c))) }
+
+mul-z : tie.Need-mul-z
+mul-z c = record { fits = omega (arith, small _ _ (2 * c .before .before .before .before .before .args .screen .d) (c .before .before .before .before .before .pre .1 .within) (c .before .before .before .before .before .pre .1 .whole .rows) (omega (arith, c .before .before .before .before .before .pre .1 .whole .d))) }
+
+add-push-fill : tie.Need-add-push-fill
+add-push-fill c = search needs
+
+mul-push-fill : tie.Need-mul-push-fill
+mul-push-fill c = search needs
+
+sub-push-fill : tie.Need-sub-push-fill
+sub-push-fill c = search needs
+
+part-push-fill-start : tie.Need-part-push-fill-start
+part-push-fill-start c = search needs
+
+part-push-fill-end : tie.Need-part-push-fill-end
+part-push-fill-end c = search needs
+
+add-push-fill-2 : tie.Need-add-push-fill-2
+add-push-fill-2 c = record { fits = omega (arith, small _ _ (4 * c .before .before .before .before .before .before .args .screen .c) (c .before .before .before .before .before .before .pre .1 .within) (c .before .before .before .before .before .before .pre .1 .whole .rows) (omega (arith, c .before .before .before .before .before .before .pre .1 .whole .c)), c .before .before .before .before .before .before .pre .1 .whole .c) }
+
+mul-push-fill-2 : tie.Need-mul-push-fill-2
+mul-push-fill-2 c = record { fits = omega (arith, small _ _ (4 * c .before .before .before .before .before .before .args .screen .c) (c .before .before .before .before .before .before .pre .1 .within) (c .before .before .before .before .before .before .pre .1 .whole .rows) (omega (arith, c .before .before .before .before .before .before .pre .1 .whole .c))) }
+
+sub-push-fill-2 : tie.Need-sub-push-fill-2
+sub-push-fill-2 c = search needs
+
+part-push-fill-start-2 : tie.Need-part-push-fill-start-2
+part-push-fill-start-2 c = search needs
+
+part-push-fill-end-2 : tie.Need-part-push-fill-end-2
+part-push-fill-end-2 c = omega (arith, within _ _ (4 * c .before .before .before .before .before .before .args .screen .c) (c .before .before .before .before .before .before .pre .1 .within), c .before .before .before .before .before .before .pre .1 .whole .long .render)
+
+add-push-fill-3 : tie.Need-add-push-fill-3
+add-push-fill-3 c = record { fits = omega (arith, small _ _ (2 * c .before .before .before .before .before .before .before .args .screen .d) (c .before .before .before .before .before .before .before .pre .1 .within) (c .before .before .before .before .before .before .before .pre .1 .whole .rows) (omega (arith, c .before .before .before .before .before .before .before .pre .1 .whole .d)), c .before .before .before .before .before .before .before .pre .1 .whole .d) }
+
+mul-push-fill-3 : tie.Need-mul-push-fill-3
+mul-push-fill-3 c = record { fits = omega (arith, small _ _ (2 * c .before .before .before .before .before .before .before .args .screen .d) (c .before .before .before .before .before .before .before .pre .1 .within) (c .before .before .before .before .before .before .before .pre .1 .whole .rows) (omega (arith, c .before .before .before .before .before .before .before .pre .1 .whole .d))) }
+
+sub-push-fill-3 : tie.Need-sub-push-fill-3
+sub-push-fill-3 c = search needs
+
+part-push-fill-start-3 : tie.Need-part-push-fill-start-3
+part-push-fill-start-3 c = search needs
+
+part-push-fill-end-3 : tie.Need-part-push-fill-end-3
+part-push-fill-end-3 c = omega (arith, within _ _ (2 * c .before .before .before .before .before .before .before .args .screen .d) (c .before .before .before .before .before .before .before .pre .1 .within), c .before .before .before .before .before .before .before .pre .1 .whole .long .fills)
+
+push-fill-requires : tie.Need-push-fill-requires
+push-fill-requires c κs = (c .before .before .before .before .before .before .before .before .pre .0, c .before .before .before .before .before .before .before .before .pre .1 .layers, paint-room (tiles (c .before .before .before .before .before .before .before .before .args .span)) _ (c .before .before .before .before .before .before .before .before .pre .1))
+
+same-length : tie.Need-same-length
+same-length c = search needs
+
+same-length-2 : tie.Need-same-length-2
+same-length-2 c = search needs
+
+same-length-3 : tie.Need-same-length-3
+same-length-3 c = search needs
+
+returns : tie.Need-returns
+returns c = paint-back (tiles (c .before .before .before .before .before .before .before .before .before .before .before .before .before .before .before .args .span)) _ (c .before .before .before .before .before .before .before .before .before .before .before .before .before .before .before .pre .1) _ _ _ (c .before .before .before .before .before .before .push-fill .ensures)
+
+pub paint-row-spec : {M : Type 1} → statement M
+paint-row-spec =
+    tie.close
+    (tie.spec
+    cast-cw
+    mul-cw
+    cast-dw
+    mul-dw
+    mul-x
+    mul-y
+    mul-z
+    add-push-fill
+    mul-push-fill
+    sub-push-fill
+    part-push-fill-start
+    part-push-fill-end
+    add-push-fill-2
+    mul-push-fill-2
+    sub-push-fill-2
+    part-push-fill-start-2
+    part-push-fill-end-2
+    add-push-fill-3
+    mul-push-fill-3
+    sub-push-fill-3
+    part-push-fill-start-3
+    part-push-fill-end-3
+    push-fill-requires
+    same-length
+    same-length-2
+    same-length-3
+    returns)

@@ -1,0 +1,4 @@
+pub mod Difference
+pub mod Laws
+pub mod Judging
+pub mod Doing

@@ -1,3 +1,4 @@
+pub mod Summaries
 pub mod Pieces
 pub mod Painting
 pub mod Standing

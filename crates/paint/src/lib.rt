@@ -8,8 +8,11 @@ ghost use Rattle.paint.specs.Painting.{word, refused, listed, advanced};
 pub mod fills;
 pub mod pieces;
 pub mod row;
+pub mod summary;
 
 pub use row::step_row;
+pub use summary::is_good_summary;
+pub use summary::summary_of;
 
 // number: document 01's answer. finished: no step was left. pieces: how many stand in the list, six words each.
 pub struct Painted {

@@ -1,0 +1,4 @@
+pub mod Judging
+pub mod Beginning
+pub mod Stepping
+pub mod Rows

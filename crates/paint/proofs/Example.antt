@@ -11,10 +11,11 @@ use Rattle.rules.specs.Spans.{span}
 use Rattle.rules.specs.Rows.{Row}
 use Rattle.rules.specs.Attributes.{Attrs}
 use Rattle.rules.specs.Commands.{paint-fill, pop-buf, command-of, depth-fill-of}
-use Rattle.rules.specs.Depth.{no-depth, bucket-runs, runs-in, runs, visible-runs, write-runs, written}
-use Rattle.rules.specs.Painting.{no-fill, paint-depth, paint-fill-runs, paint-command}
+use Rattle.rules.specs.Depth.{no-depth, can-skip, bucket-runs, runs-in, runs, visible-runs, write-runs, written}
+use Rattle.rules.specs.Painting.{no-fill, paint-depth, paint-command}
 use Rattle.paint.specs.declared.Painted.{Painted}
-use Rattle.paint.specs.Painting.{attrs-at, painter-at, good-paint, command-at, depth-fill-at, lent, Out, out, refused, settled, depth-step, command-step, next-step, painted-row}
+use Rattle.paint.specs.Painting.{attrs-at, painter-at, good-paint, command-at, depth-fill-at, lent, Out, out, refused, settled, fill-shown, command-shown, depth-step, command-step, next-step, painted-row}
+use Rattle.paint.specs.Summaries.{shown-runs}
 use Rattle.paint.specs.Standing.{Stands, Ready}
 
 -- one paint attribute and one layer attribute, with the ids 1 and 2
@@ -30,36 +31,36 @@ row d p l = painted-row attrs (lent (1 ∷ 1 ∷ []) (1 ∷ 655392 ∷ 0 ∷ 0 �
 
 first : row (0 ∷ 0 ∷ []) (0 ∷ 0 ∷ []) (9 ∷ 9 ∷ 9 ∷ 9 ∷ 9 ∷ 9 ∷ 9 ∷ [])
     ≡ out (told 1) (0 ∷ 1 ∷ []) (1 ∷ 0 ∷ []) (1 ∷ 0 ∷ 32 ∷ 64 ∷ 0 ∷ 0 ∷ 9 ∷ [])
-unfolding attrs row told attrs-at painted-row next-step depth-step command-step settled paint-depth paint-command paint-fill-runs depth-fill-of command-of written write-runs visible-runs runs runs-in bucket-runs
+unfolding attrs row told attrs-at painted-row next-step depth-step command-step settled paint-depth paint-command command-shown fill-shown shown-runs can-skip depth-fill-of command-of written write-runs visible-runs runs runs-in bucket-runs
 first = refl
 
 second : row (0 ∷ 1 ∷ []) (1 ∷ 0 ∷ []) (9 ∷ 9 ∷ 9 ∷ 9 ∷ 9 ∷ 9 ∷ 9 ∷ [])
     ≡ out (told 1) (0 ∷ 1 ∷ []) (2 ∷ 0 ∷ []) (1 ∷ 0 ∷ 10 ∷ 32 ∷ 0 ∷ 0 ∷ 9 ∷ [])
-unfolding attrs row told attrs-at painted-row next-step depth-step command-step settled paint-depth paint-command paint-fill-runs depth-fill-of command-of written write-runs visible-runs runs runs-in bucket-runs
+unfolding attrs row told attrs-at painted-row next-step depth-step command-step settled paint-depth paint-command command-shown fill-shown shown-runs can-skip depth-fill-of command-of written write-runs visible-runs runs runs-in bucket-runs
 second = refl
 
 -- then it is finished, also without a list
 third : row (0 ∷ 1 ∷ []) (2 ∷ 0 ∷ []) [] ≡ out (record { number = 0; finished = true; pieces = 0 }) (0 ∷ 1 ∷ []) (2 ∷ 0 ∷ []) []
-unfolding attrs row told attrs-at painted-row next-step depth-step command-step settled paint-depth paint-command paint-fill-runs depth-fill-of command-of written write-runs visible-runs runs runs-in bucket-runs
+unfolding attrs row told attrs-at painted-row next-step depth-step command-step settled paint-depth paint-command command-shown fill-shown shown-runs can-skip depth-fill-of command-of written write-runs visible-runs runs runs-in bucket-runs
 third = refl
 
 -- a list that is too short; a nesting and a number of steps that no row has
 short : row (0 ∷ 0 ∷ []) (0 ∷ 0 ∷ []) (9 ∷ 9 ∷ 9 ∷ 9 ∷ 9 ∷ []) ≡ out (refused 14) (0 ∷ 0 ∷ []) (0 ∷ 0 ∷ []) (9 ∷ 9 ∷ 9 ∷ 9 ∷ 9 ∷ [])
-unfolding attrs row told attrs-at painted-row next-step depth-step command-step settled paint-depth paint-command paint-fill-runs depth-fill-of command-of written write-runs visible-runs runs runs-in bucket-runs
+unfolding attrs row told attrs-at painted-row next-step depth-step command-step settled paint-depth paint-command command-shown fill-shown shown-runs can-skip depth-fill-of command-of written write-runs visible-runs runs runs-in bucket-runs
 short = refl
 
 deep : row (0 ∷ 0 ∷ []) (0 ∷ 17 ∷ []) [] ≡ out (refused 4) (0 ∷ 0 ∷ []) (0 ∷ 17 ∷ []) []
-unfolding attrs row told attrs-at painted-row next-step depth-step command-step settled paint-depth paint-command paint-fill-runs depth-fill-of command-of written write-runs visible-runs runs runs-in bucket-runs
+unfolding attrs row told attrs-at painted-row next-step depth-step command-step settled paint-depth paint-command command-shown fill-shown shown-runs can-skip depth-fill-of command-of written write-runs visible-runs runs runs-in bucket-runs
 deep = refl
 
 past : row (0 ∷ 0 ∷ []) (3 ∷ 0 ∷ []) [] ≡ out (refused 4) (0 ∷ 0 ∷ []) (3 ∷ 0 ∷ []) []
-unfolding attrs row told attrs-at painted-row next-step depth-step command-step settled paint-depth paint-command paint-fill-runs depth-fill-of command-of written write-runs visible-runs runs runs-in bucket-runs
+unfolding attrs row told attrs-at painted-row next-step depth-step command-step settled paint-depth paint-command command-shown fill-shown shown-runs can-skip depth-fill-of command-of written write-runs visible-runs runs runs-in bucket-runs
 past = refl
 
 -- an alpha fill of the layer over tiles 10 to 100, at nesting 2, where bucket 1 holds the larger id 7: its index moves by 16 a tile
-alpha : painted-row attrs (lent (1 ∷ 0 ∷ []) (4 ∷ 655460 ∷ 5 ∷ 0 ∷ []) [] (0 ∷ 7 ∷ 0 ∷ 0 ∷ []) (0 ∷ 2 ∷ []) (9 ∷ 9 ∷ 9 ∷ 9 ∷ 9 ∷ 9 ∷ 9 ∷ 9 ∷ 9 ∷ 9 ∷ 9 ∷ 9 ∷ []))
+alpha : painted-row attrs (lent (1 ∷ 0 ∷ 32 ∷ 64 ∷ 7 ∷ []) (4 ∷ 655460 ∷ 5 ∷ 0 ∷ []) [] (0 ∷ 7 ∷ 0 ∷ 0 ∷ []) (0 ∷ 2 ∷ []) (9 ∷ 9 ∷ 9 ∷ 9 ∷ 9 ∷ 9 ∷ 9 ∷ 9 ∷ 9 ∷ 9 ∷ 9 ∷ 9 ∷ []))
     ≡ out (told 2) (0 ∷ 7 ∷ 0 ∷ 0 ∷ []) (1 ∷ 2 ∷ []) (4 ∷ 0 ∷ 10 ∷ 32 ∷ 5 ∷ 2 ∷ 4 ∷ 0 ∷ 64 ∷ 100 ∷ 869 ∷ 2 ∷ [])
-unfolding attrs row told attrs-at painted-row next-step depth-step command-step settled paint-depth paint-command paint-fill-runs depth-fill-of command-of written write-runs visible-runs runs runs-in bucket-runs
+unfolding attrs row told attrs-at painted-row next-step depth-step command-step settled paint-depth paint-command command-shown fill-shown shown-runs can-skip depth-fill-of command-of written write-runs visible-runs runs runs-in bucket-runs
 alpha = refl
 
 -- the example's words stand for its row, so that the laws on such rows speak of it
@@ -90,6 +91,7 @@ stands =
       few-depths = omega arith;
       commands-at = commands;
       fills-at = fills;
+      summary = refl;
       good-fills = good;
     }
   where

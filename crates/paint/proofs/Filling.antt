@@ -13,9 +13,9 @@ use Rattle.rules.specs.Answers.{settle}
 use Rattle.rules.specs.Attributes.{no-attrs}
 use Rattle.rules.specs.Spans.{Span, bad-range}
 use Rattle.rules.specs.Depth as rule
-use Rattle.rules.specs.Depth.{visible-runs, visible-answer, write-runs, write-answer, write-after, written}
+use Rattle.rules.specs.Depth.{Summary, write-runs, write-answer, write-after, written}
 use Rattle.rules.specs.Painting as rules
-use Rattle.rules.specs.Painting.{Piece, fill-piece, depth-piece, painted, paint-fill-runs}
+use Rattle.rules.specs.Painting.{Piece, fill-piece, depth-piece, painted}
 use Rattle.span.specs.declared.TileSpan.{TileSpan}
 use Rattle.span.specs.declared.BucketRange.{BucketRange}
 use Rattle.span.specs.declared.Alpha.{Alpha}
@@ -29,9 +29,10 @@ use Rattle.depth.specs.Listing as depth
 use Rattle.paint.specs.declared.Painted.{Painted}
 use Rattle.paint.specs.declared.pieces.Brush.{Brush}
 use Rattle.paint.specs.Pieces.{laid, Fits, run-at, runs-at}
-use Rattle.paint.specs.Painting.{word, out, painter-at, refused, listed, Advanced, advanced, settled}
+use Rattle.paint.specs.Summaries.{listing-out, shown-runs}
+use Rattle.paint.specs.Painting.{word, out, painter-at, refused, listed, Advanced, advanced, fill-shown, settled}
 use Rattle.paint.proofs.Spreading.{piece}
-use Rattle.paint.proofs.Within.{fill-fits, depth-fits}
+use Rattle.paint.proofs.Within.{shown-fits, depth-fits}
 use Rattle.paint.proofs.Listing.{lent, lent-room, back, Listed, listed-room, listed-at, listed-spread, when-refused, when-listed}
 
 same-map : {A B : Type 0} (f g : A → B) → ((x : A) → f x ≡ g x) → (xs : List A) → map f xs ≡ map g xs
@@ -52,21 +53,21 @@ module _ (D P l : List ℕ) (o : rules.Painted) where
   room D′ P′ l′ n e f q d p h = rw (e, f, q, d, p, h)
 
 -- a fill's call over its span, on the part of the list that is lent for runs
-module _ (D P l ys : List ℕ) (layer : Bool) (id i : ℕ) (t : TileSpan) (a : Alpha) (h : t .first ≤ t .end) (g : t .end ≤ 8192)
-    (r : Runs) (e : depth.out r ys ≡ depth.listing (visible-answer 32 D id (tiles t) (length (lent l) / 2)) (lent l)) where
+module _ (D P l ys : List ℕ) (u : Summary) (layer : Bool) (id i : ℕ) (t : TileSpan) (a : Alpha) (h : t .first ≤ t .end) (g : t .end ≤ 8192)
+    (r : Runs) (e : listing-out r ys ≡ depth.listing (rule.listed false (length (lent l) / 2) (shown-runs u D id (tiles t))) (lent l)) where
   runs : List Span
-  runs = visible-runs 32 D id (tiles t)
+  runs = shown-runs u D id (tiles t)
 
   told : depth.out r ys ≡ depth.listing (rule.listed false (length l / 6) runs) (lent l)
-  unfolding visible-answer runs
-  told = e ∙ rw (le-ltb _ _ h, le-ltb _ _ g, lent-room l)
+  unfolding runs
+  told = e ∙ rw (lent-room l)
 
   pub fill-refused : (x : Answer) (n : ℕ) (p : Painted) → r ≡ answer.Refused x → n ≡ number-of x → p ≡ refused n
-      → out p D P (back l ys) ≡ settled (some (paint-fill-runs 32 no-attrs layer id i (tiles t) (alpha a) (painter-at D P))) D P l
-  unfolding paint-fill-runs runs
-  fill-refused x n p q m u =
+      → out p D P (back l ys) ≡ settled (some (fill-shown no-attrs u layer id i (tiles t) (alpha a) (painter-at D P))) D P l
+  unfolding fill-shown runs
+  fill-refused x n p q m o =
       let w = when-refused runs l ys r told x q in
-      rw (u, m, w .0, w .1) (no-room D P l _ (rw length-map (w .2)))
+      rw (o, m, w .0, w .1) (no-room D P l _ (rw length-map (w .2)))
 
   module _ (n : ℕ) (q : r ≡ answer.Listed n) where
     found : Listed runs l n (back l ys)
@@ -80,18 +81,18 @@ module _ (D P l ys : List ℕ) (layer : Bool) (id i : ℕ) (t : TileSpan) (a : A
     unfolding runs
     fill-ready m = (
       listed-room runs l n (back l ys) found,
-      listed-at runs l n (back l ys) found (Fits 1 brush) (fill-fits D id (tiles t) brush h g refl m),
+      listed-at runs l n (back l ys) found (Fits 1 brush) (shown-fits D id (tiles t) brush h g refl m u),
     )
 
     pub fill-done : (p : Painted) (P′ l′ : List ℕ) → advanced p P′ ≡ advanced (listed n) ((word P 0 + 1) ∷ word P 1 ∷ [])
         → l′ ≡ laid (map (piece 1 brush) (runs-at n (back l ys))) (back l ys)
         → out p D P′ l′
-        ≡ settled (some (paint-fill-runs 32 no-attrs layer id i (tiles t) (alpha a) (painter-at D P))) D P l
-    unfolding paint-fill-runs runs
-    fill-done p P′ l′ u v =
+        ≡ settled (some (fill-shown no-attrs u layer id i (tiles t) (alpha a) (painter-at D P))) D P l
+    unfolding fill-shown runs
+    fill-done p P′ l′ o v =
         let f : Span → Piece = fill-piece 32 no-attrs layer i (tiles t) (alpha a) (word P 1) in
         let same : map (piece 1 brush) runs ≡ map f runs = same-map (piece 1 brush) f (λ x. simp mul-one) runs in
-        ap (λ (x : Advanced). out (x .answer) D (x .painting) l′) u
+        ap (λ (x : Advanced). out (x .answer) D (x .painting) l′) o
         ∙ room D P l _ D ((word P 0 + 1) ∷ word P 1 ∷ []) l′ n
         (rw length-map (found .roomy))
         refl

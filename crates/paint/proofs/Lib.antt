@@ -1,6 +1,8 @@
 pub mod Spreading
 pub mod Judging
 pub mod Within
+pub mod Clear
+pub mod Skips
 pub mod Listing
 pub mod Filling
 pub mod Steps

@@ -12,9 +12,9 @@ use Rattle.rules.specs.Attributes.{Attrs, no-attrs}
 use Rattle.rules.specs.Spans.{Span}
 use Rattle.rules.specs.Commands as rule
 use Rattle.rules.specs.Commands.{depth-fill-of}
-use Rattle.rules.specs.Depth.{write-runs, written}
+use Rattle.rules.specs.Depth.{Summary, write-runs, written}
 use Rattle.rules.specs.Painting as rules
-use Rattle.rules.specs.Painting.{painted, depth-piece, paint-depth, paint-fill-runs, paint-command}
+use Rattle.rules.specs.Painting.{painted, depth-piece, paint-depth, paint-command}
 use Rattle.span.specs.declared.Alpha.{Alpha}
 use Rattle.span.specs.declared.Alpha.the-variants.{Solid, At}
 use Rattle.span.specs.Spans.{tiles, buckets, alpha, Moves}
@@ -32,7 +32,8 @@ use Rattle.cmd.specs.DepthFills.{depth-fill, read-depth-of}
 use Rattle.cmd.specs.Good.{GoodAlpha, GoodCommand}
 use Rattle.cmd.proofs.BothWays.{depth-reads-good, reads-good}
 use Rattle.paint.specs.declared.Painted.{Painted}
-use Rattle.paint.specs.Painting.{word, attrs-at, Lent, lent, Out, out, painter-at, good-id, given, depth-step, command-step, depth-fill-at, command-at, bad-counts, next-step, refused, listed, Advanced, advanced, settled, painted-row}
+use Rattle.paint.specs.Painting.{word, attrs-at, Lent, lent, Out, out, painter-at, good-id, given, fill-shown, command-shown, depth-step, command-step, depth-fill-at, command-at, bad-row, next-step, refused, listed, Advanced, advanced, settled, painted-row}
+use Rattle.paint.specs.Summaries.{good-summary, summary-at}
 use Rattle.paint.proofs.Judging.{given-none, given-some, paint-id-is, layer-id-is, good-paint-is, good-layer-is, two-same}
 
 module _ (D P l : List ℕ) where
@@ -94,19 +95,19 @@ module _ (ps : List ℕ) (paints : ℕ) (ls : List ℕ) (layers : ℕ) (D P l : 
           q ∙ rw (is-fill, good-paint-is ps paints ls layers i ∙ good .0, same)
 
   -- a command's fill, of a paint ..
-  module _ (c : RenderCmd) (f : Fill) (e : c ≡ PaintFill f) (id : ℕ)
+  module _ (v : Summary) (c : RenderCmd) (f : Fill) (e : c ≡ PaintFill f) (id : ℕ)
       (g : id ≡ given (ltb (f .«attrs_idx») paints) (word ps (8 * f .«attrs_idx» + 4))) where
     pub paint-forged : (p : Painted) → id ≡ 0 → p ≡ refused 4
-        → out p D P l ≡ settled (command-step attrs (painter-at D P) (some (command c))) D P l
+        → out p D P l ≡ settled (command-step attrs v (painter-at D P) (some (command c))) D P l
     unfolding command-step
     paint-forged p z q =
         let bad = given-none (ltb (f .«attrs_idx») paints) (word ps (8 * f .«attrs_idx» + 4)) (sym g ∙ z) in
         forged D P l _ p (rw (e, good-paint-is ps paints ls layers (f .«attrs_idx») ∙ bad)) q
 
     pub paint-taken : (x : Out) → (id ≡ 0 → ⊥)
-        → x ≡ settled (some (paint-fill-runs 32 no-attrs false id (f .«attrs_idx») (tiles (f .span)) (alpha (f .alpha)) (painter-at D P))) D P l
-        → x ≡ settled (command-step attrs (painter-at D P) (some (command c))) D P l
-    unfolding command-step paint-command paint-fill-runs
+        → x ≡ settled (some (fill-shown no-attrs v false id (f .«attrs_idx») (tiles (f .span)) (alpha (f .alpha)) (painter-at D P))) D P l
+        → x ≡ settled (command-step attrs v (painter-at D P) (some (command c))) D P l
+    unfolding command-step command-shown fill-shown
     paint-taken x nz q =
         let i = f .«attrs_idx» in
         let good = given-some (ltb i paints) (word ps (8 * i + 4)) (λ z. nz (g ∙ z)) in
@@ -116,19 +117,19 @@ module _ (ps : List ℕ) (paints : ℕ) (ls : List ℕ) (layers : ℕ) (D P l : 
         q ∙ rw (e, good-paint-is ps paints ls layers i ∙ good .0, same)
 
   -- .. and of a layer
-  module _ (c : RenderCmd) (f : Fill) (e : c ≡ LayerFill f) (id : ℕ)
+  module _ (v : Summary) (c : RenderCmd) (f : Fill) (e : c ≡ LayerFill f) (id : ℕ)
       (g : id ≡ given (ltb (f .«attrs_idx») layers) (word ls (6 * f .«attrs_idx» + 3))) where
     pub layer-forged : (p : Painted) → id ≡ 0 → p ≡ refused 4
-        → out p D P l ≡ settled (command-step attrs (painter-at D P) (some (command c))) D P l
+        → out p D P l ≡ settled (command-step attrs v (painter-at D P) (some (command c))) D P l
     unfolding command-step
     layer-forged p z q =
         let bad = given-none (ltb (f .«attrs_idx») layers) (word ls (6 * f .«attrs_idx» + 3)) (sym g ∙ z) in
         forged D P l _ p (rw (e, good-layer-is ps paints ls layers (f .«attrs_idx») ∙ bad)) q
 
     pub layer-taken : (x : Out) → (id ≡ 0 → ⊥)
-        → x ≡ settled (some (paint-fill-runs 32 no-attrs true id (f .«attrs_idx») (tiles (f .span)) (alpha (f .alpha)) (painter-at D P))) D P l
-        → x ≡ settled (command-step attrs (painter-at D P) (some (command c))) D P l
-    unfolding command-step paint-command paint-fill-runs
+        → x ≡ settled (some (fill-shown no-attrs v true id (f .«attrs_idx») (tiles (f .span)) (alpha (f .alpha)) (painter-at D P))) D P l
+        → x ≡ settled (command-step attrs v (painter-at D P) (some (command c))) D P l
+    unfolding command-step command-shown fill-shown
     layer-taken x nz q =
         let i = f .«attrs_idx» in
         let good = given-some (ltb i layers) (word ls (6 * i + 3)) (λ z. nz (g ∙ z)) in
@@ -138,29 +139,29 @@ module _ (ps : List ℕ) (paints : ℕ) (ls : List ℕ) (layers : ℕ) (D P l : 
         q ∙ rw (e, good-layer-is ps paints ls layers i ∙ good .0, same)
 
   -- buffers
-  module _ (c : RenderCmd) (b : Recorded) (e : c ≡ PushBuf b) where
+  module _ (v : Summary) (c : RenderCmd) (b : Recorded) (e : c ≡ PushBuf b) where
     pub push-forged : (p : Painted) → 16 ≤ word P 1 → p ≡ refused 4
-        → out p D P l ≡ settled (command-step attrs (painter-at D P) (some (command c))) D P l
+        → out p D P l ≡ settled (command-step attrs v (painter-at D P) (some (command c))) D P l
     unfolding command-step
     push-forged p h q = forged D P l _ p (rw (e, le-ltb (word P 1) 16 h)) q
 
     pub pushed : (p : Painted) (P′ : List ℕ) → word P 1 < 16 → advanced p P′ ≡ advanced (listed 0) ((word P 0 + 1) ∷ (word P 1 + 1) ∷ [])
-        → out p D P′ l ≡ settled (command-step attrs (painter-at D P) (some (command c))) D P l
-    unfolding command-step paint-command
+        → out p D P′ l ≡ settled (command-step attrs v (painter-at D P) (some (command c))) D P l
+    unfolding command-step command-shown paint-command
     pushed p P′ h q =
         ap (λ (x : Advanced). out (x .answer) D (x .painting) l) q
         ∙ bare D P l false (record { buckets = D; steps = word P 0 + 1; nesting = word P 1 + 1 }) refl
         ∙ rw (e, lt-ltb (word P 1) 16 h)
 
-  module _ (c : RenderCmd) (e : c ≡ PopBuf) where
+  module _ (v : Summary) (c : RenderCmd) (e : c ≡ PopBuf) where
     pub pop-forged : (p : Painted) → word P 1 ≤ 0 → p ≡ refused 4
-        → out p D P l ≡ settled (command-step attrs (painter-at D P) (some (command c))) D P l
+        → out p D P l ≡ settled (command-step attrs v (painter-at D P) (some (command c))) D P l
     unfolding command-step
     pop-forged p h q = forged D P l _ p (rw (e, le-ltb 0 (word P 1) h)) q
 
     pub popped : (p : Painted) (P′ : List ℕ) → 0 < word P 1 → advanced p P′ ≡ advanced (listed 0) ((word P 0 + 1) ∷ (word P 1 - 1) ∷ [])
-        → out p D P′ l ≡ settled (command-step attrs (painter-at D P) (some (command c))) D P l
-    unfolding command-step paint-command
+        → out p D P′ l ≡ settled (command-step attrs v (painter-at D P) (some (command c))) D P l
+    unfolding command-step command-shown paint-command
     popped p P′ h q =
         ap (λ (x : Advanced). out (x .answer) D (x .painting) l) q
         ∙ bare D P l false (record { buckets = D; steps = word P 0 + 1; nesting = word P 1 - 1 }) refl
@@ -177,7 +178,7 @@ module _ (ps : List ℕ) (paints : ℕ) (ls : List ℕ) (layers : ℕ) (D P l : 
     abbrev w : Lent
     w = lent s r f D P l
 
-    no-step : (p : Painted) → bad-counts w ≡ true → p ≡ refused 4 → out p D P l ≡ painted-row attrs w
+    no-step : (p : Painted) → bad-row w ≡ true → p ≡ refused 4 → out p D P l ≡ painted-row attrs w
     unfolding painted-row next-step
     no-step p h q = forged D P l _ p (rw h) q
 
@@ -197,41 +198,45 @@ module _ (ps : List ℕ) (paints : ℕ) (ls : List ℕ) (layers : ℕ) (D P l : 
           past p h q = no-step p (rw (le-ltb _ _ h1, le-ltb _ _ h2, le-ltb _ _ h3, lt-ltb _ _ h)) q
 
           module _ (h4 : word P 0 ≤ word s 1 + word s 0) where
-            good-counts : bad-counts w ≡ false
-            good-counts = rw (le-ltb _ _ h1, le-ltb _ _ h2, le-ltb _ _ h3, le-ltb _ _ h4)
+            pub unsummed : (p : Painted) → good-summary s ≡ false → p ≡ refused 4 → out p D P l ≡ painted-row attrs w
+            unsummed p h q = no-step p (rw (le-ltb _ _ h1, le-ltb _ _ h2, le-ltb _ _ h3, le-ltb _ _ h4, h)) q
 
-            -- then the depth fill at its place, ..
-            pub then-depth : (x : Out) (k : ℕ) → word P 0 < word s 1 → k ≡ word s 1 - (word P 0 + 1)
-                → x ≡ settled (depth-step (attrs-at ps paints [] 0) (painter-at D P) (depth-fill-at (length D) f k)) D P l
-                → x ≡ painted-row attrs w
-            unfolding painted-row next-step
-            then-depth x k h e q =
-                q ∙ ap (λ (o : Option rules.Painted). settled o D P l) (no-layers (painter-at D P) _ ∙ rw (good-counts, lt-ltb _ _ h, e))
+            module _ (h0 : good-summary s ≡ true) where
+              good-counts : bad-row w ≡ false
+              good-counts = rw (le-ltb _ _ h1, le-ltb _ _ h2, le-ltb _ _ h3, le-ltb _ _ h4, h0)
 
-            module _ (h5 : word s 1 ≤ word P 0) (k : ℕ) (e : k ≡ word P 0 - word s 1) where
-              -- .. the command at its place, ..
-              module _ (h6 : word P 0 - word s 1 < word s 0) (o : ReadCmd) (q : read-of o ≡ command-at r k) where
-                pub then-unread : (p : Painted) → o ≡ read.Bad → p ≡ refused 4 → out p D P l ≡ painted-row attrs w
-                unfolding painted-row next-step command-step
-                then-unread p b u =
-                    let none-there : command-at r k ≡ none = sym q ∙ ap read-of b in
-                    forged D P l _ p (rw (good-counts, le-ltb _ _ h5, lt-ltb _ _ h6, ← e, none-there)) u
-
-                pub then-command : (x : Out) (c : RenderCmd) → o ≡ read.Cmd c
-                    → x ≡ settled (command-step attrs (painter-at D P) (some (command c))) D P l → x ≡ painted-row attrs w
-                unfolding painted-row next-step
-                then-command x c b u =
-                    let there : command-at r k ≡ some (command c) = sym q ∙ ap read-of b in
-                    u ∙ rw (good-counts, le-ltb _ _ h5, lt-ltb _ _ h6, ← e, there)
-
-              -- .. or finished
-              pub then-finished : word s 0 ≤ word P 0 - word s 1 → length P ≡ 2
-                  → out (record { number = 0; finished = true; pieces = 0 }) D P l ≡ painted-row attrs w
+              -- then the depth fill at its place, ..
+              pub then-depth : (x : Out) (k : ℕ) → word P 0 < word s 1 → k ≡ word s 1 - (word P 0 + 1)
+                  → x ≡ settled (depth-step (attrs-at ps paints [] 0) (painter-at D P) (depth-fill-at (length D) f k)) D P l
+                  → x ≡ painted-row attrs w
               unfolding painted-row next-step
-              then-finished h two =
-                  ap (λ (x : List ℕ). out (record { number = 0; finished = true; pieces = 0 }) D x l) (two-same P two)
-                  ∙ bare D P l true (painter-at D P) refl
-                  ∙ rw (good-counts, le-ltb _ _ h5, le-ltb _ _ h)
+              then-depth x k h e q =
+                  q ∙ ap (λ (o : Option rules.Painted). settled o D P l) (no-layers (painter-at D P) _ ∙ rw (good-counts, lt-ltb _ _ h, e))
+
+              module _ (h5 : word s 1 ≤ word P 0) (k : ℕ) (e : k ≡ word P 0 - word s 1) where
+                -- .. the command at its place, ..
+                module _ (h6 : word P 0 - word s 1 < word s 0) (o : ReadCmd) (q : read-of o ≡ command-at r k) where
+                  pub then-unread : (p : Painted) → o ≡ read.Bad → p ≡ refused 4 → out p D P l ≡ painted-row attrs w
+                  unfolding painted-row next-step command-step
+                  then-unread p b u =
+                      let none-there : command-at r k ≡ none = sym q ∙ ap read-of b in
+                      forged D P l _ p (rw (good-counts, le-ltb _ _ h5, lt-ltb _ _ h6, ← e, none-there)) u
+
+                  pub then-command : (x : Out) (c : RenderCmd) (v : Summary) → o ≡ read.Cmd c → v ≡ summary-at s
+                      → x ≡ settled (command-step attrs v (painter-at D P) (some (command c))) D P l → x ≡ painted-row attrs w
+                  unfolding painted-row next-step
+                  then-command x c v b y u =
+                      let there : command-at r k ≡ some (command c) = sym q ∙ ap read-of b in
+                      u ∙ rw (good-counts, le-ltb _ _ h5, lt-ltb _ _ h6, ← e, there, y)
+
+                -- .. or finished
+                pub then-finished : word s 0 ≤ word P 0 - word s 1 → length P ≡ 2
+                    → out (record { number = 0; finished = true; pieces = 0 }) D P l ≡ painted-row attrs w
+                unfolding painted-row next-step
+                then-finished h two =
+                    ap (λ (x : List ℕ). out (record { number = 0; finished = true; pieces = 0 }) D x l) (two-same P two)
+                    ∙ bare D P l true (painter-at D P) refl
+                    ∙ rw (good-counts, le-ltb _ _ h5, le-ltb _ _ h)
 
 -- what a depth fill that was read gives its doing half
 pub depth-good : (n s i : ℕ) (r : ReadDepth) (f : DepthFill) → read-depth-of r ≡ depth-fill-of n s i → r ≡ read-depth.Fill f

@@ -10,12 +10,13 @@ use lib.Dec.{ltb, eqb}
 use borrow.Author.Tests.{ltb-true}
 use Rattle.rules.specs.Lists.{slice}
 use Rattle.rules.specs.Spans.{Span, span, common}
-use Rattle.rules.specs.Depth.{join-run, bucket-runs, runs-in, runs, tiles-of, is-unset, is-visible, visible-runs, write-runs}
+use Rattle.rules.specs.Depth.{Summary, join-run, bucket-runs, runs-in, runs, tiles-of, is-unset, is-visible, visible-runs, write-runs}
 use Rattle.span.specs.declared.Alpha.{Alpha}
 use Rattle.span.specs.declared.Alpha.the-variants.{Solid, At}
 use Rattle.span.specs.Spans.{Moves}
 use Rattle.paint.specs.declared.pieces.Brush.{Brush}
 use Rattle.paint.specs.Pieces.{Fits}
+use Rattle.paint.specs.Summaries.{whole-run, is-clear, shown-runs}
 
 -- what holds of each run
 module _ (P : Span → Type 0) where
@@ -118,3 +119,25 @@ module _ (bs : List ℕ) (id : ℕ) (s : Span) (b : Brush) (h : s .first ≤ s .
           (runs-in (is-visible id) bs (span (s .first / 32) ((s .end + 31) / 32)))
           (runs-are-in (is-visible id) bs (s .first / 32) ((s .end + 31) / 32) (omega arith))
       go false q = tt
+
+  whole-fits : s .first < s .end → Fits 1 b s
+  whole-fits l =
+      record {
+        small-first = omega arith;
+        small-end = omega arith;
+        begun = omega arith;
+        moves = moved-less (b .alpha) _ (s .end - s .first) (omega arith) m;
+      }
+
+  -- also by the summary
+  pub shown-fits : (u : Summary) → Each (Fits 1 b) (shown-runs u bs id s)
+  unfolding shown-runs
+  shown-fits u = go (is-clear u (length bs) id s)
+    where
+      one : (t : Bool) → ltb (s .first) (s .end) ≡ t → Each (Fits 1 b) (cond t (s ∷ []) [])
+      one true q = (whole-fits (ltb-true _ _ q), tt)
+      one false q = tt
+
+      go : (t : Bool) → Each (Fits 1 b) (cond t (whole-run s) (visible-runs 32 bs id s))
+      go true = one (ltb (s .first) (s .end)) refl
+      go false = fill-fits

@@ -1,6 +1,6 @@
 -- One painting step of one row, over its own words.
 use Prim.Native.Nat.{ℕ, _+_, _-_, _*_, _/_}
-use mathlib.Core.Bool.{Bool, true, false, _&&_, _||_, cond}
+use mathlib.Core.Bool.{Bool, true, false, _&&_, _||_, not, cond}
 use mathlib.Core.List.{List, [], _∷_, map}
 use mathlib.Core.Option.{Option, none, some}
 use lib.ListN.{length, getD}
@@ -8,12 +8,15 @@ use lib.Dec.{leb, ltb}
 use Rattle.rules.specs.Lists.{count-from}
 use Rattle.rules.specs.Blends.{default-blend}
 use Rattle.rules.specs.Answers.{Done, BadRecord, NoRoom}
+use Rattle.rules.specs.Spans.{Span}
+use Rattle.rules.specs.Depth.{Summary}
 use Rattle.rules.specs.Commands.{Command, paint-fill, layer-fill, push-buf, pop-buf, DepthFill, command-of, depth-fill-of, only-if}
 use Rattle.rules.specs.Attributes.{PaintAttr, LayerAttr, Attrs}
 use Rattle.rules.specs.Painting as rules
-use Rattle.rules.specs.Painting.{Painter, paint-id, layer-id, paint-depth, paint-command}
+use Rattle.rules.specs.Painting.{Painter, paint-id, layer-id, painted, fill-piece, paint-depth, paint-command}
 use Rattle.paint.specs.declared.Painted.{Painted}
 use Rattle.paint.specs.Pieces.{laid}
+use Rattle.paint.specs.Summaries.{good-summary, summary-at, shown-runs}
 
 abbrev pub word : List ℕ → ℕ → ℕ
 word ws i = getD ws i 0
@@ -79,15 +82,30 @@ module _ (attrs : Attrs) where
   good-command n (push-buf s) = ltb n 16
   good-command n pop-buf = ltb 0 n
 
+  -- a fill gives the runs that are shown, for its attribute's id
+  unfoldable pub fill-shown : Summary → Bool → ℕ → ℕ → Span → Option ℕ → Painter → rules.Painted
+  fill-shown u l id i s a p =
+      painted (map (fill-piece 32 attrs l i s a (p .nesting)) (shown-runs u (p .buckets) id s))
+      (p .buckets)
+      (p .steps + 1)
+      (p .nesting)
+
+  -- a command by the rules, its fill's runs by the row's summary
+  unfoldable pub command-shown : Summary → Command → Painter → rules.Painted
+  command-shown u (paint-fill s a i) p = fill-shown u false (paint-id attrs i) i s a p
+  command-shown u (layer-fill s a i) p = fill-shown u true (layer-id attrs i) i s a p
+  command-shown u (push-buf s) p = paint-command 32 attrs (push-buf s) p
+  command-shown u pop-buf p = paint-command 32 attrs pop-buf p
+
   -- The step, by the rules, unless something that it reads is forged: of a depth fill ..
   unfoldable pub depth-step : Painter → Option DepthFill → Option rules.Painted
   depth-step p none = none
   depth-step p (some f) = only-if (good-paint (f .attribute)) (paint-depth 32 attrs f p)
 
   -- .. and of a command
-  unfoldable pub command-step : Painter → Option Command → Option rules.Painted
-  command-step p none = none
-  command-step p (some c) = only-if (good-command (p .nesting) c) (paint-command 32 attrs c p)
+  unfoldable pub command-step : Summary → Painter → Option Command → Option rules.Painted
+  command-step u p none = none
+  command-step u p (some c) = only-if (good-command (p .nesting) c) (command-shown u c p)
 
 -- the depth fill at place k, in a row of n buckets, and the command at place k, if words stand for them
 abbrev pub depth-fill-at : ℕ → List ℕ → ℕ → Option DepthFill
@@ -96,13 +114,14 @@ depth-fill-at n ws k = depth-fill-of n (word ws (2 * k)) (word ws (2 * k + 1))
 abbrev pub command-at : List ℕ → ℕ → Option Command
 command-at ws k = command-of (word ws (4 * k)) (word ws (4 * k + 1)) (word ws (4 * k + 2)) (word ws (4 * k + 3))
 
--- counts above the room, a nesting above 16, more steps than there are
-abbrev pub bad-counts : Lent → Bool
-bad-counts w =
+-- counts above the room, a nesting above 16, more steps than there are, a summary out of bounds
+abbrev pub bad-row : Lent → Bool
+bad-row w =
     ltb (length (w .render)) (4 * word (w .state) 0)
     || ltb (length (w .fills)) (2 * word (w .state) 1)
     || ltb 16 (word (w .painting) 1)
     || ltb (word (w .state) 1 + word (w .state) 0) (word (w .painting) 0)
+    || not (good-summary (w .state))
 
 -- depth fills last to first, then commands in order, then finished
 unfoldable pub next-step : Attrs → Lent → Option rules.Painted
@@ -110,9 +129,9 @@ next-step attrs w =
     let renders = word (w .state) 0 in
     let depths = word (w .state) 1 in
     let p = painter-at (w .depth) (w .painting) in
-    cond (bad-counts w) none
+    cond (bad-row w) none
     (cond (ltb (p .steps) depths) (depth-step attrs p (depth-fill-at (length (w .depth)) (w .fills) (depths - (p .steps + 1))))
-    (cond (ltb (p .steps - depths) renders) (command-step attrs p (command-at (w .render) (p .steps - depths)))
+    (cond (ltb (p .steps - depths) renders) (command-step attrs (summary-at (w .state)) p (command-at (w .render) (p .steps - depths)))
     (some (record { finished = true; pieces = []; painter = p }))))
 
 -- What the step leaves in the words: 4 if there is none, 14 if the list has no room for its pieces. A refusal changes nothing.

@@ -9,9 +9,10 @@ use Rattle.rules.specs.Commands.{pop-buf}
 use Rattle.rules.specs.Rows.{Row}
 use Rattle.rules.specs.Attributes.{Attrs}
 use Rattle.rules.specs.Painting.{Painter, paint-id, layer-id, no-fill}
+use Rattle.paint.specs.Summaries.{good-summary}
 use Rattle.paint.specs.Painting.{word, command-at, depth-fill-at, good-paint, good-command}
 
--- the counts, and at each place the row's command or depth fill; n buckets
+-- the counts, a summary within bounds, and at each place the row's command or depth fill; n buckets
 pub record Stands (attrs : Attrs) (n : ℕ) (r : Row) (state render fills : List ℕ) : Type 0 where
   pub renders : word state 0 ≡ length (r .commands)
   pub depths : word state 1 ≡ length (r .fills)
@@ -19,6 +20,7 @@ pub record Stands (attrs : Attrs) (n : ℕ) (r : Row) (state render fills : List
   pub few-depths : 2 * length (r .fills) ≤ length fills
   pub commands-at : (k : ℕ) → k < length (r .commands) → command-at render k ≡ some (getD (r .commands) k pop-buf)
   pub fills-at : (k : ℕ) → k < length (r .fills) → depth-fill-at n fills k ≡ some (getD (r .fills) k no-fill)
+  pub summary : good-summary state ≡ true
   pub good-fills : (k : ℕ) → k < length (r .fills) → good-paint attrs (getD (r .fills) k no-fill .attribute) ≡ true
 
 -- a painter within the row; its next command, if that is what is next, is good at its nesting

@@ -1,12 +1,14 @@
--- A row's depth summary as its record has it.
-use Prim.Native.Nat.{ℕ}
+-- A row's depth summary as its record has it, and what it spares a fill.
+use Prim.Native.Nat.{ℕ, _+_, _*_, _≤_, _<_}
 use mathlib.Core.Bool.{Bool, _&&_, cond}
-use mathlib.Core.List.{List}
-use mathlib.Core.Option.{none, some}
-use lib.ListN.{getD}
-use lib.Dec.{leb, eqb}
-use Rattle.rules.specs.Spans.{span}
-use Rattle.rules.specs.Depth.{Summary}
+use mathlib.Core.List.{List, [], _∷_}
+use mathlib.Core.Option.{Option, none, some}
+use lib.ListN.{length, getD}
+use lib.Dec.{leb, ltb, eqb}
+use Rattle.rules.specs.Spans.{Span, span}
+use Rattle.rules.specs.Depth.{Summary, can-skip, visible-runs}
+use Rattle.depth.specs.declared.runs.Runs.{Runs}
+use Rattle.depth.specs.Listing as depth
 
 -- in order, up to tile 8,192, the id one that a draw can have taken
 abbrev pub good-summary : List ℕ → Bool
@@ -16,3 +18,34 @@ good-summary s = leb (getD s 2 0) (getD s 3 0) && leb (getD s 3 0) 8192 && leb (
 abbrev pub summary-at : List ℕ → Summary
 summary-at s =
     record { union = cond (eqb (getD s 4 0) 0) none (some (span (getD s 2 0) (getD s 3 0))); largest = getD s 4 0 }
+
+-- the span itself as its one run, none of width 0
+abbrev pub whole-run : Span → List Span
+whole-run s = cond (ltb (s .first) (s .end)) (s ∷ []) []
+
+-- the summary says that nothing hides the span, and all of it lies within the buffer
+abbrev pub is-clear : Summary → ℕ → ℕ → Span → Bool
+is-clear u n id s = can-skip u s id && leb (s .end) (32 * n)
+
+-- a fill's runs: the depth words are searched only where something may hide it
+unfoldable pub shown-runs : Summary → List ℕ → ℕ → Span → List Span
+shown-runs u bs id s = cond (is-clear u (length bs) id s) (whole-run s) (visible-runs 32 bs id s)
+
+-- what listing them leaves
+abbrev pub listing-out : Runs → List ℕ → depth.Out
+listing-out r l = depth.out r l
+
+-- bucket k lies in the union
+abbrev pub Inside : Option Span → ℕ → Type 0
+Inside none k = ⊥
+Inside (some v) k = (v .first ≤ 32 * k) × (32 * k + 32 ≤ v .end)
+
+-- a summary is sound for depth words: what is not 0 lies in the union and is at most the largest id
+pub record Sound (u : Summary) (bs : List ℕ) : Type 0 where
+  pub low : (k : ℕ) → getD bs k 0 ≤ u .largest
+  pub inside : (k : ℕ) → 0 < getD bs k 0 → Inside (u .union) k
+
+-- a summary includes a depth fill of these buckets
+pub record Included (u : Summary) (r : Span) (id : ℕ) : Type 0 where
+  pub below : id ≤ u .largest
+  pub inside : (k : ℕ) → r .first ≤ k → k < r .end → Inside (u .union) k

@@ -4,22 +4,30 @@ use crate::advance;
 use crate::pieces::Brush;
 use crate::pieces::spread;
 use crate::refused;
+use cmd::Answer;
 use cmd::command::Fill;
 use cmd::depth_fill::DepthFill;
+use depth::DepthState;
 use depth::Runs;
+use depth::Skip;
 use depth::unset_runs_and_write;
 use depth::visible_runs;
 use span::Alpha;
+use span::TileSpan;
 ghost use mathlib.Core.Path.{_≡_};
 ghost use mathlib.Core.List.{map};
 ghost use mathlib.Core.Option.{some};
-ghost use Prim.Native.Nat.{_+_, _-_, _≤_, _<_};
+ghost use mathlib.Core.Bool.{false};
+ghost use Prim.Native.Nat.{_+_, _-_, _/_, _≤_, _<_};
 ghost use lib.ListN.{length};
 ghost use Rattle.rules.specs.Attributes.{no-attrs};
-ghost use Rattle.rules.specs.Depth.{write-runs, written};
-ghost use Rattle.rules.specs.Painting.{painted, depth-piece, paint-fill-runs};
+ghost use Rattle.rules.specs.Depth.{listed, write-runs, written};
+ghost use Rattle.rules.specs.Painting.{painted, depth-piece};
 ghost use Rattle.span.specs.Spans.{tiles, buckets, alpha, Moves};
-ghost use Rattle.paint.specs.Painting.{word, out, painter-at, settled};
+ghost use Rattle.depth.specs.Answers.{summary};
+ghost use Rattle.depth.specs.Listing.{listing};
+ghost use Rattle.paint.specs.Summaries.{listing-out, whole-run, is-clear, shown-runs};
+ghost use Rattle.paint.specs.Painting.{word, out, painter-at, settled, fill-shown};
 
 // Tiles in a depth bucket.
 const BUCKET: u32 = 32;
@@ -55,22 +63,61 @@ pub fn paint_depth(
     }
 }
 
-// A paint's or a layer's fill gives its visible runs for its attribute's id.
+// Whether the summary of a row of so many buckets says that nothing hides the span.
+fn is_clear(sum: DepthState, span: TileSpan, id: u32, buckets: usize) -> bool
+    requires { ⌜ (span .first ≤ span .«end») × (span .«end» ≤ 8192) × (buckets ≤ 65535) ⌝ }
+    ensures { λ r. ⌜ r ≡ is-clear (summary sum) buckets id (tiles span) ⌝ }
+{
+    match sum.can_skip(span, id) {
+        Skip::Yes => (span.end as usize) <= 32 * buckets,
+        Skip::No => false,
+        Skip::Refused(_) => false,
+    }
+}
+
+// The span as its one run.
+fn list_whole(span: TileSpan, list: &mut [u32]) -> Runs
+    ensures { λ r. ⌜ listing-out r (now (list .exit)) ≡ listing (listed false (length (now (list .entry)) / 2) (whole-run (tiles span))) (now (list .entry)) ⌝ }
+{
+    if span.end <= span.first {
+        return Runs::Listed(0);
+    }
+    if list.len() < 2 {
+        return Runs::Refused(Answer::NoRoom);
+    }
+    list[0] = span.first;
+    list[1] = span.end;
+    Runs::Listed(1)
+}
+
+// The runs of a fill, whole where the summary says so: only else are the depth words searched.
+fn shown_runs(depth: &[u32], sum: DepthState, span: TileSpan, id: u32, list: &mut [u32]) -> Runs
+    requires { ⌜ (span .first ≤ span .«end») × (span .«end» ≤ 8192) × (length (now depth) ≤ 65535) ⌝ }
+    ensures { λ r. ⌜ listing-out r (now (list .exit)) ≡ listing (listed false (length (now (list .entry)) / 2) (shown-runs (summary sum) (now (depth .entry)) id (tiles span))) (now (list .entry)) ⌝ }
+{
+    if is_clear(sum, span, id, depth.len()) {
+        return list_whole(span, list);
+    }
+    visible_runs(depth, span, id, list)
+}
+
+// A paint's or a layer's fill gives the runs that are shown for its attribute's id.
 pub fn paint_fill(
     depth: &[u32],
     painting: &mut [u32],
+    sum: DepthState,
     layer: bool,
     fill: Fill,
     id: u32,
     list: &mut [u32],
 ) -> Painted
-    requires { ⌜ (fill .span .first ≤ fill .span .«end») × (fill .span .«end» ≤ 8192) × Moves (fill .alpha) (fill .span .«end» - fill .span .first) ⌝ }
+    requires { ⌜ (fill .span .first ≤ fill .span .«end») × (fill .span .«end» ≤ 8192) × Moves (fill .alpha) (fill .span .«end» - fill .span .first) × (length (now depth) ≤ 65535) ⌝ }
     requires { ⌜ (length (now painting) ≡ 2) × (word (now painting) 0 < 4294967295) ⌝ }
-    ensures { λ r. ⌜ out r (now (depth .entry)) (now (painting .exit)) (now (list .exit)) ≡ settled (some (paint-fill-runs 32 no-attrs layer id (fill .«attrs_idx») (tiles (fill .span)) (alpha (fill .alpha)) (painter-at (now (depth .entry)) (now (painting .entry))))) (now (depth .entry)) (now (painting .entry)) (now (list .entry)) ⌝ }
+    ensures { λ r. ⌜ out r (now (depth .entry)) (now (painting .exit)) (now (list .exit)) ≡ settled (some (fill-shown no-attrs (summary sum) layer id (fill .«attrs_idx») (tiles (fill .span)) (alpha (fill .alpha)) (painter-at (now (depth .entry)) (now (painting .entry))))) (now (depth .entry)) (now (painting .entry)) (now (list .entry)) ⌝ }
 {
     let room = list.len() / 6;
     let span = fill.span;
-    match visible_runs(depth, span, id, &mut list[..2 * room]) {
+    match shown_runs(depth, sum, span, id, &mut list[..2 * room]) {
         Runs::Refused(answer) => refused(answer.number()),
         Runs::Listed(n) => {
             let start = fill.alpha;

@@ -4,6 +4,8 @@ use crate::advance;
 use crate::fills::paint_depth;
 use crate::fills::paint_fill;
 use crate::refused;
+use crate::summary::is_good_summary;
+use crate::summary::summary_of;
 use cmd::attrs::layer_id;
 use cmd::attrs::paint_id;
 use cmd::command::CmdWords;
@@ -11,6 +13,7 @@ use cmd::command::ReadCmd;
 use cmd::command::RenderCmd;
 use cmd::depth_fill::DepthWords;
 use cmd::depth_fill::ReadDepth;
+use depth::DepthState;
 ghost use mathlib.Core.Path.{_≡_};
 ghost use mathlib.Core.Bool.{true};
 ghost use mathlib.Core.List.{[]};
@@ -20,6 +23,7 @@ ghost use lib.ListN.{length};
 ghost use lib.Dec.{ltb};
 ghost use Rattle.cmd.specs.Commands.{command, read-of};
 ghost use Rattle.cmd.specs.Good.{GoodCommand};
+ghost use Rattle.depth.specs.Answers.{summary};
 ghost use Rattle.paint.specs.Painting.{word, attrs-at, lent, out, painter-at, given, depth-step, command-step, depth-fill-at, command-at, settled, painted-row};
 
 fn wide(x: u32) -> usize
@@ -88,9 +92,10 @@ fn step_depth(
     }
 }
 
-// A command that words stand for.
+// A command that words stand for, on a row with this summary.
 fn step_command(
     cmd: RenderCmd,
+    sum: DepthState,
     depth: &[u32],
     painting: &mut [u32],
     paint_attrs: &[u32],
@@ -100,8 +105,8 @@ fn step_command(
     list: &mut [u32],
 ) -> Painted
     requires { ⌜ (length (now «paint_attrs») ≡ 8192) × (paints ≤ 1024) × (length (now «layer_attrs») ≡ 6144) × (layers ≤ 1024) ⌝ }
-    requires { ⌜ GoodCommand (command cmd) × (length (now painting) ≡ 2) × (word (now painting) 0 < 4294967295) ⌝ }
-    ensures { λ r. ⌜ out r (now (depth .entry)) (now (painting .exit)) (now (list .exit)) ≡ settled (command-step (attrs-at (now («paint_attrs» .entry)) paints (now («layer_attrs» .entry)) layers) (painter-at (now (depth .entry)) (now (painting .entry))) (some (command cmd))) (now (depth .entry)) (now (painting .entry)) (now (list .entry)) ⌝ }
+    requires { ⌜ GoodCommand (command cmd) × (length (now depth) ≤ 65535) × (length (now painting) ≡ 2) × (word (now painting) 0 < 4294967295) ⌝ }
+    ensures { λ r. ⌜ out r (now (depth .entry)) (now (painting .exit)) (now (list .exit)) ≡ settled (command-step (attrs-at (now («paint_attrs» .entry)) paints (now («layer_attrs» .entry)) layers) (summary sum) (painter-at (now (depth .entry)) (now (painting .entry))) (some (command cmd))) (now (depth .entry)) (now (painting .entry)) (now (list .entry)) ⌝ }
 {
     match cmd {
         RenderCmd::PaintFill(fill) => {
@@ -109,14 +114,14 @@ fn step_command(
             if id == 0 {
                 return refused(4);
             }
-            paint_fill(depth, painting, false, fill, id, list)
+            paint_fill(depth, painting, sum, false, fill, id, list)
         }
         RenderCmd::LayerFill(fill) => {
             let id = layer_taken(layer_attrs, layers, fill.attrs_idx);
             if id == 0 {
                 return refused(4);
             }
-            paint_fill(depth, painting, true, fill, id, list)
+            paint_fill(depth, painting, sum, true, fill, id, list)
         }
         RenderCmd::PushBuf(_) => {
             let nesting = painting[1];
@@ -182,6 +187,9 @@ pub fn step_row(
     if depths + renders < steps {
         return refused(4);
     }
+    if !is_good_summary(state) {
+        return refused(4);
+    }
     if steps < depths {
         let k = wide(depths - (steps + 1));
         return step_depth(fills, k, depth, painting, paint_attrs, paints, list);
@@ -192,6 +200,7 @@ pub fn step_row(
             ReadCmd::Bad => refused(4),
             ReadCmd::Cmd(cmd) => step_command(
                 cmd,
+                summary_of(state),
                 depth,
                 painting,
                 paint_attrs,

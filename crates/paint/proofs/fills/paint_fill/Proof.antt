@@ -1,21 +1,22 @@
 use mathlib.Core.Path.{sym}
+use Rattle.depth.specs.Answers.{summary}
 use Rattle.paint.proofs.Listing.{lent-length}
 use Rattle.paint.proofs.Filling.{fill-refused, fill-ready, fill-done}
 use borrow.Author.Needs.{needs}
 use Rattle.paint.proofs.fills.paint_fill.Statement.{statement}
 use Rattle.paint.proofs.fills.paint_fill.Tie as tie
 
-mul-visible-runs : tie.Need-mul-visible-runs
-mul-visible-runs c = search needs
+mul-shown-runs : tie.Need-mul-shown-runs
+mul-shown-runs c = search needs
 
-slice-relend-prefix-visible-runs : tie.Need-slice-relend-prefix-visible-runs
-slice-relend-prefix-visible-runs c = search needs
+slice-relend-prefix-shown-runs : tie.Need-slice-relend-prefix-shown-runs
+slice-relend-prefix-shown-runs c = search needs
 
-slice-aggregate-visible-runs : tie.Need-slice-aggregate-visible-runs
-slice-aggregate-visible-runs c = sym (lent-length (c .before .before .before .before .before .args .list .now))
+slice-aggregate-shown-runs : tie.Need-slice-aggregate-shown-runs
+slice-aggregate-shown-runs c = sym (lent-length (c .before .before .before .before .before .args .list .now))
 
-visible-runs-requires : tie.Need-visible-runs-requires
-visible-runs-requires c κs = search needs
+shown-runs-requires : tie.Need-shown-runs-requires
+shown-runs-requires c κs = search needs
 
 enum-known-answer : tie.Need-enum-known-answer
 enum-known-answer c = search needs
@@ -33,7 +34,7 @@ slice-read-nesting : tie.Need-slice-read-nesting
 slice-read-nesting c = search needs
 
 spread-requires : tie.Need-spread-requires
-spread-requires c κs = fill-ready _ (c .before .before .before .before .before .before .before .before .before .before .before .before .before .args .painting .now) (c .before .before .before .before .before .before .before .before .before .before .before .before .before .args .list .now) _ (c .before .before .before .before .before .before .before .before .before .before .before .before .before .args .layer) _ (c .before .before .before .before .before .before .before .before .before .before .before .before .before .args .fill .«attrs_idx») (c .before .before .before .before .before .before .before .before .before .before .before .before .before .args .fill .span) (c .before .before .before .before .before .before .before .before .before .before .before .before .before .args .fill .alpha) (c .before .before .before .before .before .before .before .before .before .before .before .before .before .pre .0 .0) (c .before .before .before .before .before .before .before .before .before .before .before .before .before .pre .0 .1) _ (c .before .before .before .before .before .before .before .visible-runs .ensures) _ (c .before .before .before .n .given .1) (c .before .before .before .before .before .before .before .before .before .before .before .before .before .pre .0 .2)
+spread-requires c κs = fill-ready _ (c .before .before .before .before .before .before .before .before .before .before .before .before .before .args .painting .now) (c .before .before .before .before .before .before .before .before .before .before .before .before .before .args .list .now) _ (summary (c .before .before .before .before .before .before .before .before .before .before .before .before .before .args .sum)) (c .before .before .before .before .before .before .before .before .before .before .before .before .before .args .layer) _ (c .before .before .before .before .before .before .before .before .before .before .before .before .before .args .fill .«attrs_idx») (c .before .before .before .before .before .before .before .before .before .before .before .before .before .args .fill .span) (c .before .before .before .before .before .before .before .before .before .before .before .before .before .args .fill .alpha) (c .before .before .before .before .before .before .before .before .before .before .before .before .before .pre .0 .0) (c .before .before .before .before .before .before .before .before .before .before .before .before .before .pre .0 .1) _ (c .before .before .before .before .before .before .before .shown-runs .ensures) _ (c .before .before .before .n .given .1) (c .before .before .before .before .before .before .before .before .before .before .before .before .before .pre .0 .2)
 
 advance-requires : tie.Need-advance-requires
 advance-requires c κs = search needs
@@ -42,7 +43,7 @@ same-length : tie.Need-same-length
 same-length c = search needs
 
 returns : tie.Need-returns
-returns c = fill-refused _ _ (c .before .before .before .before .before .before .before .before .before .before .before .before .before .args .list .now) _ _ _ _ (c .before .before .before .before .before .before .before .before .before .before .before .before .before .args .fill .span) (c .before .before .before .before .before .before .before .before .before .before .before .before .before .args .fill .alpha) (c .before .before .before .before .before .before .before .before .before .before .before .before .before .pre .0 .0) (c .before .before .before .before .before .before .before .before .before .before .before .before .before .pre .0 .1) _ (c .before .before .before .before .before .before .before .visible-runs .ensures) _ _ _ (c .before .before .before .answer .given .1) (c .before .number .ensures) (c .refused .ensures)
+returns c = fill-refused _ _ (c .before .before .before .before .before .before .before .before .before .before .before .before .before .args .list .now) _ (summary (c .before .before .before .before .before .before .before .before .before .before .before .before .before .args .sum)) _ _ _ (c .before .before .before .before .before .before .before .before .before .before .before .before .before .args .fill .span) (c .before .before .before .before .before .before .before .before .before .before .before .before .before .args .fill .alpha) (c .before .before .before .before .before .before .before .before .before .before .before .before .before .pre .0 .0) (c .before .before .before .before .before .before .before .before .before .before .before .before .before .pre .0 .1) _ (c .before .before .before .before .before .before .before .shown-runs .ensures) _ _ _ (c .before .before .before .answer .given .1) (c .before .number .ensures) (c .refused .ensures)
 
 same-length-2 : tie.Need-same-length-2
 same-length-2 c = search needs
@@ -51,16 +52,16 @@ same-length-3 : tie.Need-same-length-3
 same-length-3 c = search needs
 
 returns-2 : tie.Need-returns-2
-returns-2 c = fill-done _ (c .before .before .before .before .before .before .before .before .before .before .before .before .before .before .before .before .before .before .before .before .args .painting .now) (c .before .before .before .before .before .before .before .before .before .before .before .before .before .before .before .before .before .before .before .before .args .list .now) _ _ _ _ (c .before .before .before .before .before .before .before .before .before .before .before .before .before .before .before .before .before .before .before .before .args .fill .span) (c .before .before .before .before .before .before .before .before .before .before .before .before .before .before .before .before .before .before .before .before .args .fill .alpha) (c .before .before .before .before .before .before .before .before .before .before .before .before .before .before .before .before .before .before .before .before .pre .0 .0) (c .before .before .before .before .before .before .before .before .before .before .before .before .before .before .before .before .before .before .before .before .pre .0 .1) _ (c .before .before .before .before .before .before .before .before .before .before .before .before .before .before .visible-runs .ensures) _ (c .before .before .before .before .before .before .before .before .before .before .n .given .1) _ _ _ (c .before .before .advance .ensures) (c .before .before .before .before .before .before .spread .ensures)
+returns-2 c = fill-done _ (c .before .before .before .before .before .before .before .before .before .before .before .before .before .before .before .before .before .before .before .before .args .painting .now) (c .before .before .before .before .before .before .before .before .before .before .before .before .before .before .before .before .before .before .before .before .args .list .now) _ (summary (c .before .before .before .before .before .before .before .before .before .before .before .before .before .before .before .before .before .before .before .before .args .sum)) _ _ _ (c .before .before .before .before .before .before .before .before .before .before .before .before .before .before .before .before .before .before .before .before .args .fill .span) (c .before .before .before .before .before .before .before .before .before .before .before .before .before .before .before .before .before .before .before .before .args .fill .alpha) (c .before .before .before .before .before .before .before .before .before .before .before .before .before .before .before .before .before .before .before .before .pre .0 .0) (c .before .before .before .before .before .before .before .before .before .before .before .before .before .before .before .before .before .before .before .before .pre .0 .1) _ (c .before .before .before .before .before .before .before .before .before .before .before .before .before .before .shown-runs .ensures) _ (c .before .before .before .before .before .before .before .before .before .before .n .given .1) _ _ _ (c .before .before .advance .ensures) (c .before .before .before .before .before .before .spread .ensures)
 
 pub paint-fill-spec : {M : Type 1} → statement M
 paint-fill-spec =
     tie.close
     (tie.spec
-    mul-visible-runs
-    slice-relend-prefix-visible-runs
-    slice-aggregate-visible-runs
-    visible-runs-requires
+    mul-shown-runs
+    slice-relend-prefix-shown-runs
+    slice-aggregate-shown-runs
+    shown-runs-requires
     enum-known-answer
     number-requires
     refused-requires

@@ -486,8 +486,9 @@ impl Screen {
         for EncodedPaint::Image(image) in &screen.filter_paints {
             let ImageSource::Pixmap(pixmap) = &image.source;
             let shift = image.transform.shift;
-            let whole = |by: f64| (by as i32).cast_unsigned();
-            out.extend([u32::from(!image.may_have_transparency), pixmap.handle, whole(shift.x), whole(shift.y)]);
+            let signed = |by: f64| [u32::from(by < 0.0), by.abs() as u32];
+            out.extend([0, u32::from(!image.may_have_transparency), 0, pixmap.handle]);
+            out.extend([signed(shift.x), signed(shift.y)].concat());
         }
         out
     }

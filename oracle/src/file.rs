@@ -102,7 +102,7 @@ fn good_viewport([x0, y0, x1, y1]: [u32; 4]) -> bool {
 }
 
 /// Multiples of 4, ends not before starts, all on the scene.
-fn good_box([x0, y0, x1, y1]: [u32; 4]) -> bool {
+pub(crate) fn good_box([x0, y0, x1, y1]: [u32; 4]) -> bool {
     [x0, y0, x1, y1].iter().all(|edge| edge % 4 == 0) && x0 <= x1 && y0 <= y1 && x1 <= LAST_PIXEL && y1 <= LAST_PIXEL
 }
 
@@ -120,7 +120,7 @@ fn good_records(r: &Recording) -> bool {
         && good_range(r.root[0], r.root[1], r.nodes.len())
 }
 
-fn good_segment(&[kind, row, first, end, alpha]: &[u32; 5]) -> bool {
+pub(crate) fn good_segment(&[kind, row, first, end, alpha]: &[u32; 5]) -> bool {
     kind <= 1
         && row < LAST_TILE
         && first < end
@@ -129,7 +129,7 @@ fn good_segment(&[kind, row, first, end, alpha]: &[u32; 5]) -> bool {
         && u64::from(alpha) + 16 * u64::from(end - first) < 1 << 32
 }
 
-fn good_blend(mix: u32, compose: u32) -> bool {
+pub(crate) fn good_blend(mix: u32, compose: u32) -> bool {
     mix <= 15 && compose <= 13
 }
 
@@ -163,11 +163,14 @@ fn good_clip(r: &Recording, layer: &[u32; 22]) -> bool {
     good_box([x0, y0, x1, y1]) && good_range(start, end, r.segments.len()) && thread < 256
 }
 
-/// As a clip box, but with y free.
 fn good_placement(layer: &[u32; 22]) -> bool {
     let &[.., pixmap, x0, y0, x1, y1, source_x, source_y] = layer;
-    let good_x = x0 % 4 == 0 && x1 % 4 == 0 && x0 <= x1 && x1 <= LAST_PIXEL;
-    pixmap < HANDLES && good_x && y0 <= y1 && y1 <= LAST_PIXEL && source_x <= LAST_PIXEL && source_y <= LAST_PIXEL
+    pixmap < HANDLES && good_dest([x0, y0, x1, y1]) && source_x <= LAST_PIXEL && source_y <= LAST_PIXEL
+}
+
+/// As a clip box, but with y free.
+pub(crate) fn good_dest([x0, y0, x1, y1]: [u32; 4]) -> bool {
+    x0 % 4 == 0 && x1 % 4 == 0 && x0 <= x1 && x1 <= LAST_PIXEL && y0 <= y1 && y1 <= LAST_PIXEL
 }
 
 fn good_node(r: &Recording, &[start, end, layer]: &[u32; 3]) -> bool {
@@ -181,7 +184,7 @@ fn good_order(r: &Recording) -> bool {
 }
 
 /// By row, then by tiles without overlap; touching is fine.
-fn in_order(pair: &[[u32; 5]]) -> bool {
+pub(crate) fn in_order(pair: &[[u32; 5]]) -> bool {
     let ([_, row, _, end, _], [_, next_row, next_first, _, _]) = (pair[0], pair[1]);
     row < next_row || (row == next_row && end <= next_first)
 }

@@ -1,5 +1,6 @@
 //! Makes recordings, good and bad, the same for the same seed.
 
+pub(crate) mod calls;
 mod damage;
 mod draft;
 mod edges;

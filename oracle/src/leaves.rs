@@ -60,7 +60,7 @@ fn buckets(range: BucketRange) -> Range {
 }
 
 /// A buffer that holds these words, written bucket by bucket.
-fn buffer(words: &[u32]) -> DepthBuffer {
+pub(crate) fn buffer(words: &[u32]) -> DepthBuffer {
     let mut depth = DepthBuffer::new(128 * short(u32::try_from(words.len()).expect("few buckets")));
     for (i, &word) in (0..).zip(words).filter(|(_, word)| **word != 0) {
         depth.for_each_unset_run_and_write(BucketRange::new(i, i + 1), word, |_| {});

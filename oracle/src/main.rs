@@ -2,6 +2,7 @@
 
 extern crate alloc;
 
+mod calls;
 mod coarse;
 mod file;
 mod filter;
@@ -32,7 +33,9 @@ const USAGE: &str = "usage: oracle rowlist [--first-id N] < FILE
        oracle lines [--first-id N] < STREAM
        oracle generate SEED COUNT [all|edges|scenes|damaged|heavy|ids] > STREAM
        oracle names SEED COUNT [KIND]
-       oracle leaves [--text] [SEED [COUNT]]";
+       oracle leaves [--text] [SEED [COUNT]]
+       oracle calls SEED COUNT > CALLS
+       oracle answers < CALLS";
 
 fn main() {
     let mut words: Vec<String> = std::env::args().skip(1).collect();
@@ -47,6 +50,8 @@ fn main() {
         ["names", seed, count] => generate::names(&made(seed, count, "all")),
         ["names", seed, count, kind] => generate::names(&made(seed, count, kind)),
         ["leaves", ..] => leaves_of(&words[1..]),
+        ["calls", seed, count] => generate::calls::stream(number(seed), number(count)),
+        ["answers"] => calls::stream(&calls::sequences(&input()).iter().map(|calls| calls::answers(calls)).collect::<Vec<_>>()),
         ["lines"] => dump(|bytes| print::rowlist(&mut player, bytes)),
         _ => {
             eprintln!("{USAGE}");

@@ -92,7 +92,7 @@ fn detail(bucketer: &CommandBucketer) -> String {
     out
 }
 
-fn handle(mask: &Option<Mask>) -> u32 {
+pub(crate) fn handle(mask: &Option<Mask>) -> u32 {
     mask.as_ref().map_or(0, |mask| mask.0)
 }
 

@@ -59,20 +59,20 @@ fn byte(word: u32) -> u8 {
     u8::try_from(word).expect("judged")
 }
 
-fn rect([x0, y0, x1, y1]: [u32; 4]) -> RectU16 {
+pub(crate) fn rect([x0, y0, x1, y1]: [u32; 4]) -> RectU16 {
     RectU16::new(short(x0), short(y0), short(x1), short(y1))
 }
 
-fn blend(mix: u32, compose: u32) -> BlendMode {
+pub(crate) fn blend(mix: u32, compose: u32) -> BlendMode {
     BlendMode { mix: byte(mix), compose: byte(compose) }
 }
 
 /// Handle 0 says none.
-fn mask(handle: u32) -> Option<Mask> {
+pub(crate) fn mask(handle: u32) -> Option<Mask> {
     (handle != 0).then_some(Mask(handle))
 }
 
-fn paint(&[flag, handle, x, y]: &[u32; 4]) -> EncodedPaint {
+pub(crate) fn paint(&[flag, handle, x, y]: &[u32; 4]) -> EncodedPaint {
     EncodedPaint::Image(EncodedImage {
         source: ImageSource::Pixmap(Arc::new(Pixmap::of(handle))),
         sampler: ImageSampler { x_extend: Extend::Pad, y_extend: Extend::Pad, quality: ImageQuality::Low, alpha: 1.0 },
@@ -84,11 +84,11 @@ fn paint(&[flag, handle, x, y]: &[u32; 4]) -> EncodedPaint {
     })
 }
 
-fn strip(&[kind, row, first, end, alpha]: &[u32; 5]) -> Strip {
+pub(crate) fn strip(&[kind, row, first, end, alpha]: &[u32; 5]) -> Strip {
     Strip { alpha: kind == 1, row: short(row), first: short(first), end: short(end), alpha_idx: alpha }
 }
 
-fn draw(&[thread, start, end, paint, mix, compose, handle]: &[u32; 7]) -> RecordedFill {
+pub(crate) fn draw(&[thread, start, end, paint, mix, compose, handle]: &[u32; 7]) -> RecordedFill {
     let paint = Paint::Indexed(IndexedPaint::new(paint as usize));
     RecordedFill::new(byte(thread), range(start, end), paint, blend(mix, compose), mask(handle))
 }

@@ -6,7 +6,7 @@ use super::scenes::scene;
 use crate::random::Random;
 
 /// Words that stand at some bound.
-const WORDS: [u32; 22] = [
+pub(super) const WORDS: [u32; 22] = [
     0, 1, 2, 3, 4, 8, 13, 14, 15, 16, 255, 256, 4_096, 8_191, 8_192, 8_193, 32_768, 32_772, 65_536, 0x7fff_ffff, 0x8000_0000, u32::MAX,
 ];
 

@@ -6,7 +6,7 @@ use crate::random::Random;
 /// A layer nests at most so deep here; the limit itself is among the edges.
 const DEPTH: u32 = 4;
 /// Some opacities: 1.0 and its neighbours, NaN patterns, both zeros.
-const OPACITIES: [u32; 10] =
+pub(super) const OPACITIES: [u32; 10] =
     [ONE, ONE, HALF, ONE + 1, ONE - 1, 0, 0x8000_0000, 0x7fc0_0000, 0x7f80_0001, 0xffff_ffff];
 
 pub(super) fn scene(random: &mut Random) -> Draft {
@@ -60,7 +60,7 @@ fn tree(random: &mut Random) -> Draft {
     draft.rooted(root)
 }
 
-fn viewport(random: &mut Random) -> [u32; 4] {
+pub(super) fn viewport(random: &mut Random) -> [u32; 4] {
     let width = random.pick(&[4, 64, 124, 128, 132, 252, 256, 260, 384, 512, 516, 640, 1_024]);
     let height = 4 * random.pick(&[1, 2, 2, 3, 3, 4, 5, 6, 9]);
     let (width, height) = match random.below(40) {
@@ -108,7 +108,7 @@ fn draws(draft: &mut Draft, random: &mut Random) -> Range {
 }
 
 /// The default in so many of a hundred cases.
-fn blend(random: &mut Random, default: u32) -> (u32, u32) {
+pub(super) fn blend(random: &mut Random, default: u32) -> (u32, u32) {
     if random.chance(default) {
         (0, 3)
     } else {
@@ -138,7 +138,7 @@ fn ordered(list: &[[u32; 5]]) -> bool {
 }
 
 /// One to five segments on and around the viewport.
-fn new_list([x0, y0, x1, y1]: [u32; 4], random: &mut Random) -> Vec<[u32; 5]> {
+pub(super) fn new_list([x0, y0, x1, y1]: [u32; 4], random: &mut Random) -> Vec<[u32; 5]> {
     let (left, right, top, bottom) = (x0 / 4, x1 / 4, y0 / 4, y1 / 4);
     let mut row = random.from(top.saturating_sub(1), (bottom + 1).max(top));
     let mut from = 0;
@@ -208,7 +208,7 @@ fn a_layer(draft: &mut Draft, random: &mut Random, depth: u32) -> u32 {
 }
 
 /// A box on or near the viewport: x in fours, y in steps. It may be empty, or off the viewport.
-fn bounds(random: &mut Random, [x0, y0, x1, y1]: [u32; 4], step: u32) -> [u32; 4] {
+pub(super) fn bounds(random: &mut Random, [x0, y0, x1, y1]: [u32; 4], step: u32) -> [u32; 4] {
     if random.chance(15) {
         return [x0, y0, x1, y1];
     }

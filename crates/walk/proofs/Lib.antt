@@ -1,4 +1,1 @@
-pub mod Layers
-pub mod Nodes
-pub mod Places
 pub mod Recordings

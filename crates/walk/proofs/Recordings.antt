@@ -27,8 +27,9 @@ use Rattle.recording.proofs.Laws.{sound, root-range}
 use Rattle.reading.proofs.Boxed.{boxed}
 use Rattle.steps.specs.Steps.{call-at}
 use Rattle.steps.proofs.Runs.{stopped, onward}
-use Rattle.walk.specs.Recorded.{judging, played, recorded-in, recorded, Ready}
-use Rattle.walk.proofs.Places.{node-count}
+use Rattle.walk.specs.Recorded.{judging, played, recorded-in, recorded}
+use Rattle.nodes.specs.Ready.{Ready}
+use Rattle.nodes.proofs.Places.{node-count}
 
 -- Records, then the walk.
 by-tests : (s t : Bool) → first-of ((not s, 4) ∷ (not t, 5) ∷ []) ≤ 14

@@ -1,18 +1,14 @@
 -- A recording call at a screen and all its words: the file's form, the reset, the records, the walk (rule 2).
 use Prim.Native.Nat.{ℕ}
-use mathlib.Core.Path.{_≡_}
-use mathlib.Core.Bool.{true, cond}
+use mathlib.Core.Bool.{cond}
 use mathlib.Core.List.{List}
 use mathlib.Core.Option.{Option, none, some}
 use lib.Dec.{eqb}
 use Rattle.rules.specs.Answers.{Answer, answer, Done, BadForm}
-use Rattle.rules.specs.Recording.{Recording, shape, sections, recording, good-records}
+use Rattle.rules.specs.Recording.{Recording, shape, sections, recording}
 use Rattle.rules.specs.Walk.{_then_, walk-all}
 use Rattle.screen.specs.Screens.{rect-of}
 use Rattle.screen.specs.Tables.{Lent, reset-to}
-use Rattle.form.specs.declared.Layout.{Layout}
-use Rattle.form.specs.Layouts.{Fits}
-use Rattle.form.specs.Places as file
 use Rattle.recording.specs.Judging.{judged}
 use Rattle.steps.specs.Steps.{call-at}
 
@@ -39,8 +35,3 @@ of-sections (some ss) c d l = recorded-in (recording ss) c d l
 -- a file's words; 3 before all
 unfoldable pub recorded : List ℕ → ℕ → ℕ → Lent → Answer Lent
 recorded ws = of-sections (sections shape ws)
-
--- what the walk goes by: the form is good, and so is every record
-pub record Ready (ws : List ℕ) (l : Layout) : Type 0 where
-  pub fits : Fits ws l
-  pub good : good-records (file.recorded l ws) ≡ true

@@ -15,7 +15,7 @@ use Rattle.form.specs.declared.Layout.{Layout}
 use Rattle.form.specs.Places.{recorded, layer-from, node-from}
 use Rattle.form.proofs.Eaches.{both, each-length, each-at}
 use Rattle.recording.proofs.Laws.{node-range-at, good-layer-at}
-use Rattle.walk.specs.Recorded.{Ready}
+use Rattle.nodes.specs.Ready.{Ready}
 
 pub some-node : Node
 some-node = record { start = 0; end = 0; layer = 0 }

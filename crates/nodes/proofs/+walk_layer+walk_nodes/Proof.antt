@@ -1,6 +1,6 @@
 use lib.ListN.{length, getD}
 use Rattle.steps.proofs.Calls.{push-step, pop-step}
-use Rattle.walk.proofs.Nodes.{draws-work, Left, all-walked, draws-refused, layer-refused, node-turned}
+use Rattle.nodes.proofs.Nodes.{draws-work, Left, all-walked, draws-refused, layer-refused, node-turned}
 use Prim.Native.Nat.{_+_, _-_, _*_, _≤_}
 use native.Mathlib.Omega.{arith}
 use mathlib.Core.Path.{_≡_, refl, sym, _∙_}
@@ -8,26 +8,26 @@ use borrow.Author.Needs.{needs}
 use Rattle.row.specs.Words.{words}
 use Rattle.form.specs.Places.{recorded, layer-from}
 use Rattle.steps.specs.Steps.{work}
-use Rattle.walk.proofs.Places.{node-range, node-room, layer-kind, layer-range, layer-room}
-use Rattle.walk.proofs.Layers.{as-filter, not-pushed, no-depth, not-walked, closed, names-none, names-one}
+use Rattle.nodes.proofs.Places.{node-range, node-room, layer-kind, layer-range, layer-room}
+use Rattle.nodes.proofs.Layers.{as-filter, not-pushed, no-depth, not-walked, closed, names-none, names-one}
 use Prim.Native.Nat.{ℕ, _<_}
 use borrow.Fn.Kinds.{In}
 use borrow.Fn.PlainCycle.{Measures, is, falls, and}
-use Rattle.walk.proofs.walk_layer.Reads as walk-layer
-use Rattle.walk.proofs.walk_layer.Kinds as walk-layer-kinds
-use Rattle.walk.proofs.+walk_layer+walk_nodes.Lts-walk_layer as walk-layer-lts
-use Rattle.walk.proofs.walk_nodes.Reads as walk-nodes
-use Rattle.walk.proofs.walk_nodes.Kinds as walk-nodes-kinds
-use Rattle.walk.proofs.+walk_layer+walk_nodes.Lts-walk_nodes as walk-nodes-lts
+use Rattle.nodes.proofs.walk_layer.Reads as walk-layer
+use Rattle.nodes.proofs.walk_layer.Kinds as walk-layer-kinds
+use Rattle.nodes.proofs.+walk_layer+walk_nodes.Lts-walk_layer as walk-layer-lts
+use Rattle.nodes.proofs.walk_nodes.Reads as walk-nodes
+use Rattle.nodes.proofs.walk_nodes.Kinds as walk-nodes-kinds
+use Rattle.nodes.proofs.+walk_layer+walk_nodes.Lts-walk_nodes as walk-nodes-lts
 use Rattle.cmd.proofs.Answer.number.Reads as number-reads
 use Rattle.push.proofs.push_layer.Reads as push-layer-reads
 use Rattle.reading.proofs.props_at.Reads as props-at-reads
 use Rattle.steps.proofs.pop_at.Reads as pop-at-reads
 use Rattle.steps.proofs.walk_draws.Reads as walk-draws-reads
 use Rattle.steps.proofs.walk_filter.Reads as walk-filter-reads
-use Rattle.walk.proofs.wide.Reads as wide-reads
-use Rattle.walk.proofs.+walk_layer+walk_nodes.{statement}
-use Rattle.walk.proofs.+walk_layer+walk_nodes.Tie.{close}
+use Rattle.nodes.proofs.wide.Reads as wide-reads
+use Rattle.nodes.proofs.+walk_layer+walk_nodes.{statement}
+use Rattle.nodes.proofs.+walk_layer+walk_nodes.Tie.{close}
 
 abbrev μ-walk-layer : Measures 9 walk-layer-kinds.ps ℕ
 μ-walk-layer κs a = 2 * a .0

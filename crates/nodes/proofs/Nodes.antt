@@ -21,7 +21,7 @@ use Rattle.fill.specs.Fills as fills
 use lib.Ieee.{Float}
 use lib.IntN.{ℤ}
 use Rattle.steps.proofs.Runs.{ended, refused, turned, stopped, onward}
-use Rattle.walk.proofs.Places.{some-node, node-count, node-there}
+use Rattle.nodes.proofs.Places.{some-node, node-count, node-there}
 
 module _ (l : Layout) (ws : List ℕ) (d : ℕ) where
   -- nodes a to b, with layers d deep

@@ -16,7 +16,7 @@ use Rattle.form.specs.declared.Layout.{Layout}
 use Rattle.form.specs.Places.{recorded, layer-from}
 use Rattle.steps.specs.Steps.{call-at}
 use Rattle.steps.proofs.Runs.{stopped, onward, then-none, none-then}
-use Rattle.walk.proofs.Places.{layer-there}
+use Rattle.nodes.proofs.Places.{layer-there}
 
 module _ (r : Recording) (y : LayerRec) where
   abbrev pushing : Lent → Answer Lent

@@ -1,0 +1,3 @@
+pub mod Layers
+pub mod Nodes
+pub mod Places

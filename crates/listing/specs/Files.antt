@@ -1,10 +1,10 @@
 -- The text of a recording file: what `rowlist` prints of it, and what its words leave in the lent tables.
-use Prim.Native.Nat.{ℕ, _*_, _≤_}
+use Prim.Native.Nat.{ℕ, _*_, _%_, _≤_}
 use mathlib.Core.Bool.{Bool, true, false, _&&_, cond}
 use mathlib.Core.List.{List, _++_}
 use lib.ListN.{length, take, drop}
 use lib.Dec.{leb, eqb}
-use Rattle.rules.specs.Answers.{Answer, Done, BadViewport, BadForm}
+use Rattle.rules.specs.Answers.{Answer, Done, BadViewport, BadForm, BadRecord}
 use Rattle.rules.specs.Boxes.{Box, good-viewport, rows-of, buckets-of}
 use Rattle.rect.specs.declared.Rect.{Rect}
 use Rattle.row.specs.Words.{Words, words}
@@ -14,6 +14,7 @@ use Rattle.screen.specs.Tables.{Tables, tables, Lent, lent}
 use Rattle.form.specs.declared.Form.{Form}
 use Rattle.form.specs.declared.Form.the-variants as form
 use Rattle.form.specs.Layouts.{form-of}
+use Rattle.form.specs.Words.{words-in, filled-with}
 use Rattle.recording.specs.Judging.{box-from}
 use Rattle.walk.specs.Recorded.{recorded}
 use Rattle.list.specs.Listed.{Out, listed, refused-listed}
@@ -131,3 +132,31 @@ pub record Roomy (t : Tables) : Type 0 where
   pub depth : 1024 ≤ length (t .depth)
   pub rows : 1728 ≤ length (t .rows)
   pub painting : 64 ≤ length (t .painting)
+
+-- how many words the programs' tables have at least
+abbrev pub roomy : ℕ → ℕ → ℕ → ℕ → ℕ → ℕ → Bool
+roomy words render fills depth rows painting =
+    leb 16384 words && (leb 8192 render && (leb 4096 fills && (leb 1024 depth && (leb 1728 rows && leb 64 painting))))
+
+abbrev pub is-roomy : List ℕ → Tables → Bool
+is-roomy ws t =
+    roomy (length ws) (length (t .render)) (length (t .fills)) (length (t .depth)) (length (t .rows)) (length (t .painting))
+
+-- a file's bytes: at most 65,536, in whole words
+abbrev pub good-bytes : ℕ → Bool
+good-bytes n = leb n 65536 && eqb (n % 4) 0
+
+-- what a call on bytes leaves: the words are the file's, then what was there
+pub record BytesOut : Type 0 where
+  pub file : FileOut
+  pub words : List ℕ
+
+abbrev pub bytes-out : FileOut → List ℕ → BytesOut
+bytes-out o ws = record { file = o; words = ws }
+
+-- 3 for the bytes, then 4 for a lent list that is too short
+unfoldable pub bytes-text : List ℕ → List ℕ → Tables → List ℕ → BytesOut
+bytes-text fs ws t bs =
+    cond (good-bytes (length fs))
+    (cond (is-roomy ws t) (bytes-out (words-text (words-in fs) t bs) (filled-with fs ws .words)) (bytes-out (refused-as-is BadRecord t bs) ws))
+    (bytes-out (refused-as-is BadForm t bs) ws)

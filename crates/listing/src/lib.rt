@@ -1,6 +1,7 @@
 // The text that `rowlist` prints of a recording file.
 use form::Form;
 use form::read_form;
+use form::words_of_bytes;
 use list::list_screen;
 use list::refusal_line;
 use recording::box_at;
@@ -12,7 +13,7 @@ ghost use mathlib.Core.Path.{_≡_};
 ghost use Prim.Native.Nat.{_≤_};
 ghost use Rattle.screen.specs.Tables.{tables};
 ghost use Rattle.row.specs.Words.{words};
-ghost use Rattle.listing.specs.Files.{nothing, showed, file-out, refusing, showing, recording-text, size-of, words-text, Roomy};
+ghost use Rattle.listing.specs.Files.{nothing, showed, file-out, refusing, showing, recording-text, size-of, words-text, Roomy, roomy, good-bytes, bytes-out, bytes-text};
 
 // number: document 01's answer. bytes: how many are written, at the start of the lent ones. screen: the screen afterwards.
 pub struct FileText {
@@ -182,6 +183,94 @@ fn words_text(
         &mut depth[..n * b],
         &mut rows[..n * 54],
         &mut painting[..n * 2],
+        layers,
+        opacities,
+        paint_attrs,
+        layer_attrs,
+        filter_paints,
+        out,
+    )
+}
+
+// Tables for 32 rows of 32 buckets, and words for 65,536 bytes.
+fn is_roomy(
+    words: usize,
+    render: usize,
+    fills: usize,
+    depth: usize,
+    rows: usize,
+    painting: usize,
+) -> bool
+    ensures { λ r. ⌜ r ≡ roomy words render fills depth rows painting ⌝ }
+{
+    if words < 16384 {
+        return false;
+    }
+    if render < 8192 {
+        return false;
+    }
+    if fills < 4096 {
+        return false;
+    }
+    if depth < 1024 {
+        return false;
+    }
+    if rows < 1728 {
+        return false;
+    }
+    64 <= painting
+}
+
+// At most 65,536 bytes, in whole words.
+fn is_good_bytes(n: usize) -> bool
+    ensures { λ r. ⌜ r ≡ good-bytes n ⌝ }
+{
+    if 65536 < n {
+        return false;
+    }
+    n % 4 == 0
+}
+
+// A recording file's bytes: what `rowlist` prints of them. The lent words take the file's words, the tables its screen.
+pub fn file_text(
+    file: &[u8],
+    words: &mut [u32],
+    render: &mut [u32],
+    fills: &mut [u32],
+    depth: &mut [u32],
+    rows: &mut [u32],
+    painting: &mut [u32],
+    layers: &mut [u32],
+    opacities: &mut [f32],
+    paint_attrs: &mut [u32],
+    layer_attrs: &mut [u32],
+    filter_paints: &mut [i32],
+    out: &mut [u8],
+) -> FileText
+    ensures { λ r. ⌜ bytes-out (file-out (showed r (now (out .exit))) (tables (now (render .exit)) (now (fills .exit)) (now (depth .exit)) (now (rows .exit)) (now (painting .exit)) (now (layers .exit)) (now (opacities .exit)) (now («paint_attrs» .exit)) (now («layer_attrs» .exit)) (now («filter_paints» .exit)))) (now (words .exit))
+        ≡ bytes-text (now (file .entry)) (now (words .entry)) (tables (now (render .entry)) (now (fills .entry)) (now (depth .entry)) (now (rows .entry)) (now (painting .entry)) (now (layers .entry)) (now (opacities .entry)) (now («paint_attrs» .entry)) (now («layer_attrs» .entry)) (now («filter_paints» .entry))) (now (out .entry)) ⌝ }
+{
+    if !is_good_bytes(file.len()) {
+        return refuse(3, no_screen(), out);
+    }
+    if !is_roomy(
+        words.len(),
+        render.len(),
+        fills.len(),
+        depth.len(),
+        rows.len(),
+        painting.len(),
+    ) {
+        return refuse(4, no_screen(), out);
+    }
+    let n = words_of_bytes(file, words);
+    words_text(
+        &words[..n],
+        render,
+        fills,
+        depth,
+        rows,
+        painting,
         layers,
         opacities,
         paint_attrs,

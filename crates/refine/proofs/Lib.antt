@@ -2,3 +2,5 @@ pub mod Acts
 pub mod Kept
 pub mod Tables
 pub mod Records
+pub mod Judged
+pub mod Alike

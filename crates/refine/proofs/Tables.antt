@@ -2,12 +2,13 @@
 use mathlib.Core.Path.{_≡_, refl, sym, ap, _∙_}
 use mathlib.Core.List.{List, [], _∷_, _++_, map, append-assoc, append-nil}
 use Prim.Native.Nat.{ℕ, zero, suc, _+_, _-_, _*_, _≤_, _<_}
+use native.Mathlib.Nat.{mul-suc}
 use native.Mathlib.Omega.{arith}
 use lib.ListN.{length, take, drop, set, replicate, length-append, length-replicate}
 use lib.Seq.{take-at, drop-at, drop-append-add, set-at}
 use Rattle.rules.specs.Lists.{join}
 use Rattle.cmd.specs.Attrs.{words-at}
-use Rattle.refine.specs.Holds.{table}
+use Rattle.refine.specs.Lent.{table}
 
 module _ {A : Type 0} where
   drop-same : (m n : ℕ) (z : A) → drop m (replicate n z) ≡ replicate (n - m) z
@@ -40,4 +41,4 @@ module _ {A B : Type 0} (f : A → List B) where
   join-length k e (x ∷ xs) = length-append (f x) (join f xs) ∙ times-more k (length xs) (length (f x)) (length (join f xs)) (e x) (join-length k e xs)
     where
       times-more : (k n a b : ℕ) → a ≡ k → b ≡ k * n → a + b ≡ k * suc n
-      times-more k n a b p q = ?
+      times-more k n a b p q = rw (p, q, mul-suc k n) (omega arith)

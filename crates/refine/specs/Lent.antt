@@ -1,26 +1,27 @@
 -- The words of a screen of the rules: every lent word is a function of the rules' state and rows, but the depth words and the painter's,
 -- which no building step reads or writes, and whether painting has begun.
 use Prim.Native.Nat.{ℕ, _-_}
-use mathlib.Core.Path.{_≡_}
-use mathlib.Core.Bool.{Bool}
+use mathlib.Core.Bool.{Bool, false, cond}
 use mathlib.Core.List.{List, [], _∷_, _++_, map}
+use lib.Dec.{eqb}
 use lib.ListN.{length, replicate}
 use lib.IntN.{ℤ, pos}
 use lib.Ieee.{Float, binary32, ofBits}
 use Rattle.rules.specs.Lists.{join}
+use Rattle.rules.specs.Answers.{Answer, answer, Done}
 use Rattle.rules.specs.Attributes.{LayerAttr, FilterPaint, paint-attr-words, layer-attr-words}
 use Rattle.rules.specs.Rows.{Row}
 use Rattle.rules.specs.Plans.{Layer, State, box-of}
 use Rattle.rules.specs.Steps as rule
+use Rattle.row.specs.Words.{Words}
 use Rattle.arena.specs.Arena.{lay}
 use Rattle.encode.specs.Encode.{encode}
 use Rattle.screen.specs.declared.Screen.{Screen}
 use Rattle.screen.specs.Screens.{rect-of}
-use Rattle.screen.specs.Tables.{Tables, Lent, float-0}
+use Rattle.screen.specs.Tables.{tables, Lent, lent, float-0}
 use Rattle.layers.specs.Layers.{layer-words}
 use Rattle.filter.specs.Filter.{filter-paint-words}
 use Rattle.reading.specs.Reading.{pattern-of}
-use Rattle.steps.specs.Steps.{rows-words}
 
 -- n places: what is there, then z
 unfoldable pub table : {A : Type 0} → A → ℕ → List A → List A
@@ -62,12 +63,20 @@ screen-of s painting =
       painting = painting;
     }
 
--- l holds the words of s
-pub record Holds (s : rule.Screen Row) (l : Lent) : Type 0 where
-  pub screen : l .screen ≡ screen-of (s .state) (l .screen .painting)
-  pub rows : rows-words (l .tables) ≡ lay (map (encode (s .state .frame .c) (s .state .frame .d)) (s .rows))
-  pub paints : l .tables .paint-attrs ≡ table 0 8192 (join paint-attr-words (s .state .attrs .paints))
-  pub attrs : l .tables .layer-attrs ≡ table 0 6144 (join attr-words (s .state .attrs .layers))
-  pub filters : l .tables .filter-paints ≡ table (pos 0) 1024 (join filter-paint-words (s .state .attrs .filters))
-  pub layers : l .tables .layers ≡ table 0 256 (layers-words (s .state .layers))
-  pub opacities : l .tables .opacities ≡ table float-0 16 (layers-opacities (s .state .layers)) ++ table float-0 1024 (map attr-opacity (s .state .attrs .layers))
+-- the words of the rows
+abbrev pub rows-of : rule.Screen Row → Words
+rows-of s = lay (map (encode (s .state .frame .c) (s .state .frame .d)) (s .rows))
+
+-- a screen and its words: whether painting has begun, the depth words and the painter's are no part of the rules' screen
+unfoldable pub lent-of : rule.Screen Row → Bool → List ℕ → List ℕ → Lent
+lent-of s begun depth painting =
+    lent (screen-of (s .state) begun)
+    (tables (rows-of s .render) (rows-of s .fills) depth (rows-of s .state) painting (table 0 256 (layers-words (s .state .layers)))
+    (table float-0 16 (layers-opacities (s .state .layers)) ++ table float-0 1024 (map attr-opacity (s .state .attrs .layers)))
+    (table 0 8192 (join paint-attr-words (s .state .attrs .paints)))
+    (table 0 6144 (join attr-words (s .state .attrs .layers)))
+    (table (pos 0) 1024 (join filter-paint-words (s .state .attrs .filters))))
+
+-- an answer of the rules, at the words: a done step ends painting
+abbrev pub answer-of : Answer (rule.Screen Row) → Bool → List ℕ → List ℕ → Answer Lent
+answer-of a begun depth painting = answer (a .number) (lent-of (a .value) (cond (eqb (a .number) Done) false begun) depth painting)

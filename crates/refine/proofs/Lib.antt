@@ -4,3 +4,5 @@ pub mod Tables
 pub mod Records
 pub mod Judged
 pub mod Alike
+pub mod Planned
+pub mod Steps

@@ -42,3 +42,11 @@ module _ {A B : Type 0} (f : A → List B) where
     where
       times-more : (k n a b : ℕ) → a ≡ k → b ≡ k * n → a + b ≡ k * suc n
       times-more k n a b p q = rw (p, q, mul-suc k n) (omega arith)
+
+-- one place written after what is there
+pub table-set : {A : Type 0} (z : A) (n k : ℕ) (xs : List A) (v : A) → length xs ≡ k → k < n → set (table z n xs) k v ≡ table z n (xs ++ (v ∷ []))
+unfolding table
+table-set z n k xs v e h =
+    let p : n - length xs ≡ suc (n - suc k) = omega arith in
+    let q : n - length (xs ++ (v ∷ [])) ≡ n - suc k = omega (arith, length-append xs (v ∷ [])) in
+    rw (p, q, set-at xs z (replicate (n - suc k) z) v k e) (sym (append-assoc xs (v ∷ []) (replicate (n - suc k) z)))

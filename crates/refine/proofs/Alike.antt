@@ -1,21 +1,19 @@
 -- A plan made from the screen's numbers does what the rules' plan does. Assumes nothing.
 use mathlib.Core.Path.{_≡_, refl, sym, ap, _∙_}
-use mathlib.Core.Bool.{Bool, true, false, _||_, cond}
+use mathlib.Core.Bool.{Bool, true, false, cond}
 use mathlib.Core.List.{List, [], _∷_, _++_, map}
-use Prim.Native.Nat.{ℕ, _+_, _*_, _≤_}
-use native.Mathlib.Omega.{arith}
-use lib.Dec.{ltb, eqb}
+use Prim.Native.Nat.{ℕ}
+use lib.Dec.{eqb}
 use lib.ListN.{length, drop, replicate, length-append, length-replicate}
 use lib.Seq.{drop-at}
 use borrow.Author.Tests.{eqb-true}
-use Rattle.rules.specs.Lists.{join, is-empty}
+use Rattle.rules.specs.Lists.{is-empty}
 use Rattle.rules.specs.Answers.{Answer, answer, settle, Done}
 use Rattle.rules.specs.Boxes.{Box}
-use Rattle.rules.specs.Attributes.{PaintAttr, LayerAttr, FilterPaint, Attrs, attrs-full}
 use Rattle.rules.specs.Rows.{Row, row-ops}
-use Rattle.rules.specs.Plans.{Layer, State, Put, Plan, clip-box, box-of}
+use Rattle.rules.specs.Plans.{Layer, State, Plan, clip-box, box-of}
 use Rattle.rules.specs.Steps as rule
-use Rattle.rules.specs.Steps.{do-puts, done, passes, refusal, perform}
+use Rattle.rules.specs.Steps.{done, refusal, perform}
 use Rattle.rules.proofs.All.{All}
 use Rattle.rules.proofs.Bounds.{BoundedSpan}
 use Rattle.rules.proofs.Maps.{PutOk, screen-by, answer-by, follows-perform}

@@ -1,20 +1,17 @@
 -- A sound screen's words pass what is judged first (answers 2, 1 and 4). Assumes nothing.
-use mathlib.Core.Path.{_≡_, refl, sym, ap, _∙_}
-use mathlib.Core.Bool.{Bool, true, false, _&&_, _||_, not, cond}
+use mathlib.Core.Path.{_≡_, refl}
+use mathlib.Core.Bool.{Bool, true, _||_}
 use mathlib.Core.List.{List, [], _∷_, map}
-use Prim.Native.Nat.{ℕ, _*_, _≤_}
-use native.Mathlib.Omega.{arith}
-use lib.Dec.{leb, ltb, eqb}
+use lib.Dec.{ltb}
 use lib.ListN.{length}
 use borrow.Author.Tests.{le-leb, eq-eqb, ltb-false}
 use Rattle.rules.specs.Boxes.{Box, whole}
 use Rattle.rules.specs.Boxes as boxes
 use Rattle.rules.specs.Rows.{Row}
-use Rattle.rules.specs.Plans.{Layer, State, box-of, clip-box}
+use Rattle.rules.specs.Plans.{Layer, clip-box}
 use Rattle.rules.specs.Steps as rule
-use Rattle.rules.proofs.All.{All, nil, cons, neither}
-use Rattle.row.specs.Words.{Words}
-use Rattle.arena.specs.Arena.{sizes, Long, cut, lay}
+use Rattle.rules.proofs.All.{All, neither}
+use Rattle.arena.specs.Arena.{sizes, Long, cut}
 use Rattle.building.specs.Building.{rows-at}
 use Rattle.encode.specs.Encode.{encode}
 use Rattle.encode.proofs.Screens.{cut-screen, screen-long}

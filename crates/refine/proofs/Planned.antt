@@ -1,21 +1,18 @@
 -- The plans of a fill, a push and a filter fill from the screen's numbers are alike the rules'. Assumes nothing.
-use mathlib.Core.Path.{_≡_, refl, sym, ap, _∙_}
+use mathlib.Core.Path.{_≡_, refl, sym, ap}
 use mathlib.Core.Bool.{Bool, true, false, _&&_, not, cond}
 use mathlib.Core.List.{List, [], _∷_, _++_, append-nil}
-use mathlib.Core.Option.{Option, none, some}
-use Prim.Native.Nat.{ℕ, suc, _+_}
-use lib.Dec.{leb, eqb}
-use lib.ListN.{length, replicate, length-replicate}
+use Prim.Native.Nat.{ℕ, suc}
+use lib.Dec.{leb}
+use lib.ListN.{length, replicate}
 use Rattle.rules.specs.Lists.{is-empty}
 use Rattle.rules.specs.Answers.{Done, BadRecord}
 use Rattle.rules.specs.Boxes.{Box}
 use Rattle.rules.specs.Segments.{Segment}
-use Rattle.rules.specs.Blends.{Blend}
-use Rattle.rules.specs.Inputs.{Paint, Draw, draw-segments, draw-paint, Props, Filter, good-filter}
-use Rattle.rules.specs.Attributes.{FilterPaint, PaintAttr}
-use Rattle.rules.specs.Plans.{Layer, State, Plan, still, clip-box, box-of, eligible, with-paint, draw-puts, plan-fill, layer-box, touches-all, plan-push, filter-box, draws-nothing, filter-paint, filter-puts, plan-filter-in, plan-filter}
+use Rattle.rules.specs.Inputs.{Paint, Draw, draw-segments, Props, Filter, good-filter}
+use Rattle.rules.specs.Plans.{State, still, box-of, with-paint, plan-fill, plan-push, filter-box, draws-nothing, filter-paint, plan-filter-in, plan-filter}
 use Rattle.screen.specs.Screens.{some-paint, some-layer, some-filter, state-of}
-use Rattle.screen.proofs.Laws.{paint-count, layer-attr-count, filter-count, layer-count}
+use Rattle.screen.proofs.Laws.{paint-count, filter-count, layer-count}
 use Rattle.refine.specs.Lent.{screen-of}
 use Rattle.refine.proofs.Alike.{Grown, Alike, box-same, empty-same}
 

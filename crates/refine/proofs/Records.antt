@@ -1,25 +1,24 @@
 -- The records of a sound screen's rows are good (answer 4). Assumes nothing.
 use mathlib.Core.Path.{_≡_, refl, sym, ap, _∙_}
-use mathlib.Core.Bool.{Bool, true, false, _&&_, cond}
+use mathlib.Core.Bool.{true}
 use mathlib.Core.List.{List, [], _∷_, _++_, map, append-assoc}
 use mathlib.Core.Option.{Option, none, some}
 use Prim.Native.Nat.{ℕ, zero, suc, _+_, _-_, _*_, _/_, _%_, _≤_, _<_}
 use native.Mathlib.Omega.{arith}
-use lib.Dec.{leb, ltb, eqb}
+use lib.Dec.{leb}
 use lib.ListN.{length, getD, length-append}
 use lib.Seq.{getD-append-add}
-use borrow.Author.Tests.{le-leb, lt-ltb, eq-eqb, ne-eqb}
+use borrow.Author.Tests.{le-leb, lt-ltb, ne-eqb}
 use Rattle.rules.specs.Lists.{every}
 use Rattle.rules.specs.Spans.{Span}
 use Rattle.rules.specs.Commands.{span-word}
 use Rattle.rules.specs.Rows.{Row, Level, fresh-row}
 use Rattle.rules.specs.Plans.{Frame, Put}
-use Rattle.rules.proofs.All.{All, nil, cons, head}
-use Rattle.row.specs.Words.{Words}
-use Rattle.building.specs.Building.{good-union, good-level, good-top, good-summary, good-row, good-at, good-rows}
-use Rattle.encode.specs.Encode.{padded, union-words, stack, first-of, end-of, placed, state-of, encode, Fine}
+use Rattle.rules.proofs.All.{All, cons, head}
+use Rattle.building.specs.Building.{good-union, good-level, good-top, good-row, good-at, good-rows}
+use Rattle.encode.specs.Encode.{padded, union-words, stack, first-of, end-of, placed, encode, Fine}
 use Rattle.encode.proofs.Pads.{zeros, padded-fits}
-use Rattle.refine.specs.Sound.{Ordered, OrderedUnion, Sane, Fitting}
+use Rattle.refine.specs.Sound.{OrderedUnion, Fitting}
 
 three : (l : Level) → length (l .place ∷ union-words (l .union)) ≡ 3
 three l = go (l .union)

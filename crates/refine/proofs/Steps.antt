@@ -1,9 +1,9 @@
 -- Fills, filter fills and pushes on a sound screen's words. Assumes nothing.
-use mathlib.Core.Path.{_≡_, refl, sym, ap, _∙_}
+use mathlib.Core.Path.{_≡_, refl, ap, _∙_}
 use mathlib.Core.Bool.{Bool, true, false, _&&_, _||_, not, cond}
 use mathlib.Core.List.{List, [], _∷_, _++_, map, append-nil}
 use mathlib.Core.Option.{Option, none, some}
-use Prim.Native.Nat.{ℕ, zero, suc, _+_, _*_, _%_, _≤_, _<_}
+use Prim.Native.Nat.{ℕ, suc, _*_, _%_, _≤_, _<_}
 use native.Mathlib.Omega.{arith}
 use lib.Dec.{leb, ltb, eqb}
 use lib.IntN.{pos}
@@ -12,36 +12,35 @@ use lib.Seq.{set-append-left}
 use lib.Ieee.{Float, binary32, ofBits}
 use borrow.Author.Tests.{eqb-true, eq-eqb, ltb-false}
 use Rattle.rules.specs.Lists.{join, is-empty}
-use Rattle.rules.specs.Answers.{Answer, answer, settle, Done, BadRecord}
+use Rattle.rules.specs.Answers.{answer, settle, Done, BadRecord}
 use Rattle.rules.specs.Segments.{Segment}
 use Rattle.rules.specs.Inputs.{Paint, Draw, draw-segments, Clip, Props, Filter, good-filter}
-use Rattle.rules.specs.Attributes.{PaintAttr, FilterPaint, LayerAttr, paint-attr-words, attrs-full}
+use Rattle.rules.specs.Attributes.{paint-attr-words}
 use Rattle.rules.specs.Recording.{paint-words, segment-words}
 use Rattle.rules.specs.Rows.{Row, row-ops}
-use Rattle.rules.specs.Plans.{Layer, State, Step, a-fill, a-push, a-pop, a-filter, Plan, still, box-of, with-paint, plan-fill, layer-box, plan-push, filter-box, draws-nothing, plan-filter-in, plan-filter, plan}
+use Rattle.rules.specs.Plans.{Layer, State, a-fill, a-push, a-filter, Plan, still, box-of, with-paint, plan-fill, layer-box, plan-push, filter-box, draws-nothing, plan-filter-in, plan-filter, plan}
 use Rattle.rules.specs.Steps as rule
 use Rattle.rules.specs.Steps.{done, refusal, perform, call}
 use Rattle.rules.proofs.All.{All, neither}
 use Rattle.rules.proofs.Bounds.{BoundedSpan, plan-ok}
 use Rattle.rules.proofs.Maps.{PutOk}
 use Rattle.cmd.specs.Attrs.{words-at}
-use Rattle.building.specs.Building.{rows-at, good-rows, step-number}
-use Rattle.screen.specs.Screens.{some-paint, some-layer, some-filter, state-of, screen-after}
-use Rattle.screen.specs.Judging.{judged}
-use Rattle.screen.specs.Tables.{Tables, Lent, float-0}
+use Rattle.screen.specs.Screens.{state-of}
+use Rattle.screen.specs.Tables.{Lent, float-0}
 use Rattle.filter.specs.Filter as filter
-use Rattle.filter.specs.Filter.{Given, given, filter-of, filter-number, filter-paint-words, filtered}
+use Rattle.filter.specs.Filter.{given, filter-number, filter-paint-words, filtered}
 use Rattle.fill.specs.Fills as fills
 use Rattle.push.specs.Push as push
 use Rattle.layers.specs.Layers.{props-of, clip-of, layer-words}
-use Rattle.reading.specs.Reading.{draw-in, clip-in, props-in}
+use Rattle.reading.specs.Reading.{pattern-of, draw-in, clip-in, props-in}
 use Rattle.steps.specs.Steps.{placement-in, fill-part, fill-into, push-part, push-into, filter-part, filter-into, with-value, call-at}
 use Rattle.steps.proofs.Lists.{paints-words-length, segments-words-length, paints-said, segments-said}
 use Rattle.refine.specs.Sound.{Sound}
-use Rattle.refine.specs.Lent.{table, open-words, layers-words, layers-opacities, attr-words, attr-opacity, screen-of, rows-of, lent-of, answer-of}
-use Rattle.refine.proofs.Tables.{table-length, table-more, table-same, table-set, join-append, join-length}
+use Rattle.refine.specs.Lent.{table, open-words, layers-words, layers-opacities, attr-opacity, screen-of, lent-of, answer-of}
+use Rattle.refine.proofs.Tables.{table-length, table-more, table-set, join-append, join-length}
+use Rattle.refine.proofs.Kept.{passing}
 use Rattle.refine.proofs.Judged.{judged-done}
-use Rattle.refine.proofs.Alike.{Grown, grown-new, Alike, plan-number, plan-rows, plan-screen, step-is}
+use Rattle.refine.proofs.Alike.{box-same, Grown, grown-new, Alike, plan-rows, plan-screen, step-is}
 use Rattle.refine.proofs.Planned.{filter-alike, fill-alike, push-alike}
 
 -- an answer at the words, from its number and what stands afterwards
@@ -58,6 +57,34 @@ pub grown-table : {A B : Type 0} (z : B) (n k : ℕ) (f : A → List B) → ((x 
     → words-at (table z n (join f old)) (k * length old) (join f (drop (length old) xs)) ≡ table z n (join f ys)
 grown-table z n k f e {d} {old} {xs} {ys} g =
     rw (grown-new g, g .ours, join-append f old (g .new)) (table-more z n (k * length old) (join f old) (join f (g .new)) (join-length f k e old))
+
+-- the open layers' words and opacities, by their number
+layer-length : (l : Layer) (n : ℕ) → length (layer-words l n) ≡ 16
+layer-length l n = go (l .props .clip)
+  where
+    go : (c : Option Clip) → length (layer-words (record { props = record { blend = l .props .blend; opacity = l .props .opacity; mask = l .props .mask; clip = c }; bounds = l .bounds }) n) ≡ 16
+    go none = refl
+    go (some c) = refl
+
+pub layers-length : (ls : List Layer) → length (layers-words ls) ≡ 16 * length ls
+unfolding layers-words
+layers-length [] = refl
+layers-length (l ∷ ls) = length-append (layers-words ls) (open-words l) ∙ omega (arith, layer-length l (pattern-of (l .props .opacity)), layers-length ls)
+
+pub layers-long : (ls : List Layer) → length ls ≤ 16 → length (table 0 256 (layers-words ls)) ≡ 256
+layers-long ls d = table-length 0 256 (layers-words ls) (omega (arith, layers-length ls))
+
+pub opacities-count : (ls : List Layer) → length (layers-opacities ls) ≡ length ls
+unfolding layers-opacities
+opacities-count [] = refl
+opacities-count (l ∷ ls) = length-append (layers-opacities ls) (ofBits binary32 (l .props .opacity) ∷ []) ∙ omega (arith, opacities-count ls)
+
+pub opacities-length : (ls : List Layer) → length ls ≤ 16 → length (table float-0 16 (layers-opacities ls)) ≡ 16
+opacities-length ls d = table-length float-0 16 (layers-opacities ls) (omega (arith, opacities-count ls))
+
+map-length : {A B : Type 0} (f : A → B) (xs : List A) → length (map f xs) ≡ length xs
+map-length f [] = refl
+map-length f (x ∷ xs) = ap suc (map-length f xs)
 
 module _ (s : rule.Screen Row) (h : Sound s) (b : Bool) (de pa : List ℕ) where
   abbrev st : State
@@ -77,6 +104,12 @@ module _ (s : rule.Screen Row) (h : Sound s) (b : Bool) (de pa : List ℕ) where
 
   filters-long : length (table (pos 0) 1024 (join filter-paint-words (st .attrs .filters))) ≡ 1024
   filters-long = table-length (pos 0) 1024 (join filter-paint-words (st .attrs .filters)) (omega (arith, join-length filter-paint-words 4 (λ a. refl) (st .attrs .filters), few-attrs .2))
+
+  opacities-long : length (table float-0 16 (layers-opacities (st .layers)) ++ table float-0 1024 (map attr-opacity (st .attrs .layers))) ≡ 1040
+  opacities-long =
+      let k : length (map attr-opacity (st .attrs .layers)) ≤ 1024 = rw map-length (few-attrs .1) in
+      length-append (table float-0 16 (layers-opacities (st .layers))) (table float-0 1024 (map attr-opacity (st .attrs .layers)))
+      ∙ omega (arith, opacities-length (st .layers) (h .deep), table-length float-0 1024 (map attr-opacity (st .attrs .layers)) k)
 
   -- a filter fill
   module _ (count : ℕ) (f : Filter) where
@@ -184,3 +217,75 @@ module _ (s : rule.Screen Row) (h : Sound s) (b : Bool) (de pa : List ℕ) where
     fill-stepped =
         settled (fill-into (lent-of s b de pa .tables)) (fills.fill-number (fill-part (lent-of s b de pa)) (join paint-words ps) (join segment-words ss) (draw-in d)) (refusal Row row-ops 32 the-fill (done Row row-ops 32 the-fill s))
         (fill-part (lent-of s b de pa)) (fills.fill-done (fill-part (lent-of s b de pa)) (join paint-words ps) (join segment-words ss) (draw-in d)) s (done Row row-ops 32 the-fill s) b de pa fill-is refl fill-after
+
+  -- a push
+  module _ (p : Props) where
+    abbrev the-push : Plan
+    the-push = plan-push p st
+
+    abbrev the-layer : Layer
+    the-layer = record { props = p; bounds = layer-box (st .frame .viewport) (box-of st) (p .clip) }
+
+    push-ok : the-push .refused ≡ Done → All (PutOk BoundedSpan) (the-push .puts)
+    unfolding plan
+    push-ok e = plan-ok st (h .built .framed) (a-push p) [] e
+
+    clip-back : (c : Option Clip) → clip-of (clip-in c) ≡ c
+    clip-back none = refl
+    clip-back (some c) = refl
+
+    push-same : Alike st (push.plan-of (props-in p) (screen-of st b)) the-push
+    push-same = push-alike st b (props-of (props-in p)) p refl refl (clip-back (p .clip))
+
+    push-layers : (the-push .layers ≡ the-layer ∷ st .layers) × (the-push .attrs ≡ st .attrs)
+    unfolding plan-push
+    push-layers = (refl, refl)
+
+    top-is : (n : ℕ) → push.top-words (push.plan-of (props-in p) (screen-of st b) .layers) n ≡ layer-words the-layer n
+    unfolding plan-push state-of
+    top-is n = rw (clip-back (p .clip), box-same st b)
+
+    push-first : push.first-number (push-part (lent-of s b de pa)) ≡ 0
+    unfolding lent-of
+    push-first = rw (judged-done s h b, eq-eqb _ _ (layers-long (st .layers) (h .deep)), eq-eqb _ _ opacities-long)
+
+    push-is : push.push-number (props-in p) (push-part (lent-of s b de pa)) ≡ refusal Row row-ops 32 the-push (done Row row-ops 32 the-push s)
+    unfolding push.push-number lent-of
+    push-is =
+        step-is s h b (push.plan-of (props-in p) (screen-of st b)) the-push push-same push-ok
+        (push.first-number (push-part (lent-of s b de pa))) push-first
+
+    new-layers : words-at (table 0 256 (layers-words (st .layers))) (16 * length (st .layers)) (push.top-words (push.plan-of (props-in p) (screen-of st b) .layers) (pattern-of (p .opacity)))
+        ≡ table 0 256 (layers-words (the-push .layers))
+    unfolding layers-words
+    new-layers = rw (top-is (pattern-of (p .opacity)), push-layers .0) (table-more 0 256 (16 * length (st .layers)) (layers-words (st .layers)) (open-words the-layer) (layers-length (st .layers)))
+
+    new-opacities : length (st .layers) < 16 → (ys : List Float)
+        → set (table float-0 16 (layers-opacities (st .layers)) ++ ys) (length (st .layers)) (ofBits binary32 (p .opacity)) ≡ table float-0 16 (layers-opacities (the-push .layers)) ++ ys
+    unfolding layers-opacities
+    new-opacities l ys =
+        let k : length (st .layers) < length (table float-0 16 (layers-opacities (st .layers))) = rw (opacities-length (st .layers) (h .deep)) l in
+        rw (push-layers .0)
+        (set-append-left (table float-0 16 (layers-opacities (st .layers))) ys (length (st .layers)) (ofBits binary32 (p .opacity)) k
+        ∙ ap (λ (t : List Float). t ++ ys) (table-set float-0 16 (length (st .layers)) (layers-opacities (st .layers)) (ofBits binary32 (p .opacity)) (opacities-count (st .layers)) l))
+
+    deep-enough : refusal Row row-ops 32 the-push (done Row row-ops 32 the-push s) ≡ Done → length (st .layers) < 16
+    deep-enough e = rw (push-layers .0) at (passing the-push (done Row row-ops 32 the-push s) e .deep)
+
+    push-after : refusal Row row-ops 32 the-push (done Row row-ops 32 the-push s) ≡ Done
+        → push-into (lent-of s b de pa .tables) (push.after (props-in p) (push-part (lent-of s b de pa))) ≡ lent-of (done Row row-ops 32 the-push s) false de pa
+    unfolding push.after lent-of done
+    push-after e =
+        rw (
+          plan-screen s h b (push.plan-of (props-in p) (screen-of st b)) the-push push-same push-ok,
+          plan-rows s h b (push.plan-of (props-in p) (screen-of st b)) the-push push-same push-ok e,
+          new-layers,
+          new-opacities (deep-enough e) (table float-0 1024 (map attr-opacity (st .attrs .layers))),
+          push-layers .1,
+        )
+
+    pub push-stepped : call-at (a-push p) (lent-of s b de pa) ≡ answer-of (call Row row-ops 32 (a-push p) s) b de pa
+    unfolding call-at call perform plan push.pushed
+    push-stepped =
+        settled (push-into (lent-of s b de pa .tables)) (push.push-number (props-in p) (push-part (lent-of s b de pa))) (refusal Row row-ops 32 the-push (done Row row-ops 32 the-push s))
+        (push-part (lent-of s b de pa)) (push.after (props-in p) (push-part (lent-of s b de pa))) s (done Row row-ops 32 the-push s) b de pa push-is refl push-after

@@ -1,11 +1,11 @@
 -- Tables that are filled from the start. Assumes nothing.
-use mathlib.Core.Path.{_≡_, refl, sym, ap, _∙_}
-use mathlib.Core.List.{List, [], _∷_, _++_, map, append-assoc, append-nil}
+use mathlib.Core.Path.{_≡_, refl, sym, _∙_}
+use mathlib.Core.List.{List, [], _∷_, _++_, append-assoc, append-nil}
 use Prim.Native.Nat.{ℕ, zero, suc, _+_, _-_, _*_, _≤_, _<_}
 use native.Mathlib.Nat.{mul-suc}
 use native.Mathlib.Omega.{arith}
-use lib.ListN.{length, take, drop, set, replicate, length-append, length-replicate}
-use lib.Seq.{take-at, drop-at, drop-append-add, set-at}
+use lib.ListN.{length, drop, set, replicate, length-append, length-replicate}
+use lib.Seq.{take-at, drop-append-add, set-at}
 use Rattle.rules.specs.Lists.{join}
 use Rattle.cmd.specs.Attrs.{words-at}
 use Rattle.refine.specs.Lent.{table}

@@ -5,11 +5,11 @@ use mathlib.Core.Bool.{Bool, false, cond}
 use mathlib.Core.List.{List, [], _∷_, _++_, map}
 use lib.Dec.{eqb}
 use lib.ListN.{length, replicate}
-use lib.IntN.{ℤ, pos}
+use lib.IntN.{pos}
 use lib.Ieee.{Float, binary32, ofBits}
 use Rattle.rules.specs.Lists.{join}
 use Rattle.rules.specs.Answers.{Answer, answer, Done}
-use Rattle.rules.specs.Attributes.{LayerAttr, FilterPaint, paint-attr-words, layer-attr-words}
+use Rattle.rules.specs.Attributes.{LayerAttr, paint-attr-words, layer-attr-words}
 use Rattle.rules.specs.Rows.{Row}
 use Rattle.rules.specs.Plans.{Layer, State, box-of}
 use Rattle.rules.specs.Steps as rule

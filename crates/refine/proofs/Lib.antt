@@ -6,3 +6,4 @@ pub mod Judged
 pub mod Alike
 pub mod Planned
 pub mod Steps
+pub mod Reset

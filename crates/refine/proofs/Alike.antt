@@ -51,7 +51,7 @@ pub record Alike (s : State) (p q : Plan) : Type 0 where
   pub deep : length (p .layers) ≡ length (q .layers)
   pub clip : clip-box (s .frame .viewport) (p .layers) ≡ clip-box (s .frame .viewport) (q .layers)
   pub paints : Grown some-paint (s .attrs .paints) (p .attrs .paints) (q .attrs .paints)
-  pub layers : Grown some-layer (s .attrs .layers) (p .attrs .layers) (q .attrs .layers)
+  pub layers : length (p .attrs .layers) ≡ length (q .attrs .layers)
   pub filters : Grown some-filter (s .attrs .filters) (p .attrs .filters) (q .attrs .filters)
 
 -- the state of the screen's numbers
@@ -87,24 +87,24 @@ module _ {S : Type 0} (n : ℕ) (s t : S) where
   pub settle-done : n ≡ Done → settle n s t .value ≡ t
   settle-done e = rw e
 
-module _ (s : rule.Screen Row) (h : Sound s) (b : Bool) (p q : Plan) (a : Alike (s .state) p q) (o : q .refused ≡ Done → All (PutOk BoundedSpan) (q .puts)) where
+-- x: a state with the screen's frame
+module _ (s : rule.Screen Row) (h : Sound s) (x : State) (f : x .frame ≡ s .state .frame) (p q : Plan) (a : Alike (s .state) p q) (o : q .refused ≡ Done → All (PutOk BoundedSpan) (q .puts)) where
   abbrev words-screen : rule.Screen Words
   words-screen = screen-by (encode (s .state .frame .c) (s .state .frame .d)) s
 
   abbrev here : rule.Screen Words
-  here = screen-at (state-of (screen-of (s .state) b)) (rows-of s)
+  here = screen-at x (rows-of s)
 
   here-rows : here .rows ≡ words-screen .rows
-  unfolding state-of
-  here-rows = rows-cut s h
+  here-rows = rw f (rows-cut s h)
 
   done-rows : done Words word-ops 32 p here .rows ≡ done Words word-ops 32 q words-screen .rows
   unfolding done
   done-rows = rw (here-rows, a .deep, a .puts)
 
   same-refusal : refusal Words word-ops 32 p (done Words word-ops 32 p here) ≡ refusal Words word-ops 32 q (done Words word-ops 32 q words-screen)
-  unfolding refusal done state-of
-  same-refusal = rw (here-rows, a .refused, a .next, a .deep, a .puts, grown-length (a .paints), grown-length (a .layers), grown-length (a .filters))
+  unfolding refusal done
+  same-refusal = rw (here-rows, f, a .refused, a .next, a .deep, a .puts, grown-length (a .paints), a .layers, grown-length (a .filters))
 
   performed : perform Words word-ops 32 q words-screen ≡ answer-by (screen-by (encode (s .state .frame .c) (s .state .frame .d))) (perform Row row-ops 32 q s)
   performed = follows-perform (refines (s .state .frame .c) (s .state .frame .d) 32) q o s (h .built .fine) .0
@@ -133,14 +133,28 @@ module _ (s : rule.Screen Row) (h : Sound s) (b : Bool) (p q : Plan) (a : Alike 
   unfolding done
   plan-rows e = ap lay (done-rows ∙ rules-rows e)
 
+  -- a step's number, where the tests before say nothing
+  pub number-is : (k : ℕ) (g : Bool) → k ≡ 0 → g ≡ true → step-number k g p here ≡ refusal Row row-ops 32 q (done Row row-ops 32 q s)
+  unfolding step-number
+  number-is k g z t = rw (z, t) plan-number
+
+-- the state of the screen's numbers
+state-frame : (s : State) (b : Bool) → state-of (screen-of s b) .frame ≡ s .frame
+unfolding state-of
+state-frame s b = refl
+
+module _ (s : rule.Screen Row) (h : Sound s) (b : Bool) (p q : Plan) (a : Alike (s .state) p q) (o : q .refused ≡ Done → All (PutOk BoundedSpan) (q .puts)) where
   -- the screen's numbers afterwards
   pub plan-screen : screen-after (screen-of (s .state) b) p ≡ screen-of (done Row row-ops 32 q s .state) false
   unfolding screen-after done
-  plan-screen = rw (a .next, a .deep, a .clip, grown-length (a .paints), grown-length (a .layers), grown-length (a .filters))
+  plan-screen = rw (a .next, a .deep, a .clip, grown-length (a .paints), a .layers, grown-length (a .filters))
 
-  -- a step's number, where the tests before say nothing
-  pub step-is : (k : ℕ) → k ≡ 0 → step-number k (good-rows (s .state .frame) (length (s .state .layers)) (p .puts) (rows-at (s .state .frame) (rows-of s))) p here ≡ refusal Row row-ops 32 q (done Row row-ops 32 q s)
-  unfolding step-number
+  pub rows-is : refusal Row row-ops 32 q (done Row row-ops 32 q s) ≡ Done → lay (done Words word-ops 32 p (screen-at (state-of (screen-of (s .state) b)) (rows-of s)) .rows) ≡ rows-of (done Row row-ops 32 q s)
+  rows-is e = plan-rows s h (state-of (screen-of (s .state) b)) (state-frame (s .state) b) p q a o e
+
+  -- .. of a step that judges the records of the rows that it puts on
+  pub step-is : (k : ℕ) → k ≡ 0
+      → step-number k (good-rows (s .state .frame) (length (s .state .layers)) (p .puts) (rows-at (s .state .frame) (rows-of s))) p (screen-at (state-of (screen-of (s .state) b)) (rows-of s)) ≡ refusal Row row-ops 32 q (done Row row-ops 32 q s)
   step-is k z =
       let g = records-good (s .state .frame) (length (s .state .layers)) (p .puts) (s .rows) (λ j. (h .rows j, h .reaching .rows j .few)) (h .built .fine) in
-      rw (z, rows-cut s h, g) plan-number
+      number-is s h (state-of (screen-of (s .state) b)) (state-frame (s .state) b) p q a o k _ z (rw (rows-cut s h) g)

@@ -7,3 +7,5 @@ pub mod Alike
 pub mod Planned
 pub mod Steps
 pub mod Reset
+pub mod Layers
+pub mod Pops

@@ -14,7 +14,7 @@ use Rattle.rules.specs.Plans.{State, still, box-of, with-paint, plan-fill, plan
 use Rattle.screen.specs.Screens.{some-paint, some-layer, some-filter, state-of}
 use Rattle.screen.proofs.Laws.{paint-count, filter-count, layer-count}
 use Rattle.refine.specs.Lent.{screen-of}
-use Rattle.refine.proofs.Alike.{Grown, Alike, box-same, empty-same}
+use Rattle.refine.proofs.Alike.{Grown, grown-length, Alike, box-same, empty-same}
 
 -- nothing new
 same-grown : {A : Type 0} (z : A) (old : List A) → Grown z old (replicate (length old) z) old
@@ -37,7 +37,7 @@ module _ (s : State) (b : Bool) where
         deep = layers-length;
         clip = box-same s b;
         paints = same-grown some-paint (s .attrs .paints);
-        layers = same-grown some-layer (s .attrs .layers);
+        layers = grown-length (same-grown some-layer (s .attrs .layers));
         filters = same-grown some-filter (s .attrs .filters);
       }
 
@@ -53,7 +53,7 @@ module _ (s : State) (b : Bool) where
         deep = layers-length;
         clip = box-same s b;
         paints = rw e (more-grown some-paint (s .attrs .paints) _);
-        layers = same-grown some-layer (s .attrs .layers);
+        layers = grown-length (same-grown some-layer (s .attrs .layers));
         filters = more-grown some-filter (s .attrs .filters) (filter-paint f ∷ []);
       }
 
@@ -101,7 +101,7 @@ module _ (s : State) (b : Bool) where
         deep = layers-length;
         clip = box-same s b;
         paints = fill-attrs (is-empty (draw-segments ss d)) d;
-        layers = fill-layers (is-empty (draw-segments ss d)) d;
+        layers = grown-length (fill-layers (is-empty (draw-segments ss d)) d);
         filters = fill-filters (is-empty (draw-segments ss d)) d;
       }
 
@@ -116,6 +116,6 @@ module _ (s : State) (b : Bool) where
         deep = ap suc layers-length;
         clip = rw (c, box-same s b);
         paints = same-grown some-paint (s .attrs .paints);
-        layers = same-grown some-layer (s .attrs .layers);
+        layers = grown-length (same-grown some-layer (s .attrs .layers));
         filters = same-grown some-filter (s .attrs .filters);
       }

@@ -40,7 +40,7 @@ use Rattle.refine.specs.Lent.{table, open-words, layers-words, layers-op
 use Rattle.refine.proofs.Tables.{table-length, table-more, table-set, join-append, join-length}
 use Rattle.refine.proofs.Kept.{passing}
 use Rattle.refine.proofs.Judged.{judged-done}
-use Rattle.refine.proofs.Alike.{box-same, Grown, grown-new, Alike, plan-rows, plan-screen, step-is}
+use Rattle.refine.proofs.Alike.{box-same, Grown, grown-new, Alike, rows-is, plan-screen, step-is}
 use Rattle.refine.proofs.Planned.{filter-alike, fill-alike, push-alike}
 
 -- an answer at the words, from its number and what stands afterwards
@@ -149,7 +149,7 @@ module _ (s : rule.Screen Row) (h : Sound s) (b : Bool) (de pa : List ℕ) where
         let p = plan-filter count f (state-of (screen-of st b)) in
         rw (
           plan-screen s h b p filter-plan a filter-ok,
-          plan-rows s h b p filter-plan a filter-ok e,
+          rows-is s h b p filter-plan a filter-ok e,
           grown-table 0 8192 8 paint-attr-words (λ x. refl) (a .paints),
           grown-table (pos 0) 1024 4 filter-paint-words (λ x. refl) (a .filters),
           filter-keeps .0,
@@ -205,7 +205,7 @@ module _ (s : rule.Screen Row) (h : Sound s) (b : Bool) (de pa : List ℕ) where
           paints-said ps,
           segments-said ss,
           plan-screen s h b p the-fill a fill-ok,
-          plan-rows s h b p the-fill a fill-ok e,
+          rows-is s h b p the-fill a fill-ok e,
           grown-table 0 8192 8 paint-attr-words (λ x. refl) (a .paints),
           fill-keeps .0,
           fill-keeps .1,
@@ -278,7 +278,7 @@ module _ (s : rule.Screen Row) (h : Sound s) (b : Bool) (de pa : List ℕ) where
     push-after e =
         rw (
           plan-screen s h b (push.plan-of (props-in p) (screen-of st b)) the-push push-same push-ok,
-          plan-rows s h b (push.plan-of (props-in p) (screen-of st b)) the-push push-same push-ok e,
+          rows-is s h b (push.plan-of (props-in p) (screen-of st b)) the-push push-same push-ok e,
           new-layers,
           new-opacities (deep-enough e) (table float-0 1024 (map attr-opacity (st .attrs .layers))),
           push-layers .1,

@@ -9,3 +9,4 @@ pub mod Steps
 pub mod Reset
 pub mod Layers
 pub mod Pops
+pub mod Pop

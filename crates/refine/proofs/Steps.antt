@@ -90,7 +90,7 @@ module _ (s : rule.Screen Row) (h : Sound s) (b : Bool) (de pa : List ℕ) where
   abbrev st : State
   st = s .state
 
-  few-attrs : (length (st .attrs .paints) ≤ 1024) × (length (st .attrs .layers) ≤ 1024) × (length (st .attrs .filters) ≤ 256)
+  pub few-attrs : (length (st .attrs .paints) ≤ 1024) × (length (st .attrs .layers) ≤ 1024) × (length (st .attrs .filters) ≤ 256)
   few-attrs =
       let f1 = ltb 1024 (length (st .attrs .paints)) in
       let f2 = ltb 1024 (length (st .attrs .layers)) in
@@ -105,7 +105,7 @@ module _ (s : rule.Screen Row) (h : Sound s) (b : Bool) (de pa : List ℕ) where
   filters-long : length (table (pos 0) 1024 (join filter-paint-words (st .attrs .filters))) ≡ 1024
   filters-long = table-length (pos 0) 1024 (join filter-paint-words (st .attrs .filters)) (omega (arith, join-length filter-paint-words 4 (λ a. refl) (st .attrs .filters), few-attrs .2))
 
-  opacities-long : length (table float-0 16 (layers-opacities (st .layers)) ++ table float-0 1024 (map attr-opacity (st .attrs .layers))) ≡ 1040
+  pub opacities-long : length (table float-0 16 (layers-opacities (st .layers)) ++ table float-0 1024 (map attr-opacity (st .attrs .layers))) ≡ 1040
   opacities-long =
       let k : length (map attr-opacity (st .attrs .layers)) ≤ 1024 = rw map-length (few-attrs .1) in
       length-append (table float-0 16 (layers-opacities (st .layers))) (table float-0 1024 (map attr-opacity (st .attrs .layers)))

@@ -10,3 +10,4 @@ pub mod Reset
 pub mod Layers
 pub mod Pops
 pub mod Pop
+pub mod Refined

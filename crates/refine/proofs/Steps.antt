@@ -59,7 +59,7 @@ grown-table z n k f e {d} {old} {xs} {ys} g =
     rw (grown-new g, g .ours, join-append f old (g .new)) (table-more z n (k * length old) (join f old) (join f (g .new)) (join-length f k e old))
 
 -- the open layers' words and opacities, by their number
-layer-length : (l : Layer) (n : ℕ) → length (layer-words l n) ≡ 16
+pub layer-length : (l : Layer) (n : ℕ) → length (layer-words l n) ≡ 16
 layer-length l n = go (l .props .clip)
   where
     go : (c : Option Clip) → length (layer-words (record { props = record { blend = l .props .blend; opacity = l .props .opacity; mask = l .props .mask; clip = c }; bounds = l .bounds }) n) ≡ 16
@@ -82,7 +82,7 @@ opacities-count (l ∷ ls) = length-append (layers-opacities ls) (ofBits binary3
 pub opacities-length : (ls : List Layer) → length ls ≤ 16 → length (table float-0 16 (layers-opacities ls)) ≡ 16
 opacities-length ls d = table-length float-0 16 (layers-opacities ls) (omega (arith, opacities-count ls))
 
-map-length : {A B : Type 0} (f : A → B) (xs : List A) → length (map f xs) ≡ length xs
+pub map-length : {A B : Type 0} (f : A → B) (xs : List A) → length (map f xs) ≡ length xs
 map-length f [] = refl
 map-length f (x ∷ xs) = ap suc (map-length f xs)
 

@@ -23,7 +23,7 @@ use Rattle.building.specs.Building.{rows-at, screen-at, good-rows, step-number}
 use Rattle.encode.specs.Encode.{encode}
 use Rattle.encode.proofs.Refines.{refines}
 use Rattle.screen.specs.declared.Screen.{Screen}
-use Rattle.screen.specs.Screens.{some-paint, some-layer, some-filter, layer-in, state-of, screen-after}
+use Rattle.screen.specs.Screens.{some-paint, some-filter, layer-in, state-of, screen-after}
 use Rattle.refine.specs.Sound.{Sound}
 use Rattle.refine.specs.Lent.{screen-of, rows-of}
 use Rattle.refine.proofs.Judged.{rows-cut}

@@ -1,26 +1,25 @@
 -- Open layers read back from their words. Assumes nothing.
-use mathlib.Core.Path.{_≡_, refl, sym, ap, _∙_}
-use mathlib.Core.Bool.{Bool, true, false, _&&_, cond}
+use mathlib.Core.Path.{_≡_, refl, ap, _∙_}
+use mathlib.Core.Bool.{Bool, true, _&&_}
 use mathlib.Core.List.{List, [], _∷_, _++_, map, append-assoc}
 use mathlib.Core.Option.{Option, none, some}
-use Prim.Native.Nat.{ℕ, zero, suc, _+_, _-_, _*_, _%_, _≤_, _<_}
-use native.Mathlib.Omega.{arith}
-use lib.Dec.{leb, ltb, eqb}
-use lib.ListN.{length, getD, replicate}
+use Prim.Native.Nat.{ℕ, suc, _+_, _*_}
+use lib.Dec.{leb}
+use lib.ListN.{length, getD}
 use lib.Seq.{getD-append-add}
 use borrow.Author.Tests.{le-leb, eq-eqb}
 use Rattle.rules.specs.Boxes.{Box, good-viewport, good-box}
 use Rattle.rules.specs.Blends.{good-blend}
-use Rattle.rules.specs.Inputs.{Clip, Props, good-clip, good-handle, good-thread, all-good, good-props}
+use Rattle.rules.specs.Inputs.{Clip, good-handle, good-thread, all-good, good-props}
 use Rattle.rules.specs.Plans.{Layer, clip-box}
 use Rattle.rules.proofs.All.{All, cons, both}
 use Rattle.screen.proofs.Laws as screens
 use Rattle.layers.specs.declared.OpenLayer.{OpenLayer}
-use Rattle.layers.specs.Layers.{layer-words, layer-word, layer-at, open-at, good-layer, good-own-box}
+use Rattle.layers.specs.Layers.{layer-words, layer-at, open-at, good-layer, good-own-box}
 use Rattle.pop.specs.Pop.{layers-in, good-open}
 use Rattle.reading.specs.Reading.{pattern-of}
 use Rattle.refine.specs.Sound.{Good}
-use Rattle.refine.specs.Lent.{table, open-words, layers-words}
+use Rattle.refine.specs.Lent.{open-words, layers-words}
 use Rattle.refine.proofs.Kept.{clip-good}
 use Rattle.refine.proofs.Steps.{layers-length}
 

@@ -9,3 +9,5 @@ pub mod Steps
 pub mod Reset
 pub mod Layers
 pub mod Pops
+pub mod Pop
+pub mod Refined

@@ -17,7 +17,7 @@ use Rattle.refine.specs.Lent.{screen-of}
 use Rattle.refine.proofs.Alike.{Grown, grown-length, Alike, box-same, empty-same}
 
 -- nothing new
-same-grown : {A : Type 0} (z : A) (old : List A) → Grown z old (replicate (length old) z) old
+pub same-grown : {A : Type 0} (z : A) (old : List A) → Grown z old (replicate (length old) z) old
 same-grown z old = record { new = []; given = sym (append-nil (replicate (length old) z)); ours = sym (append-nil old) }
 
 more-grown : {A : Type 0} (z : A) (old new : List A) → Grown z old (replicate (length old) z ++ new) (old ++ new)

@@ -1,5 +1,5 @@
 -- What a pop judges of a sound screen's rows is good (answer 4). Assumes nothing.
-use mathlib.Core.Path.{_≡_, refl, sym, ap, _∙_}
+use mathlib.Core.Path.{_≡_, refl, ap, _∙_}
 use mathlib.Core.Bool.{Bool, true, false, _&&_, cond}
 use mathlib.Core.List.{List, [], _∷_, _++_, map}
 use mathlib.Core.Option.{none, some}
@@ -8,12 +8,12 @@ use native.Mathlib.Omega.{arith}
 use lib.Dec.{ltb, eqb}
 use lib.ListN.{length, getD, replicate, length-append, List·getD-append}
 use lib.Seq.{getD-take, getD-append-add}
-use borrow.Author.Tests.{lt-ltb, eq-eqb, ne-eqb, eqb-true, eqb-false}
+use borrow.Author.Tests.{lt-ltb, ne-eqb, eqb-true, eqb-false}
 use Rattle.rules.specs.Lists.{every, join}
 use Rattle.rules.specs.Commands.{Command, paint-fill, layer-fill, push-buf, pop-buf, command-words}
 use Rattle.rules.specs.Rows.{Row, Level, fresh-row}
 use Rattle.rules.proofs.All.{All, head, tail}
-use Rattle.row.specs.Words.{Words, word}
+use Rattle.row.specs.Words.{word}
 use Rattle.arena.specs.Arena.{nowhere}
 use Rattle.building.specs.Building.{good-row}
 use Rattle.closing.specs.Closing.{row-of, good-pop, good-pops}

@@ -31,10 +31,7 @@ use Rattle.refine.specs.Sound.{Sound}
 use Rattle.refine.specs.Lent.{table, layers-words, layers-opacities, attr-words, attr-opacity, screen-of, lent-of}
 use Rattle.refine.specs.Lent as words
 use Rattle.refine.proofs.Kept.{reset-sound}
-
-replicate-add : {A : Type 0} (m n : ℕ) (z : A) → replicate m z ++ replicate n z ≡ replicate (m + n) z
-replicate-add zero n z = let e : 0 + n ≡ n = omega arith in rw e
-replicate-add (suc m) n z = let e : suc m + n ≡ suc (m + n) = omega arith in rw e (ap (λ t. z ∷ t) (replicate-add m n z))
+use Rattle.refine.proofs.Tables.{replicate-add}
 
 abbrev none-of : ℕ → List ℕ
 none-of n = replicate n 0

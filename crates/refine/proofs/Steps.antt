@@ -59,7 +59,7 @@ grown-table z n k f e {d} {old} {xs} {ys} g =
     rw (grown-new g, g .ours, join-append f old (g .new)) (table-more z n (k * length old) (join f old) (join f (g .new)) (join-length f k e old))
 
 -- the open layers' words and opacities, by their number
-layer-length : (l : Layer) (n : ℕ) → length (layer-words l n) ≡ 16
+pub layer-length : (l : Layer) (n : ℕ) → length (layer-words l n) ≡ 16
 layer-length l n = go (l .props .clip)
   where
     go : (c : Option Clip) → length (layer-words (record { props = record { blend = l .props .blend; opacity = l .props .opacity; mask = l .props .mask; clip = c }; bounds = l .bounds }) n) ≡ 16
@@ -82,7 +82,7 @@ opacities-count (l ∷ ls) = length-append (layers-opacities ls) (ofBits binary3
 pub opacities-length : (ls : List Layer) → length ls ≤ 16 → length (table float-0 16 (layers-opacities ls)) ≡ 16
 opacities-length ls d = table-length float-0 16 (layers-opacities ls) (omega (arith, opacities-count ls))
 
-map-length : {A B : Type 0} (f : A → B) (xs : List A) → length (map f xs) ≡ length xs
+pub map-length : {A B : Type 0} (f : A → B) (xs : List A) → length (map f xs) ≡ length xs
 map-length f [] = refl
 map-length f (x ∷ xs) = ap suc (map-length f xs)
 
@@ -90,7 +90,7 @@ module _ (s : rule.Screen Row) (h : Sound s) (b : Bool) (de pa : List ℕ) where
   abbrev st : State
   st = s .state
 
-  few-attrs : (length (st .attrs .paints) ≤ 1024) × (length (st .attrs .layers) ≤ 1024) × (length (st .attrs .filters) ≤ 256)
+  pub few-attrs : (length (st .attrs .paints) ≤ 1024) × (length (st .attrs .layers) ≤ 1024) × (length (st .attrs .filters) ≤ 256)
   few-attrs =
       let f1 = ltb 1024 (length (st .attrs .paints)) in
       let f2 = ltb 1024 (length (st .attrs .layers)) in
@@ -105,7 +105,7 @@ module _ (s : rule.Screen Row) (h : Sound s) (b : Bool) (de pa : List ℕ) where
   filters-long : length (table (pos 0) 1024 (join filter-paint-words (st .attrs .filters))) ≡ 1024
   filters-long = table-length (pos 0) 1024 (join filter-paint-words (st .attrs .filters)) (omega (arith, join-length filter-paint-words 4 (λ a. refl) (st .attrs .filters), few-attrs .2))
 
-  opacities-long : length (table float-0 16 (layers-opacities (st .layers)) ++ table float-0 1024 (map attr-opacity (st .attrs .layers))) ≡ 1040
+  pub opacities-long : length (table float-0 16 (layers-opacities (st .layers)) ++ table float-0 1024 (map attr-opacity (st .attrs .layers))) ≡ 1040
   opacities-long =
       let k : length (map attr-opacity (st .attrs .layers)) ≤ 1024 = rw map-length (few-attrs .1) in
       length-append (table float-0 16 (layers-opacities (st .layers))) (table float-0 1024 (map attr-opacity (st .attrs .layers)))

@@ -1,6 +1,7 @@
 -- The words of a screen of the rules: every lent word is a function of the rules' state and rows, but the depth words and the painter's,
 -- which no building step reads or writes, and whether painting has begun.
 use Prim.Native.Nat.{ℕ, _-_}
+use mathlib.Core.Path.{_≡_}
 use mathlib.Core.Bool.{Bool, false, cond}
 use mathlib.Core.List.{List, [], _∷_, _++_, map}
 use lib.Dec.{eqb}
@@ -80,3 +81,10 @@ lent-of s begun depth painting =
 -- an answer of the rules, at the words: a done step ends painting
 abbrev pub answer-of : Answer (rule.Screen Row) → Bool → List ℕ → List ℕ → Answer Lent
 answer-of a begun depth painting = answer (a .number) (lent-of (a .value) (cond (eqb (a .number) Done) false begun) depth painting)
+
+-- l holds the words of the screen s
+pub record Holds (s : rule.Screen Row) (l : Lent) : Type 0 where
+  pub begun : Bool
+  pub depth : List ℕ
+  pub painting : List ℕ
+  pub same : l ≡ lent-of s begun depth painting

@@ -34,7 +34,7 @@ const USAGE: &str = "usage: oracle rowlist [--first-id N] < FILE
        oracle generate SEED COUNT [all|edges|scenes|damaged|heavy|ids] > STREAM
        oracle names SEED COUNT [KIND]
        oracle leaves [--text] [SEED [COUNT]]
-       oracle calls SEED COUNT > CALLS
+       oracle calls SEED COUNT [MOST] > CALLS
        oracle answers < CALLS";
 
 fn main() {
@@ -50,7 +50,8 @@ fn main() {
         ["names", seed, count] => generate::names(&made(seed, count, "all")),
         ["names", seed, count, kind] => generate::names(&made(seed, count, kind)),
         ["leaves", ..] => leaves_of(&words[1..]),
-        ["calls", seed, count] => generate::calls::stream(number(seed), number(count)),
+        ["calls", seed, count] => generate::calls::stream(number(seed), number(count), u32::MAX),
+        ["calls", seed, count, most] => generate::calls::stream(number(seed), number(count), number(most)),
         ["answers"] => calls::stream(&calls::sequences(&input()).iter().map(|calls| calls::answers(calls)).collect::<Vec<_>>()),
         ["lines"] => dump(|bytes| print::rowlist(&mut player, bytes)),
         _ => {

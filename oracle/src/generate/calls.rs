@@ -14,13 +14,18 @@ const MOST_ROWS: u32 = 32;
 const MOST_RENDER: u32 = 16_384;
 const MOST_FILLS: u32 = 8_192;
 
-/// So many sequences, the edges first, as a stream.
-pub(crate) fn stream(seed: u32, count: u32) -> Vec<u8> {
+/// So many sequences, the edges first, as a stream: those that have at most so many words with their answers.
+pub(crate) fn stream(seed: u32, count: u32, most: u32) -> Vec<u8> {
     let mut random = Random::new(seed);
+    let small = |calls: &[Call]| calls.iter().map(|call| call.words().len()).sum::<usize>() + crate::calls::answers(calls).len() <= most as usize;
     let mut all = edges();
+    all.retain(|calls| small(calls));
     all.truncate(count as usize);
     while all.len() < count as usize {
-        all.push(sequence(&mut random));
+        let calls = sequence(&mut random);
+        if small(&calls) {
+            all.push(calls);
+        }
     }
     let words: Vec<Vec<u32>> = all.iter().map(|calls| calls.iter().flat_map(Call::words).collect()).collect();
     crate::calls::stream(&words)

@@ -56,9 +56,6 @@ pub record Alike (s : State) (p q : Plan) : Type 0 where
 
 -- the state of the screen's numbers
 module _ (s : State) (b : Bool) where
-  abbrev pub placed : State
-  placed = state-of (screen-of s b)
-
   clip-same : (v : Box) (ls : List Layer) → clip-box v (replicate (length ls) (layer-in (clip-box v ls))) ≡ clip-box v ls
   clip-same v [] = refl
   clip-same v (l ∷ ls) = refl

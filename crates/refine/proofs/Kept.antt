@@ -183,19 +183,7 @@ passing p t e = go (eqb (p .refused) Done) refl
     go true q =
         let n = none-says _ _ _ _ _ (rw q at e) in
         record { own = eqb-true (p .refused) Done q; deep = ltb-false 16 (length (p .layers)) (n .0); ids = ltb-false 1048577 (p .next) (n .1); attrs = n .2; renders = n .3; depths = n .4 }
-    go false q = let z : p .refused ≡ Done = rw q at e in record { own = z; deep = absurd-here z q; ids = absurd-ids z q; attrs = absurd-b z q; renders = absurd-b z q; depths = absurd-b z q }
-      where
-        no : p .refused ≡ Done → eqb (p .refused) Done ≡ false → ⊥
-        no z w = eqb-false (p .refused) Done w z
-
-        absurd-here : p .refused ≡ Done → eqb (p .refused) Done ≡ false → length (p .layers) ≤ 16
-        absurd-here z w = absurd (no z w)
-
-        absurd-ids : p .refused ≡ Done → eqb (p .refused) Done ≡ false → p .next ≤ 1048577
-        absurd-ids z w = absurd (no z w)
-
-        absurd-b : {b : Bool} → p .refused ≡ Done → eqb (p .refused) Done ≡ false → b ≡ false
-        absurd-b z w = absurd (no z w)
+    go false q = absurd (eqb-false (p .refused) Done q (rw q at e))
 
 -- counts stay within their limit
 module _ (count : Row → ℕ) (n : ℕ) (z : count fresh-row ≤ n) where

@@ -11,3 +11,4 @@ pub mod Layers
 pub mod Pops
 pub mod Pop
 pub mod Refined
+pub mod Walks

@@ -48,9 +48,6 @@ module _ (ls : List Level) (p t v : ℕ) (few : length ls ≤ 15) where
   top-span : getD (padded 48 (stack ls ++ (p ∷ t ∷ v ∷ []))) (3 * length ls + 2) 0 ≡ v
   top-span = rw (opened, ← stack-length ls, getD-append-add)
 
-  abbrev tops : ℕ → List ℕ → List ℕ
-  tops a xs = a ∷ xs
-
 union-good : (u : Option Span) → OrderedUnion u → (t v : ℕ) → union-words u ≡ t ∷ v ∷ [] → good-union t v ≡ true
 union-good none o t v e =
     let p : t ≡ 5 = sym (ap (λ (l : List ℕ). getD l 0 0) e) in

@@ -63,3 +63,17 @@ step-refines x s l r =
         holds = record { begun = cond (eqb (call Row row-ops 32 x s .number) Done) false (h .begun); depth = h .depth; painting = h .painting; same = ap (λ (w : Answer Lent). w .value) e };
       };
     }
+
+-- a done reset and then done steps, each on the words that the last call left; s is what the rules make of the same steps
+pub data BuiltBy : rule.Screen Row → Lent → Type 0 where
+  by-reset : (v : Rect) (c d : ℕ) (l : Lent) → judged-reset v c d (lengths (l .tables)) ≡ 0 → BuiltBy (reset fresh-row (frame v c d)) (reset-to v c d l .value)
+  by-step : (x : Step) (s : rule.Screen Row) (l : Lent) → BuiltBy s l → call-at x l .number ≡ 0 → BuiltBy (call Row row-ops 32 x s .value) (call-at x l .value)
+
+-- on every built screen the lent words are those of the rules' screen
+pub built-refines : {s : rule.Screen Row} {l : Lent} → BuiltBy s l → Refines s l
+built-refines (by-reset v c d l z) = reset-refines v c d l z .value
+built-refines (by-step x s l b z) = step-refines x s l (built-refines b) .value
+
+-- and every step, refused or done, has the rules' number there
+pub built-number : (x : Step) (s : rule.Screen Row) (l : Lent) → BuiltBy s l → call-at x l .number ≡ call Row row-ops 32 x s .number
+built-number x s l b = step-refines x s l (built-refines b) .number

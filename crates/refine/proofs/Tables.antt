@@ -1,6 +1,6 @@
 -- Tables that are filled from the start. Assumes nothing.
 use mathlib.Core.Path.{_≡_, refl, sym, ap, _∙_}
-use mathlib.Core.List.{List, [], _∷_, _++_, append-assoc, append-nil}
+use mathlib.Core.List.{List, [], _∷_, _++_, append-assoc}
 use Prim.Native.Nat.{ℕ, zero, suc, _+_, _-_, _*_, _≤_, _<_}
 use native.Mathlib.Nat.{mul-suc}
 use native.Mathlib.Omega.{arith}
@@ -26,10 +26,6 @@ module _ {A : Type 0} where
   table-more z n k xs ys e =
       let q : n - length xs - length ys ≡ n - length (xs ++ ys) = omega (arith, length-append xs ys) in
       rw (take-at xs (replicate (n - length xs) z) k e, ← e, drop-append-add xs (replicate (n - length xs) z) (length ys), drop-same (length ys) (n - length xs) z, q)
-
-  -- nothing more
-  pub table-same : (z : A) (n k : ℕ) (xs : List A) → length xs ≡ k → words-at (table z n xs) k [] ≡ table z n xs
-  table-same z n k xs e = table-more z n k xs [] e ∙ rw append-nil
 
 module _ {A B : Type 0} (f : A → List B) where
   pub join-append : (xs ys : List A) → join f (xs ++ ys) ≡ join f xs ++ join f ys

@@ -44,7 +44,6 @@ in-all i b ls u n r = record { few = omega arith; boxed = in-under i b ls u n r 
 -- a put that gives its row no level of a layer whose box it doesn't lie in
 pub data PutIn (ls : List Layer) : Put → Type 0 where
   inside : (p : Put) → Reached ls (p .row) (length ls) → PutIn ls p
-  closes : (s : Span) (a : Option ℕ) (i r : ℕ) → PutIn ls (on (close s a i) r)
 
 module _ (w : ℕ) (ls : List Layer) where
   after-act : (t : Act) (i m : ℕ) → Reached ls i (length ls) → Reached ls i m → Reached ls i (levels-after w (length ls) t m)
@@ -64,7 +63,6 @@ module _ (w : ℕ) (ls : List Layer) where
 
     put-keeps : {p : Put} → PutIn ls p → (i : ℕ) → Reached ls i (levels-at (change (do-act Row row-ops w (length ls) (p .act)) (p .row) rs) i)
     put-keeps (inside p g) i = one (p .act) (p .row) i (λ e. after-act (p .act) i (levels-at rs i) (rw e at g) (h i))
-    put-keeps (closes s a k r) i = one (close s a k) r i (λ e. h i)
 
   -- puts keep rows within their layers' boxes
   pub puts-keep : {ps : List Put} → All (PutIn ls) ps → (rs : List Row) → ((i : ℕ) → Reached ls i (levels-at rs i)) → (i : ℕ) → Reached ls i (levels-at (do-puts Row row-ops w (length ls) ps rs) i)

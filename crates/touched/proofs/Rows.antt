@@ -91,7 +91,7 @@ rows-count : (c d : ℕ) (rows : List Row) → length (map (encode c d) rows) �
 rows-count c d [] = refl
 rows-count c d (r ∷ rs) = ap suc (rows-count c d rs)
 
--- READINGS 38: of the words of a screen that steps make, the touched rows are those among the rows of the innermost layer's box
+-- reading 38: of the words of a screen that steps make, the touched rows are those among the rows of the innermost layer's box
 pub touched-own : (c d v : ℕ) (s : Screen Row) (l : Layer) (ls : List Layer) → Reaching s → s .state .layers ≡ l ∷ ls
     → touched Words word-ops v (suc (length ls)) 0 (map (encode c d) (s .rows)) ≡ touched-in (suc (length ls)) (map (encode c d) (s .rows)) (rows-in (l .bounds))
 touched-own c d v s l ls r e =

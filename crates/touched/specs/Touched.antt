@@ -1,4 +1,4 @@
--- Which rows the open layers have reached (rules 5 and 10; READINGS 38): a row has the PushBuf of a layer only if it lies in that layer's box.
+-- Which rows the open layers have reached (rules 5 and 10; reading 38): a row has the PushBuf of a layer only if it lies in that layer's box.
 use Prim.Native.Nat.{ℕ, suc, _+_, _/_, _≤_, _<_}
 use mathlib.Core.List.{List, [], _∷_}
 use lib.ListN.{length, getD}

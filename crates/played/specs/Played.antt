@@ -1,0 +1,24 @@
+-- A recording at the words beside the rules' play of it.
+use Prim.Native.Nat.{ℕ}
+use mathlib.Core.Path.{_≡_}
+use Rattle.rules.specs.Answers.{Answer}
+use Rattle.rules.specs.Rows.{Row}
+use Rattle.rules.specs.Steps.{Screen}
+use Rattle.rules.specs.Walk.{Place}
+use Rattle.screen.specs.Judging.{arenas}
+use Rattle.screen.specs.Tables.{lengths, Lent}
+use Rattle.refine.proofs.Refined.{Refines}
+
+-- what is lent as the rules' place: no screen has more than 512 rows
+abbrev pub place : ℕ → ℕ → Lent → Place
+place c d l = record { limit = 512; c = c; d = d; arenas = arenas (lengths (l .tables)) }
+
+-- what stands afterwards, from the screen s and the words l: both are left as they were, or the words are those of the rules' screen
+pub data Outcome (s : Screen Row) (l : Lent) (s′ : Screen Row) (l′ : Lent) : Type 0 where
+  unaltered : s′ ≡ s → l′ ≡ l → Outcome s l s′ l′
+  made : Refines s′ l′ → Outcome s l s′ l′
+
+-- the call at the words beside the rules' play
+pub record Plays (s : Screen Row) (l : Lent) (a : Answer (Screen Row)) (w : Answer Lent) : Type 0 where
+  pub number : w .number ≡ a .number
+  pub value : Outcome s l (a .value) (w .value)

@@ -4,6 +4,7 @@ pub(crate) mod calls;
 mod damage;
 mod draft;
 mod edges;
+pub(crate) mod forged;
 mod scenes;
 
 use crate::random::Random;

@@ -35,7 +35,8 @@ const USAGE: &str = "usage: oracle rowlist [--first-id N] < FILE
        oracle names SEED COUNT [KIND]
        oracle leaves [--text] [SEED [COUNT]]
        oracle calls SEED COUNT [MOST] > CALLS
-       oracle answers < CALLS";
+       oracle answers < CALLS
+       oracle forged [--text]";
 
 fn main() {
     let mut words: Vec<String> = std::env::args().skip(1).collect();
@@ -52,6 +53,8 @@ fn main() {
         ["leaves", ..] => leaves_of(&words[1..]),
         ["calls", seed, count] => generate::calls::stream(number(seed), number(count), u32::MAX),
         ["calls", seed, count, most] => generate::calls::stream(number(seed), number(count), number(most)),
+        ["forged"] => generate::forged::words(),
+        ["forged", "--text"] => generate::forged::names(),
         ["answers"] => calls::stream(&calls::sequences(&input()).iter().map(|calls| calls::answers(calls)).collect::<Vec<_>>()),
         ["lines"] => dump(|bytes| print::rowlist(&mut player, bytes)),
         _ => {

@@ -35,20 +35,20 @@ pub(crate) fn stream(seed: u32, count: u32, most: u32) -> Vec<u8> {
 
 const OPAQUE: [u32; 4] = [1, 7, 0, 0];
 
-fn reset(width: u32, height: u32, c: u32, d: u32) -> Call {
+pub(super) fn reset(width: u32, height: u32, c: u32, d: u32) -> Call {
     Call::Reset { viewport: [0, 0, width, height], c, d }
 }
 
-fn fill(segments: &[[u32; 5]]) -> Call {
+pub(super) fn fill(segments: &[[u32; 5]]) -> Call {
     let end = u32::try_from(segments.len()).expect("few");
     Call::Fill { draw: [0, 0, end, 0, DEFAULT[0], DEFAULT[1], 0], paints: vec![OPAQUE], segments: segments.to_vec() }
 }
 
-fn alpha(row: u32, first: u32, end: u32) -> Call {
+pub(super) fn alpha(row: u32, first: u32, end: u32) -> Call {
     fill(&[[1, row, first, end, 160]])
 }
 
-fn push() -> Call {
+pub(super) fn push() -> Call {
     Call::Push { mix: 0, compose: 3, opacity: HALF, mask: 0, flag: 0, clip: [0; 7] }
 }
 
@@ -65,7 +65,7 @@ fn pop(segments: &[[u32; 5]]) -> Call {
     Call::Pop { segments: segments.to_vec() }
 }
 
-fn filter(pixmap: u32, dest: [u32; 4]) -> Call {
+pub(super) fn filter(pixmap: u32, dest: [u32; 4]) -> Call {
     Call::Filter { pixmap, dest, source: [4, 32_768], count: 3 }
 }
 

@@ -1,0 +1,124 @@
+use mathlib.Core.Path.{sym}
+use native.Mathlib.Omega.{arith}
+use lib.Seq.{length-take-le}
+use Rattle.listing.proofs.Texts.{small}
+use borrow.Author.Needs.{needs}
+use Rattle.rowdump.proofs.print_screen.Statement.{statement}
+use Rattle.rowdump.proofs.print_screen.Tie as tie
+
+rows-requires : tie.Need-rows-requires
+rows-requires c κs = search needs
+
+buckets-requires : tie.Need-buckets-requires
+buckets-requires c κs = search needs
+
+returns : tie.Need-returns
+returns c = search needs
+
+returns-2 : tie.Need-returns-2
+returns-2 c = search needs
+
+returns-3 : tie.Need-returns-3
+returns-3 c = search needs
+
+returns-4 : tie.Need-returns-4
+returns-4 c = search needs
+
+returns-5 : tie.Need-returns-5
+returns-5 c = search needs
+
+returns-6 : tie.Need-returns-6
+returns-6 c = search needs
+
+returns-7 : tie.Need-returns-7
+returns-7 c = search needs
+
+cast-print-details : tie.Need-cast-print-details
+cast-print-details c = search needs
+
+mul-print-details : tie.Need-mul-print-details
+mul-print-details c = search needs
+
+slice-aggregate-print-details : tie.Need-slice-aggregate-print-details
+slice-aggregate-print-details c = sym (length-take-le _ _ (omega (arith, (c .before .before .before .before .before .before .before .if1) .left, (c .before .before .before .before .before .if3) .left)))
+
+mul-print-details-2 : tie.Need-mul-print-details-2
+mul-print-details-2 c = search needs
+
+slice-aggregate-print-details-2 : tie.Need-slice-aggregate-print-details-2
+slice-aggregate-print-details-2 c = sym (length-take-le _ _ (omega (arith, (c .before .before .before .before .before .before .before .before .if1) .left, (c .before .before .before .before .before .if4) .left)))
+
+mul-print-details-3 : tie.Need-mul-print-details-3
+mul-print-details-3 c = search needs
+
+slice-aggregate-print-details-3 : tie.Need-slice-aggregate-print-details-3
+slice-aggregate-print-details-3 c = sym (length-take-le _ _ (omega (arith, (c .before .before .before .before .before .before .before .before .before .if1) .left, (c .before .before .before .before .before .if5) .left)))
+
+mul-print-details-4 : tie.Need-mul-print-details-4
+mul-print-details-4 c = record { fits = omega (arith, small _ _ ((c .before .before .before .before .before .before .before .before .before .if1) .left) ((c .before .before .before .before .before .before .before .before .if2) .left)) }
+
+slice-relend-prefix-print-details : tie.Need-slice-relend-prefix-print-details
+slice-relend-prefix-print-details c = omega (arith, small _ _ ((c .before .before .before .before .before .before .before .before .before .if1) .left) ((c .before .before .before .before .before .before .before .before .if2) .left), (c .before .before .before .before .if6) .left)
+
+slice-aggregate-print-details-4 : tie.Need-slice-aggregate-print-details-4
+slice-aggregate-print-details-4 c = sym (length-take-le _ _ (omega (arith, small _ _ ((c .before .before .before .before .before .before .before .before .before .before .if1) .left) ((c .before .before .before .before .before .before .before .before .before .if2) .left), (c .before .before .before .before .before .if6) .left)))
+
+mul-print-details-5 : tie.Need-mul-print-details-5
+mul-print-details-5 c = search needs
+
+slice-relend-prefix-print-details-2 : tie.Need-slice-relend-prefix-print-details-2
+slice-relend-prefix-print-details-2 c = search needs
+
+slice-aggregate-print-details-5 : tie.Need-slice-aggregate-print-details-5
+slice-aggregate-print-details-5 c = sym (length-take-le _ _ (omega (arith, (c .before .before .before .before .before .before .before .before .before .before .before .if1) .left, (c .before .before .before .before .before .if7) .left)))
+
+print-details-requires : tie.Need-print-details-requires
+print-details-requires c κs = search needs
+
+same-length : tie.Need-same-length
+same-length c = search needs
+
+same-length-2 : tie.Need-same-length-2
+same-length-2 c = search needs
+
+same-length-3 : tie.Need-same-length-3
+same-length-3 c = search needs
+
+same-length-4 : tie.Need-same-length-4
+same-length-4 c = search needs
+
+returns-8 : tie.Need-returns-8
+returns-8 c = search needs
+
+pub print-screen-spec : {M : Type 1} → statement M
+print-screen-spec =
+    tie.close
+    (tie.spec
+    rows-requires
+    buckets-requires
+    returns
+    returns-2
+    returns-3
+    returns-4
+    returns-5
+    returns-6
+    returns-7
+    cast-print-details
+    mul-print-details
+    slice-aggregate-print-details
+    mul-print-details-2
+    slice-aggregate-print-details-2
+    mul-print-details-3
+    slice-aggregate-print-details-3
+    mul-print-details-4
+    slice-relend-prefix-print-details
+    slice-aggregate-print-details-4
+    mul-print-details-5
+    slice-relend-prefix-print-details-2
+    slice-aggregate-print-details-5
+    print-details-requires
+    same-length
+    same-length-2
+    same-length-3
+    same-length-4
+    returns-8)

@@ -7,8 +7,8 @@ ghost use mathlib.Core.Path.{_≡_};
 ghost use Prim.Native.Nat.{_+_, _*_, _≤_, _<_};
 ghost use lib.ListN.{length};
 
-// Calls in a line.
-const CALLS: u32 = 11;
+// The last call of a line, counted from 0.
+const LAST: u32 = 10;
 
 fn wide(x: u32) -> usize
     ensures { λ r. ⌜ (r ≡ x) × (r < 4294967296) ⌝ }
@@ -53,11 +53,11 @@ fn report(out: &[u32], p: usize, m: usize) {
 
 // A line ends after its last call.
 fn next_column(column: u32) -> u32 {
-    if CALLS <= column + 1 {
-        io::write_all(STDOUT_FILENO, b"\n");
-        return 0;
+    if column < LAST {
+        return column + 1;
     }
-    column + 1
+    io::write_all(STDOUT_FILENO, b"\n");
+    0
 }
 
 // The sequence that stands from one place of the words to another: how many words its answers have.

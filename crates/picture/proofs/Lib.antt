@@ -1,0 +1,5 @@
+pub mod Runs
+pub mod Newest
+pub mod SplitTile
+pub mod Shown
+pub mod Acts

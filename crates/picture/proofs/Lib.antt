@@ -1,5 +1,8 @@
+pub mod Cases
+pub mod Buckets
 pub mod Runs
 pub mod Newest
 pub mod SplitTile
 pub mod Shown
 pub mod Acts
+pub mod Pieces

@@ -5,12 +5,14 @@ use mathlib.Core.Bool.{Bool, true, false, _&&_, cond}
 use mathlib.Core.List.{List, [], _∷_}
 use native.Mathlib.Nat.{add-suc, suc-add, add-zero, le-of-suc-le-suc, not-suc-le-zero, le-refl}
 use native.Mathlib.Omega.{arith}
-use lib.ListN.{length, getD}
+use lib.ListN.{length, getD, take, drop, length-take, length-drop}
+use lib.Seq.{getD-take, getD-drop}
 use lib.Dec.{leb, ltb, eqb}
-use borrow.Author.Tests.{lt-ltb, le-ltb, le-leb, lt-leb, eqb-true, eqb-false}
-use Rattle.rules.specs.Lists.{such, keep}
+use borrow.Author.Tests.{lt-ltb, le-ltb, le-leb, lt-leb, leb-true, leb-false, ltb-false, eqb-true, eqb-false}
+use Rattle.rules.specs.Lists.{such, keep, slice}
 use Rattle.rules.specs.Spans.{Span, span, covers}
-use Rattle.rules.specs.Depth.{join-run, bucket-runs}
+use Rattle.rules.specs.Depth.{join-run, bucket-runs, runs-in}
+use Rattle.picture.proofs.Cases.{by, and-missed, covers-low, covers-high}
 
 -- how many of the spans cover k
 abbrev pub hits : List Span → ℕ → ℕ
@@ -81,3 +83,42 @@ runs-hit p i (suc k) (b ∷ bs) h = go (p b) ∙ rw (add-suc i k, ← suc-add i 
     go : (t : Bool) → hits (cond t (join-run i (bucket-runs p (suc i) bs)) (bucket-runs p (suc i) bs)) (i + suc k) ≡ hits (bucket-runs p (suc i) bs) (i + suc k)
     go true = past (i + suc k) (omega arith) (runs-apart p (suc i) bs)
     go false = refl
+
+-- none lies past the list
+pub runs-miss : (p : ℕ → Bool) (i k : ℕ) (bs : List ℕ) → length bs ≤ k → hits (bucket-runs p i bs) (i + k) ≡ 0
+unfolding bucket-runs
+runs-miss p i k [] h = refl
+runs-miss p i zero (b ∷ bs) h = absurd (omega arith)
+runs-miss p i (suc k) (b ∷ bs) h = go (p b) ∙ rw (add-suc i k, ← suc-add i k) (runs-miss p (suc i) k bs (omega arith))
+  where
+    go : (t : Bool) → hits (cond t (join-run i (bucket-runs p (suc i) bs)) (bucket-runs p (suc i) bs)) (i + suc k) ≡ hits (bucket-runs p (suc i) bs) (i + suc k)
+    go true = past (i + suc k) (omega arith) (runs-apart p (suc i) bs)
+    go false = refl
+
+-- of a range of buckets: a bucket lies in one run if it is open and in the range, and otherwise in none
+pub range-hit : (p : ℕ → Bool) (bs : List ℕ) (r : Span) (k : ℕ) → k < length bs → hits (runs-in p bs r) k ≡ cond (covers r k && p (getD bs k 0)) 1 0
+unfolding runs-in
+range-hit p bs r k h = by (covers r k) yes no
+  where
+    yes : covers r k ≡ true → hits (bucket-runs p (r .first) (slice (r .first) (r .end) bs)) k ≡ cond (covers r k && p (getD bs k 0)) 1 0
+    yes y =
+        let l = covers-low r k y in
+        let u = covers-high r k y in
+        let j = k - r .first in
+        let e : r .first + j ≡ k = omega arith in
+        let len : j < length (slice (r .first) (r .end) bs) = rw (length-take (r .end - r .first) (drop (r .first) bs), length-drop (r .first) bs) (omega arith) in
+        let hit = runs-hit p (r .first) j (slice (r .first) (r .end) bs) len in
+        let at : getD (slice (r .first) (r .end) bs) j 0 ≡ getD bs k 0 =
+            getD-take (r .end - r .first) (drop (r .first) bs) j 0 (omega arith) ∙ getD-drop (r .first) bs j 0 ∙ ap (λ m. getD bs m 0) e in
+        rw y (ap (λ m. hits (bucket-runs p (r .first) (slice (r .first) (r .end) bs)) m) (sym e) ∙ hit ∙ ap (λ b. cond (p b) 1 0) at)
+
+    no : covers r k ≡ false → hits (bucket-runs p (r .first) (slice (r .first) (r .end) bs)) k ≡ cond (covers r k && p (getD bs k 0)) 1 0
+    no n = rw n (by (leb (r .first) k)
+        (λ y.
+        let l = leb-true (r .first) k y in
+        let u : r .end ≤ k = ltb-false k (r .end) (and-missed (leb (r .first) k) (ltb k (r .end)) y n) in
+        let j = k - r .first in
+        let e : r .first + j ≡ k = omega arith in
+        let len : length (slice (r .first) (r .end) bs) ≤ j = rw (length-take (r .end - r .first) (drop (r .first) bs), length-drop (r .first) bs) (omega arith) in
+        ap (λ m. hits (bucket-runs p (r .first) (slice (r .first) (r .end) bs)) m) (sym e) ∙ runs-miss p (r .first) j (slice (r .first) (r .end) bs) len)
+        (λ m. before k (leb-false (r .first) k m) (runs-apart p (r .first) (slice (r .first) (r .end) bs))))

@@ -6,3 +6,4 @@ pub mod SplitTile
 pub mod Shown
 pub mod Acts
 pub mod Pieces
+pub mod Rows

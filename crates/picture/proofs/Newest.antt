@@ -45,12 +45,12 @@ unfoldable pub depth-after : (ℕ → ℕ) → List DepthFill → List ℕ → L
 depth-after id [] bs = bs
 depth-after id (f ∷ fs) bs = written (depth-after id fs bs) (id (f .attribute)) (f .buckets)
 
-after-length : (id : ℕ → ℕ) (fs : List DepthFill) (bs : List ℕ) → length (depth-after id fs bs) ≡ length bs
+pub after-length : (id : ℕ → ℕ) (fs : List DepthFill) (bs : List ℕ) → length (depth-after id fs bs) ≡ length bs
 unfolding depth-after
 after-length id [] bs = refl
 after-length id (f ∷ fs) bs = written-length _ _ _ ∙ after-length id fs bs
 
-write-zero : (b : ℕ) → write 0 b ≡ b
+pub write-zero : (b : ℕ) → write 0 b ≡ b
 write-zero zero = refl
 write-zero (suc b) = rw (eqb·suc-zero b)
 
@@ -72,26 +72,28 @@ module _ (w : ℕ) (attrs : Attrs) (r : Row) (n : ℕ) where
   painter-after zero = begin n
   painter-after (suc k) = paint-step w attrs r (painter-after k) .painter
 
-  fill-at : ℕ → DepthFill
+  unfoldable pub fill-at : ℕ → DepthFill
   fill-at k = getD (r .fills) (length (r .fills) - (k + 1)) no-fill
 
-  next-is : (p : Painter) (k : ℕ) → p .steps ≡ k → k < length (r .fills) → paint-step w attrs r p ≡ paint-depth w attrs (fill-at k) p
+  pub next-is : (p : Painter) (k : ℕ) → p .steps ≡ k → k < length (r .fills) → paint-step w attrs r p ≡ paint-depth w attrs (fill-at k) p
   unfolding paint-step paint-when fill-at
   next-is p k e h = rw (e, lt-ltb k (length (r .fills)) h)
 
   -- where the painter stands after k of the depth fills
   pub record Stands (k : ℕ) : Type 0 where
     pub steps : painter-after k .steps ≡ k
+    pub nesting : painter-after k .nesting ≡ 0
     pub buckets : painter-after k .buckets ≡ depth-after (paint-id attrs) (drop (length (r .fills) - k) (r .fills)) (replicate n 0)
 
-  stands : (k : ℕ) → k ≤ length (r .fills) → Stands k
+  pub stands : (k : ℕ) → k ≤ length (r .fills) → Stands k
   unfolding painter-after depth-after paint-depth fill-at
-  stands zero h = record { steps = refl; buckets = rw (sub-zero (length (r .fills)), drop-of-length-le (r .fills) (le-refl (length (r .fills)))) }
+  stands zero h = record { steps = refl; nesting = refl; buckets = rw (sub-zero (length (r .fills)), drop-of-length-le (r .fills) (le-refl (length (r .fills)))) }
   stands (suc k) h =
       let s = stands k (omega arith) in
       let e = next-is (painter-after k) k (s .steps) h in
       let i : suc (length (r .fills) - suc k) ≡ length (r .fills) - k = omega arith in
       record {
+        nesting = ap (λ (o : Painted). o .painter .nesting) e ∙ s .nesting;
         steps = ap (λ (o : Painted). o .painter .steps) e ∙ rw (s .steps) (add-one k);
         buckets = ap (λ (o : Painted). o .painter .buckets) e ∙ rw (s .buckets, add-one k, ← i, drop-cons (r .fills) (length (r .fills) - suc k) no-fill (omega arith));
       }

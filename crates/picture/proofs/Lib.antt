@@ -7,3 +7,4 @@ pub mod Shown
 pub mod Acts
 pub mod Pieces
 pub mod Rows
+pub mod Held

@@ -8,3 +8,4 @@ pub mod Acts
 pub mod Pieces
 pub mod Rows
 pub mod Held
+pub mod Acted

@@ -9,3 +9,4 @@ pub mod Pieces
 pub mod Rows
 pub mod Held
 pub mod Acted
+pub mod Drawn

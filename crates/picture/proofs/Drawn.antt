@@ -87,13 +87,13 @@ module _ (w : ℕ) (attrs : Attrs) (t : ℕ) where
     told-cons l i n id e k ks = by (covers (k .tiles) t) (λ y. rw y) (λ m. rw m)
 
     -- one cut, drawn with n layers open
-    pub cut-adds : 0 < w → (e : Bool) (i id n : ℕ) → paint-id attrs i ≡ id → 0 < id → (e ≡ true → n ≡ 0) → (x : Span) (a : Option ℕ) (r : Row) → Sound r → length (r .levels) ≤ n
+    pub cut-adds : 0 < w → (e : Bool) (i id n : ℕ) → paint-id attrs i ≡ id → 0 < id → (e ≡ true → n ≡ 0) → (j : ℕ) (x : Span) (a : Option ℕ) (r : Row) → Sound r → length (r .levels) ≤ n
         → Adds w attrs t
-        (such stays (cut-told false i n id e (record { row = row; tiles = x; alpha = a })))
-        (such hides-of (cut-told false i n id e (record { row = row; tiles = x; alpha = a })))
+        (such stays (cut-told false i n id e (record { row = j; tiles = x; alpha = a })))
+        (such hides-of (cut-told false i n id e (record { row = j; tiles = x; alpha = a })))
         n r (do-act Row row-ops w n (draw-act e i id x a) r)
     unfolding draw-act
-    cut-adds pos true i id n q num z x none r s h =
+    cut-adds pos true i id n q num z j x none r s h =
         let o : n ≡ 0 = z refl in
         let p : 0 < paint-id attrs i = omega arith in
         let l : length (r .levels) ≡ 0 = omega arith in
@@ -101,9 +101,9 @@ module _ (w : ℕ) (attrs : Attrs) (t : ℕ) where
         rw o (by (whole-bucket w v row t x)
         (λ y. let u = whole-covers pos x y in rw (u, y) (rw (u, y) at c))
         (λ m. by (covers x t) (λ u. rw (u, m) (rw (u, m) at c)) (λ u. rw u (rw (u, m) at c))))
-    cut-adds pos true i id n q num z x (some a) r s h =
+    cut-adds pos true i id n q num z j x (some a) r s h =
         let c = rw q at (act-paint w attrs t n x (some a) i r s h) in
         by (covers x t) (λ u. rw u (rw u at c)) (λ u. rw u (rw u at c))
-    cut-adds pos false i id n q num z x a r s h =
+    cut-adds pos false i id n q num z j x a r s h =
         let c = rw q at (act-paint w attrs t n x a i r s h) in
         by (covers x t) (λ u. rw u (rw u at c)) (λ u. rw u (rw u at c))

@@ -10,3 +10,6 @@ pub mod Rows
 pub mod Held
 pub mod Acted
 pub mod Drawn
+pub mod Shape
+pub mod Listed
+pub mod Single

@@ -59,7 +59,7 @@ acts-once a row (row-then {j = j} {js = js} k r) = by (eqb j row)
     rw (y, eq-eqb row j (sym e)) (ap (λ (bs : List Act). a ∷ bs) (rows-past a row (omega arith) r)))
     (λ n. let d = eqb-false j row n in rw (n, ne-eqb row j (λ q. d (sym q))) (acts-once a row r))
 
-such-append : {A : Type 0} (p : A → Bool) (xs ys : List A) → such p (xs ++ ys) ≡ such p xs ++ such p ys
+pub such-append : {A : Type 0} (p : A → Bool) (xs ys : List A) → such p (xs ++ ys) ≡ such p xs ++ such p ys
 such-append p [] ys = refl
 such-append p (x ∷ xs) ys = rw (such-append p xs ys) (by (p x) (λ y. rw y) (λ n. rw n))
 

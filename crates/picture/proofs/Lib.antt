@@ -13,3 +13,5 @@ pub mod Drawn
 pub mod Shape
 pub mod Listed
 pub mod Single
+pub mod Holds
+pub mod Grown

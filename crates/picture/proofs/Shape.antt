@@ -9,6 +9,7 @@ use lib.Dec.{eqb}
 use borrow.Author.Tests.{eq-eqb, ne-eqb}
 use Rattle.rules.specs.Plans.{Layer}
 use Rattle.rules.specs.Plain.{OpenLayer, touch-all}
+use Rattle.rules.proofs.All.{never}
 
 pub data Shape : List OpenLayer → ℕ → Type 0 where
   none-open : Shape [] 0
@@ -41,3 +42,11 @@ shape-touch (l ∷ ls) =
 pub shape-inner : {l : OpenLayer} {ls : List OpenLayer} {m : ℕ} → Shape (l ∷ ls) m → l .touched ≡ eqb m (suc (length ls))
 shape-inner {ls = ls} (for-all e s) = e ∙ sym (eq-eqb (suc (length ls)) (suc (length ls)) refl)
 shape-inner {ls = ls} {m = m} (not-yet e s) = let h = shape-most s in e ∙ sym (ne-eqb m (suc (length ls)) (λ q. omega arith))
+
+pub shape-closed : {l : OpenLayer} {ls : List OpenLayer} {m : ℕ} → Shape (l ∷ ls) m → l .touched ≡ true → (m ≡ suc (length ls)) × Shape ls (length ls)
+shape-closed (for-all e s) y = (refl, s)
+shape-closed (not-yet e s) y = never (sym y ∙ e)
+
+pub shape-kept : {l : OpenLayer} {ls : List OpenLayer} {m : ℕ} → Shape (l ∷ ls) m → l .touched ≡ false → Shape ls m
+shape-kept (for-all e s) n = never (sym e ∙ n)
+shape-kept (not-yet e s) n = s

@@ -15,3 +15,4 @@ pub mod Listed
 pub mod Single
 pub mod Holds
 pub mod Grown
+pub mod Follows

@@ -21,6 +21,7 @@ use Rattle.rules.specs.Painting.{paint-id, layer-id}
 use Rattle.rules.specs.Plans.{Layer, State, Act, Put, Plan, on, touch, eligible, box-of, draw-puts, with-paint, plan-fill, layer-box, touches-all, plan-push}
 use Rattle.rules.specs.Steps.{Screen, do-puts, done}
 use Rattle.rules.specs.Plain.{Told, OpenLayer, Story, touch-all, box-now, here, tell, tell-fill, tell-push, in-rows}
+use Rattle.rules.proofs.All.{never}
 use Rattle.rules.proofs.Changes.{puts-length}
 use Rattle.rules.proofs.Bounds.{judged-facts}
 use Rattle.picture.proofs.Cases.{by, and-left}
@@ -90,3 +91,55 @@ module _ (w : ℕ) (attrs : Attrs) (t : ℕ) (v : Box) (row : ℕ) where
           (sym (row-by-row Row row-ops w (length (o .depth)) row fresh-row (draw-puts e (o .paints) (o .next) (cuts v (box-now v (o .depth)) own)) (s .rows) (f .there)
           ∙ ap (λ (xs : List Act). do-acts Row row-ops w (length (o .depth)) xs (getD (s .rows) row fresh-row)) (draw-acts e (o .paints) (o .next) row (cuts v (box-now v (o .depth)) own)))) in
       rw same at g
+
+  -- .. and of one that has none
+  fill-none : (ps : List Paint) (ss : List Segment) (d : Draw) (o : Story) (s : Screen Row) → Follows o s → draw-segments ss d ≡ []
+      → Grown w attrs t v row (tell-fill w v row t ps ss d o .told) (o .next + 1) (tell-fill w v row t ps ss d o .depth)
+      (getD (done Row row-ops w (plan-fill ps ss d (s .state)) s .rows) row fresh-row)
+  unfolding done plan-fill cuts draw-puts do-puts
+  fill-none ps ss d o s f e =
+      let r = getD (s .rows) row fresh-row in
+      rw (e, append-nil (o .told))
+      (record {
+        holds = holds-still w attrs t (f .grown .holds) (adds-none w attrs t r (f .grown .holds .sound)) (o .next + 1) (omega arith);
+        shape = f .grown .shape;
+      })
+
+  empty-list : {A : Type 0} (xs : List A) → is-empty xs ≡ true → xs ≡ []
+  empty-list [] e = refl
+  empty-list (x ∷ xs) e = never (sym e)
+
+  -- a done fill
+  pub fill-follows : 0 < w → (ps : List Paint) (ss : List Segment) (d : Draw) (o : Story) (s : Screen Row) → Follows o s
+      → plan-fill ps ss d (s .state) .refused ≡ Done → Leads (plan-fill ps ss d (s .state) .attrs)
+      → Follows (tell-fill w v row t ps ss d o) (done Row row-ops w (plan-fill ps ss d (s .state)) s)
+  unfolding done plan-fill
+  fill-follows pos ps ss d o s f j l =
+      let own = draw-segments ss d in
+      let ks = here w v row t (o .depth) own in
+      let st = s .state in
+      let puts = draw-puts (eligible (is-empty (st .layers)) (draw-paint ps d) d) (length (st .attrs .paints)) (st .next) (cuts (st .frame .viewport) (box-of st) own) in
+      let rest : (length (cond (is-empty own) (st .attrs) (with-paint st (d .paint) (d .blend) (d .mask) (d .thread) []) .paints) ≡ cond (is-empty own) (o .paints) (o .paints + 1))
+          × (length (cond (is-empty own) (st .attrs) (with-paint st (d .paint) (d .blend) (d .mask) (d .thread) []) .layers) ≡ o .layers)
+          × Grown w attrs t v row (tell-fill w v row t ps ss d o .told) (o .next + 1) (tell-fill w v row t ps ss d o .depth)
+          (getD (done Row row-ops w (plan-fill ps ss d (s .state)) s .rows) row fresh-row) =
+          by (is-empty own)
+          (λ y. (rw y (f .paints), rw y (f .layers), fill-none ps ss d o s f (empty-list own y)))
+          (λ n.
+          let p = rw n at (l .paints) in
+          let q = new-paint (st .attrs .paints) _ (l .paints-more) p in
+          (
+            rw (n, length-append) (ap (λ m. m + 1) (f .paints)),
+            rw n (f .layers),
+            fill-row pos ps ss d o s f j (ap (paint-id attrs) (sym (f .paints)) ∙ q ∙ f .next),
+          )) in
+      record {
+        view = f .view;
+        next = ap (λ m. m + 1) (f .next);
+        first = omega arith;
+        paints = rest .0;
+        layers = rest .1;
+        opened = f .opened ∙ sym (touched-layers (not (is-empty ks)) (o .depth));
+        there = rw (puts-length Row row-ops w (length (st .layers)) puts (s .rows)) (f .there);
+        grown = rest .2;
+      }

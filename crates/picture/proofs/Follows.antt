@@ -66,7 +66,7 @@ module _ (w : ℕ) (attrs : Attrs) (t : ℕ) (v : Box) (row : ℕ) where
     pub grown : Grown w attrs t v row (o .told) (o .next) (o .depth) (getD (s .rows) row fresh-row)
 
   -- the id of an attribute that a step adds
-  new-paint : (ps : List PaintAttr) (x : PaintAttr) (more : List PaintAttr) → attrs .paints ≡ (ps ++ (x ∷ [])) ++ more → paint-id attrs (length ps) ≡ x .id
+  pub new-paint : (ps : List PaintAttr) (x : PaintAttr) (more : List PaintAttr) → attrs .paints ≡ (ps ++ (x ∷ [])) ++ more → paint-id attrs (length ps) ≡ x .id
   new-paint ps x more e =
       ap (λ (l : List PaintAttr). getD l (length ps) no-paint .id) (e ∙ append-assoc ps (x ∷ []) more)
       ∙ ap (λ (a : PaintAttr). a .id) (getD-append-seam ps x more no-paint)

@@ -16,3 +16,4 @@ pub mod Single
 pub mod Holds
 pub mod Grown
 pub mod Follows
+pub mod Pushes

@@ -17,3 +17,4 @@ pub mod Holds
 pub mod Grown
 pub mod Follows
 pub mod Pushes
+pub mod Pops

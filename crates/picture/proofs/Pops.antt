@@ -5,23 +5,33 @@ use native.Mathlib.Omega.{arith}
 use mathlib.Core.Path.{_≡_, refl, sym, _∙_, ap}
 use mathlib.Core.Bool.{Bool, true, false, _&&_, _||_, not, cond}
 use mathlib.Core.Option.{Option, none, some}
-use mathlib.Core.List.{List, [], _∷_, _++_, map, append-nil}
+use mathlib.Core.List.{List, [], _∷_, _++_, map, append-nil, append-assoc}
 use lib.ListN.{length, getD, length-map, length-append}
+use lib.Seq.{getD-append-seam}
 use lib.Dec.{eqb}
 use borrow.Author.Tests.{eq-eqb, ne-eqb, eqb-true, eqb-false}
 use Rattle.rules.specs.Lists.{such, keep, some-of}
 use Rattle.rules.specs.Boxes.{Box, span-of}
 use Rattle.rules.specs.Spans.{Span, covers}
-use Rattle.rules.specs.Segments.{Segment, Cut, cuts}
+use Rattle.rules.specs.Answers.{Done}
+use Rattle.rules.specs.Blends.{default-blend}
+use Rattle.rules.specs.Attributes.{LayerAttr, Attrs}
+use Rattle.rules.specs.Painting.{layer-id}
+use Rattle.rules.specs.Segments.{Segment, judge-segments, Cut, cuts}
 use Rattle.rules.specs.Inputs.{Clip}
 use Rattle.rules.specs.Rows.{Row, fresh-row, row-ops}
-use Rattle.rules.specs.Plans.{Act, Put, on, close, pop, clip-segments, close-puts, closing, clip-box}
-use Rattle.rules.specs.Steps.{touched}
-use Rattle.rules.specs.Plain.{OpenLayer, closers, here, box-now}
+use Rattle.rules.specs.Plans.{Act, Put, on, close, pop, clip-segments, clip-fits, plan-pop, close-puts, closing, clip-box}
+use Rattle.rules.specs.Steps.{Screen, do-puts, done, touched}
+use Rattle.rules.specs.Plain.{Told, Story, OpenLayer, closers, here, box-now, tell, tell-pop}
+use Rattle.rules.proofs.Changes.{puts-length}
+use Rattle.rules.proofs.Bounds.{judged-facts}
 use Rattle.picture.proofs.Cases.{by}
-use Rattle.picture.proofs.Acts.{acts-at}
+use Rattle.picture.proofs.Acts.{acts-at, do-acts, row-by-row}
 use Rattle.picture.proofs.Listed.{Rows, no-rows, row-then, acts-once, in-row}
-use Rattle.picture.proofs.Grown.{close-act}
+use Rattle.picture.proofs.Shape.{shape-inner}
+use Rattle.picture.proofs.Single.{Single, nothing, one, single}
+use Rattle.picture.proofs.Grown.{Grown, close-act, close-grows, leave-grows}
+use Rattle.picture.proofs.Follows.{layer-in, Leads, Follows}
 
 pub acts-both : (row : ℕ) (ps qs : List Put) → acts-at row (ps ++ qs) ≡ acts-at row ps ++ acts-at row qs
 acts-both row [] qs = refl
@@ -71,3 +81,35 @@ close-acts i row js (k ∷ ks) = by (eqb (k .row) row)
     (λ n. by (some-of (eqb (k .row)) js)
     (λ z. rw (z, n) (close-acts i row js ks))
     (λ z. rw (z, n) (close-acts i row js ks)))
+
+abbrev no-layer : LayerAttr
+no-layer = record { blend = default-blend; opacity = 0; mask = 0; id = 0; thread = 0 }
+
+module _ (w : ℕ) (attrs : Attrs) (t : ℕ) (v : Box) (row : ℕ) where
+  closing-acts : (c : Option Clip) (own : Box) (ls : List OpenLayer) (i : ℕ) (ss : List Segment) (js : List ℕ) → Rows 0 js
+      → acts-at row (closing c v own (box-now v ls) i ss js) ≡ cond (some-of (eqb row) js) (map (close-act w attrs t v row i) (closers w v row t c own ls ss)) []
+  unfolding closing
+  closing-acts none own ls i ss js r = acts-once (close (span-of own) none i) row r ∙ by (some-of (eqb row) js) (λ y. rw y) (λ n. rw n)
+  closing-acts (some c) own ls i ss js r = close-acts i row js (cuts v (box-now v ls) (clip-segments (some c) ss))
+
+  closers-single : (c : Option Clip) (own : Box) (ls : List OpenLayer) (ss : List Segment) → judge-segments (not (clip-fits c ss)) (clip-segments c ss) ≡ Done
+      → Single (such (λ (k : Cut). covers (k .tiles) t) (closers w v row t c own ls ss))
+  closers-single none own ls ss j = by (covers (span-of own) t) (λ y. rw y (one _)) (λ n. rw n nothing)
+  closers-single (some c) own ls ss j =
+      let (_, good, ord) = judged-facts (not (clip-fits (some c) ss)) (clip-segments (some c) ss) j in
+      single v (box-now v ls) row t (clip-segments (some c) ss) good ord
+
+  new-layer : (ps : List LayerAttr) (x : LayerAttr) (more : List LayerAttr) → attrs .layers ≡ (ps ++ (x ∷ [])) ++ more → layer-id attrs (length ps) ≡ x .id
+  new-layer ps x more e =
+      ap (λ (l : List LayerAttr). getD l (length ps) no-layer .id) (e ∙ append-assoc ps (x ∷ []) more)
+      ∙ ap (λ (a : LayerAttr). a .id) (getD-append-seam ps x more no-layer)
+
+  -- the row after the acts of a pop, by whether it is touched
+  pop-grows : {ts : List Told} {id : ℕ} (l : OpenLayer) (ls : List OpenLayer) {r : Row} → Grown w attrs t v row ts id (l ∷ ls) r → 0 < id
+      → (n i : ℕ) → layer-id attrs i ≡ id → (ks : List Cut) → Single (such (λ (k : Cut). covers (k .tiles) t) ks)
+      → (b : Bool) → l .touched ≡ b
+      → Grown w attrs t v row (ts ++ cond b (tell w v row t true i (suc (length ls)) id false ks) []) (id + 1) ls
+      (do-acts Row row-ops w n (cond b (map (close-act w attrs t v row i) ks) [] ++ keep b pop []) r)
+  unfolding do-acts
+  pop-grows l ls g num n i q ks s true e = close-grows w attrs t v row g num e n i q ks s
+  pop-grows {ts} l ls g num n i q ks s false e = rw (append-nil ts) (leave-grows w attrs t v row g e)

@@ -1,6 +1,6 @@
 -- A done pop follows the story of a tile.
 use Prim.Native.Nat.{ℕ, zero, suc, _+_, _-_, _/_, _≤_, _<_}
-use native.Mathlib.Nat.{add-suc, suc-add, add-zero, le-refl}
+use native.Mathlib.Nat.{zero-add, add-zero, le-refl}
 use native.Mathlib.Omega.{arith}
 use mathlib.Core.Path.{_≡_, refl, sym, _∙_, ap}
 use mathlib.Core.Bool.{Bool, true, false, _&&_, _||_, not, cond}
@@ -20,7 +20,7 @@ use Rattle.rules.specs.Painting.{layer-id}
 use Rattle.rules.specs.Segments.{Segment, judge-segments, Cut, cuts}
 use Rattle.rules.specs.Inputs.{Clip}
 use Rattle.rules.specs.Rows.{Row, fresh-row, row-ops}
-use Rattle.rules.specs.Plans.{Act, Put, on, close, pop, clip-segments, clip-fits, plan-pop, close-puts, closing, clip-box}
+use Rattle.rules.specs.Plans.{Act, Put, on, close, pop, clip-segments, clip-fits, with-layer, plan-pop, close-puts, closing, clip-box}
 use Rattle.rules.specs.Steps.{Screen, do-puts, done, touched}
 use Rattle.rules.specs.Plain.{Told, Story, OpenLayer, closers, here, box-now, tell, tell-pop}
 use Rattle.rules.proofs.Changes.{puts-length}
@@ -113,3 +113,42 @@ module _ (w : ℕ) (attrs : Attrs) (t : ℕ) (v : Box) (row : ℕ) where
   unfolding do-acts
   pop-grows l ls g num n i q ks s true e = close-grows w attrs t v row g num e n i q ks s
   pop-grows {ts} l ls g num n i q ks s false e = rw (append-nil ts) (leave-grows w attrs t v row g e)
+
+  -- a done pop of the innermost layer l
+  pub pop-follows : (ss : List Segment) (o : Story) (l : OpenLayer) (ls : List OpenLayer) (s : Screen Row) → Follows w attrs t v row o s → o .depth ≡ (l ∷ ls)
+      → judge-segments (not (clip-fits (l .layer .props .clip) ss)) (clip-segments (l .layer .props .clip) ss) ≡ Done
+      → Leads w attrs t v row (with-layer (s .state) (l .layer .props))
+      → Follows w attrs t v row (tell-pop w v row t (l ∷ ls) ss o)
+      (done Row row-ops w (plan-pop (layer-in l ∷ map layer-in ls) ss (touched Row row-ops w (suc (length ls)) 0 (s .rows)) (s .state)) s)
+  unfolding done plan-pop
+  pop-follows ss o l ls s f e j ld =
+      let st = s .state in
+      let c = l .layer .props .clip in
+      let r = getD (s .rows) row fresh-row in
+      let ks = closers w v row t c (l .layer .bounds) ls ss in
+      let js = touched Row row-ops w (suc (length ls)) 0 (s .rows) in
+      let n = length (map layer-in ls) in
+      let g : Grown w attrs t v row (o .told) (o .next) (l ∷ ls) r = rw e at (f .grown) in
+      let id = ap (layer-id attrs) (sym (f .layers)) ∙ new-layer (st .attrs .layers) _ (ld .layers-more) (ld .layers) ∙ f .next in
+      let h = pop-grows l ls g (f .first) n (o .layers) id ks (closers-single c (l .layer .bounds) ls ss j) (l .touched) refl in
+      let has : some-of (eqb row) js ≡ l .touched =
+          ap (λ m. some-of (eqb m) js) (sym (zero-add row)) ∙ touched-has w (suc (length ls)) 0 row (s .rows) (f .there) ∙ sym (shape-inner (g .shape)) in
+      let rows : Rows 0 js = touched-rows w (suc (length ls)) 0 (s .rows) in
+      let puts = closing c v (l .layer .bounds) (box-now v ls) (o .layers) ss js ++ map (on pop) js in
+      let acts : acts-at row puts ≡ cond (l .touched) (map (close-act w attrs t v row (o .layers)) ks) [] ++ keep (l .touched) pop [] =
+          acts-both row (closing c v (l .layer .bounds) (box-now v ls) (o .layers) ss js) (map (on pop) js)
+          ∙ rw (closing-acts c (l .layer .bounds) ls (o .layers) ss js rows, acts-once pop row rows, has) in
+      let same : do-acts Row row-ops w n (cond (l .touched) (map (close-act w attrs t v row (o .layers)) ks) [] ++ keep (l .touched) pop []) r
+          ≡ getD (do-puts Row row-ops w n puts (s .rows)) row fresh-row =
+          ap (λ (xs : List Act). do-acts Row row-ops w n xs r) (sym acts) ∙ sym (row-by-row Row row-ops w n row fresh-row puts (s .rows) (f .there)) in
+      let deep : length (o .depth) ≡ suc (length ls) = ap (λ (xs : List OpenLayer). length xs) e in
+      record {
+        view = f .view;
+        next = ap (λ m. m + 1) (f .next);
+        first = omega arith;
+        paints = f .paints;
+        layers = rw length-append (ap (λ m. m + 1) (f .layers));
+        opened = refl;
+        there = rw puts-length (f .there);
+        grown = rw (f .view, f .layers, deep) (rw same at h);
+      }

@@ -18,3 +18,4 @@ pub mod Grown
 pub mod Follows
 pub mod Pushes
 pub mod Pops
+pub mod Stepped

@@ -76,7 +76,7 @@ module _ (w : ℕ) (attrs : Attrs) (t : ℕ) (v : Box) (row : ℕ) where
   cut-some b false = refl
 
   -- a filter that draws something in the box b
-  filter-in : 0 < w → (n : ℕ) (q : Filter) (b : Box) (o : Story) (s : Screen Row) → Follows w attrs t v row o s
+  pub filter-in : 0 < w → (n : ℕ) (q : Filter) (b : Box) (o : Story) (s : Screen Row) → Follows w attrs t v row o s
       → Leads w attrs t v row (plan-filter-in b n q (s .state) .attrs)
       → Follows w attrs t v row
       (record {

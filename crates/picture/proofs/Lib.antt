@@ -19,3 +19,4 @@ pub mod Follows
 pub mod Pushes
 pub mod Pops
 pub mod Stepped
+pub mod Picture

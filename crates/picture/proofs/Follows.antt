@@ -84,12 +84,12 @@ module _ (w : ℕ) (attrs : Attrs) (t : ℕ) (v : Box) (row : ℕ) where
       let ks = here w v row t (o .depth) own in
       let (_, good, ord) = judged-facts (not (good-draw ps ss d)) own j in
       let g = draw-grows w attrs t v row pos (f .grown) (f .first) e (o .paints) q
-          (λ y. empty-length (o .depth) (and-left _ _ (and-left _ _ (and-left _ _ y)))) ks (single v (box-now v (o .depth)) row t own good ord) in
+      (λ y. empty-length (o .depth) (and-left _ _ (and-left _ _ (and-left _ _ y)))) ks (single v (box-now v (o .depth)) row t own good ord) in
       let same : do-acts Row row-ops w (length (o .depth)) (map (cut-act e (o .paints) (o .next)) ks) (getD (s .rows) row fresh-row)
-          ≡ getD (do-puts Row row-ops w (length (s .state .layers)) (draw-puts (eligible (is-empty (s .state .layers)) (draw-paint ps d) d) (length (s .state .attrs .paints)) (s .state .next) (cuts (s .state .frame .viewport) (box-of (s .state)) own)) (s .rows)) row fresh-row =
-          rw (f .view, f .next, f .paints, f .opened, length-map, map-empty (o .depth))
-          (sym (row-by-row Row row-ops w (length (o .depth)) row fresh-row (draw-puts e (o .paints) (o .next) (cuts v (box-now v (o .depth)) own)) (s .rows) (f .there)
-          ∙ ap (λ (xs : List Act). do-acts Row row-ops w (length (o .depth)) xs (getD (s .rows) row fresh-row)) (draw-acts e (o .paints) (o .next) row (cuts v (box-now v (o .depth)) own)))) in
+      ≡ getD (do-puts Row row-ops w (length (s .state .layers)) (draw-puts (eligible (is-empty (s .state .layers)) (draw-paint ps d) d) (length (s .state .attrs .paints)) (s .state .next) (cuts (s .state .frame .viewport) (box-of (s .state)) own)) (s .rows)) row fresh-row =
+      rw (f .view, f .next, f .paints, f .opened, length-map, map-empty (o .depth))
+      (sym (row-by-row Row row-ops w (length (o .depth)) row fresh-row (draw-puts e (o .paints) (o .next) (cuts v (box-now v (o .depth)) own)) (s .rows) (f .there)
+      ∙ ap (λ (xs : List Act). do-acts Row row-ops w (length (o .depth)) xs (getD (s .rows) row fresh-row)) (draw-acts e (o .paints) (o .next) row (cuts v (box-now v (o .depth)) own)))) in
       rw same at g
 
   -- .. and of one that has none
@@ -120,19 +120,18 @@ module _ (w : ℕ) (attrs : Attrs) (t : ℕ) (v : Box) (row : ℕ) where
       let st = s .state in
       let puts = draw-puts (eligible (is-empty (st .layers)) (draw-paint ps d) d) (length (st .attrs .paints)) (st .next) (cuts (st .frame .viewport) (box-of st) own) in
       let rest : (length (cond (is-empty own) (st .attrs) (with-paint st (d .paint) (d .blend) (d .mask) (d .thread) []) .paints) ≡ cond (is-empty own) (o .paints) (o .paints + 1))
-          × (length (cond (is-empty own) (st .attrs) (with-paint st (d .paint) (d .blend) (d .mask) (d .thread) []) .layers) ≡ o .layers)
-          × Grown w attrs t v row (tell-fill w v row t ps ss d o .told) (o .next + 1) (tell-fill w v row t ps ss d o .depth)
-          (getD (done Row row-ops w (plan-fill ps ss d (s .state)) s .rows) row fresh-row) =
-          by (is-empty own)
-          (λ y. (rw y (f .paints), rw y (f .layers), fill-none ps ss d o s f (empty-list own y)))
-          (λ n.
-          let p = rw n at (l .paints) in
-          let q = new-paint (st .attrs .paints) _ (l .paints-more) p in
-          (
-            rw (n, length-append) (ap (λ m. m + 1) (f .paints)),
-            rw n (f .layers),
-            fill-row pos ps ss d o s f j (ap (paint-id attrs) (sym (f .paints)) ∙ q ∙ f .next),
-          )) in
+      × (length (cond (is-empty own) (st .attrs) (with-paint st (d .paint) (d .blend) (d .mask) (d .thread) []) .layers) ≡ o .layers)
+      × Grown w attrs t v row (tell-fill w v row t ps ss d o .told) (o .next + 1) (tell-fill w v row t ps ss d o .depth)
+      (getD (done Row row-ops w (plan-fill ps ss d (s .state)) s .rows) row fresh-row) =
+      by (is-empty own)
+      (λ y. (rw y (f .paints), rw y (f .layers), fill-none ps ss d o s f (empty-list own y)))
+      (λ n.
+      let p = rw n at (l .paints) in
+      let q = new-paint (st .attrs .paints) _ (l .paints-more) p in (
+        rw (n, length-append) (ap (λ m. m + 1) (f .paints)),
+        rw n (f .layers),
+        fill-row pos ps ss d o s f j (ap (paint-id attrs) (sym (f .paints)) ∙ q ∙ f .next),
+      )) in
       record {
         view = f .view;
         next = ap (λ m. m + 1) (f .next);

@@ -66,5 +66,5 @@ module _ (w : ℕ) (attrs : Attrs) (t : ℕ) where
   held-picture pos n on ts r h =
       let fs = told-fills w attrs t (r .fills) in
       let e : hider fs ++ such (no-older (newest-hide fs)) (told-commands w attrs t 0 (r .commands)) ≡ shown ts =
-          rw (← h .hidden, ← h .open-told, ← hider-such ts, ← newest-such ts, ← passes-such (newest-hide ts) ts) (two-passes-show (h .rising)) in
+      rw (← h .hidden, ← h .open-told, ← hider-such ts, ← newest-such ts, ← passes-such (newest-hide ts) ts) (two-passes-show (h .rising)) in
       row-received w attrs t pos r n on (h .numbered) ∙ ap (map entry-told) e

@@ -132,15 +132,15 @@ module _ (w : ℕ) (attrs : Attrs) (t : ℕ) (v : Box) (row : ℕ) where
       let id = ap (layer-id attrs) (sym (f .layers)) ∙ new-layer (st .attrs .layers) _ (ld .layers-more) (ld .layers) ∙ f .next in
       let h = pop-grows l ls g (f .first) n (o .layers) id ks (closers-single c (l .layer .bounds) ls ss j) (l .touched) refl in
       let has : some-of (eqb row) js ≡ l .touched =
-          ap (λ m. some-of (eqb m) js) (sym (zero-add row)) ∙ touched-has w (suc (length ls)) 0 row (s .rows) (f .there) ∙ sym (shape-inner (g .shape)) in
+      ap (λ m. some-of (eqb m) js) (sym (zero-add row)) ∙ touched-has w (suc (length ls)) 0 row (s .rows) (f .there) ∙ sym (shape-inner (g .shape)) in
       let rows : Rows 0 js = touched-rows w (suc (length ls)) 0 (s .rows) in
       let puts = closing c v (l .layer .bounds) (box-now v ls) (o .layers) ss js ++ map (on pop) js in
       let acts : acts-at row puts ≡ cond (l .touched) (map (close-act w attrs t v row (o .layers)) ks) [] ++ keep (l .touched) pop [] =
-          acts-both row (closing c v (l .layer .bounds) (box-now v ls) (o .layers) ss js) (map (on pop) js)
-          ∙ rw (closing-acts c (l .layer .bounds) ls (o .layers) ss js rows, acts-once pop row rows, has) in
+      acts-both row (closing c v (l .layer .bounds) (box-now v ls) (o .layers) ss js) (map (on pop) js)
+      ∙ rw (closing-acts c (l .layer .bounds) ls (o .layers) ss js rows, acts-once pop row rows, has) in
       let same : do-acts Row row-ops w n (cond (l .touched) (map (close-act w attrs t v row (o .layers)) ks) [] ++ keep (l .touched) pop []) r
-          ≡ getD (do-puts Row row-ops w n puts (s .rows)) row fresh-row =
-          ap (λ (xs : List Act). do-acts Row row-ops w n xs r) (sym acts) ∙ sym (row-by-row Row row-ops w n row fresh-row puts (s .rows) (f .there)) in
+      ≡ getD (do-puts Row row-ops w n puts (s .rows)) row fresh-row =
+      ap (λ (xs : List Act). do-acts Row row-ops w n xs r) (sym acts) ∙ sym (row-by-row Row row-ops w n row fresh-row puts (s .rows) (f .there)) in
       let deep : length (o .depth) ≡ suc (length ls) = ap (λ (xs : List OpenLayer). length xs) e in
       record {
         view = f .view;

@@ -48,9 +48,9 @@ module _ (w : ℕ) (attrs : Attrs) (t : ℕ) (v : Box) (row : ℕ) where
       let g = push-grows w attrs t v row (f .grown) l refl c in
       let puts : List Put = cond (touches-all p b) (map (on touch) (rows-in b)) [] in
       let same : do-acts Row row-ops w (suc (length (o .depth))) (keep c touch []) (getD (s .rows) row fresh-row)
-          ≡ getD (do-puts Row row-ops w (suc (length (o .depth))) puts (s .rows)) row fresh-row =
-          sym (row-by-row Row row-ops w (suc (length (o .depth))) row fresh-row puts (s .rows) (f .there)
-          ∙ ap (λ (xs : List Act). do-acts Row row-ops w (suc (length (o .depth))) xs (getD (s .rows) row fresh-row)) (push-acts (touches-all p b) b)) in
+      ≡ getD (do-puts Row row-ops w (suc (length (o .depth))) puts (s .rows)) row fresh-row =
+      sym (row-by-row Row row-ops w (suc (length (o .depth))) row fresh-row puts (s .rows) (f .there)
+      ∙ ap (λ (xs : List Act). do-acts Row row-ops w (suc (length (o .depth))) xs (getD (s .rows) row fresh-row)) (push-acts (touches-all p b) b)) in
       record {
         view = f .view;
         next = f .next;
@@ -97,9 +97,9 @@ module _ (w : ℕ) (attrs : Attrs) (t : ℕ) (v : Box) (row : ℕ) where
       let puts = map (on (paint (span-of b) none (o .paints))) (rows-in b) in
       let r = getD (s .rows) row fresh-row in
       let same : do-acts Row row-ops w (length (o .depth)) (map (cut-act false (o .paints) (o .next)) ks) r
-          ≡ getD (do-puts Row row-ops w (length (o .depth)) puts (s .rows)) row fresh-row =
-          ap (λ (xs : List Act). do-acts Row row-ops w (length (o .depth)) xs r) (cut-acts b (o .paints) (o .next) c ∙ sym (box-acts (paint (span-of b) none (o .paints)) b))
-          ∙ sym (row-by-row Row row-ops w (length (o .depth)) row fresh-row puts (s .rows) (f .there)) in
+      ≡ getD (do-puts Row row-ops w (length (o .depth)) puts (s .rows)) row fresh-row =
+      ap (λ (xs : List Act). do-acts Row row-ops w (length (o .depth)) xs r) (cut-acts b (o .paints) (o .next) c ∙ sym (box-acts (paint (span-of b) none (o .paints)) b))
+      ∙ sym (row-by-row Row row-ops w (length (o .depth)) row fresh-row puts (s .rows) (f .there)) in
       record {
         view = f .view;
         next = ap (λ m. m + 1) (f .next);

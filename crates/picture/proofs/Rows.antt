@@ -136,9 +136,9 @@ module _ (w : ℕ) (attrs : Attrs) (t : ℕ) where
         let f = fill-at w attrs r n k in
         let one : fill-at w attrs r n k ≡ getD (r .fills) (length (r .fills) - suc k) no-fill = ap (λ m. getD (r .fills) (length (r .fills) - m) no-fill) (add-one k) in
         let same : (f ∷ fs) ≡ drop (length (r .fills) - suc k) (r .fills) =
-            ap (λ (g : DepthFill). g ∷ fs) one
-            ∙ ap (λ m. getD (r .fills) (length (r .fills) - suc k) no-fill ∷ drop m (r .fills)) (sym i)
-            ∙ sym (drop-cons (r .fills) (length (r .fills) - suc k) no-fill (omega arith)) in
+        ap (λ (g : DepthFill). g ∷ fs) one
+        ∙ ap (λ m. getD (r .fills) (length (r .fills) - suc k) no-fill ∷ drop m (r .fills)) (sym i)
+        ∙ sym (drop-cons (r .fills) (length (r .fills) - suc k) no-fill (omega arith)) in
         received-append t (pieces-after k) (paint-step w attrs r (painter-after w attrs r n k) .pieces)
         ∙ ap (λ (es : List Entry). es ++ received t (paint-step w attrs r (painter-after w attrs r n k) .pieces)) (fills-received a k (omega arith))
         ∙ ap (λ (o : Painted). map entry-told (hider (told-fills fs)) ++ received t (o .pieces)) e
@@ -217,7 +217,7 @@ module _ (w : ℕ) (attrs : Attrs) (t : ℕ) where
         let len : t / w < length (p .buckets) = rw (s .buckets, after-length (paint-id attrs) (drop (f - f) (r .fills)) (replicate n 0), length-replicate {A = ℕ} n 0) on in
         let word : getD (p .buckets) (t / w) 0 ≡ newest-hide (told-fills (r .fills)) = painted-newest w attrs r n (t / w) on ∙ newest-told (r .fills) in
         let start : pieces-after (f + length (r .commands)) ≡ paint-steps w attrs (f + length (r .commands)) r (begin n) =
-            ap pieces-after (sym (zero-add (f + length (r .commands)))) ∙ pieces-all 0 (f + length (r .commands)) ∙ unfold pieces-after painter-after in refl in
+        ap pieces-after (sym (zero-add (f + length (r .commands)))) ∙ pieces-all 0 (f + length (r .commands)) ∙ unfold pieces-after painter-after in refl in
         ap (received t) (sym start ∙ pieces-all f (length (r .commands)))
         ∙ received-append t (pieces-after f) (paint-steps w attrs (length (r .commands)) r p)
         ∙ rw (fills-received a f (le-refl f), z, commands-received (r .commands) 0 p refl (s .steps ∙ sym (add-zero f)) len, word, s .nesting)

@@ -109,7 +109,7 @@ range-hit p bs r k h = by (covers r k) yes no
         let len : j < length (slice (r .first) (r .end) bs) = rw (length-take (r .end - r .first) (drop (r .first) bs), length-drop (r .first) bs) (omega arith) in
         let hit = runs-hit p (r .first) j (slice (r .first) (r .end) bs) len in
         let at : getD (slice (r .first) (r .end) bs) j 0 ≡ getD bs k 0 =
-            getD-take (r .end - r .first) (drop (r .first) bs) j 0 (omega arith) ∙ getD-drop (r .first) bs j 0 ∙ ap (λ m. getD bs m 0) e in
+        getD-take (r .end - r .first) (drop (r .first) bs) j 0 (omega arith) ∙ getD-drop (r .first) bs j 0 ∙ ap (λ m. getD bs m 0) e in
         rw y (ap (λ m. hits (bucket-runs p (r .first) (slice (r .first) (r .end) bs)) m) (sym e) ∙ hit ∙ ap (λ b. cond (p b) 1 0) at)
 
     no : covers r k ≡ false → hits (bucket-runs p (r .first) (slice (r .first) (r .end) bs)) k ≡ cond (covers r k && p (getD bs k 0)) 1 0

@@ -2,16 +2,20 @@
 use Prim.Native.Nat.{ℕ, zero, suc, _+_, _/_, _≤_, _<_}
 use native.Mathlib.Omega.{arith}
 use mathlib.Core.Path.{_≡_, refl, sym, _∙_, ap}
+use mathlib.Core.Bool.{false}
 use mathlib.Core.List.{List, [], _∷_, _++_, append-nil}
 use lib.ListN.{length, getD, replicate, getD-replicate, length-replicate}
-use Rattle.rules.specs.Boxes.{Box, rows-of}
+use Rattle.rules.specs.Lists.{some-of}
+use Rattle.rules.specs.Boxes.{Box, width, rows-of, buckets-of}
 use Rattle.rules.specs.Attributes.{Attrs}
 use Rattle.rules.specs.Rows.{Row, row-ops, fresh-row}
 use Rattle.rules.specs.Painting.{received, paint-row}
 use Rattle.rules.specs.Plans.{Frame, Step, plan}
 use Rattle.rules.specs.Steps.{Screen, reset, done, touched, call}
-use Rattle.rules.specs.Plain.{Story, begun, tell-step, tell-steps, plain}
+use Rattle.rules.specs.Plain.{Told, shown, Story, begun, tell-step, tell-steps, plain}
+use Rattle.rules.proofs.All.{neither}
 use Rattle.picture.specs.Built.{Built, no-step, then}
+use Rattle.picture.proofs.Buckets.{touched-end}
 use Rattle.picture.proofs.Shape.{none-open}
 use Rattle.picture.proofs.Holds.{holds-fresh, holds-picture}
 use Rattle.picture.proofs.Grown.{Grown}
@@ -67,3 +71,16 @@ unfolding plain
 picture w pos f xs u b row t n h on =
     let o = built-follows w t (f .viewport) row pos b begun (reset-follows w (u .state .attrs) t row f h) in
     holds-picture w (u .state .attrs) t pos n on _ _ (getD (u .rows) row fresh-row) (o .grown .holds)
+
+-- .. for the tiles of the screen, over the buckets that painting has
+pub screen-picture : (w : ℕ) → 0 < w → (f : Frame) (xs : List Step) (u : Screen Row) → Built w xs (reset fresh-row f) u
+    → (row t : ℕ) → row < rows-of (f .viewport) → t < width (f .viewport) / 4
+    → received t (paint-row w (u .state .attrs) (buckets-of w (f .viewport)) (getD (u .rows) row fresh-row)) ≡ plain w (f .viewport) row t xs
+screen-picture w pos f xs u b row t h on =
+    picture w pos f xs u b row t (buckets-of w (f .viewport)) h (touched-end w pos t (width (f .viewport) / 4) on)
+
+-- where nothing hides, everything is shown
+pub all-shown : (ts : List Told) → some-of (λ (u : Told). u .hides) ts ≡ false → shown ts ≡ ts
+unfolding shown
+all-shown [] e = refl
+all-shown (t ∷ ts) e = let h = neither (t .hides) (some-of (λ (u : Told). u .hides) ts) e in rw (h .1)

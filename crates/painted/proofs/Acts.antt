@@ -3,7 +3,7 @@ use mathlib.Core.Path.{_≡_, refl, sym, ap, _∙_}
 use mathlib.Core.Bool.{Bool, true, false, cond}
 use mathlib.Core.List.{List, [], _∷_, _++_, foldl}
 use mathlib.Core.Option.{Option, none, some}
-use Prim.Native.Nat.{ℕ, zero, suc, _+_, _-_, _*_, _/_, _≤_, _<_}
+use Prim.Native.Nat.{ℕ, zero, suc, _+_, _-_, _/_, _≤_, _<_}
 use native.Mathlib.Omega.{arith}
 use lib.Dec.{leb, ltb}
 use lib.ListN.{length, getD, set}
@@ -11,10 +11,10 @@ use borrow.Author.Tests.{leb-false}
 use Rattle.rules.specs.Lists.{keep, change, times}
 use Rattle.rules.specs.Spans.{Span, span, hull}
 use Rattle.rules.specs.Split.{Part, regular, buckets, split, raised, lowered, around}
-use Rattle.rules.specs.Depth.{Summary, included, tiles-of}
-use Rattle.rules.specs.Commands.{Command, paint-fill, layer-fill, push-buf, pop-buf, DepthFill}
+use Rattle.rules.specs.Depth.{included, tiles-of}
+use Rattle.rules.specs.Commands.{Command, paint-fill, layer-fill, push-buf, pop-buf}
 use Rattle.rules.specs.Attributes.{Attrs}
-use Rattle.rules.specs.Rows.{Row, Level, fresh-row, row-ops, adds, include, put-command, put-push-buf, pop-levels, put-pop-buf, put-depth-fill}
+use Rattle.rules.specs.Rows.{Row, Level, fresh-row, row-ops, include, put-command, put-push-buf, pop-levels, put-pop-buf, put-depth-fill}
 use Rattle.rules.specs.Plans.{Act, paint, opaque, touch, close, pop, Put}
 use Rattle.rules.specs.Steps.{ensure, put-part, do-act, do-puts}
 use Rattle.rules.specs.Painting.{paint-id}
@@ -22,13 +22,12 @@ use Rattle.rules.proofs.All.{All, nil, cons, head, tail, all-keep, all-append, 
 use Rattle.rules.proofs.Changes.{change-at}
 use Rattle.rules.proofs.Maps.{PutOk, follows-act}
 use Rattle.rules.proofs.Bounds.{BoundedSpan}
-use Rattle.cmd.specs.Good.{GoodSpan, GoodAlpha, GoodPush}
-use Rattle.shown.specs.Summaries.{Included}
+use Rattle.cmd.specs.Good.{GoodSpan, GoodPush}
 use Rattle.shown.proofs.Skips.{includes-new, includes-still}
 use Rattle.paint.specs.Painting.{good-paint}
 use Rattle.encode.specs.Encode.{placed, Fine}
 use Rattle.encode.proofs.Refines.{refines}
-use Rattle.painted.specs.Fair.{FairCommand, FairFill, Nested, nesting-after, Fair}
+use Rattle.painted.specs.Fair.{FairCommand, Nested, nesting-after, Fair}
 
 -- commands after commands
 nested-append : (n : ℕ) (cs ds : List Command) → Nested n cs → Nested (nesting-after n cs) ds → Nested n (cs ++ ds)

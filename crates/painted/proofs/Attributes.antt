@@ -14,7 +14,7 @@ use Rattle.rules.specs.Rows.{Row}
 use Rattle.rules.specs.Painting.{paint-id, layer-id}
 use Rattle.rules.proofs.All.{both, all-map}
 use Rattle.paint.specs.Painting.{good-id, good-paint, good-layer}
-use Rattle.painted.specs.Fair.{FairCommand, FairFill, Fair}
+use Rattle.painted.specs.Fair.{FairCommand, Fair}
 
 -- b has the attributes of a, and perhaps more after them
 pub record Extends (a b : Attrs) : Type 0 where

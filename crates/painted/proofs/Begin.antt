@@ -1,23 +1,23 @@
 -- Beginning to paint at the words of a canvas is the rules' beginning. Assumes nothing.
 use mathlib.Core.Path.{_≡_, refl, sym, ap, _∙_}
 use mathlib.Core.Bool.{Bool, true, false, _&&_, not, cond}
-use mathlib.Core.List.{List, [], _∷_, _++_}
-use Prim.Native.Nat.{ℕ, zero, suc, _+_, _*_, _<_}
+use mathlib.Core.List.{List, [], _∷_}
+use Prim.Native.Nat.{ℕ, zero, suc, _*_}
 use native.Mathlib.Omega.{arith}
 use lib.Dec.{eqb}
-use lib.ListN.{length, getD, replicate, length-append, length-replicate, getD-replicate}
+use lib.ListN.{length, replicate, length-append}
 use borrow.Author.Tests.{eq-eqb, ne-eqb}
 use Rattle.rules.specs.Lists.{join, is-empty}
 use Rattle.rules.specs.Answers.{first-of, answer, settle, Done, Open, BadArena, BadViewport, BadRecord}
 use Rattle.rules.specs.Boxes.{buckets-of}
 use Rattle.rules.specs.Boxes as boxes
-use Rattle.rules.specs.Rows.{Row, fresh-row}
+use Rattle.rules.specs.Rows.{Row}
 use Rattle.rules.specs.Plans.{Layer}
 use Rattle.rules.specs.Steps as rule
 use Rattle.rules.specs.Painting.{Painter, begin}
 use Rattle.rules.specs.Calls as calls
 use Rattle.rules.specs.Calls.{begin-call, blank}
-use Rattle.rules.proofs.All.{All, nil, cons, all-replicate}
+use Rattle.rules.proofs.All.{All, nil, cons}
 use Rattle.arena.proofs.Laws.{one-more}
 use Rattle.screen.specs.Screens.{good-screen}
 use Rattle.screen.specs.Judging as screens
@@ -29,8 +29,6 @@ use Rattle.refine.proofs.Tables.{replicate-add}
 use Rattle.painter.specs.Judging.{judged, begin-number}
 use Rattle.painter.specs.Beginning.{canvas, beginning}
 use Rattle.painted.specs.Canvases.{buckets-in, standing-in, depth-of, painting-of, canvas-of, Whole}
-use Rattle.painted.proofs.Kept.{fine-at}
-use Rattle.painted.proofs.Painters.{begin-going}
 
 good-by : (a b c g : Bool) → first-of ((not a, BadViewport) ∷ (not b, BadArena) ∷ (not (c && g), BadRecord) ∷ []) ≡ 0 → g ≡ true
 good-by false b c g e = absurd (omega arith)

@@ -1,14 +1,14 @@
 -- A reset and every step keep the rows of a screen fair, and the words of each row stand for it. Assumes nothing.
 use mathlib.Core.Path.{_≡_, refl, sym, ap, _∙_}
 use mathlib.Core.Bool.{Bool, true, false, cond}
-use mathlib.Core.List.{List, [], _∷_, map}
+use mathlib.Core.List.{List}
 use Prim.Native.Nat.{ℕ, zero, suc, _*_, _<_}
 use native.Mathlib.Omega.{arith}
 use lib.Dec.{eqb}
 use lib.ListN.{length, getD, replicate, List·getD-map}
 use borrow.Author.Tests.{eqb-true}
 use Rattle.rules.specs.Answers.{answer, Done}
-use Rattle.rules.specs.Boxes.{good-viewport, buckets-of}
+use Rattle.rules.specs.Boxes.{buckets-of}
 use Rattle.rules.specs.Boxes as boxes
 use Rattle.rules.specs.Rows.{Row, fresh-row, row-ops}
 use Rattle.rules.specs.Plans.{Frame, Step}
@@ -17,7 +17,7 @@ use Rattle.rules.proofs.All.{All, nil, cons}
 use Rattle.rules.proofs.Bounds.{plan-ok}
 use Rattle.rules.proofs.Maps.{planned}
 use Rattle.row.specs.Words.{Words}
-use Rattle.arena.specs.Arena.{sizes, row-at, lay}
+use Rattle.arena.specs.Arena.{sizes, row-at}
 use Rattle.arena.proofs.Laws.{cut-at}
 use Rattle.encode.specs.Encode.{Fine, encode}
 use Rattle.encode.proofs.Refines.{fresh-fine}
@@ -29,7 +29,7 @@ use Rattle.refine.proofs.Kept.{Passing, passing}
 use Rattle.refine.proofs.Refined.{BuiltBy, by-reset, by-step, built-refines}
 use Rattle.paint.specs.Standing.{Stands}
 use Rattle.painter.specs.Stepping.{part}
-use Rattle.painted.specs.Fair.{Fair, FairRows}
+use Rattle.painted.specs.Fair.{FairRows}
 use Rattle.painted.proofs.Acts.{puts-fair}
 use Rattle.painted.proofs.Attributes.{fair-more}
 use Rattle.painted.proofs.Plans.{plan-fair, plan-extends}

@@ -13,9 +13,9 @@ use Rattle.rules.specs.Rows.{Row, fresh-row, row-ops}
 use Rattle.rules.specs.Plans.{Frame, Step}
 use Rattle.rules.specs.Steps.{Screen, reset, done, refusal, perform, call}
 use Rattle.rules.specs.Walk.{good-room}
-use Rattle.rules.specs.Painting.{Painter, begin}
+use Rattle.rules.specs.Painting.{begin}
 use Rattle.rules.specs.Calls.{Canvas, fresh-canvas, step-call, begin-call, paint-call}
-use Rattle.rules.proofs.All.{All, never, all-replicate}
+use Rattle.rules.proofs.All.{never, all-replicate}
 use Rattle.rules.proofs.Maps.{planned}
 use Rattle.screen.specs.Tables.{Lent}
 use Rattle.refine.specs.Lent.{lent-of}

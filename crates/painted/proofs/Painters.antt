@@ -6,18 +6,18 @@ use mathlib.Core.Option.{Option, none, some}
 use Prim.Native.Nat.{ℕ, zero, suc, _+_, _-_, _≤_, _<_}
 use native.Mathlib.Omega.{arith}
 use lib.Dec.{leb, ltb, eqb}
-use lib.ListN.{length, getD, take, replicate, length-replicate}
-use borrow.Author.Tests.{lt-ltb, ltb-true, ltb-false, ne-eqb, leb-true}
+use lib.ListN.{length, getD, take, length-replicate}
+use borrow.Author.Tests.{lt-ltb, ltb-true, ltb-false, ne-eqb}
 use Rattle.rules.specs.Lists.{is-none, is-empty}
 use Rattle.rules.specs.Spans.{Span, span}
 use Rattle.rules.specs.Depth.{Summary, written-from, written}
-use Rattle.rules.specs.Commands.{Command, paint-fill, layer-fill, push-buf, pop-buf, DepthFill}
+use Rattle.rules.specs.Commands.{Command, paint-fill, layer-fill, push-buf, pop-buf}
 use Rattle.rules.specs.Attributes.{Attrs}
 use Rattle.rules.specs.Rows.{Row}
-use Rattle.rules.specs.Painting.{Painter, Painted, begin, paint-id, no-fill, paint-depth, paint-fill-runs, paint-command, paint-when, paint-step}
+use Rattle.rules.specs.Painting.{Painter, begin, paint-id, no-fill, paint-depth, paint-fill-runs, paint-command, paint-when, paint-step}
 use Rattle.rules.proofs.All.{All, cons, both, never, all-at}
 use Rattle.encode.specs.Encode.{first-of, end-of, state-of, Fine}
-use Rattle.shown.specs.Summaries.{summary-at, Sound, Included}
+use Rattle.shown.specs.Summaries.{summary-at, Sound}
 use Rattle.shown.proofs.Skips.{sound-blank}
 use Rattle.paint.specs.Painting.{good-id, good-paint, good-command}
 use Rattle.paint.specs.Standing.{Ready}

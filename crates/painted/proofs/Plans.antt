@@ -3,7 +3,7 @@ use mathlib.Core.Path.{_≡_, refl}
 use mathlib.Core.Bool.{Bool, true, false, _&&_, not, cond}
 use mathlib.Core.List.{List, [], _∷_}
 use mathlib.Core.Option.{Option, none, some}
-use Prim.Native.Nat.{ℕ, _+_, _-_, _*_, _/_, _%_, _≤_, _<_, min, max}
+use Prim.Native.Nat.{ℕ, _+_, _-_, _/_, _%_, _≤_, _<_, min, max}
 use native.Mathlib.Omega.{arith}
 use lib.Dec.{leb, ltb, eqb}
 use lib.ListN.{length}
@@ -22,7 +22,6 @@ use Rattle.rules.proofs.All.{All, nil, cons, head, both, neither, all-if, all-a
 use Rattle.rules.proofs.Bounds.{Framed, Inside, judged-facts, good-facts, dest-facts, box-inside}
 use Rattle.cmd.specs.Good.{GoodSpan, GoodAlpha}
 use Rattle.paint.specs.Painting.{good-paint, good-layer}
-use Rattle.painted.specs.Fair.{FairCommand}
 use Rattle.painted.proofs.Acts.{FairPut}
 use Rattle.painted.proofs.Attributes.{Extends, same-attrs, paint-extends, paint-new, paint-good, layer-extends, layer-good}
 

@@ -3,11 +3,11 @@ use mathlib.Core.Path.{_≡_, refl, ap, _∙_}
 use mathlib.Core.Bool.{true}
 use mathlib.Core.List.{List, [], _∷_, _++_, append-assoc}
 use mathlib.Core.Option.{Option, none, some}
-use Prim.Native.Nat.{ℕ, zero, suc, _+_, _-_, _*_, _≤_, _<_}
+use Prim.Native.Nat.{ℕ, zero, suc, _+_, _*_, _≤_, _<_}
 use native.Mathlib.Nat.{mul-suc}
 use native.Mathlib.Omega.{arith}
 use lib.Dec.{leb}
-use lib.ListN.{length, getD, replicate, length-append, List·getD-append}
+use lib.ListN.{length, getD, List·getD-append}
 use lib.Seq.{getD-append-add}
 use borrow.Author.Tests.{le-leb}
 use Rattle.rules.specs.Lists.{join}
@@ -16,7 +16,7 @@ use Rattle.rules.specs.Commands.{Command, paint-fill, layer-fill, push-buf, pop
 use Rattle.rules.specs.Attributes.{Attrs}
 use Rattle.rules.specs.Rows.{Row}
 use Rattle.rules.specs.Painting.{no-fill}
-use Rattle.rules.proofs.All.{All, all-at}
+use Rattle.rules.proofs.All.{all-at}
 use Rattle.cmd.proofs.BothWays.{reads-back, depth-reads-back}
 use Rattle.encode.specs.Encode.{padded, first-of, end-of, encode}
 use Rattle.encode.proofs.Pads.{padded-fits, padded-length}

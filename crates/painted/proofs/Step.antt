@@ -13,7 +13,7 @@ use Rattle.rules.specs.Lists.{join}
 use Rattle.rules.specs.Answers.{Done, BadRun, Open, NoRoom}
 use Rattle.rules.specs.Boxes.{buckets-of}
 use Rattle.rules.specs.Boxes as boxes
-use Rattle.rules.specs.Attributes.{LayerAttr, PaintAttr, paint-attr-words}
+use Rattle.rules.specs.Attributes.{paint-attr-words}
 use Rattle.rules.specs.Rows.{Row, fresh-row}
 use Rattle.rules.specs.Steps as rule
 use Rattle.rules.specs.Painting.{Painter, Painted, begin, paint-step}
@@ -31,7 +31,7 @@ use Rattle.shown.specs.Summaries.{summary-at, Sound}
 use Rattle.paint.specs.Painting.{out, refused, left, painter-at, settled}
 use Rattle.paint.specs.Standing.{Stands, Ready, Holds}
 use Rattle.painter.specs.Judging.{arenas-long, tables-long, step-number}
-use Rattle.painter.specs.Stepping.{part, with-part, own, in-place, number, stepped}
+use Rattle.painter.specs.Stepping.{part, with-part, in-place, number, stepped}
 use Rattle.painter.proofs.Laws.{step-by-rules}
 use Rattle.painted.specs.Canvases.{buckets-in, standing-in, depth-of, painting-of, Whole, given-out, attributes-of, words-of}
 use Rattle.painted.proofs.Standing.{join-at}

@@ -35,9 +35,8 @@ use Rattle.painter.specs.Stepping.{part, with-part, in-place, number, stepped}
 use Rattle.painter.proofs.Laws.{step-by-rules}
 use Rattle.painted.specs.Canvases.{buckets-in, standing-in, depth-of, painting-of, Whole, given-out, attributes-of, words-of}
 use Rattle.painted.proofs.Standing.{join-at}
-use Rattle.painted.proofs.Kept.{own-words, row-stands}
+use Rattle.painted.proofs.Kept.{fine-at, own-words, row-stands}
 use Rattle.painted.proofs.Painters.{going-ready}
-use Rattle.painted.proofs.Kept.{fine-at}
 use Rattle.painted.proofs.Begin.{judged-0, all-standing, depth-long, painting-long}
 
 -- a painter's own part, and another painter's words in its place

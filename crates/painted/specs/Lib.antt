@@ -1,0 +1,3 @@
+pub mod Fair
+pub mod Painters
+pub mod Canvases

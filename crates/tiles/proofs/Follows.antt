@@ -24,14 +24,14 @@ use Rattle.rules.specs.Plain.{Told, OpenLayer, Story, touch-all, box-now, here,
 use Rattle.rules.proofs.All.{never}
 use Rattle.rules.proofs.Changes.{puts-length}
 use Rattle.rules.proofs.Bounds.{judged-facts}
-use Rattle.picture.proofs.Cases.{by, and-left}
-use Rattle.picture.proofs.Acts.{acts-at, do-acts, row-by-row}
-use Rattle.picture.proofs.Acted.{adds-none}
-use Rattle.picture.proofs.Shape.{touched-layers}
-use Rattle.picture.proofs.Listed.{cut-act, draw-acts, Rows, rows-counted, acts-once}
-use Rattle.picture.proofs.Single.{single}
-use Rattle.picture.proofs.Holds.{holds-still}
-use Rattle.picture.proofs.Grown.{Grown, draw-grows, push-grows}
+use Rattle.tiles.proofs.Cases.{by, and-left}
+use Rattle.tiles.proofs.Acts.{acts-at, do-acts, row-by-row}
+use Rattle.tiles.proofs.Acted.{adds-none}
+use Rattle.tiles.proofs.Shape.{touched-layers}
+use Rattle.tiles.proofs.Listed.{cut-act, draw-acts, Rows, rows-counted, acts-once}
+use Rattle.tiles.proofs.Single.{single}
+use Rattle.tiles.proofs.Holds.{holds-still}
+use Rattle.tiles.proofs.Grown.{Grown, draw-grows, push-grows}
 
 abbrev pub layer-in : OpenLayer → Layer
 layer-in l = l .layer

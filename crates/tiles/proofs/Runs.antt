@@ -12,7 +12,7 @@ use borrow.Author.Tests.{lt-ltb, le-ltb, le-leb, lt-leb, leb-true, leb-false, lt
 use Rattle.rules.specs.Lists.{such, keep, slice}
 use Rattle.rules.specs.Spans.{Span, span, covers}
 use Rattle.rules.specs.Depth.{join-run, bucket-runs, runs-in}
-use Rattle.picture.proofs.Cases.{by, and-missed, covers-low, covers-high}
+use Rattle.tiles.proofs.Cases.{by, and-missed, covers-low, covers-high}
 
 -- how many of the spans cover k
 abbrev pub hits : List Span → ℕ → ℕ

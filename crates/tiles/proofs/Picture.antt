@@ -14,13 +14,13 @@ use Rattle.rules.specs.Plans.{Frame, Step, plan}
 use Rattle.rules.specs.Steps.{Screen, reset, done, touched, call}
 use Rattle.rules.specs.Plain.{Told, shown, Story, begun, tell-step, tell-steps, plain}
 use Rattle.rules.proofs.All.{neither}
-use Rattle.picture.specs.Built.{Built, no-step, then}
-use Rattle.picture.proofs.Buckets.{touched-end}
-use Rattle.picture.proofs.Shape.{none-open}
-use Rattle.picture.proofs.Holds.{holds-fresh, holds-picture}
-use Rattle.picture.proofs.Grown.{Grown}
-use Rattle.picture.proofs.Follows.{Leads, Follows}
-use Rattle.picture.proofs.Stepped.{call-done, step-follows, step-leads}
+use Rattle.tiles.specs.Built.{Built, no-step, then}
+use Rattle.tiles.proofs.Buckets.{touched-end}
+use Rattle.tiles.proofs.Shape.{none-open}
+use Rattle.tiles.proofs.Holds.{holds-fresh, holds-picture}
+use Rattle.tiles.proofs.Grown.{Grown}
+use Rattle.tiles.proofs.Follows.{Leads, Follows}
+use Rattle.tiles.proofs.Stepped.{call-done, step-follows, step-leads}
 
 module _ (w t : ℕ) (v : Box) (row : ℕ) where
   -- the attributes of a built screen begin with those of each screen on the way

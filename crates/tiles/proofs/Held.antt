@@ -10,10 +10,10 @@ use Rattle.rules.specs.Rows.{Row}
 use Rattle.rules.specs.Painting.{Entry, received, paint-row}
 use Rattle.rules.specs.Plain.{Told, shown}
 use Rattle.rules.proofs.All.{All, never}
-use Rattle.picture.proofs.Cases.{by}
-use Rattle.picture.proofs.Newest.{write-zero}
-use Rattle.picture.proofs.Shown.{Rising, hides-of, newest-hide, hider, passes, two-passes, two-passes-show}
-use Rattle.picture.proofs.Rows.{entry-told, no-older, told-fills, told-commands, Numbered, row-received}
+use Rattle.tiles.proofs.Cases.{by}
+use Rattle.tiles.proofs.Newest.{write-zero}
+use Rattle.tiles.proofs.Shown.{Rising, hides-of, newest-hide, hider, passes, two-passes, two-passes-show}
+use Rattle.tiles.proofs.Rows.{entry-told, no-older, told-fills, told-commands, Numbered, row-received}
 
 abbrev pub stays : Told → Bool
 stays u = not (u .hides)

@@ -17,10 +17,10 @@ use Rattle.rules.specs.Rows.{Row, row-ops}
 use Rattle.rules.specs.Plans.{Layer, State, Step, a-fill, a-push, a-pop, a-filter, Plan, box-of, filter-box, draws-nothing, plan-fill, plan-push, plan-pop, plan-filter-in, plan-filter, plan, still}
 use Rattle.rules.specs.Steps.{Screen, do-puts, done, refusal, perform, touched, call}
 use Rattle.rules.specs.Plain.{Story, OpenLayer, box-now, tell-pop, tell-filter, tell-step}
-use Rattle.picture.proofs.Cases.{by}
-use Rattle.picture.proofs.Follows.{layer-in, Leads, Follows, fill-follows}
-use Rattle.picture.proofs.Pushes.{push-follows, filter-in}
-use Rattle.picture.proofs.Pops.{pop-follows}
+use Rattle.tiles.proofs.Cases.{by}
+use Rattle.tiles.proofs.Follows.{layer-in, Leads, Follows, fill-follows}
+use Rattle.tiles.proofs.Pushes.{push-follows, filter-in}
+use Rattle.tiles.proofs.Pops.{pop-follows}
 
 -- a done call carries its plan out
 pub call-done : (w : ℕ) (x : Step) (s : Screen Row) → call Row row-ops w x s .number ≡ Done

@@ -14,12 +14,12 @@ use Rattle.rules.specs.Rows.{Row, fresh-row}
 use Rattle.rules.specs.Painting.{received, paint-row}
 use Rattle.rules.specs.Plain.{Told, shown, tell}
 use Rattle.rules.proofs.All.{All, nil, cons, all-map, all-append, all-mapped}
-use Rattle.picture.proofs.Shown.{Rising, all-told, told-next, hides-of}
-use Rattle.picture.proofs.Held.{stays, held-picture}
-use Rattle.picture.proofs.Rows.{entry-told, told-fills, told-commands, Numbered}
-use Rattle.picture.proofs.Acted.{Sound, Adds, nest}
-use Rattle.picture.proofs.Listed.{such-append}
-use Rattle.picture.proofs.Single.{Single, nothing, one}
+use Rattle.tiles.proofs.Shown.{Rising, all-told, told-next, hides-of}
+use Rattle.tiles.proofs.Held.{stays, held-picture}
+use Rattle.tiles.proofs.Rows.{entry-told, told-fills, told-commands, Numbered}
+use Rattle.tiles.proofs.Acted.{Sound, Adds, nest}
+use Rattle.tiles.proofs.Listed.{such-append}
+use Rattle.tiles.proofs.Single.{Single, nothing, one}
 
 -- one more entry, newer than all
 rising-append : {n : ℕ} {ts : List Told} (m : ℕ) (u : Told) → Rising n ts → All (λ (x : Told). x .id < m) ts → n < m → u .id ≡ m → Rising n (ts ++ (u ∷ []))

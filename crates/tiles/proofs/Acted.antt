@@ -22,9 +22,9 @@ use Rattle.rules.specs.Plans.{Act, paint, opaque, touch, close, pop}
 use Rattle.rules.specs.Steps.{ensure, put-part, do-act}
 use Rattle.rules.specs.Plain.{Told}
 use Rattle.rules.proofs.All.{All, nil, cons, all-map, all-append, never}
-use Rattle.picture.proofs.Cases.{by}
-use Rattle.picture.proofs.Rows.{fill-told, told-fills, paint-told, layer-told, told-commands, Numbered}
-use Rattle.picture.proofs.SplitTile.{regular-hits, bucket-hits}
+use Rattle.tiles.proofs.Cases.{by}
+use Rattle.tiles.proofs.Rows.{fill-told, told-fills, paint-told, layer-told, told-commands, Numbered}
+use Rattle.tiles.proofs.SplitTile.{regular-hits, bucket-hits}
 
 -- the nesting after some commands
 unfoldable pub nest : ℕ → List Command → ℕ

@@ -16,16 +16,16 @@ use Rattle.rules.specs.Painting.{paint-id, layer-id}
 use Rattle.rules.specs.Plans.{Act, touch, close, pop}
 use Rattle.rules.specs.Steps.{do-act}
 use Rattle.rules.specs.Plain.{Told, OpenLayer, touch-all, tell}
-use Rattle.picture.proofs.Cases.{by}
-use Rattle.picture.proofs.Shown.{hides-of}
-use Rattle.picture.proofs.Held.{stays}
-use Rattle.picture.proofs.Acts.{do-acts}
-use Rattle.picture.proofs.Acted.{Sound, Adds, adds-none, adds-both, act-touch, act-close, act-pop}
-use Rattle.picture.proofs.Drawn.{cut-told, told-cons}
-use Rattle.picture.proofs.Shape.{Shape, shape-most, shape-touch, shape-closed, shape-kept, not-yet}
-use Rattle.picture.proofs.Listed.{cut-act, draws-add, such-append}
-use Rattle.picture.proofs.Single.{Single}
-use Rattle.picture.proofs.Holds.{Holds, holds-still, holds-told, single-told, told-ids}
+use Rattle.tiles.proofs.Cases.{by}
+use Rattle.tiles.proofs.Shown.{hides-of}
+use Rattle.tiles.proofs.Held.{stays}
+use Rattle.tiles.proofs.Acts.{do-acts}
+use Rattle.tiles.proofs.Acted.{Sound, Adds, adds-none, adds-both, act-touch, act-close, act-pop}
+use Rattle.tiles.proofs.Drawn.{cut-told, told-cons}
+use Rattle.tiles.proofs.Shape.{Shape, shape-most, shape-touch, shape-closed, shape-kept, not-yet}
+use Rattle.tiles.proofs.Listed.{cut-act, draws-add, such-append}
+use Rattle.tiles.proofs.Single.{Single}
+use Rattle.tiles.proofs.Holds.{Holds, holds-still, holds-told, single-told, told-ids}
 
 pub acts-append : (w n : ℕ) (xs ys : List Act) (r : Row) → do-acts Row row-ops w n (xs ++ ys) r ≡ do-acts Row row-ops w n ys (do-acts Row row-ops w n xs r)
 unfolding do-acts

@@ -18,12 +18,12 @@ use Rattle.rules.specs.Painting.{paint-id}
 use Rattle.rules.specs.Plans.{Act, Put, on, draw-act, draw-puts}
 use Rattle.rules.specs.Steps.{do-act}
 use Rattle.rules.specs.Plain.{Told, tell}
-use Rattle.picture.proofs.Cases.{by}
-use Rattle.picture.proofs.Shown.{hides-of}
-use Rattle.picture.proofs.Held.{stays}
-use Rattle.picture.proofs.Acts.{acts-at, do-acts}
-use Rattle.picture.proofs.Acted.{Sound, Adds, adds-none, adds-both}
-use Rattle.picture.proofs.Drawn.{cut-told, told-cons, cut-adds}
+use Rattle.tiles.proofs.Cases.{by}
+use Rattle.tiles.proofs.Shown.{hides-of}
+use Rattle.tiles.proofs.Held.{stays}
+use Rattle.tiles.proofs.Acts.{acts-at, do-acts}
+use Rattle.tiles.proofs.Acted.{Sound, Adds, adds-none, adds-both}
+use Rattle.tiles.proofs.Drawn.{cut-told, told-cons, cut-adds}
 
 abbrev pub cut-act : Bool → ℕ → ℕ → Cut → Act
 cut-act e i id k = draw-act e i id (k .tiles) (k .alpha)

@@ -21,14 +21,14 @@ use Rattle.rules.specs.Painting.{paint-id}
 use Rattle.rules.specs.Plans.{Act, opaque, paint, draw-act}
 use Rattle.rules.specs.Steps.{ensure, put-part, do-act}
 use Rattle.rules.specs.Plain.{Told, whole-bucket, tell}
-use Rattle.picture.proofs.Cases.{by, and-left, and-right, covers-yes}
-use Rattle.picture.proofs.Buckets.{from-bucket, from-bucket-before}
-use Rattle.picture.proofs.Shown.{hides-of}
-use Rattle.picture.proofs.Held.{stays}
-use Rattle.picture.proofs.Rows.{fill-told, paint-told, Numbered}
-use Rattle.picture.proofs.SplitTile.{regular-hits, bucket-hits, whole-at, Hit, split-tile}
-use Rattle.picture.proofs.Acts.{do-acts}
-use Rattle.picture.proofs.Acted.{Sound, Adds, adds-none, adds-both, paint-adds, depth-adds, ensure-adds, act-paint}
+use Rattle.tiles.proofs.Cases.{by, and-left, and-right, covers-yes}
+use Rattle.tiles.proofs.Buckets.{from-bucket, from-bucket-before}
+use Rattle.tiles.proofs.Shown.{hides-of}
+use Rattle.tiles.proofs.Held.{stays}
+use Rattle.tiles.proofs.Rows.{fill-told, paint-told, Numbered}
+use Rattle.tiles.proofs.SplitTile.{regular-hits, bucket-hits, whole-at, Hit, split-tile}
+use Rattle.tiles.proofs.Acts.{do-acts}
+use Rattle.tiles.proofs.Acted.{Sound, Adds, adds-none, adds-both, paint-adds, depth-adds, ensure-adds, act-paint}
 
 module _ (w : ℕ) (attrs : Attrs) (t : ℕ) where
   -- a solid piece of attribute i with no layer open, and a depth fill of it: their span does not matter to the tile

@@ -21,13 +21,13 @@ use Rattle.rules.specs.Steps.{Screen, do-puts, done}
 use Rattle.rules.specs.Plain.{Told, OpenLayer, Story, touch-all, box-now, tell, tell-push, tell-filter, in-rows}
 use Rattle.rules.proofs.All.{never}
 use Rattle.rules.proofs.Changes.{puts-length}
-use Rattle.picture.proofs.Cases.{by}
-use Rattle.picture.proofs.Acts.{acts-at, do-acts, row-by-row}
-use Rattle.picture.proofs.Shape.{touched-layers}
-use Rattle.picture.proofs.Listed.{cut-act, rows-counted, acts-once}
-use Rattle.picture.proofs.Single.{Single, nothing, one}
-use Rattle.picture.proofs.Grown.{Grown, draw-grows, push-grows}
-use Rattle.picture.proofs.Follows.{layer-in, Leads, Follows, new-paint}
+use Rattle.tiles.proofs.Cases.{by}
+use Rattle.tiles.proofs.Acts.{acts-at, do-acts, row-by-row}
+use Rattle.tiles.proofs.Shape.{touched-layers}
+use Rattle.tiles.proofs.Listed.{cut-act, rows-counted, acts-once}
+use Rattle.tiles.proofs.Single.{Single, nothing, one}
+use Rattle.tiles.proofs.Grown.{Grown, draw-grows, push-grows}
+use Rattle.tiles.proofs.Follows.{layer-in, Leads, Follows, new-paint}
 
 module _ (w : ℕ) (attrs : Attrs) (t : ℕ) (v : Box) (row : ℕ) where
   -- an act put on the rows of a box

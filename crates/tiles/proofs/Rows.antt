@@ -20,10 +20,10 @@ use Rattle.rules.specs.Depth.{write, visible-runs}
 use Rattle.rules.specs.Painting.{Piece, fill-piece, Painter, Painted, Entry, begin, no-fill, paint-id, layer-id, received, paint-when, paint-depth, paint-fill-runs, paint-command, paint-step, paint-steps, paint-row}
 use Rattle.rules.specs.Plain.{Told}
 use Rattle.rules.proofs.All.{All, nil, cons, all-drop, never}
-use Rattle.picture.proofs.Cases.{by}
-use Rattle.picture.proofs.Newest.{newest, depth-after, after-length, holds-newest, write-zero, painter-after, Stands, stands, fill-at, next-is, painted-newest}
-use Rattle.picture.proofs.Shown.{hides-of, newest-hide, hider}
-use Rattle.picture.proofs.Pieces.{entry-in, received-append, fill-received, depth-received}
+use Rattle.tiles.proofs.Cases.{by}
+use Rattle.tiles.proofs.Newest.{newest, depth-after, after-length, holds-newest, write-zero, painter-after, Stands, stands, fill-at, next-is, painted-newest}
+use Rattle.tiles.proofs.Shown.{hides-of, newest-hide, hider}
+use Rattle.tiles.proofs.Pieces.{entry-in, received-append, fill-received, depth-received}
 
 -- the entry of a told
 abbrev pub entry-told : Told → Entry

@@ -14,9 +14,9 @@ use Rattle.rules.specs.Commands.{DepthFill}
 use Rattle.rules.specs.Attributes.{Attrs}
 use Rattle.rules.specs.Depth.{runs-in, runs, buckets-met, tiles-of, is-visible, is-unset, visible-runs, write-runs}
 use Rattle.rules.specs.Painting.{Piece, Entry, entry-of, received, fill-piece, depth-piece}
-use Rattle.picture.proofs.Cases.{by, same-test, and-both, and-left, and-right, and-missed, covers-yes, covers-low, covers-high, covers-no}
-use Rattle.picture.proofs.Buckets.{from-bucket, to-bucket, from-bucket-before, to-bucket-before, touched-first, touched-end}
-use Rattle.picture.proofs.Runs.{hits, range-hit}
+use Rattle.tiles.proofs.Cases.{by, same-test, and-both, and-left, and-right, and-missed, covers-yes, covers-low, covers-high, covers-no}
+use Rattle.tiles.proofs.Buckets.{from-bucket, to-bucket, from-bucket-before, to-bucket-before, touched-first, touched-end}
+use Rattle.tiles.proofs.Runs.{hits, range-hit}
 
 moved-on : (a : Option ℕ) (m n k : ℕ) → m + n ≡ k → moved (moved a m) n ≡ moved a k
 moved-on none m n k e = refl

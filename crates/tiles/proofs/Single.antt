@@ -15,8 +15,8 @@ use Rattle.rules.specs.Spans.{Span, span, covers, Stretch, common, when-some, m
 use Rattle.rules.specs.Segments.{Segment, good-segment, follows, ordered-after, ordered, Cut, localised, on-row, stretch-of, cut-in, cuts}
 use Rattle.rules.proofs.All.{All, nil, cons, both, never, all-map}
 use Rattle.rules.proofs.Bounds.{good-facts}
-use Rattle.picture.proofs.Cases.{by, and-left, and-right, covers-low, covers-high}
-use Rattle.picture.proofs.Listed.{such-append}
+use Rattle.tiles.proofs.Cases.{by, and-left, and-right, covers-low, covers-high}
+use Rattle.tiles.proofs.Listed.{such-append}
 
 -- s ends before t in its row, or is in an earlier row
 pub record Before (s t : Segment) : Type 0 where

@@ -25,13 +25,13 @@ use Rattle.rules.specs.Steps.{Screen, do-puts, done, touched}
 use Rattle.rules.specs.Plain.{Told, Story, OpenLayer, closers, here, box-now, tell, tell-pop}
 use Rattle.rules.proofs.Changes.{puts-length}
 use Rattle.rules.proofs.Bounds.{judged-facts}
-use Rattle.picture.proofs.Cases.{by}
-use Rattle.picture.proofs.Acts.{acts-at, do-acts, row-by-row}
-use Rattle.picture.proofs.Listed.{Rows, no-rows, row-then, acts-once, in-row}
-use Rattle.picture.proofs.Shape.{shape-inner}
-use Rattle.picture.proofs.Single.{Single, nothing, one, single}
-use Rattle.picture.proofs.Grown.{Grown, close-act, close-grows, leave-grows}
-use Rattle.picture.proofs.Follows.{layer-in, Leads, Follows}
+use Rattle.tiles.proofs.Cases.{by}
+use Rattle.tiles.proofs.Acts.{acts-at, do-acts, row-by-row}
+use Rattle.tiles.proofs.Listed.{Rows, no-rows, row-then, acts-once, in-row}
+use Rattle.tiles.proofs.Shape.{shape-inner}
+use Rattle.tiles.proofs.Single.{Single, nothing, one, single}
+use Rattle.tiles.proofs.Grown.{Grown, close-act, close-grows, leave-grows}
+use Rattle.tiles.proofs.Follows.{layer-in, Leads, Follows}
 
 pub acts-both : (row : ℕ) (ps qs : List Put) → acts-at row (ps ++ qs) ≡ acts-at row ps ++ acts-at row qs
 acts-both row [] qs = refl

@@ -57,14 +57,14 @@ join-long f k nil = sym (zero-times k)
     zero-times k = omega arith
 join-long f k (cons {x = p} {xs = ps} e es) = length-append (f p) (join f ps) ∙ rw (e, join-long f k es, one-more (length ps) k)
 
-blank-depth : (n m : ℕ) → depth-of (replicate m (begin n)) ≡ replicate (m * n) 0
+pub blank-depth : (n m : ℕ) → depth-of (replicate m (begin n)) ≡ replicate (m * n) 0
 blank-depth n zero = ap (λ (j : ℕ). replicate j 0) (zero-times n)
   where
     zero-times : (k : ℕ) → 0 ≡ 0 * k
     zero-times k = omega arith
 blank-depth n (suc m) = rw (blank-depth n m, replicate-add {A = ℕ} n (m * n) 0, one-more m n)
 
-blank-painting : (n m : ℕ) → painting-of (replicate m (begin n)) ≡ replicate (m * 2) 0
+pub blank-painting : (n m : ℕ) → painting-of (replicate m (begin n)) ≡ replicate (m * 2) 0
 blank-painting n zero = refl
 blank-painting n (suc m) =
     let z : suc m * 2 ≡ suc (suc (m * 2)) = omega arith in

@@ -60,7 +60,7 @@ one-more n (push-buf s ∷ cs) (suc k) h = one-more (suc n) cs k (omega arith)
 one-more n (pop-buf ∷ cs) (suc k) h = one-more (n - 1) cs k (omega arith)
 
 -- the summary of the words is the row's, where there is a depth fill
-summary-same : (d : Summary) (u : Option Span) → d .union ≡ u → is-none u ≡ false → 0 < d .largest
+pub summary-same : (d : Summary) (u : Option Span) → d .union ≡ u → is-none u ≡ false → 0 < d .largest
     → _≡_ {A = Summary} (record { union = cond (eqb (d .largest) 0) none (some (span (first-of (d .union)) (end-of (d .union)))); largest = d .largest }) d
 summary-same d none e n h = never n
 summary-same d (some s) e n h =
@@ -69,12 +69,16 @@ summary-same d (some s) e n h =
     let w : end-of (d .union) ≡ s .end = ap end-of e in
     rw (ne-eqb (d .largest) 0 z, y, w) (ap (λ (u : Option Span). record { union = u; largest = d .largest }) (sym e))
 
+pub length-written : (id : ℕ) (s : Span) (i : ℕ) (bs : List ℕ) → length (written-from i id s bs) ≡ length bs
+length-written id s i [] = refl
+length-written id s i (b ∷ bs) = ap suc (length-written id s (suc i) bs)
+
 some-there : {A : Type 0} (xs : List A) → 0 < length xs → is-empty xs ≡ false
 some-there [] h = absurd (omega arith)
 some-there (x ∷ xs) h = refl
 
 module _ (a : Attrs) (n : ℕ) (r : Row) (o : Fine r) (h : Fair a n r) where
-  taken : (i : ℕ) → good-paint a i ≡ true → 0 < paint-id a i
+  pub taken : (i : ℕ) → good-paint a i ≡ true → 0 < paint-id a i
   taken i g =
       let id = paint-id a i in
       ltb-true _ _ (both (ltb 0 id) (leb id 1048576) (both (ltb i (length (a .paints))) (good-id id) g .1) .0)
@@ -114,10 +118,6 @@ module _ (a : Attrs) (n : ℕ) (r : Row) (o : Fine r) (h : Fair a n r) where
     command-nesting (layer-fill s x i) = (refl, refl, refl)
     command-nesting (push-buf s) = (omega arith, refl, refl)
     command-nesting pop-buf = (refl, refl, refl)
-
-    length-written : (id : ℕ) (s : Span) (i : ℕ) (bs : List ℕ) → length (written-from i id s bs) ≡ length bs
-    length-written id s i [] = refl
-    length-written id s i (b ∷ bs) = ap suc (length-written id s (suc i) bs)
 
     -- a step keeps it so
     pub step-going : Going n r (paint-step 32 a r p .painter)

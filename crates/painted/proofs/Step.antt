@@ -52,7 +52,7 @@ module _ (f : Painter → List ℕ) (k : ℕ) where
   put-join (cons {x = p} {xs = ps} e es) (suc i) q h =
       sym (put-suc k i (f p ++ join f ps) (f q)) ∙ rw (take-at (f p) (join f ps) k e, drop-at (f p) (join f ps) k e) (ap (λ (t : List ℕ). f p ++ t) (put-join es i q (omega arith)))
 
-set-same : (ps : List Painter) (i : ℕ) (d : Painter) → i < length ps → set ps i (getD ps i d) ≡ ps
+pub set-same : (ps : List Painter) (i : ℕ) (d : Painter) → i < length ps → set ps i (getD ps i d) ≡ ps
 set-same [] i d h = absurd (omega arith)
 set-same (p ∷ ps) zero d h = refl
 set-same (p ∷ ps) (suc i) d h = ap (λ (t : List Painter). p ∷ t) (set-same ps i d (omega arith))

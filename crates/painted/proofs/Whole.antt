@@ -20,7 +20,7 @@ use Rattle.painted.specs.Canvases.{Whole}
 use Rattle.painted.proofs.Kept.{fine-at}
 use Rattle.painted.proofs.Painters.{begin-going, step-going}
 
-all-set : {P : Painter → Type 0} {ps : List Painter} (i : ℕ) (x : Painter) → P x → All P ps → All P (set ps i x)
+pub all-set : {P : Painter → Type 0} {ps : List Painter} (i : ℕ) (x : Painter) → P x → All P ps → All P (set ps i x)
 all-set i x p nil = nil
 all-set zero x p (cons q a) = cons p a
 all-set (suc i) x p (cons q a) = cons q (all-set i x p a)

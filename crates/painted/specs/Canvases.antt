@@ -5,7 +5,9 @@ use mathlib.Core.Bool.{true}
 use mathlib.Core.List.{List, [], _∷_}
 use lib.ListN.{length, getD}
 use Rattle.rules.specs.Lists.{join}
+use Rattle.rules.specs.Answers.{answer}
 use Rattle.rules.specs.Boxes.{buckets-of}
+use Rattle.rules.specs.Spans.{Span}
 use Rattle.rules.specs.Rows.{Row, fresh-row}
 use Rattle.rules.specs.Attributes.{paint-attr-words}
 use Rattle.rules.specs.Steps.{Screen}
@@ -14,10 +16,13 @@ use Rattle.rules.specs.Calls as rule
 use Rattle.rules.proofs.All.{All}
 use Rattle.refine.specs.Sound.{Sound}
 use Rattle.refine.specs.Lent.{screen-of, table, attr-words, rows-of}
+use Rattle.depth.specs.Listing as depth
+use Rattle.depth.specs.Listing.{listing}
 use Rattle.paint.specs.Pieces.{laid}
 use Rattle.paint.specs.Painting.{Lent, lent, Out, out}
 use Rattle.painter.specs.Stepping.{Attributes, attributes}
 use Rattle.painter.specs.Beginning.{Canvas, canvas}
+use Rattle.painter.specs.Rows.{Wrote}
 use Rattle.painted.specs.Fair.{FairRows}
 use Rattle.painted.specs.Painters.{Going}
 
@@ -54,6 +59,15 @@ given-out g l =
     (depth-of (g .canvas .painters))
     (painting-of (g .canvas .painters))
     (laid (g .value .pieces) l)
+
+-- what runs of the rules give, as words: the answer and the list
+abbrev pub listed-of : rule.Given (List Span) → List ℕ → depth.Out
+listed-of g l = listing (answer (g .number) (g .value)) l
+
+-- .. and where they write, the screen and the depth words
+abbrev pub wrote-of : rule.Given (List Span) → List ℕ → Wrote
+wrote-of g l =
+    record { listed = listed-of g l; screen = screen-of (g .canvas .screen .state) (g .canvas .begun); depth = depth-of (g .canvas .painters) }
 
 -- the attribute tables, and the words of the rows, of their painting, and of a list
 abbrev pub attributes-of : Screen Row → Attributes

@@ -14,7 +14,7 @@ use Rattle.rules.specs.Rows.{Row, row-ops}
 use Rattle.rules.specs.Plans.{Layer, State, Plan, clip-box, box-of}
 use Rattle.rules.specs.Steps as rule
 use Rattle.rules.specs.Steps.{done, refusal, perform}
-use Rattle.rules.proofs.All.{All}
+use Rattle.rules.proofs.All.{All, never}
 use Rattle.rules.proofs.Bounds.{BoundedSpan}
 use Rattle.rules.proofs.Maps.{PutOk, screen-by, answer-by, follows-perform}
 use Rattle.row.specs.Words.{Words, word-ops}
@@ -83,6 +83,13 @@ module _ {S : Type 0} (n : ℕ) (s t : S) where
 
   pub settle-done : n ≡ Done → settle n s t .value ≡ t
   settle-done e = rw e
+
+  pub settle-kept : eqb (settle n s t .number) Done ≡ false → settle n s t .value ≡ s
+  settle-kept = go (eqb n Done)
+    where
+      go : (c : Bool) → eqb (cond c (answer Done t) (answer n s) .number) Done ≡ false → cond c (answer Done t) (answer n s) .value ≡ s
+      go true e = never e
+      go false e = refl
 
 -- x: a state with the screen's frame
 module _ (s : rule.Screen Row) (h : Sound s) (x : State) (f : x .frame ≡ s .state .frame) (p q : Plan) (a : Alike (s .state) p q) (o : q .refused ≡ Done → All (PutOk BoundedSpan) (q .puts)) where

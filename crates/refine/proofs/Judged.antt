@@ -28,7 +28,7 @@ module _ (s : rule.Screen Row) (h : Sound s) where
   pub rows-cut : rows-at (s .state .frame) (rows-of s) ≡ map (encode (s .state .frame .c) (s .state .frame .d)) (s .rows)
   rows-cut = rw (← h .count) (cut-screen (s .state .frame .c) (s .state .frame .d) (s .rows))
 
-  rows-long : Long (sizes (s .state .frame .c) (s .state .frame .d)) (boxes.rows-of (s .state .frame .viewport)) (rows-of s)
+  pub rows-long : Long (sizes (s .state .frame .c) (s .state .frame .d)) (boxes.rows-of (s .state .frame .viewport)) (rows-of s)
   rows-long = rw (← h .count) (screen-long (s .state .frame .c) (s .state .frame .d) (s .rows))
 
   same-itself : (a : Box) → same-box a a ≡ true

@@ -81,11 +81,11 @@ module _ (v : Rect) (c d : ℕ) (l : Lent) (z : judged-reset v c d (lengths (l .
   abbrev n : ℕ
   n = rows-of (box-of v)
 
-  judged-facts : (good-viewport (box-of v) ≡ true) × (good-arenas 32 (frame v c d) (arenas (lengths (l .tables))) ≡ true) × (good-tables n (lengths (l .tables)) ≡ true)
+  pub judged-facts : (good-viewport (box-of v) ≡ true) × (good-arenas 32 (frame v c d) (arenas (lengths (l .tables))) ≡ true) × (good-tables n (lengths (l .tables)) ≡ true)
   unfolding judged-reset
   judged-facts = says (good-viewport (box-of v)) (good-arenas 32 (frame v c d) (arenas (lengths (l .tables)))) (good-tables n (lengths (l .tables))) z
 
-  rooms : (good-room c ≡ true) × (good-room d ≡ true)
+  pub rooms : (good-room c ≡ true) × (good-room d ≡ true)
   rooms = both (good-room c) (good-room d) (both (good-room c && good-room d) _ (judged-facts .1) .0)
 
   lengthy : Lengthy (lengths (l .tables)) n c d

@@ -1,0 +1,143 @@
+-- All reached words hold a whole canvas of the rules, built by the same steps. Assumes nothing.
+use mathlib.Core.Path.{_≡_, sym, ap, _∙_}
+use mathlib.Core.Bool.{_&&_, false}
+use mathlib.Core.List.{List, [], _∷_, _++_}
+use Prim.Native.Nat.{ℕ, _*_, _/_}
+use lib.Dec.{eqb}
+use lib.ListN.{length, replicate}
+use borrow.Author.Tests.{eqb-true}
+use Rattle.rules.specs.Answers.{Answer, Done}
+use Rattle.rules.specs.Spans.{Span}
+use Rattle.rules.specs.Boxes.{rows-of, buckets-of}
+use Rattle.rules.specs.Rows.{Row, fresh-row, row-ops}
+use Rattle.rules.specs.Plans.{Frame, Step}
+use Rattle.rules.specs.Steps.{Screen, reset, call}
+use Rattle.rules.specs.Walk.{good-room}
+use Rattle.rules.specs.Calls.{Canvas, fresh-canvas, step-call, begin-call, paint-call, write-call, blank}
+use Rattle.rules.proofs.All.{both}
+use Rattle.rect.specs.declared.Rect.{Rect}
+use Rattle.rect.specs.Rects.{box-of}
+use Rattle.screen.specs.Screens.{frame}
+use Rattle.screen.specs.Judging.{good-fixed, judged-reset}
+use Rattle.screen.specs.Tables.{zeros, lengths, Lent, reset-to}
+use Rattle.steps.specs.Steps.{call-at}
+use Rattle.refine.proofs.Alike.{settle-number}
+use Rattle.refine.proofs.Reset.{judged-facts, rooms, fresh-sound, fresh-words}
+use Rattle.painted.specs.Canvases.{depth-of, painting-of}
+use Rattle.painted.proofs.Begin.{blank-depth, blank-painting}
+use Rattle.painted.proofs.Whole.{begin-whole, paint-whole}
+use Rattle.painted.proofs.Painted.{reset-whole, step-whole}
+use Rattle.painted.proofs.Runs.{write-whole, same-screen}
+use Rattle.tiles.specs.Built.{Built, no-step, then}
+use Rattle.picture.specs.Reached.{Reached, by-reset, by-step, by-begin, by-paint, by-write, begin-at, paint-at, write-at}
+use Rattle.picture.specs.Standing.{Stands}
+use Rattle.picture.proofs.Words.{step-words, begin-words, paint-words, write-words, begin-screen, paint-same}
+
+-- one done step more
+built-more : {w : ℕ} {xs : List Step} {s u : Screen Row} (x : Step) → Built w xs s u → call Row row-ops w x u .number ≡ Done → Built w (xs ++ (x ∷ [])) s (call Row row-ops w x u .value)
+built-more x no-step e = then e no-step
+built-more x (then d b) e = then d (built-more x b e)
+
+-- a done reset
+module _ (v : Rect) (c d : ℕ) (l : Lent) (z : judged-reset v c d (lengths (l .tables)) ≡ 0) where
+  abbrev rows : ℕ
+  rows = rows-of (box-of v)
+
+  abbrev buckets : ℕ
+  buckets = buckets-of 32 (box-of v)
+
+  abbrev fresh : Screen Row
+  fresh = reset fresh-row (frame v c d)
+
+  depth-long : length (l .tables .depth) ≡ rows * buckets
+  depth-long =
+      let k = lengths (l .tables) in
+      let a = both (good-room c && good-room d) _ (judged-facts v c d l z .1) in
+      eqb-true _ _ (both (eqb (k .render) (rows * (4 * c)) && eqb (k .fills) (rows * (2 * d))) (eqb (k .depth) (rows * buckets)) (a .1) .1)
+
+  painting-long : length (l .tables .painting) ≡ rows * 2
+  painting-long =
+      let k = lengths (l .tables) in
+      let b = both (eqb (k .rows) (rows * 54) && eqb (k .painting) (rows * 2)) (good-fixed k) (judged-facts v c d l z .2) in
+      eqb-true _ _ (both (eqb (k .rows) (rows * 54)) (eqb (k .painting) (rows * 2)) (b .0) .1)
+
+  count : length (fresh .rows) ≡ rows
+  unfolding reset
+  count = fresh-sound v c d l z .count
+
+  zero-depth : zeros 0 (l .tables .depth) ≡ depth-of (blank 32 fresh)
+  unfolding zeros reset
+  zero-depth = ap (λ (n : ℕ). replicate n 0) (depth-long ∙ ap (λ (m : ℕ). m * buckets) (sym count)) ∙ sym (blank-depth buckets (length (fresh .rows)))
+
+  zero-painting : zeros 0 (l .tables .painting) ≡ painting-of (blank 32 fresh)
+  unfolding zeros reset
+  zero-painting = ap (λ (n : ℕ). replicate n 0) (painting-long ∙ ap (λ (m : ℕ). m * 2) (sym count)) ∙ sym (blank-painting buckets (length (fresh .rows)))
+
+  reset-stands : Stands (frame v c d) [] (reset-to v c d l .value)
+  reset-stands =
+      record {
+        canvas = fresh-canvas 32 (frame v c d);
+        whole = reset-whole (frame v c d) (judged-facts v c d l z .0) (rooms v c d l z .0) (rooms v c d l z .1);
+        built = no-step;
+        same = ap (λ (a : Answer Lent). a .value) (fresh-words v c d l z) ∙ rw (zero-depth, zero-painting);
+      }
+
+-- a done step of the rules
+step-done : (x : Step) (k : Canvas) → step-call 32 x k .number ≡ Done
+    → (call Row row-ops 32 x (k .screen) .number ≡ Done) × (step-call 32 x k .value ≡ record { screen = call Row row-ops 32 x (k .screen) .value; begun = false; painters = k .painters })
+unfolding step-call
+step-done x k e =
+    let n : call Row row-ops 32 x (k .screen) .number ≡ Done = sym (settle-number (call Row row-ops 32 x (k .screen) .number) k (record { screen = call Row row-ops 32 x (k .screen) .value; begun = false; painters = k .painters })) ∙ e in
+    (n, rw n)
+
+module _ {f : Frame} {xs : List Step} {l : Lent} (h : Stands f xs l) where
+  abbrev k : Canvas
+  k = h .canvas
+
+  step-stands : (x : Step) → call-at x l .number ≡ Done → Stands f (xs ++ (x ∷ [])) (call-at x l .value)
+  step-stands x e =
+      let q = ap (call-at x) (h .same) ∙ step-words k (h .whole) x in
+      let d = step-done x k (sym (ap (λ (a : Answer Lent). a .number) q) ∙ e) in
+      record {
+        canvas = step-call 32 x k .value;
+        whole = step-whole x k (h .whole);
+        built = rw (d .1) (built-more x (h .built) (d .0));
+        same = ap (λ (a : Answer Lent). a .value) q;
+      }
+
+  begin-stands : Stands f xs (begin-at l .value)
+  begin-stands =
+      record {
+        canvas = begin-call 32 k .value;
+        whole = begin-whole k (h .whole);
+        built = rw (begin-screen k (h .whole)) (h .built);
+        same = ap (λ (m : Lent). begin-at m .value) (h .same) ∙ ap (λ (a : Answer Lent). a .value) (begin-words k (h .whole));
+      }
+
+  paint-stands : (i : ℕ) (list : List ℕ) → Stands f xs (paint-at i list l)
+  paint-stands i list =
+      record {
+        canvas = paint-call 32 i (length list / 6) k .canvas;
+        whole = paint-whole k (h .whole) i (length list / 6);
+        built = rw (paint-same k (h .whole) i (length list / 6) .0) (h .built);
+        same = ap (paint-at i list) (h .same) ∙ paint-words k (h .whole) i list;
+      }
+
+  write-stands : (i id : ℕ) (t : Span) (list : List ℕ) → Stands f xs (write-at i id t list l)
+  write-stands i id t list =
+      record {
+        canvas = write-call 32 id i (length list / 2) t k .canvas;
+        whole = write-whole k (h .whole) i id t (length list / 2);
+        built = rw (same-screen k (h .whole) i id t (length list / 2)) (h .built);
+        same = ap (write-at i id t list) (h .same) ∙ write-words k (h .whole) i id t list;
+      }
+
+-- The refinement about the calls as they are: whatever calls were made, the lent words are those of a whole canvas of the rules, and its
+-- screen is built from the reset by the same done steps.
+pub reached : {f : Frame} {xs : List Step} {l : Lent} → Reached f xs l → Stands f xs l
+unfolding reset-to
+reached (by-reset v c d l e) = reset-stands v c d l (sym (settle-number (judged-reset v c d (lengths (l .tables))) l _) ∙ e)
+reached (by-step x r e) = step-stands (reached r) x e
+reached (by-begin r) = begin-stands (reached r)
+reached (by-paint i list r) = paint-stands (reached r) i list
+reached (by-write i id t list r) = write-stands (reached r) i id t list

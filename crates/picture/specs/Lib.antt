@@ -1,0 +1,4 @@
+pub mod Reached
+pub mod Standing
+pub mod Turns
+pub mod Recorded

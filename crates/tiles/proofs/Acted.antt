@@ -24,6 +24,7 @@ use Rattle.rules.specs.Plain.{Told}
 use Rattle.rules.proofs.All.{All, nil, cons, all-map, all-append, never}
 use Rattle.tiles.proofs.Cases.{by}
 use Rattle.tiles.proofs.Rows.{fill-told, told-fills, paint-told, layer-told, told-commands, Numbered}
+use Rattle.tiles.proofs.Summed.{Summed, depth-summed}
 use Rattle.tiles.proofs.SplitTile.{regular-hits, bucket-hits}
 
 -- the nesting after some commands
@@ -133,9 +134,10 @@ module _ (w : ℕ) (attrs : Attrs) (t : ℕ) where
     pub levels : length (q .levels) ≡ m
     pub sound : Sound q
     pub numbered : All (Numbered w attrs t) (r .fills) → All (Numbered w attrs t) (q .fills)
+    pub summed : Summed w attrs r → Summed w attrs q
 
   pub adds-none : (r : Row) → Sound r → Adds [] [] (length (r .levels)) r r
-  adds-none r s = record { commands = sym (append-nil _); fills = sym (append-nil _); levels = refl; sound = s; numbered = λ a. a }
+  adds-none r s = record { commands = sym (append-nil _); fills = sym (append-nil _); levels = refl; sound = s; numbered = λ a. a; summed = λ a. a }
 
   pub adds-both : {us hs vs gs : List Told} {m n : ℕ} {r q p : Row} → Adds us hs m r q → Adds vs gs n q p → Adds (us ++ vs) (hs ++ gs) n r p
   adds-both {us} {hs} {vs} {gs} {r = r} a b = record {
@@ -144,6 +146,7 @@ module _ (w : ℕ) (attrs : Attrs) (t : ℕ) where
     levels = b .levels;
     sound = b .sound;
     numbered = λ x. b .numbered (a .numbered x);
+    summed = λ x. b .summed (a .summed x);
   }
 
   -- a fill put on the row
@@ -159,6 +162,7 @@ module _ (w : ℕ) (attrs : Attrs) (t : ℕ) where
       pushed = pushed-union (r .commands ++ (c ∷ [])) (adds c) (all-map (λ (l : Level). pushed-later (r .commands) (c ∷ []) l) (s .pushed));
     };
     numbered = λ a. a;
+    summed = λ a. a;
   }
 
   pub paint-adds : (s : Span) (a : Option ℕ) (i : ℕ) (r : Row) → Sound r
@@ -187,6 +191,7 @@ module _ (w : ℕ) (attrs : Attrs) (t : ℕ) where
       pushed = cons (pushed-new (r .commands)) (all-map (λ (l : Level). pushed-later (r .commands) (push-buf none ∷ []) l) (s .pushed));
     };
     numbered = λ a. a;
+    summed = λ a. a;
   }
 
   -- a buffer popped: its PushBuf gets its span
@@ -206,6 +211,7 @@ module _ (w : ℕ) (attrs : Attrs) (t : ℕ) where
           pushed = all-map (λ (k : Level) (q : Pushed (r .commands) k). pushed-later cs (pop-buf ∷ []) k (pushed-set (r .commands) (l .place) (l .union) k q)) a;
         };
         numbered = λ x. x;
+        summed = λ x. x;
       }
 
   pub pop-adds : (m : ℕ) (r : Row) → Sound r → length (r .levels) ≡ suc m → Adds [] [] m r (put-pop-buf r)
@@ -213,15 +219,16 @@ module _ (w : ℕ) (attrs : Attrs) (t : ℕ) where
   pop-adds m r s h = popped (r .levels) m r (s .nested ∙ h) (s .pushed) h
 
   -- a depth fill
-  pub depth-adds : (f : DepthFill) (id : ℕ) (r : Row) → Sound r → Numbered w attrs t f
+  pub depth-adds : (f : DepthFill) (id : ℕ) (r : Row) → Sound r → Numbered w attrs t f → paint-id attrs (f .attribute) ≤ id
       → Adds [] (keep (covers (f .buckets) (t / w)) (fill-told w attrs t f) []) (length (r .levels)) r (put-depth-fill w f id r)
   unfolding put-depth-fill
-  depth-adds f id r s p = record {
+  depth-adds f id r s p le = record {
     commands = sym (append-nil _);
     fills = fills-append (r .fills) (f ∷ []);
     levels = refl;
     sound = record { nested = s .nested; pushed = s .pushed };
     numbered = λ a. all-append a (cons p nil);
+    summed = λ a. unfold put-depth-fill in depth-summed w attrs f id r le a;
   }
 
   -- rule 5: as many buffers as layers are open

@@ -38,32 +38,32 @@ module _ (w : ℕ) (attrs : Attrs) (t : ℕ) where
   abbrev depth-told : ℕ → Told
   depth-told i = fill-told w attrs t (record { buckets = span 0 0; attribute = i })
 
-  parts-add : (i id : ℕ) → 0 < paint-id attrs i → (ps : List Part) (r : Row) → Sound r → length (r .levels) ≡ 0
+  parts-add : (i id : ℕ) → 0 < paint-id attrs i → paint-id attrs i ≤ id → (ps : List Part) (r : Row) → Sound r → length (r .levels) ≡ 0
       → Adds w attrs t (replicate (regular-hits t ps) (solid-told i)) (replicate (bucket-hits (t / w) ps) (depth-told i)) 0 r (foldl (put-part Row row-ops w i id) r ps)
-  parts-add i id pos [] r s z = rw z at (adds-none w attrs t r s)
-  parts-add i id pos (regular x ∷ ps) r s z =
+  parts-add i id pos le [] r s z = rw z at (adds-none w attrs t r s)
+  parts-add i id pos le (regular x ∷ ps) r s z =
       let a : Adds w attrs t (keep (covers x t) (solid-told i) []) [] 0 r (put-command (paint-fill x none i) r) = rw z at (paint-adds w attrs t x none i r s) in
-      let b = parts-add i id pos ps (put-command (paint-fill x none i) r) (a .sound) (a .levels) in
+      let b = parts-add i id pos le ps (put-command (paint-fill x none i) r) (a .sound) (a .levels) in
       let c = adds-both w attrs t a b in
       by (covers x t) (λ y. rw y (rw y at c)) (λ n. rw n (rw n at c))
-  parts-add i id pos (buckets x ∷ ps) r s z =
+  parts-add i id pos le (buckets x ∷ ps) r s z =
       let f : DepthFill = record { buckets = x; attribute = i } in
-      let a : Adds w attrs t [] (keep (covers x (t / w)) (depth-told i) []) 0 r (put-depth-fill w f id r) = rw z at (depth-adds w attrs t f id r s pos) in
-      let b = parts-add i id pos ps (put-depth-fill w f id r) (a .sound) (a .levels) in
+      let a : Adds w attrs t [] (keep (covers x (t / w)) (depth-told i) []) 0 r (put-depth-fill w f id r) = rw z at (depth-adds w attrs t f id r s pos le) in
+      let b = parts-add i id pos le ps (put-depth-fill w f id r) (a .sound) (a .levels) in
       let c = adds-both w attrs t a b in
       by (covers x (t / w)) (λ y. rw y (rw y at c)) (λ n. rw n (rw n at c))
 
   -- an eligible solid span: a depth fill where it covers the whole bucket, a command where it does not
-  opaque-adds : 0 < w → (s : Span) (i id : ℕ) → 0 < paint-id attrs i → (r : Row) → Sound r → length (r .levels) ≡ 0
+  opaque-adds : 0 < w → (s : Span) (i id : ℕ) → 0 < paint-id attrs i → paint-id attrs i ≤ id → (r : Row) → Sound r → length (r .levels) ≡ 0
       → Adds w attrs t
       (replicate (cond (covers s t) (cond (whole-at w (t / w) s) 0 1) 0) (solid-told i))
       (replicate (cond (whole-at w (t / w) s) 1 0) (depth-told i))
       0 r (do-act Row row-ops w 0 (opaque s i id) r)
   unfolding do-act
-  opaque-adds pos s i id num r k z =
+  opaque-adds pos s i id num le r k z =
       let hit = split-tile w t (t / w) s pos (from-bucket w pos (le-refl (t / w))) (from-bucket-before w pos (le-refl (suc (t / w)))) in
       let e = ensure-adds w attrs t 0 r k (omega arith) in
-      let p = parts-add i id num (split w s) (ensure Row row-ops w 0 r) (e .sound) (e .levels) in
+      let p = parts-add i id num le (split w s) (ensure Row row-ops w 0 r) (e .sound) (e .levels) in
       rw (hit .regular-one, hit .bucket-one) at (adds-both w attrs t e p)
 
   module _ (v : Box) (row : ℕ) where
@@ -96,8 +96,9 @@ module _ (w : ℕ) (attrs : Attrs) (t : ℕ) where
     cut-adds pos true i id n q num z j x none r s h =
         let o : n ≡ 0 = z refl in
         let p : 0 < paint-id attrs i = omega arith in
+        let le : paint-id attrs i ≤ id = omega arith in
         let l : length (r .levels) ≡ 0 = omega arith in
-        let c = rw (same-whole x, q) at (opaque-adds pos x i id p r s l) in
+        let c = rw (same-whole x, q) at (opaque-adds pos x i id p le r s l) in
         rw o (by (whole-bucket w v row t x)
         (λ y. let u = whole-covers pos x y in rw (u, y) (rw (u, y) at c))
         (λ m. by (covers x t) (λ u. rw (u, m) (rw (u, m) at c)) (λ u. rw u (rw (u, m) at c))))

@@ -17,6 +17,7 @@ use Rattle.rules.proofs.All.{All, nil, cons, all-map, all-append, all-mapped}
 use Rattle.tiles.proofs.Shown.{Rising, all-told, told-next, hides-of}
 use Rattle.tiles.proofs.Held.{stays, held-picture}
 use Rattle.tiles.proofs.Rows.{entry-told, told-fills, told-commands, Numbered}
+use Rattle.tiles.proofs.Summed.{Summed}
 use Rattle.tiles.proofs.Acted.{Sound, Adds, nest}
 use Rattle.tiles.proofs.Listed.{such-append}
 use Rattle.tiles.proofs.Single.{Single, nothing, one}
@@ -46,11 +47,12 @@ module _ (w : ℕ) (attrs : Attrs) (t : ℕ) where
     pub rising : Rising 0 ts
     pub below : All (λ (u : Told). u .id < next) ts
     pub numbered : All (Numbered w attrs t) (r .fills)
+    pub summed : Summed w attrs r
     pub sound : Sound r
 
   pub holds-fresh : Holds [] 1 fresh-row
   unfolding told-commands nest
-  holds-fresh = record { hidden = refl; open-told = refl; rising = all-told; below = nil; numbered = nil; sound = record { nested = refl; pushed = nil } }
+  holds-fresh = record { hidden = refl; open-told = refl; rising = all-told; below = nil; numbered = nil; summed = nil; sound = record { nested = refl; pushed = nil } }
 
   -- a step that tells the tile nothing
   pub holds-still : {ts : List Told} {next m : ℕ} {r q : Row} → Holds ts next r → Adds w attrs t [] [] m r q → (later : ℕ) → next ≤ later → Holds ts later q
@@ -60,6 +62,7 @@ module _ (w : ℕ) (attrs : Attrs) (t : ℕ) where
     rising = h .rising;
     below = all-map (λ (u : Told) (p : u .id < next). omega arith) (h .below);
     numbered = a .numbered (h .numbered);
+    summed = a .summed (h .summed);
     sound = a .sound;
   }
 
@@ -76,6 +79,7 @@ module _ (w : ℕ) (attrs : Attrs) (t : ℕ) where
     rising = rises (h .rising) (h .below) pos s ids;
     below = all-append (all-map (λ (u : Told) (p : u .id < next). omega arith) (h .below)) (all-map (λ (u : Told) (p : u .id ≡ next). omega arith) ids);
     numbered = a .numbered (h .numbered);
+    summed = a .summed (h .summed);
     sound = a .sound;
   }
 

@@ -8,6 +8,7 @@ pub mod Acts
 pub mod Pieces
 pub mod Rows
 pub mod Held
+pub mod Summed
 pub mod Acted
 pub mod Drawn
 pub mod Shape
@@ -19,4 +20,10 @@ pub mod Follows
 pub mod Pushes
 pub mod Pops
 pub mod Stepped
+pub mod Turns
+pub mod Finishes
 pub mod Picture
+pub mod Skip
+pub mod Unhidden
+pub mod Walked
+pub mod Recorded

@@ -1,4 +1,4 @@
--- Demand 3 about the rules, for one row painted to its end.
+-- Demand 3 about the rules: a row painted to its end alone, and rows painted by turns.
 use Prim.Native.Nat.{ℕ, zero, suc, _+_, _/_, _≤_, _<_}
 use native.Mathlib.Omega.{arith}
 use mathlib.Core.Path.{_≡_, refl, sym, _∙_, ap}
@@ -15,12 +15,15 @@ use Rattle.rules.specs.Steps.{Screen, reset, done, touched, call}
 use Rattle.rules.specs.Plain.{Told, shown, Story, begun, tell-step, tell-steps, plain}
 use Rattle.rules.proofs.All.{neither}
 use Rattle.tiles.specs.Built.{Built, no-step, then}
+use Rattle.tiles.specs.Turns.{Demand-3}
 use Rattle.tiles.proofs.Buckets.{touched-end}
 use Rattle.tiles.proofs.Shape.{none-open}
+use Rattle.tiles.proofs.Summed.{Summed}
 use Rattle.tiles.proofs.Holds.{holds-fresh, holds-picture}
 use Rattle.tiles.proofs.Grown.{Grown}
 use Rattle.tiles.proofs.Follows.{Leads, Follows}
 use Rattle.tiles.proofs.Stepped.{call-done, step-follows, step-leads}
+use Rattle.tiles.proofs.Turns.{finished-gave}
 
 module _ (w t : ℕ) (v : Box) (row : ℕ) where
   -- the attributes of a built screen begin with those of each screen on the way
@@ -64,11 +67,11 @@ reset-follows w attrs t row f h =
 -- Take a screen built from its reset by done steps xs. A row painted to its end over n buckets has given each of its tiles exactly
 -- what plain draw order gives it, in that order and at that nesting, less what came before the newest eligible solid segment that
 -- covers the tile's whole bucket; where there is none, everything.
-pub picture : (w : ℕ) → 0 < w → (f : Frame) (xs : List Step) (u : Screen Row) → Built w xs (reset fresh-row f) u
+pub row-picture : (w : ℕ) → 0 < w → (f : Frame) (xs : List Step) (u : Screen Row) → Built w xs (reset fresh-row f) u
     → (row t n : ℕ) → row < rows-of (f .viewport) → t / w < n
     → received t (paint-row w (u .state .attrs) n (getD (u .rows) row fresh-row)) ≡ plain w (f .viewport) row t xs
 unfolding plain
-picture w pos f xs u b row t n h on =
+row-picture w pos f xs u b row t n h on =
     let o = built-follows w t (f .viewport) row pos b begun (reset-follows w (u .state .attrs) t row f h) in
     holds-picture w (u .state .attrs) t pos n on _ _ (getD (u .rows) row fresh-row) (o .grown .holds)
 
@@ -77,7 +80,32 @@ pub screen-picture : (w : ℕ) → 0 < w → (f : Frame) (xs : List Step) (u : S
     → (row t : ℕ) → row < rows-of (f .viewport) → t < width (f .viewport) / 4
     → received t (paint-row w (u .state .attrs) (buckets-of w (f .viewport)) (getD (u .rows) row fresh-row)) ≡ plain w (f .viewport) row t xs
 screen-picture w pos f xs u b row t h on =
-    picture w pos f xs u b row t (buckets-of w (f .viewport)) h (touched-end w pos t (width (f .viewport) / 4) on)
+    row-picture w pos f xs u b row t (buckets-of w (f .viewport)) h (touched-end w pos t (width (f .viewport) / 4) on)
+
+-- a built screen has the viewport of its reset, and the rows of that
+pub built-on : (w : ℕ) → 0 < w → (f : Frame) (xs : List Step) (u : Screen Row) → Built w xs (reset fresh-row f) u
+    → (row : ℕ) → row < rows-of (f .viewport) → (u .state .frame .viewport ≡ f .viewport) × (row < length (u .rows))
+built-on w pos f xs u b row h =
+    let o = built-follows w 0 (f .viewport) row pos b begun (reset-follows w (u .state .attrs) 0 row f h) in
+    (o .view, o .there)
+
+-- and each row's summary includes the row's depth fills
+pub built-summed : (w : ℕ) → 0 < w → (f : Frame) (xs : List Step) (u : Screen Row) → Built w xs (reset fresh-row f) u
+    → (row : ℕ) → row < rows-of (f .viewport) → Summed w (u .state .attrs) (getD (u .rows) row fresh-row)
+built-summed w pos f xs u b row h =
+    built-follows w 0 (f .viewport) row pos b begun (reset-follows w (u .state .attrs) 0 row f h) .grown .holds .summed
+
+-- Take any screen built from its reset by done steps xs, with painting freshly begun on it (so all layers are closed), and any
+-- painting steps of its rows by turns, in any mixture. When a row has finished, each of its tiles has received exactly what plain
+-- draw order gives it, in that order and at that nesting, less what came before the newest eligible solid segment that, once cut to
+-- the screen, covers the tile's whole bucket; where there is none, it has received everything.
+pub picture : (w : ℕ) → 0 < w → Demand-3 w
+picture w pos f xs k b e ts r t h on fin =
+    let (v, there) = built-on w pos f xs (k .screen) b r h in
+    let row = getD (k .screen .rows) r fresh-row in
+    ap (received t) (finished-gave w ts k r e there fin)
+    ∙ ap (λ (x : Box). received t (paint-row w (k .screen .state .attrs) (buckets-of w x) row)) v
+    ∙ screen-picture w pos f xs (k .screen) b r t h on
 
 -- where nothing hides, everything is shown
 pub all-shown : (ts : List Told) → some-of (λ (u : Told). u .hides) ts ≡ false → shown ts ≡ ts

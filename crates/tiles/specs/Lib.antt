@@ -1,2 +1,4 @@
 pub mod Built
 pub mod Turns
+pub mod Skip
+pub mod Recorded

@@ -57,9 +57,13 @@ steps-of r gs = length (such (λ (g : Gave). eqb (g .row) r && eqb (g .number) D
 unfoldable pub said-finished : ℕ → List Gave → Bool
 said-finished r gs = some-of (λ (g : Gave). eqb (g .row) r && g .finished) gs
 
+-- what the next step of row r gives
+abbrev pub next-step : ℕ → Canvas → ℕ → Painted
+next-step w k r = paint-step w (k .screen .state .attrs) (getD (k .screen .rows) r fresh-row) (painter-of w k r)
+
 -- nothing is left of row r: its next step says finished
 unfoldable pub has-finished : ℕ → Canvas → ℕ → Bool
-has-finished w k r = paint-step w (k .screen .state .attrs) (getD (k .screen .rows) r fresh-row) (painter-of w k r) .finished
+has-finished w k r = next-step w k r .finished
 
 -- painting begun on the canvas k, then the calls ts
 abbrev pub painted : ℕ → List Turn → Canvas → Turned

@@ -12,7 +12,7 @@ use Rattle.rules.specs.Rows.{Row, fresh-row, row-ops}
 use Rattle.rules.specs.Plans.{Frame, Step}
 use Rattle.rules.specs.Steps.{reset}
 use Rattle.rules.specs.Recording.{Recording, shape, sections, recording}
-use Rattle.rules.specs.Walk.{go-on, walk-all, Logged, logged-call, walk-logged}
+use Rattle.rules.specs.Walk.{go-on, _then_, walk-all, Logged, logged-call, walk-logged}
 use Rattle.rect.specs.declared.Rect.{Rect}
 use Rattle.screen.specs.Screens.{rect-of}
 use Rattle.screen.specs.Judging.{judged-reset}

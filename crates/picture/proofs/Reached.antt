@@ -28,10 +28,11 @@ use Rattle.painted.proofs.Begin.{blank-depth, blank-painting}
 use Rattle.painted.proofs.Whole.{begin-whole, paint-whole}
 use Rattle.painted.proofs.Painted.{reset-whole, step-whole}
 use Rattle.painted.proofs.Runs.{write-whole, same-screen}
+use Rattle.tiles.proofs.Turns.{call-screen}
 use Rattle.tiles.specs.Built.{Built, no-step, then}
 use Rattle.picture.specs.Reached.{Reached, by-reset, by-step, by-begin, by-paint, by-write, begin-at, paint-at, write-at}
 use Rattle.picture.specs.Standing.{Stands}
-use Rattle.picture.proofs.Words.{step-words, begin-words, paint-words, write-words, begin-screen, paint-same}
+use Rattle.picture.proofs.Words.{step-words, begin-words, paint-words, write-words, begin-screen}
 
 -- one done step more
 built-more : {w : ℕ} {xs : List Step} {s u : Screen Row} (x : Step) → Built w xs s u → call Row row-ops w x u .number ≡ Done → Built w (xs ++ (x ∷ [])) s (call Row row-ops w x u .value)
@@ -119,7 +120,7 @@ module _ {f : Frame} {xs : List Step} {l : Lent} (h : Stands f xs l) where
       record {
         canvas = paint-call 32 i (length list / 6) k .canvas;
         whole = paint-whole k (h .whole) i (length list / 6);
-        built = rw (paint-same k (h .whole) i (length list / 6) .0) (h .built);
+        built = rw (call-screen 32 i (length list / 6) k) (h .built);
         same = ap (paint-at i list) (h .same) ∙ paint-words k (h .whole) i list;
       }
 

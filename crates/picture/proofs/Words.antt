@@ -4,16 +4,15 @@ use mathlib.Core.Bool.{Bool, true, false, cond}
 use mathlib.Core.List.{List}
 use Prim.Native.Nat.{ℕ, _/_}
 use lib.Dec.{eqb}
-use lib.ListN.{length, getD}
+use lib.ListN.{length}
 use borrow.Author.Tests.{eqb-true}
 use Rattle.rules.specs.Lists.{is-empty}
 use Rattle.rules.specs.Answers.{Answer, answer, settle, Done, Open}
 use Rattle.rules.specs.Spans.{Span}
-use Rattle.rules.specs.Rows.{Row, fresh-row, row-ops}
+use Rattle.rules.specs.Rows.{Row, row-ops}
 use Rattle.rules.specs.Plans.{Step}
 use Rattle.rules.specs.Steps.{Screen, done, refusal, perform, call}
-use Rattle.rules.specs.Painting.{Painted, paint-step}
-use Rattle.rules.specs.Calls.{Canvas, Given, step-call, begin-call, paint-call, write-call, blank, with-painter, painter-of}
+use Rattle.rules.specs.Calls.{Canvas, Given, step-call, begin-call, paint-call, write-call, blank}
 use Rattle.rules.proofs.Maps.{planned}
 use Rattle.steps.specs.Steps.{call-at}
 use Rattle.refine.specs.Lent.{screen-of, lent-of}
@@ -24,6 +23,7 @@ use Rattle.painter.specs.Beginning as painter
 use Rattle.painter.specs.Rows.{Wrote}
 use Rattle.painted.specs.Canvases.{depth-of, painting-of, given-out, wrote-of, Whole}
 use Rattle.painted.proofs.Painted.{begin-painted, step-painted}
+use Rattle.tiles.proofs.Turns.{call-screen, call-begun}
 use Rattle.painted.proofs.Runs.{write-by, same-standing, same-screen}
 use Rattle.picture.specs.Reached.{with-canvas, begin-at, paint-out, paint-at, write-out, write-at}
 use Rattle.picture.specs.Standing.{canvas-words}
@@ -87,14 +87,6 @@ module _ (k : Canvas) (w : Whole k) where
 
   -- a painting step
   module _ (i : ℕ) where
-    pub paint-same : (m : ℕ) → (paint-call 32 i m k .canvas .screen ≡ k .screen) × (paint-call 32 i m k .canvas .begun ≡ k .begun)
-    unfolding paint-call
-    paint-same m = go (eqb (paint-call 32 i m k .number) Done) (paint-step 32 (k .screen .state .attrs) (getD (k .screen .rows) i fresh-row) (painter-of 32 k i))
-      where
-        go : (b : Bool) (p : Painted) → (cond b (with-painter 32 k (k .begun) i (p .painter)) k .screen ≡ k .screen) × (cond b (with-painter 32 k (k .begun) i (p .painter)) k .begun ≡ k .begun)
-        go true p = (refl, refl)
-        go false p = (refl, refl)
-
     pub paint-gives : (l : List ℕ) → paint-out i l (canvas-words k) ≡ given-out (paint-call 32 i (length l / 6) k) l
     unfolding paint-out
     paint-gives l = step-painted k w i l
@@ -102,10 +94,9 @@ module _ (k : Canvas) (w : Whole k) where
     pub paint-words : (l : List ℕ) → paint-at i l (canvas-words k) ≡ canvas-words (paint-call 32 i (length l / 6) k .canvas)
     paint-words l =
         let j = paint-call 32 i (length l / 6) k .canvas in
-        let e = paint-same (length l / 6) in
         ap (λ (o : Out). with-canvas (canvas-words k) (canvas-words k .screen) (o .depth) (o .painting)) (paint-gives l)
         ∙ with-screen (depth-of (j .painters)) (painting-of (j .painters))
-        ∙ rw (e .0, e .1)
+        ∙ rw (call-screen 32 i (length l / 6) k, call-begun 32 i (length l / 6) k)
 
     -- a writing run
     module _ (id : ℕ) (t : Span) (l : List ℕ) where

@@ -1,4 +1,5 @@
 pub mod Reached
 pub mod Standing
 pub mod Turns
+pub mod Picture
 pub mod Recorded

@@ -23,8 +23,9 @@ use Rattle.picture.specs.Reached.{begin-at}
 use Rattle.picture.specs.Standing.{canvas-words}
 use Rattle.picture.specs.Turns.{Turn, turn-of, turned, log, finished-at}
 use Rattle.picture.specs.Picture.{finished, Demand-3}
-use Rattle.picture.proofs.Words.{begin-words, paint-gives}
+use Rattle.picture.proofs.Words.{paint-gives}
 use Rattle.picture.proofs.Reached.{reached}
+use Rattle.picture.proofs.Answers.{begin-answer}
 use Rattle.picture.proofs.Turns.{turned-words, log-words, turns-whole}
 
 -- a step without room that says finished: nothing is left of the row
@@ -50,7 +51,7 @@ pub picture : Demand-3
 picture f xs l h e ts r t there on fin =
     let s = reached h in
     let k = s .canvas in
-    let q = ap begin-at (s .same) ∙ begin-words k (s .whole) in
+    let q = begin-answer s in
     let d : begin-call 32 k .number ≡ Done = sym (ap (λ (a : Answer Lent). a .number) q) ∙ e in
     let v : begin-at l .value ≡ canvas-words (begin-call 32 k .value) = ap (λ (a : Answer Lent). a .value) q in
     let w = begin-whole k (s .whole) in

@@ -1,31 +1,20 @@
--- What a recording call leaves at the words.
-use Prim.Native.Nat.{ℕ}
+-- What a recording call leaves at the words l.
 use mathlib.Core.Path.{_≡_}
 use mathlib.Core.List.{List, []}
-use mathlib.Core.Option.{some}
-use Rattle.rules.specs.Answers.{Answer}
-use Rattle.rules.specs.Rows.{Row, fresh-row, row-ops}
-use Rattle.rules.specs.Plans.{Frame, Step}
-use Rattle.rules.specs.Recording.{Recording, shape, sections, recording}
-use Rattle.rules.specs.Walk.{walk-logged}
-use Rattle.screen.specs.Screens.{frame, rect-of}
+use Prim.Native.Nat.{ℕ, _<_}
+use Rattle.rules.specs.Answers.{Answer, Done, BadForm}
+use Rattle.rules.specs.Walk.{Place, frame-of}
 use Rattle.screen.specs.Tables.{Lent}
-use Rattle.picture.specs.Reached.{Reached}
+use Rattle.tiles.specs.Recorded.{history, Readable, said}
+use Rattle.picture.specs.Reached.{Reached, begin-at}
 
--- the frame of a recording's reset, and the steps of its walk
-abbrev pub frame-in : ℕ → ℕ → Recording → Frame
-frame-in c d r = frame (rect-of (r .viewport)) c d
+-- accepted: words that the steps of the file's walk reach from the reset to its viewport; no layer is open there, so that painting can begin
+pub record Accepted (p : Place) (ws : List ℕ) (m : Lent) : Type 0 where
+  pub words : Readable ws
+  pub reached : Reached (frame-of p (said words)) (history 32 p (said words)) m
+  pub begins : begin-at m .number ≡ Done
 
-abbrev pub steps-in : ℕ → ℕ → Recording → List Step
-steps-in c d r = walk-logged Row row-ops 32 fresh-row (frame-in c d r) r .value .log
-
--- accepted: words reached from the reset to the file's viewport by the steps of the file's walk
-pub record Accepted (ws : List ℕ) (c d : ℕ) (m : Lent) : Type 0 where
-  pub parts : List (List (List ℕ))
-  pub read : sections shape ws ≡ some parts
-  pub reached : Reached (frame-in c d (recording parts)) (steps-in c d (recording parts)) m
-
--- refused: the words as they were, or those of a reset screen
-pub data Refused (c d : ℕ) (l : Lent) (a : Answer Lent) : Type 0 where
-  kept : a .value ≡ l → Refused c d l a
-  emptied : (r : Recording) → Reached (frame-in c d r) [] (a .value) → Refused c d l a
+-- refused: the words as they were; or, with a number past 3, those of the reset to the file's viewport
+pub data Refused (p : Place) (ws : List ℕ) (l : Lent) (a : Answer Lent) : Type 0 where
+  kept : a .value ≡ l → Refused p ws l a
+  emptied : (words : Readable ws) → BadForm < a .number → Reached (frame-of p (said words)) [] (a .value) → Refused p ws l a

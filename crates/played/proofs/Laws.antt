@@ -5,7 +5,7 @@ use mathlib.Core.List.{List}
 use mathlib.Core.Option.{Option, none, some}
 use Prim.Native.Nat.{ℕ}
 use lib.Dec.{leb, ltb, eqb}
-use borrow.Author.Tests.{le-ltb}
+use borrow.Author.Tests.{le-ltb, eqb-true}
 use Rattle.rules.specs.Answers.{Answer, answer, Done, BadArena, BadViewport, BadForm, BadRecord, BadOrder}
 use Rattle.rules.specs.Boxes.{Box, good-viewport, rows-of}
 use Rattle.rules.specs.Rows.{Row, fresh-row, row-ops}
@@ -20,8 +20,8 @@ use Rattle.screen.proofs.Laws.{few-rows}
 use Rattle.steps.specs.Steps.{call-at}
 use Rattle.recording.specs.Judging.{judged}
 use Rattle.walk.specs.Recorded.{or-fresh, played, recorded-in, of-sections, recorded}
-use Rattle.refine.proofs.Refined.{Agrees, reset-refines}
-use Rattle.refine.proofs.Walks.{walk-refines}
+use Rattle.refine.proofs.Refined.{Refines, Agrees, reset-refines}
+use Rattle.refine.proofs.Walks.{Both, walk-refines}
 use Rattle.played.specs.Played.{place, unaltered, made, Plays}
 
 module _ (r : Recording) (c d : ℕ) (l : Lent) (old : Screen Row) (t : good-tables (rows-of (r .viewport)) (lengths (l .tables)) ≡ true) where
@@ -120,21 +120,21 @@ module _ (r : Recording) (c d : ℕ) (l : Lent) (old : Screen Row) (t : good-tab
           rw (refused-play n (judge-is ∙ q) z, ours-is, refused-records (fresh .value) n q z, k)
           (record { number = refl; value = made (resets .value) })
 
-      walks : Agrees rules-walk (walk-all Lent call-at r (fresh .value))
+      walks : Both Refines rules-walk (walk-all Lent call-at r (fresh .value))
       walks = walk-refines r start (fresh .value) (resets .value)
 
       good-records-play : judged r ≡ Done → Plays old l theirs ours
       good-records-play q =
           rw (done-play (judge-is ∙ q), ours-is, walked-records (fresh .value) q)
-          (go (eqb (rules-walk .number) Done) (eqb (walk-all Lent call-at r (fresh .value) .number) Done) (ap (λ (n : ℕ). eqb n Done) (walks .number)))
+          (go (eqb (rules-walk .number) Done) (eqb (walk-all Lent call-at r (fresh .value) .number) Done) refl (ap (λ (n : ℕ). eqb n Done) (walks .number)))
         where
-          go : (x y : Bool) → y ≡ x
+          go : (x y : Bool) → eqb (rules-walk .number) Done ≡ x → y ≡ x
               → Plays old l (cond x rules-walk (answer (rules-walk .number) start))
               (cond y (walk-all Lent call-at r (fresh .value)) (answer (walk-all Lent call-at r (fresh .value) .number) (fresh .value)))
-          go true true z = record { number = walks .number; value = made (walks .value) }
-          go false false z = record { number = walks .number; value = made (resets .value) }
-          go true false z = never (sym z)
-          go false true z = never z
+          go true true d z = record { number = walks .number; value = made (walks .value (eqb-true _ _ d)) }
+          go false false d z = record { number = walks .number; value = made (resets .value) }
+          go true false d z = never (sym z)
+          go false true d z = never z
 
       by-records : (x y : Bool) → good-records r ≡ x → good-order r ≡ y → Plays old l theirs ours
       by-records false y p q = bad-records BadRecord refl refl (rw p)

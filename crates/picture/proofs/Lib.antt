@@ -4,5 +4,6 @@ pub mod Reached
 pub mod Answers
 pub mod Turns
 pub mod Picture
+pub mod Finishes
 pub mod Skip
 pub mod Recorded

@@ -1,31 +1,28 @@
 -- A span of which every bucket is visible is one visible run; so is a span that can be skipped.
-use Prim.Native.Nat.{ℕ, zero, suc, _+_, _-_, _*_, _/_, _≤_, _<_, min, max}
+use Prim.Native.Nat.{ℕ, suc, _+_, _-_, _*_, _/_, _≤_, _<_, min, max}
 use native.Mathlib.Nat.{le-refl, div-mul-le-self, suc-add, add-suc}
 use native.Mathlib.Numerals.{add-one}
 use native.Mathlib.Omega.{arith}
 use mathlib.Core.Path.{_≡_, refl, sym, _∙_, ap}
-use mathlib.Core.Bool.{Bool, true, false, cond}
-use mathlib.Core.List.{List, [], _∷_, map}
-use lib.ListN.{length, getD, take, drop, replicate, length-take, length-drop, length-replicate}
+use mathlib.Core.Bool.{Bool, true}
+use mathlib.Core.List.{List, [], _∷_}
+use lib.ListN.{length, getD, drop, length-take, length-drop}
 use lib.Seq.{getD-take, getD-drop}
-use lib.Dec.{leb, ltb, eqb}
-use borrow.Author.Tests.{lt-ltb, eq-eqb, leb-true, leb-false}
+use borrow.Author.Tests.{lt-ltb, eq-eqb}
 use Rattle.rules.specs.Lists.{slice}
 use Rattle.rules.specs.Answers.{Done}
-use Rattle.rules.specs.Boxes.{Box, width, rows-of, buckets-of}
+use Rattle.rules.specs.Boxes.{width, rows-of, buckets-of}
 use Rattle.rules.specs.Spans.{Span, span, covers, common}
-use Rattle.rules.specs.Attributes.{Attrs}
-use Rattle.rules.specs.Depth.{join-run, bucket-runs, runs-in, runs, buckets-met, tiles-of, is-visible, visible-runs}
-use Rattle.rules.specs.Rows.{Row, fresh-row}
+use Rattle.rules.specs.Depth.{bucket-runs, runs-in, runs, buckets-met, tiles-of, is-visible, visible-runs}
+use Rattle.rules.specs.Rows.{fresh-row}
 use Rattle.rules.specs.Plans.{Frame, Step}
 use Rattle.rules.specs.Steps.{reset}
-use Rattle.rules.specs.Painting.{Painter, paint-id}
 use Rattle.rules.specs.Calls.{Canvas, begin-call, painter-of, can-skip-call}
 use Rattle.rules.proofs.All.{All, nil, cons}
 use Rattle.tiles.specs.Built.{Built}
-use Rattle.tiles.specs.Turns.{Turn, Turned, painted}
+use Rattle.tiles.specs.Turns.{Turn, painted}
 use Rattle.tiles.specs.Skip.{FillsPainted}
-use Rattle.tiles.proofs.Cases.{by, covers-yes, covers-high}
+use Rattle.tiles.proofs.Cases.{covers-yes, covers-high}
 use Rattle.tiles.proofs.Buckets.{from-bucket, from-bucket-before, to-bucket, to-bucket-before, touched-end, le-raised}
 use Rattle.tiles.proofs.Picture.{built-on}
 use Rattle.tiles.proofs.Skip.{skip, words-length}

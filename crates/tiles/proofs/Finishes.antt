@@ -2,22 +2,20 @@
 use Prim.Native.Nat.{ℕ, zero, suc, _+_, _≤_, _<_}
 use native.Mathlib.Nat.{le-refl}
 use native.Mathlib.Omega.{arith}
-use mathlib.Core.Path.{_≡_, refl, sym, _∙_, ap}
-use mathlib.Core.Bool.{Bool, true, false, _&&_, not, cond}
+use mathlib.Core.Path.{_≡_, refl, _∙_, ap}
+use mathlib.Core.Bool.{true}
 use mathlib.Core.List.{List, [], _∷_, _++_}
 use lib.ListN.{length, getD, length-replicate}
-use lib.Dec.{leb, ltb, eqb}
+use lib.Dec.{ltb, eqb}
 use borrow.Author.Tests.{lt-leb, le-ltb, eq-eqb, eqb-true, eqb-false, ltb-true, ltb-false}
-use Rattle.rules.specs.Lists.{such}
 use Rattle.rules.specs.Answers.{Done}
 use Rattle.rules.specs.Boxes.{buckets-of}
-use Rattle.rules.specs.Rows.{Row, fresh-row}
-use Rattle.rules.specs.Steps.{Screen}
-use Rattle.rules.specs.Painting.{Painter, Painted, begin, paint-step}
+use Rattle.rules.specs.Rows.{fresh-row}
+use Rattle.rules.specs.Painting.{Painter, Painted, begin}
 use Rattle.rules.specs.Calls.{Canvas, blank, begin-call, painter-of, paint-call}
-use Rattle.tiles.specs.Turns.{Turn, Gave, Turned, turns, steps-of, next-step, has-finished, painted}
+use Rattle.tiles.specs.Turns.{Turn, turns, steps-of, next-step, has-finished, painted}
 use Rattle.tiles.proofs.Cases.{by}
-use Rattle.tiles.proofs.Turns.{ends, call-screen, call-begun, call-count, turns-screen, turns-begun, turns-count, Alone, by-turns, next-at, stays-finished, begun-is, begun-there}
+use Rattle.tiles.proofs.Turns.{ends, call-screen, call-begun, turns-screen, turns-begun, turns-count, by-turns, next-at, stays-finished, begun-is}
 
 -- the depth fills and commands of row r
 abbrev pub work : Canvas → ℕ → ℕ

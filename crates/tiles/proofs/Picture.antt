@@ -95,10 +95,7 @@ pub built-summed : (w : ℕ) → 0 < w → (f : Frame) (xs : List Step) (u : Scr
 built-summed w pos f xs u b row h =
     built-follows w 0 (f .viewport) row pos b begun (reset-follows w (u .state .attrs) 0 row f h) .grown .holds .summed
 
--- Take any screen built from its reset by done steps xs, with painting freshly begun on it (so all layers are closed), and any
--- painting steps of its rows by turns, in any mixture. When a row has finished, each of its tiles has received exactly what plain
--- draw order gives it, in that order and at that nesting, less what came before the newest eligible solid segment that, once cut to
--- the screen, covers the tile's whole bucket; where there is none, it has received everything.
+-- Demand 3 about the rules, for rows painted by turns.
 pub picture : (w : ℕ) → 0 < w → Demand-3 w
 picture w pos f xs k b e ts r t h on fin =
     let (v, there) = built-on w pos f xs (k .screen) b r h in

@@ -2,27 +2,25 @@
 use Prim.Native.Nat.{ℕ, _/_, _≤_, _<_}
 use native.Mathlib.Omega.{arith}
 use mathlib.Core.Path.{_≡_, refl, sym, _∙_, ap}
-use mathlib.Core.Bool.{Bool, true, false, cond}
+use mathlib.Core.Bool.{true, false, cond}
 use mathlib.Core.Option.{Option, none, some}
-use mathlib.Core.List.{List, [], _∷_, _++_}
+use mathlib.Core.List.{List, []}
 use lib.Dec.{leb, eqb}
-use borrow.Author.Tests.{eqb-true, eq-eqb, le-leb, lt-leb}
-use Rattle.rules.specs.Answers.{Answer, answer, Done, BadForm, Open}
+use borrow.Author.Tests.{eqb-true, le-leb, lt-leb}
+use Rattle.rules.specs.Answers.{Answer, answer, Done, BadForm}
 use Rattle.rules.specs.Boxes.{width, rows-of}
 use Rattle.rules.specs.Rows.{Row, row-ops, fresh-row}
-use Rattle.rules.specs.Plans.{Layer, Frame, Step}
 use Rattle.rules.specs.Steps.{Screen, reset, call}
 use Rattle.rules.specs.Recording.{Recording, shape, sections, recording}
-use Rattle.rules.specs.Walk.{Place, frame-of, judge-records, or-reset, play-records, play, Logged, logged-call, walk-all, walk-logged}
+use Rattle.rules.specs.Walk.{Place, frame-of, judge-records, or-reset, play-records, play, walk-all, walk-logged}
 use Rattle.rules.specs.Painting.{received}
 use Rattle.rules.specs.Plain.{plain}
 use Rattle.rules.specs.Calls.{Canvas, begin-call}
-use Rattle.rules.proofs.All.{never}
 use Rattle.tiles.specs.Built.{Built}
-use Rattle.tiles.specs.Turns.{Turn, Turned, from, has-finished, painted}
-use Rattle.tiles.specs.Recorded.{played, history, Readable, said, Accepted, LeftReset}
+use Rattle.tiles.specs.Turns.{Turn, from, has-finished, painted}
+use Rattle.tiles.specs.Recorded.{played, history, said, Accepted, LeftReset}
 use Rattle.tiles.proofs.Cases.{by}
-use Rattle.tiles.proofs.Walked.{Late, Same, Walked, all-walks}
+use Rattle.tiles.proofs.Walked.{not-done, Same, Walked, all-walks}
 use Rattle.tiles.proofs.Picture.{picture}
 
 module _ (w : ℕ) (p : Place) (old : Screen Row) where
@@ -50,9 +48,6 @@ module _ (w : ℕ) (p : Place) (old : Screen Row) where
   play-stopped : (r : Recording) → eqb (judge-records w p r) Done ≡ true → eqb (walk r .number) Done ≡ false
       → play-records Row row-ops w fresh-row p old r ≡ answer (walk r .number) (reset fresh-row (frame-of p r))
   play-stopped r y z = play-walked r y ∙ rw z
-
-  not-done : {n : ℕ} → eqb n Done ≡ false → n ≡ Done → ⊥
-  not-done {n} e z = never (sym (eq-eqb n Done z) ∙ e)
 
   records-done : (r : Recording) → play-records Row row-ops w fresh-row p old r .number ≡ Done
       → Built w (history w p r) (reset fresh-row (frame-of p r)) (play-records Row row-ops w fresh-row p old r .value) × (play-records Row row-ops w fresh-row p old r .value .state .layers ≡ [])
@@ -140,16 +135,17 @@ module _ (w : ℕ) (p : Place) (old : Screen Row) where
           let q = play-some ws ss y in
           record { words = record { parts = ss; formed = y }; fresh = ap (λ (x : Answer (Screen Row)). x .value) q ∙ records-reset (recording ss) (rw q at a) }
 
-  begin-done : (k : Canvas) → k .screen .state .layers ≡ [] → begin-call w k .number ≡ Done
-  unfolding begin-call
-  begin-done k e = rw e
+begin-done : (w : ℕ) (k : Canvas) → k .screen .state .layers ≡ [] → begin-call w k .number ≡ Done
+unfolding begin-call
+begin-done w k e = rw e
 
-  -- The screen of every accepted recording can be painted, and demand 3 speaks of it.
-  pub recorded-picture : 0 < w → (ws : List ℕ) → played w p old ws .number ≡ Done → (a : Accepted w p ws (played w p old ws .value)) (k : Canvas) → k .screen ≡ played w p old ws .value
-      → (begin-call w k .number ≡ Done)
-      × ((ts : List Turn) (r t : ℕ) → r < rows-of (said (a .words) .viewport) → t < width (said (a .words) .viewport) / 4
-      → has-finished w (painted w ts k .canvas) r ≡ true
-      → received t (from r (painted w ts k .log)) ≡ plain w (said (a .words) .viewport) r t (history w p (said (a .words))))
-  recorded-picture pos ws e a k s =
-      let d = begin-done k (ap (λ (x : Screen Row). x .state .layers) s ∙ a .closed) in
-      (d, picture w pos (frame-of p (said (a .words))) (history w p (said (a .words))) k (rw s (a .built)) d)
+-- The screen u of an accepted recording can be painted, and demand 3 speaks of it: a finished row has given each of its tiles what plain
+-- draw order gives it of the recording's history.
+pub recorded-picture : (w : ℕ) → 0 < w → (p : Place) (ws : List ℕ) (u : Screen Row) (a : Accepted w p ws u) (k : Canvas) → k .screen ≡ u
+    → (begin-call w k .number ≡ Done)
+    × ((ts : List Turn) (r t : ℕ) → r < rows-of (said (a .words) .viewport) → t < width (said (a .words) .viewport) / 4
+    → has-finished w (painted w ts k .canvas) r ≡ true
+    → received t (from r (painted w ts k .log)) ≡ plain w (said (a .words) .viewport) r t (history w p (said (a .words))))
+recorded-picture w pos p ws u a k s =
+    let d = begin-done w k (ap (λ (x : Screen Row). x .state .layers) s ∙ a .closed) in
+    (d, picture w pos (frame-of p (said (a .words))) (history w p (said (a .words))) k (rw s (a .built)) d)

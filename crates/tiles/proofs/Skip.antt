@@ -1,34 +1,34 @@
 -- Where a row's summary says that a span can be skipped, every bucket of the span is visible after the row's depth fills.
-use Prim.Native.Nat.{ℕ, zero, suc, _+_, _-_, _*_, _/_, _≤_, _<_}
+use Prim.Native.Nat.{ℕ, zero, suc, _+_, _-_, _/_, _≤_, _<_}
 use native.Mathlib.Nat.{add-zero, add-suc, suc-add, zero-add, le-refl}
 use native.Mathlib.Omega.{arith}
 use mathlib.Core.Path.{_≡_, refl, sym, _∙_, ap}
-use mathlib.Core.Bool.{Bool, true, false, _&&_, _||_, cond}
+use mathlib.Core.Bool.{Bool, true, false}
 use mathlib.Core.Option.{Option, none, some}
-use mathlib.Core.List.{List, [], _∷_}
+use mathlib.Core.List.{List}
 use lib.ListN.{length, getD, drop, replicate, length-replicate}
 use lib.Dec.{leb, ltb, eqb}
 use borrow.Author.Tests.{leb-true, leb-false, le-leb, le-ltb}
-use Rattle.rules.specs.Answers.{Answer, Done, BadRun}
-use Rattle.rules.specs.Boxes.{Box, width, rows-of, buckets-of}
+use Rattle.rules.specs.Answers.{Done}
+use Rattle.rules.specs.Boxes.{width, rows-of, buckets-of}
 use Rattle.rules.specs.Spans.{Span, covers, bad-range}
 use Rattle.rules.specs.Commands.{Command, paint-fill, layer-fill, push-buf, pop-buf, DepthFill}
 use Rattle.rules.specs.Attributes.{Attrs}
 use Rattle.rules.specs.Depth.{Summary, apart, can-skip, can-skip-answer, is-visible, tiles-of}
 use Rattle.rules.specs.Rows.{Row, fresh-row}
 use Rattle.rules.specs.Plans.{Frame, Step}
-use Rattle.rules.specs.Steps.{Screen, reset}
-use Rattle.rules.specs.Painting.{Painter, Painted, begin, paint-id, paint-fill-runs, paint-command, paint-when, paint-step}
+use Rattle.rules.specs.Steps.{reset}
+use Rattle.rules.specs.Painting.{Painter, paint-id, paint-fill-runs, paint-command, paint-when, paint-step}
 use Rattle.rules.specs.Calls.{Canvas, begin-call, painter-of, no-row, can-skip-call}
 use Rattle.rules.proofs.All.{All, nil, cons, all-map, never}
 use Rattle.tiles.specs.Built.{Built}
-use Rattle.tiles.specs.Turns.{Turn, Turned, steps-of, has-finished, painted}
+use Rattle.tiles.specs.Turns.{Turn, steps-of, has-finished, painted}
 use Rattle.tiles.specs.Skip.{FillsPainted, Skipped-visible}
 use Rattle.tiles.proofs.Cases.{by, covers-yes, covers-low, covers-high, covers-no}
 use Rattle.tiles.proofs.Buckets.{from-bucket, from-bucket-before, touched-end}
 use Rattle.tiles.proofs.Newest.{newest, after-length, painter-after, stands, painted-newest}
 use Rattle.tiles.proofs.Summed.{Within, Included, Summed}
-use Rattle.tiles.proofs.Turns.{painter-on, ended-late, turns-screen, begun-is, begun-by-turns}
+use Rattle.tiles.proofs.Turns.{painter-on, ended-late, painted-screen, begun-by-turns}
 use Rattle.tiles.proofs.Picture.{built-on, built-summed}
 
 module _ (id : ℕ → ℕ) (b : ℕ) where
@@ -169,29 +169,34 @@ module _ (w : ℕ) (k : Canvas) (e : begin-call w k .number ≡ Done) (ts : List
       let m = steps-of r (painted w ts k .log) in
       begun-by-turns w ts k r e there .painter ∙ on-after w attrs row n 0 m ∙ ap (painter-after w attrs row n) (zero-add m)
 
-  same-screen : painted w ts k .canvas .screen ≡ k .screen
-  same-screen = turns-screen w ts (begin-call w k .value) ∙ ap (λ (c : Canvas). c .screen) (begun-is w k e)
-
   -- its words are those of the newest covering fills ..
   pub words-painted : (b : ℕ) → b < buckets-of w (k .screen .state .frame .viewport)
       → getD (painter-of w (painted w ts k .canvas) r .buckets) b 0 ≡ newest (paint-id (k .screen .state .attrs)) (getD (k .screen .rows) r fresh-row .fills) b
   words-painted b on =
       ap (λ (x : Painter). getD (x .buckets) b 0) stands-at
-      ∙ words-after w (k .screen .state .attrs) (getD (k .screen .rows) r fresh-row) (buckets-of w (k .screen .state .frame .viewport)) (steps-of r (painted w ts k .log)) b (rw (same-screen, stands-at) at fp) on
+      ∙ words-after w (k .screen .state .attrs) (getD (k .screen .rows) r fresh-row) (buckets-of w (k .screen .state .frame .viewport)) (steps-of r (painted w ts k .log)) b (rw (painted-screen w ts k e, stands-at) at fp) on
 
   -- .. and as many as the row has buckets
   pub words-length : length (painter-of w (painted w ts k .canvas) r .buckets) ≡ buckets-of w (k .screen .state .frame .viewport)
   words-length =
       ap (λ (x : Painter). length (x .buckets)) stands-at
-      ∙ length-after w (k .screen .state .attrs) (getD (k .screen .rows) r fresh-row) (buckets-of w (k .screen .state .frame .viewport)) (steps-of r (painted w ts k .log)) (rw (same-screen, stands-at) at fp)
+      ∙ length-after w (k .screen .state .attrs) (getD (k .screen .rows) r fresh-row) (buckets-of w (k .screen .state .frame .viewport)) (steps-of r (painted w ts k .log)) (rw (painted-screen w ts k e, stands-at) at fp)
 
-pub skip : (w : ℕ) → 0 < w → Skipped-visible w
-skip w pos f xs k b e ts r h fp s id can t c on =
+-- A yes of can_skip: the bucket of each tile of the span, if the row has it, is visible; ..
+pub skip-tile : (w : ℕ) → 0 < w → (f : Frame) (xs : List Step) (k : Canvas) → Built w xs (reset fresh-row f) (k .screen) → begin-call w k .number ≡ Done
+    → (ts : List Turn) (r : ℕ) → r < rows-of (f .viewport) → FillsPainted w (painted w ts k .canvas) r
+    → (s : Span) (id : ℕ) → can-skip-call w r s id (painted w ts k .canvas) .value ≡ true
+    → (t : ℕ) → covers s t ≡ true → t / w < buckets-of w (f .viewport)
+    → is-visible id (getD (painter-of w (painted w ts k .canvas) r .buckets) (t / w) 0) ≡ true
+skip-tile w pos f xs k b e ts r h fp s id can t c on =
     let (v, there) = built-on w pos f xs (k .screen) b r h in
-    let o = painted w ts k in
-    let same : o .canvas .screen ≡ k .screen = turns-screen w ts (begin-call w k .value) ∙ ap (λ (x : Canvas). x .screen) (begun-is w k e) in
-    let bucket : t / w < buckets-of w (k .screen .state .frame .viewport) = rw v (touched-end w pos t (width (f .viewport) / 4) on) in
+    let bucket : t / w < buckets-of w (k .screen .state .frame .viewport) = rw v on in
     let row = getD (k .screen .rows) r fresh-row in
-    let y : can-skip (row .depth) s id ≡ true = rw same at (said-yes w r s id (o .canvas) can) in
+    let y : can-skip (row .depth) s id ≡ true = rw (painted-screen w ts k e) at (said-yes w r s id (painted w ts k .canvas) can) in
     ap (is-visible id) (words-painted w k e ts r there fp (t / w) bucket)
     ∙ skip-newest w (k .screen .state .attrs) pos row (built-summed w pos f xs (k .screen) b r h) s id y t c
+
+-- .. so it is for the tiles of the screen
+pub skip : (w : ℕ) → 0 < w → Skipped-visible w
+skip w pos f xs k b e ts r h fp s id can t c on =
+    skip-tile w pos f xs k b e ts r h fp s id can t c (touched-end w pos t (width (f .viewport) / 4) on)

@@ -1,9 +1,8 @@
 -- A row's depth summary includes each of its depth fills: the tiles lie in its union, and the id is no larger than its largest.
-use Prim.Native.Nat.{ℕ, _≤_, min, max}
+use Prim.Native.Nat.{ℕ, _≤_}
 use native.Mathlib.Nat.{le-refl}
 use native.Mathlib.Omega.{arith}
 use mathlib.Core.Option.{Option, none, some}
-use mathlib.Core.List.{List, [], _∷_, _++_}
 use Rattle.rules.specs.Spans.{Span, hull}
 use Rattle.rules.specs.Commands.{DepthFill}
 use Rattle.rules.specs.Attributes.{Attrs}

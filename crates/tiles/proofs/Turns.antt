@@ -3,21 +3,21 @@ use Prim.Native.Nat.{ℕ, zero, suc, _+_, _-_, _≤_, _<_}
 use native.Mathlib.Nat.{sub-zero}
 use native.Mathlib.Omega.{arith}
 use mathlib.Core.Path.{_≡_, refl, sym, _∙_, ap}
-use mathlib.Core.Bool.{Bool, true, false, _&&_, _||_, not, cond}
+use mathlib.Core.Bool.{Bool, true, false, _&&_, _||_, cond}
 use mathlib.Core.List.{List, [], _∷_, _++_}
-use lib.ListN.{length, getD, set, replicate, length-set, length-replicate, getD-replicate}
+use lib.ListN.{length, getD, length-set, length-replicate, getD-replicate}
 use lib.Seq.{getD-set-same, getD-set-other}
-use lib.Dec.{leb, ltb, eqb}
+use lib.Dec.{ltb, eqb}
 use borrow.Author.Tests.{ltb-true, ltb-false, le-ltb, eqb-true, eqb-false}
-use Rattle.rules.specs.Lists.{some-of, such, is-empty}
-use Rattle.rules.specs.Answers.{Answer, Done, Open, BadRun, NoRoom}
+use Rattle.rules.specs.Lists.{is-empty}
+use Rattle.rules.specs.Answers.{Done, Open}
 use Rattle.rules.specs.Boxes.{buckets-of}
 use Rattle.rules.specs.Commands.{Command, paint-fill, layer-fill, push-buf, pop-buf}
 use Rattle.rules.specs.Attributes.{Attrs}
 use Rattle.rules.specs.Rows.{Row, fresh-row}
 use Rattle.rules.specs.Steps.{Screen}
-use Rattle.rules.specs.Painting.{Piece, Painter, Painted, begin, no-fill, paint-depth, paint-fill-runs, paint-command, paint-when, paint-step, paint-steps, paint-row}
-use Rattle.rules.specs.Calls.{Canvas, Given, blank, begin-call, painter-of, with-painter, paint-call}
+use Rattle.rules.specs.Painting.{Piece, Painter, Painted, begin, paint-depth, paint-fill-runs, paint-command, paint-when, paint-step, paint-steps, paint-row}
+use Rattle.rules.specs.Calls.{Canvas, blank, begin-call, painter-of, with-painter, paint-call}
 use Rattle.rules.proofs.All.{never}
 use Rattle.tiles.specs.Turns.{Turn, Gave, Turned, gave, turns, from, steps-of, said-finished, next-step, has-finished}
 use Rattle.tiles.proofs.Cases.{by, and-left, and-right}
@@ -272,6 +272,10 @@ module _ (w : ℕ) where
       (λ y. rw y)
       (λ n. let z : _≡_ {A = ℕ} Open Done = rw n at e in absurd (omega arith))
 
+  -- painting leaves the screen as it is
+  pub painted-screen : (ts : List Turn) (k : Canvas) → begin-call w k .number ≡ Done → turns w ts (begin-call w k .value) .canvas .screen ≡ k .screen
+  painted-screen ts k e = turns-screen ts (begin-call w k .value) ∙ ap (λ (c : Canvas). c .screen) (begun-is k e)
+
   pub begun-there : (k : Canvas) (r : ℕ) → begin-call w k .number ≡ Done → r < length (k .screen .rows) → r < length (begin-call w k .value .painters)
   begun-there k r e h = rw (begun-is k e, length-replicate {A = Painter} (length (k .screen .rows)) (begin (buckets-of w (k .screen .state .frame .viewport)))) h
 
@@ -286,6 +290,11 @@ module _ (w : ℕ) where
       by-turns ts (begin-call w k .value) (k .screen) r (begin (buckets-of w (k .screen .state .frame .viewport)))
       (ap (λ (c : Canvas). c .screen) (begun-is k e)) (begun-there k r e h) (begun-painter k r e h)
 
+  -- a row of which a call since begin said finished has finished
+  pub begun-said : (ts : List Turn) (k : Canvas) (r : ℕ) → begin-call w k .number ≡ Done → r < length (k .screen .rows)
+      → said-finished r (turns w ts (begin-call w k .value) .log) ≡ true → has-finished w (turns w ts (begin-call w k .value) .canvas) r ≡ true
+  begun-said ts k r e h f = said-so ts (begin-call w k .value) r (begun-there k r e h) f
+
   -- A row that has finished has given what it gives when it is painted alone to its end.
   pub finished-gave : (ts : List Turn) (k : Canvas) (r : ℕ) → begin-call w k .number ≡ Done → r < length (k .screen .rows)
       → has-finished w (turns w ts (begin-call w k .value) .canvas) r ≡ true
@@ -295,9 +304,8 @@ module _ (w : ℕ) where
   finished-gave ts k r e h f =
       let a = begun-by-turns ts k r e h in
       let o = turns w ts (begin-call w k .value) in
-      let same : o .canvas .screen ≡ k .screen = turns-screen ts (begin-call w k .value) ∙ ap (λ (c : Canvas). c .screen) (begun-is k e) in
       let row = getD (k .screen .rows) r fresh-row in
-      let fin = sym (ap (λ (x : Painted). x .finished) (next-at (o .canvas) (k .screen) r _ same (a .painter))) ∙ f in
+      let fin = sym (ap (λ (x : Painted). x .finished) (next-at (o .canvas) (k .screen) r _ (painted-screen ts k e) (a .painter))) ∙ f in
       let p = begin (buckets-of w (k .screen .state .frame .viewport)) in
       a .pieces
       ∙ all-given w (k .screen .state .attrs) (steps-of r (o .log)) row p fin

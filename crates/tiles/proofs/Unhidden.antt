@@ -1,34 +1,31 @@
 -- A span of which every bucket is visible is one visible run; so is a span that can be skipped.
-use Prim.Native.Nat.{ℕ, zero, suc, _+_, _-_, _*_, _/_, _≤_, _<_, min, max}
+use Prim.Native.Nat.{ℕ, suc, _+_, _-_, _*_, _/_, _≤_, _<_, min, max}
 use native.Mathlib.Nat.{le-refl, div-mul-le-self, suc-add, add-suc}
 use native.Mathlib.Numerals.{add-one}
 use native.Mathlib.Omega.{arith}
 use mathlib.Core.Path.{_≡_, refl, sym, _∙_, ap}
-use mathlib.Core.Bool.{Bool, true, false, cond}
-use mathlib.Core.List.{List, [], _∷_, map}
-use lib.ListN.{length, getD, take, drop, replicate, length-take, length-drop, length-replicate}
+use mathlib.Core.Bool.{Bool, true}
+use mathlib.Core.List.{List, [], _∷_}
+use lib.ListN.{length, getD, drop, length-take, length-drop}
 use lib.Seq.{getD-take, getD-drop}
-use lib.Dec.{leb, ltb, eqb}
-use borrow.Author.Tests.{lt-ltb, eq-eqb, leb-true, leb-false}
+use borrow.Author.Tests.{lt-ltb, eq-eqb}
 use Rattle.rules.specs.Lists.{slice}
 use Rattle.rules.specs.Answers.{Done}
-use Rattle.rules.specs.Boxes.{Box, width, rows-of, buckets-of}
+use Rattle.rules.specs.Boxes.{width, rows-of, buckets-of}
 use Rattle.rules.specs.Spans.{Span, span, covers, common}
-use Rattle.rules.specs.Attributes.{Attrs}
-use Rattle.rules.specs.Depth.{join-run, bucket-runs, runs-in, runs, buckets-met, tiles-of, is-visible, visible-runs}
-use Rattle.rules.specs.Rows.{Row, fresh-row}
+use Rattle.rules.specs.Depth.{bucket-runs, runs-in, runs, buckets-met, tiles-of, is-visible, visible-runs}
+use Rattle.rules.specs.Rows.{fresh-row}
 use Rattle.rules.specs.Plans.{Frame, Step}
 use Rattle.rules.specs.Steps.{reset}
-use Rattle.rules.specs.Painting.{Painter, paint-id}
 use Rattle.rules.specs.Calls.{Canvas, begin-call, painter-of, can-skip-call}
 use Rattle.rules.proofs.All.{All, nil, cons}
 use Rattle.tiles.specs.Built.{Built}
-use Rattle.tiles.specs.Turns.{Turn, Turned, painted}
+use Rattle.tiles.specs.Turns.{Turn, painted}
 use Rattle.tiles.specs.Skip.{FillsPainted}
-use Rattle.tiles.proofs.Cases.{by, covers-yes, covers-high}
+use Rattle.tiles.proofs.Cases.{covers-yes, covers-low, covers-high}
 use Rattle.tiles.proofs.Buckets.{from-bucket, from-bucket-before, to-bucket, to-bucket-before, touched-end, le-raised}
 use Rattle.tiles.proofs.Picture.{built-on}
-use Rattle.tiles.proofs.Skip.{skip, words-length}
+use Rattle.tiles.proofs.Skip.{skip-tile, skip, words-length}
 
 -- what holds at each place holds of each element
 all-places : (P : ℕ → Type 0) (xs : List ℕ) → ((j : ℕ) → j < length xs → P (getD xs j 0)) → All P xs
@@ -93,7 +90,19 @@ module _ (w : ℕ) (pos : 0 < w) where
           let hi : min (s .end) ((s .end + (w - 1)) / w * w) ≡ s .end = let m = le-raised w pos (s .end) ((s .end + (w - 1)) / w) (le-refl ((s .end + (w - 1)) / w)) in omega arith in
           rw (lo, hi)
 
-  -- Where can_skip says yes of a span of the screen, in a row whose depth fills are painted, the visible runs are the whole span.
+  -- Where can_skip says yes, in a row whose depth fills are painted, every bucket that the span meets is visible.
+  pub skip-buckets : (f : Frame) (xs : List Step) (k : Canvas) → Built w xs (reset fresh-row f) (k .screen) → begin-call w k .number ≡ Done
+      → (ts : List Turn) (r : ℕ) → r < rows-of (f .viewport) → FillsPainted w (painted w ts k .canvas) r
+      → (s : Span) (id : ℕ) → can-skip-call w r s id (painted w ts k .canvas) .value ≡ true
+      → s .first < s .end → (j : ℕ) → covers (buckets-met w s) j ≡ true → j < buckets-of w (f .viewport)
+      → is-visible id (getD (painter-of w (painted w ts k .canvas) r .buckets) j 0) ≡ true
+  skip-buckets f xs k b e ts r h fp s id can wide j c on =
+      let (l, u, q) = tile-in s j wide (covers-low (buckets-met w s) j c) (covers-high (buckets-met w s) j c) in
+      let t = max (s .first) (j * w) in
+      ap (λ (n : ℕ). is-visible id (getD (painter-of w (painted w ts k .canvas) r .buckets) n 0)) (sym q)
+      ∙ skip-tile w pos f xs k b e ts r h fp s id can t (covers-yes s t l u) (rw q on)
+
+  -- .. and if the span lies on the screen, its visible runs are the whole span
   pub skip-runs : (f : Frame) (xs : List Step) (k : Canvas) → Built w xs (reset fresh-row f) (k .screen) → begin-call w k .number ≡ Done
       → (ts : List Turn) (r : ℕ) → r < rows-of (f .viewport) → FillsPainted w (painted w ts k .canvas) r
       → (s : Span) (id : ℕ) → can-skip-call w r s id (painted w ts k .canvas) .value ≡ true

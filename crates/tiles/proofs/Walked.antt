@@ -8,7 +8,7 @@ use lib.ListN.{length, getD}
 use lib.Dec.{leb, ltb, eqb}
 use borrow.Author.Tests.{eqb-true, eq-eqb, ltb-false}
 use Rattle.rules.specs.Lists.{every, slice}
-use Rattle.rules.specs.Answers.{Answer, answer, first-of, Done, BadRecord, BadOrder, NoLayer, Deep, Ids, FullAttrs, FullRow, FullDepth}
+use Rattle.rules.specs.Answers.{Answer, answer, first-of, Done, BadRecord, BadOrder, Deep, Ids, FullAttrs, FullRow, FullDepth}
 use Rattle.rules.specs.Boxes.{Box}
 use Rattle.rules.specs.Segments.{Segment, good-segment, ordered, judge-segments}
 use Rattle.rules.specs.Inputs.{Paint, Draw, Props, Filter, good-filter, good-props, needs-buffer}
@@ -26,6 +26,9 @@ use Rattle.tiles.proofs.Stepped.{call-done}
 -- a number that refuses is past 3
 abbrev pub Late : ℕ → Type 0
 Late n = eqb n Done ≡ false → 3 < n
+
+pub not-done : {n : ℕ} → eqb n Done ≡ false → n ≡ Done → ⊥
+not-done {n} e z = never (sym (eq-eqb n Done z) ∙ e)
 
 late-done : Late Done
 late-done e = never e
@@ -154,9 +157,6 @@ module _ (w : ℕ) where
     layers = q .layers;
   }
 
-  refused : {n : ℕ} → eqb n Done ≡ false → n ≡ Done → ⊥
-  refused {n} e z = never (sym (eq-eqb n Done z) ∙ e)
-
   stopped : {B C : List Layer → Type 0} {a : Answer (Logged Row)} {b : Answer (Screen Row)} {l : Logged Row} → Walked B a b l → eqb (a .number) Done ≡ false → Walked C a b l
   stopped r e = record {
     number = r .number;
@@ -165,7 +165,7 @@ module _ (w : ℕ) where
     log = r .log;
     built = r .built;
     late = r .late;
-    layers = λ z. absurd (refused e z);
+    layers = λ z. absurd (not-done e z);
   }
 
   then-walks : {A B C : List Layer → Type 0} {g g' : Logged Row → Answer (Logged Row)} {f f' : Screen Row → Answer (Screen Row)}

@@ -5,10 +5,10 @@ use mathlib.Core.List.{List, []}
 use mathlib.Core.Option.{some}
 use Rattle.rules.specs.Answers.{Answer}
 use Rattle.rules.specs.Rows.{Row, row-ops, fresh-row}
-use Rattle.rules.specs.Plans.{Frame, Step}
+use Rattle.rules.specs.Plans.{Step}
 use Rattle.rules.specs.Steps.{Screen, reset}
 use Rattle.rules.specs.Recording.{Recording, shape, sections, recording}
-use Rattle.rules.specs.Walk.{Place, frame-of, Logged, play, walk-logged}
+use Rattle.rules.specs.Walk.{Place, frame-of, play, walk-logged}
 use Rattle.tiles.specs.Built.{Built}
 
 -- the file's words ws played, where the screen was `old`

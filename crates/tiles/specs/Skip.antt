@@ -2,7 +2,7 @@
 use Prim.Native.Nat.{ℕ, _/_, _≤_, _<_}
 use mathlib.Core.Path.{_≡_}
 use mathlib.Core.Bool.{true}
-use mathlib.Core.List.{List, [], _∷_}
+use mathlib.Core.List.{List}
 use lib.ListN.{length, getD}
 use Rattle.rules.specs.Answers.{Done}
 use Rattle.rules.specs.Boxes.{width, rows-of}
@@ -13,7 +13,7 @@ use Rattle.rules.specs.Steps.{reset}
 use Rattle.rules.specs.Depth.{is-visible}
 use Rattle.rules.specs.Calls.{Canvas, begin-call, painter-of, can-skip-call}
 use Rattle.tiles.specs.Built.{Built}
-use Rattle.tiles.specs.Turns.{Turn, Turned, painted}
+use Rattle.tiles.specs.Turns.{Turn, painted}
 
 -- row r has painted its depth fills
 abbrev pub FillsPainted : ℕ → Canvas → ℕ → Type 0

@@ -9,14 +9,13 @@ use borrow.Author.Tests.{lt-leb}
 use Rattle.rules.specs.Answers.{Answer, Done}
 use Rattle.rules.specs.Boxes.{rows-of}
 use Rattle.rules.specs.Plans.{Frame, Step}
-use Rattle.rules.specs.Rows.{fresh-row}
 use Rattle.rules.specs.Calls.{Canvas, begin-call, painter-of, paint-call}
 use Rattle.screen.specs.Tables.{Lent}
 use Rattle.paint.specs.Painting.{Out}
 use Rattle.painted.specs.Canvases.{Whole}
 use Rattle.painted.proofs.Whole.{begin-whole}
 use Rattle.tiles.specs.Turns as rule
-use Rattle.tiles.specs.Turns.{turns, said-finished, next-step, has-finished}
+use Rattle.tiles.specs.Turns.{turns, said-finished, has-finished}
 use Rattle.tiles.proofs.Turns.{step-ended, turns-screen, turns-begun, begun-is}
 use Rattle.tiles.proofs.Finishes as tiles
 use Rattle.tiles.proofs.Finishes.{in-order}
@@ -63,12 +62,14 @@ finishes f xs l h e =
     let b = begin-call 32 k .value in
     let us = in-order 32 (length (k .screen .rows)) b in
     let w = begin-whole k (s .whole) in
-    let g = begun-is 32 k d in
-    (map lent-turn us, λ r there.
-    let row = built-on 32 (omega arith) f xs (k .screen) (s .built) r there .1 in
-    let same : turns 32 us b .canvas .screen ≡ k .screen = turns-screen 32 us b ∙ ap (λ (c : Canvas). c .screen) g in
-    let on : turns 32 us b .canvas .begun ≡ true = turns-begun 32 us b ∙ ap (λ (c : Canvas). c .begun) g in
-    let t : turned (map lent-turn us) (begin-at l .value) ≡ canvas-words (turns 32 us b .canvas) =
-    ap (turned (map lent-turn us)) v ∙ turned-words (map lent-turn us) b w ∙ ap (λ (x : List rule.Turn). canvas-words (turns 32 x b .canvas)) (same-turns us) in
-    or-last (said-finished r (log (map lent-turn us) (begin-at l .value))) _
-    (rw t (says-finished (turns 32 us b .canvas) (turns-whole us b w) r (rw same row) on (tiles.finishes 32 k d r row))))
+    let g = begun-is 32 k d in (
+      map lent-turn us,
+      λ r there.
+          let row = built-on 32 (omega arith) f xs (k .screen) (s .built) r there .1 in
+          let same : turns 32 us b .canvas .screen ≡ k .screen = turns-screen 32 us b ∙ ap (λ (c : Canvas). c .screen) g in
+          let on : turns 32 us b .canvas .begun ≡ true = turns-begun 32 us b ∙ ap (λ (c : Canvas). c .begun) g in
+          let t : turned (map lent-turn us) (begin-at l .value) ≡ canvas-words (turns 32 us b .canvas) =
+          ap (turned (map lent-turn us)) v ∙ turned-words (map lent-turn us) b w ∙ ap (λ (x : List rule.Turn). canvas-words (turns 32 x b .canvas)) (same-turns us) in
+          or-last (said-finished r (log (map lent-turn us) (begin-at l .value))) _
+          (rw t (says-finished (turns 32 us b .canvas) (turns-whole us b w) r (rw same row) on (tiles.finishes 32 k d r row))),
+    )

@@ -2,4 +2,5 @@ pub mod Reached
 pub mod Standing
 pub mod Turns
 pub mod Picture
+pub mod Skip
 pub mod Recorded

@@ -1,14 +1,12 @@
 // What a step does to one row (bucketer.rs). These are parts: each has a `requires`, which its callers have judged. `n` is the number of
 // open layers. A pop's PopBuf is row::pop_buf.
-use cmd::command::Fill;
-use cmd::command::RenderCmd;
 use cmd::depth_fill::DepthFill;
 use depth::Edge;
 use depth::Split;
 use depth::split_opaque_span;
 use row::push_buf;
-use row::push_cmd;
 use row::push_depth_fill;
+use row::push_paint;
 use span::Alpha;
 use span::TileSpan;
 ghost use mathlib.Core.Path.{_≡_};
@@ -29,26 +27,6 @@ pub fn ensure_row_layers(state: &mut [u32], render: &mut [u32], fills: &mut [u32
         push_buf(state, render, fills);
         k += 1;
     }
-}
-
-// One PaintFill.
-fn push_paint(
-    state: &mut [u32],
-    render: &mut [u32],
-    fills: &mut [u32],
-    span: TileSpan,
-    alpha: Alpha,
-    attrs_idx: u32,
-)
-    requires { ⌜ Short (tiles span) × Room (words (now state) (now render) (now fills)) (put-command (paint-fill (tiles span) (alpha-of alpha) «attrs_idx») (words (now state) (now render) (now fills))) ⌝ }
-    ensures { λ _. ⌜ words (now (state .exit)) (now (render .exit)) (now (fills .exit)) ≡ put-command (paint-fill (tiles span) (alpha-of alpha) «attrs_idx») (words (now (state .entry)) (now (render .entry)) (now (fills .entry))) ⌝ }
-{
-    let fill = Fill {
-        span,
-        alpha,
-        attrs_idx,
-    };
-    push_cmd(state, render, fills, RenderCmd::PaintFill(fill));
 }
 
 // Rule 7: the regular piece on one side of a depth fill, where there is one.
@@ -130,24 +108,4 @@ pub fn push_fill(
             push_paint(state, render, fills, span, Alpha::At(index), attrs_idx);
         }
     }
-}
-
-// Rule 9: a closing LayerFill, in a touched row.
-pub fn close_row(
-    state: &mut [u32],
-    render: &mut [u32],
-    fills: &mut [u32],
-    span: TileSpan,
-    alpha: Alpha,
-    attrs_idx: u32,
-)
-    requires { ⌜ Short (tiles span) × Room (words (now state) (now render) (now fills)) (put-command (layer-fill (tiles span) (alpha-of alpha) «attrs_idx») (words (now state) (now render) (now fills))) ⌝ }
-    ensures { λ _. ⌜ words (now (state .exit)) (now (render .exit)) (now (fills .exit)) ≡ put-command (layer-fill (tiles span) (alpha-of alpha) «attrs_idx») (words (now (state .entry)) (now (render .entry)) (now (fills .entry))) ⌝ }
-{
-    let fill = Fill {
-        span,
-        alpha,
-        attrs_idx,
-    };
-    push_cmd(state, render, fills, RenderCmd::LayerFill(fill));
 }

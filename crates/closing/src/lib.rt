@@ -2,9 +2,8 @@
 // each has a `requires`, which its callers have judged. The layer that closes is the innermost of `screen.layers`; a to b are its box's rows.
 use building::is_good_row;
 use cmd::command::Fill;
-use cmd::command::RenderCmd;
 use row::pop_buf;
-use row::push_cmd;
+use row::push_closing;
 use row::wide;
 use screen::ROW;
 use screen::Screen;
@@ -260,11 +259,15 @@ fn close_at(
     let x = r * ROW;
     let y = r * cw;
     let z = r * dw;
-    push_cmd(
+    let span = fill.span;
+    let alpha = fill.alpha;
+    push_closing(
         &mut rows[x..x + ROW],
         &mut render[y..y + cw],
         &mut fills[z..z + dw],
-        RenderCmd::LayerFill(fill),
+        span,
+        alpha,
+        fill.attrs_idx,
     );
 }
 

@@ -12,10 +12,6 @@ use borrow.Author.Tests.{ne-eqb, eqb-false}
 use Rattle.rules.specs.Spans.{Span}
 use Rattle.rules.specs.Commands.{Command, DepthFill}
 use Rattle.rules.specs.Rows.{adds}
-use Rattle.cmd.specs.Commands.{NarrowCmd}
-use Rattle.cmd.specs.declared.command.RenderCmd.{RenderCmd}
-use Rattle.cmd.specs.declared.command.RenderCmd.the-variants.{PaintFill, LayerFill, PushBuf, PopBuf}
-use Rattle.row.specs.Cmds.{ShortCmd}
 use Rattle.row.specs.Words.{Words, word, widened, include-span, include-adds, put-command, put-buf, ended, end-buf, put-depth, Room, Grown, Ends}
 
 cond-length : (b : Bool) {n : ℕ} (xs ys : List ℕ) → length xs ≡ n → length ys ≡ n → length (cond b xs ys) ≡ n
@@ -250,9 +246,3 @@ module _ {w : Words} where
 
   pub fill-room : (v : ℕ) (f : DepthFill) (id : ℕ) → Room w (put-depth v f id w) → 2 * word 1 w + 2 ≤ length (w .fills)
   fill-room v f id r = omega (arith, fill-depths w (r .state) v f id)
-
-pub short-narrow : (k : RenderCmd) → ShortCmd k → NarrowCmd k
-short-narrow (PaintFill f) s = (omega arith, omega arith)
-short-narrow (LayerFill f) s = (omega arith, omega arith)
-short-narrow (PushBuf r) s = s
-short-narrow PopBuf s = tt

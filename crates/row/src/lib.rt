@@ -1,18 +1,21 @@
 // One row over its own words (bucketer.rs, RowState). These are parts: each has a `requires`, which its callers have judged. They know
 // one row and not its place on the screen; all take the row's three slices: state, render commands, depth fills.
-use cmd::command::RenderCmd;
+use cmd::command::span_word;
 use cmd::depth_fill::DepthFill;
+use span::Alpha;
+use span::TileSpan;
 use span::larger;
 use span::smaller;
 ghost use mathlib.Core.Path.{_≡_};
 ghost use Prim.Native.Nat.{_+_, _*_, _≤_, _<_};
-ghost use lib.ListN.{length, getD};
-ghost use Rattle.rules.specs.Rows.{adds};
-ghost use Rattle.cmd.specs.Commands.{command};
+ghost use lib.ListN.{length, getD, set};
+ghost use Rattle.rules.specs.Spans.{span};
+ghost use Rattle.rules.specs.Commands.{span-word, paint-fill, layer-fill};
 ghost use Rattle.cmd.specs.DepthFills.{depth-fill};
-ghost use Rattle.span.specs.Spans.{buckets};
-ghost use Rattle.row.specs.Cmds.{Short, ShortCmd};
-ghost use Rattle.row.specs.Words.{words, put4, hull-word, include-span, include-adds, put-command, put-buf, end-buf, put-depth, Room, Ends};
+ghost use Rattle.span.specs.Spans.{tiles, buckets};
+ghost use Rattle.span.specs.Spans as spans;
+ghost use Rattle.row.specs.Cmds.{Short};
+ghost use Rattle.row.specs.Words.{words, put4, hull-word, include-span, put-command, put-buf, end-buf, put-depth, Room, Ends};
 
 pub fn wide(x: u32) -> usize
     ensures { λ r. ⌜ r ≡ x ⌝ }
@@ -60,35 +63,68 @@ fn put_four(s: &mut [u32], n: u32, a: u32, b: u32, x: u32, y: u32)
     s[at + 3] = y;
 }
 
-// Rule 10: a command's span, if it is a fill, counts for the innermost level.
-fn include_cmd(state: &mut [u32], cmd: RenderCmd)
-    requires { ⌜ (length (now state) ≡ 54) × (getD (now state) 5 0 ≤ 16) × ShortCmd cmd ⌝ }
-    ensures { λ _. ⌜ now (state .exit) ≡ include-adds (adds (command cmd)) (now (state .entry)) ⌝ }
+// A fill by its words. Its span counts for the innermost level.
+fn put_fill(
+    state: &mut [u32],
+    render: &mut [u32],
+    tag: u32,
+    first: u32,
+    end: u32,
+    alpha: u32,
+    attrs_idx: u32,
+)
+    requires { ⌜ (length (now state) ≡ 54) × (getD (now state) 5 0 ≤ 16) × (first ≤ 8192) × («end» ≤ 8192) × (4 * getD (now state) 0 0 + 4 ≤ length (now render)) × (length (now render) ≤ 4096) ⌝ }
+    ensures { λ _. ⌜ (now (state .exit) ≡ set (include-span first «end» (now (state .entry))) 0 (getD (now (state .entry)) 0 0 + 1))
+        × (now (render .exit) ≡ put4 (now (render .entry)) (getD (now (state .entry)) 0 0) tag (span-word (span first «end»)) alpha «attrs_idx») ⌝ }
 {
-    match cmd {
-        RenderCmd::PaintFill(fill) => {
-            let span = fill.span;
-            include_current_span(state, span.first, span.end);
+    let n = state[0];
+    include_current_span(state, first, end);
+    put_four(render, n, tag, span_word(first, end), alpha, attrs_idx);
+    state[0] = n + 1;
+}
+
+// A PaintFill.
+pub fn push_paint(
+    state: &mut [u32],
+    render: &mut [u32],
+    fills: &mut [u32],
+    span: TileSpan,
+    alpha: Alpha,
+    attrs_idx: u32,
+)
+    requires { ⌜ Short (tiles span) × Room (words (now state) (now render) (now fills)) (put-command (paint-fill (tiles span) (spans.alpha alpha) «attrs_idx») (words (now state) (now render) (now fills))) ⌝ }
+    ensures { λ _. ⌜ words (now (state .exit)) (now (render .exit)) (now (fills .exit)) ≡ put-command (paint-fill (tiles span) (spans.alpha alpha) «attrs_idx») (words (now (state .entry)) (now (render .entry)) (now (fills .entry))) ⌝ }
+{
+    match alpha {
+        Alpha::Solid => {
+            put_fill(state, render, 1, span.first, span.end, 0, attrs_idx);
         }
-        RenderCmd::LayerFill(fill) => {
-            let span = fill.span;
-            include_current_span(state, span.first, span.end);
+        Alpha::At(index) => {
+            put_fill(state, render, 2, span.first, span.end, index, attrs_idx);
         }
-        RenderCmd::PushBuf(_) => {}
-        RenderCmd::PopBuf => {}
     }
 }
 
-// Any command, as it stands.
-pub fn push_cmd(state: &mut [u32], render: &mut [u32], fills: &mut [u32], cmd: RenderCmd)
-    requires { ⌜ ShortCmd cmd × Room (words (now state) (now render) (now fills)) (put-command (command cmd) (words (now state) (now render) (now fills))) ⌝ }
-    ensures { λ _. ⌜ words (now (state .exit)) (now (render .exit)) (now (fills .exit)) ≡ put-command (command cmd) (words (now (state .entry)) (now (render .entry)) (now (fills .entry))) ⌝ }
+// A closing LayerFill.
+pub fn push_closing(
+    state: &mut [u32],
+    render: &mut [u32],
+    fills: &mut [u32],
+    span: TileSpan,
+    alpha: Alpha,
+    attrs_idx: u32,
+)
+    requires { ⌜ Short (tiles span) × Room (words (now state) (now render) (now fills)) (put-command (layer-fill (tiles span) (spans.alpha alpha) «attrs_idx») (words (now state) (now render) (now fills))) ⌝ }
+    ensures { λ _. ⌜ words (now (state .exit)) (now (render .exit)) (now (fills .exit)) ≡ put-command (layer-fill (tiles span) (spans.alpha alpha) «attrs_idx») (words (now (state .entry)) (now (render .entry)) (now (fills .entry))) ⌝ }
 {
-    let n = state[0];
-    let four = cmd.words();
-    include_cmd(state, cmd);
-    put_four(render, n, four.tag, four.span, four.alpha, four.attrs_idx);
-    state[0] = n + 1;
+    match alpha {
+        Alpha::Solid => {
+            put_fill(state, render, 3, span.first, span.end, 0, attrs_idx);
+        }
+        Alpha::At(index) => {
+            put_fill(state, render, 4, span.first, span.end, index, attrs_idx);
+        }
+    }
 }
 
 // Rule 5: a PushBuf, one level more. Its span is none so far.

@@ -10,7 +10,7 @@ use Rattle.closing.proofs.close_at.Statement.{statement}
 use Rattle.closing.proofs.close_at.Tie as tie
 use Rattle.closing.proofs.close_at.Reads as reads
 use Rattle.closing.proofs.close_at.Lts as lts
-use Rattle.row.proofs.push_cmd.Reads as push-cmd-reads
+use Rattle.row.proofs.push_closing.Reads as push-closing-reads
 
 -- src/lib.rt:257:19
 cast-cw : tie.Need-cast-cw
@@ -41,68 +41,68 @@ mul-z : tie.Need-mul-z
 mul-z c = record { fits = omega (arith, small _ _ (2 * c .before .before .before .before .before .args .screen .d) (c .before .before .before .before .before .pre .1) (c .before .before .before .before .before .pre .0 .rows) (omega (arith, c .before .before .before .before .before .pre .0 .d))) }
 
 -- src/lib.rt:263:22
-add-push-cmd : tie.Need-add-push-cmd
-add-push-cmd c = search needs
+add-push-closing : tie.Need-add-push-closing
+add-push-closing c = search needs
 
 -- src/lib.rt:263:9
-mul-push-cmd : tie.Need-mul-push-cmd
-mul-push-cmd c = search needs
+mul-push-closing : tie.Need-mul-push-closing
+mul-push-closing c = search needs
 
 -- src/lib.rt:263:9
-sub-push-cmd : tie.Need-sub-push-cmd
-sub-push-cmd c = search needs
+sub-push-closing : tie.Need-sub-push-closing
+sub-push-closing c = search needs
 
 -- src/lib.rt:263:9
-part-push-cmd-start : tie.Need-part-push-cmd-start
-part-push-cmd-start c = search needs
+part-push-closing-start : tie.Need-part-push-closing-start
+part-push-closing-start c = search needs
 
 -- src/lib.rt:263:9
-part-push-cmd-end : tie.Need-part-push-cmd-end
-part-push-cmd-end c = search needs
+part-push-closing-end : tie.Need-part-push-closing-end
+part-push-closing-end c = search needs
 
 -- src/lib.rt:264:24
-add-push-cmd-2 : tie.Need-add-push-cmd-2
-add-push-cmd-2 c = record { fits = omega (arith, small _ _ (4 * c .before .before .before .before .before .before .args .screen .c) (c .before .before .before .before .before .before .pre .1) (c .before .before .before .before .before .before .pre .0 .rows) (omega (arith, c .before .before .before .before .before .before .pre .0 .c)), c .before .before .before .before .before .before .pre .0 .c) }
+add-push-closing-2 : tie.Need-add-push-closing-2
+add-push-closing-2 c = record { fits = omega (arith, small _ _ (4 * c .before .before .before .before .before .before .before .args .screen .c) (c .before .before .before .before .before .before .before .pre .1) (c .before .before .before .before .before .before .before .pre .0 .rows) (omega (arith, c .before .before .before .before .before .before .before .pre .0 .c)), c .before .before .before .before .before .before .before .pre .0 .c) }
 
 -- src/lib.rt:264:9
-mul-push-cmd-2 : tie.Need-mul-push-cmd-2
-mul-push-cmd-2 c = record { fits = omega (arith, small _ _ (4 * c .before .before .before .before .before .before .args .screen .c) (c .before .before .before .before .before .before .pre .1) (c .before .before .before .before .before .before .pre .0 .rows) (omega (arith, c .before .before .before .before .before .before .pre .0 .c))) }
+mul-push-closing-2 : tie.Need-mul-push-closing-2
+mul-push-closing-2 c = record { fits = omega (arith, small _ _ (4 * c .before .before .before .before .before .before .before .args .screen .c) (c .before .before .before .before .before .before .before .pre .1) (c .before .before .before .before .before .before .before .pre .0 .rows) (omega (arith, c .before .before .before .before .before .before .before .pre .0 .c))) }
 
 -- src/lib.rt:264:9
-sub-push-cmd-2 : tie.Need-sub-push-cmd-2
-sub-push-cmd-2 c = search needs
+sub-push-closing-2 : tie.Need-sub-push-closing-2
+sub-push-closing-2 c = search needs
 
 -- src/lib.rt:264:9
-part-push-cmd-start-2 : tie.Need-part-push-cmd-start-2
-part-push-cmd-start-2 c = search needs
+part-push-closing-start-2 : tie.Need-part-push-closing-start-2
+part-push-closing-start-2 c = search needs
 
 -- src/lib.rt:264:9
-part-push-cmd-end-2 : tie.Need-part-push-cmd-end-2
-part-push-cmd-end-2 c = omega (arith, within _ _ (4 * c .before .before .before .before .before .before .args .screen .c) (c .before .before .before .before .before .before .pre .1), c .before .before .before .before .before .before .pre .0 .long .render)
+part-push-closing-end-2 : tie.Need-part-push-closing-end-2
+part-push-closing-end-2 c = omega (arith, within _ _ (4 * c .before .before .before .before .before .before .before .args .screen .c) (c .before .before .before .before .before .before .before .pre .1), c .before .before .before .before .before .before .before .pre .0 .long .render)
 
 -- src/lib.rt:265:23
-add-push-cmd-3 : tie.Need-add-push-cmd-3
-add-push-cmd-3 c = record { fits = omega (arith, small _ _ (2 * c .before .before .before .before .before .before .before .args .screen .d) (c .before .before .before .before .before .before .before .pre .1) (c .before .before .before .before .before .before .before .pre .0 .rows) (omega (arith, c .before .before .before .before .before .before .before .pre .0 .d)), c .before .before .before .before .before .before .before .pre .0 .d) }
+add-push-closing-3 : tie.Need-add-push-closing-3
+add-push-closing-3 c = record { fits = omega (arith, small _ _ (2 * c .before .before .before .before .before .before .before .before .args .screen .d) (c .before .before .before .before .before .before .before .before .pre .1) (c .before .before .before .before .before .before .before .before .pre .0 .rows) (omega (arith, c .before .before .before .before .before .before .before .before .pre .0 .d)), c .before .before .before .before .before .before .before .before .pre .0 .d) }
 
 -- src/lib.rt:265:9
-mul-push-cmd-3 : tie.Need-mul-push-cmd-3
-mul-push-cmd-3 c = record { fits = omega (arith, small _ _ (2 * c .before .before .before .before .before .before .before .args .screen .d) (c .before .before .before .before .before .before .before .pre .1) (c .before .before .before .before .before .before .before .pre .0 .rows) (omega (arith, c .before .before .before .before .before .before .before .pre .0 .d))) }
+mul-push-closing-3 : tie.Need-mul-push-closing-3
+mul-push-closing-3 c = record { fits = omega (arith, small _ _ (2 * c .before .before .before .before .before .before .before .before .args .screen .d) (c .before .before .before .before .before .before .before .before .pre .1) (c .before .before .before .before .before .before .before .before .pre .0 .rows) (omega (arith, c .before .before .before .before .before .before .before .before .pre .0 .d))) }
 
 -- src/lib.rt:265:9
-sub-push-cmd-3 : tie.Need-sub-push-cmd-3
-sub-push-cmd-3 c = search needs
+sub-push-closing-3 : tie.Need-sub-push-closing-3
+sub-push-closing-3 c = search needs
 
 -- src/lib.rt:265:9
-part-push-cmd-start-3 : tie.Need-part-push-cmd-start-3
-part-push-cmd-start-3 c = search needs
+part-push-closing-start-3 : tie.Need-part-push-closing-start-3
+part-push-closing-start-3 c = search needs
 
 -- src/lib.rt:265:9
-part-push-cmd-end-3 : tie.Need-part-push-cmd-end-3
-part-push-cmd-end-3 c = omega (arith, within _ _ (2 * c .before .before .before .before .before .before .before .args .screen .d) (c .before .before .before .before .before .before .before .pre .1), c .before .before .before .before .before .before .before .pre .0 .long .fills)
+part-push-closing-end-3 : tie.Need-part-push-closing-end-3
+part-push-closing-end-3 c = omega (arith, within _ _ (2 * c .before .before .before .before .before .before .before .before .args .screen .d) (c .before .before .before .before .before .before .before .before .pre .1), c .before .before .before .before .before .before .before .before .pre .0 .long .fills)
 
 -- src/lib.rt:262:5
-push-cmd-requires : tie.Need-push-cmd-requires
-push-cmd-requires c κs = (c .before .before .before .before .before .before .before .before .pre .2, rw (lent _ _ _ _ (c .before .before .before .before .before .before .before .before .pre .0 .long) (c .before .before .before .before .before .before .before .before .pre .1)) (c .before .before .before .before .before .before .before .before .pre .3))
+push-closing-requires : tie.Need-push-closing-requires
+push-closing-requires c κs = (c .before .before .before .before .before .before .before .before .before .pre .2, rw (lent _ _ _ _ (c .before .before .before .before .before .before .before .before .before .pre .0 .long) (c .before .before .before .before .before .before .before .before .before .pre .1)) (c .before .before .before .before .before .before .before .before .before .pre .3))
 
 -- src/lib.rt:244:1
 same-length : tie.Need-same-length
@@ -118,7 +118,7 @@ same-length-3 c = search needs
 
 -- src/lib.rt:244:1
 returns : tie.Need-returns
-returns c = back _ _ _ _ (c .before .before .before .before .before .before .before .before .before .before .before .before .before .before .before .pre .0 .long) (c .before .before .before .before .before .before .before .before .before .before .before .before .before .before .before .pre .1) (put-command (layer-fill (tiles (c .before .before .before .before .before .before .before .before .before .before .before .before .before .before .before .args .fill .span)) (alpha (c .before .before .before .before .before .before .before .before .before .before .before .before .before .before .before .args .fill .alpha)) (c .before .before .before .before .before .before .before .before .before .before .before .before .before .before .before .args .fill .«attrs_idx»))) _ _ _ (cmd-grown _ (c .before .before .before .before .before .before .before .before .before .before .before .before .before .before .before .pre .3 .state) (layer-fill (tiles (c .before .before .before .before .before .before .before .before .before .before .before .before .before .before .before .args .fill .span)) (alpha (c .before .before .before .before .before .before .before .before .before .before .before .before .before .before .before .args .fill .alpha)) (c .before .before .before .before .before .before .before .before .before .before .before .before .before .before .before .args .fill .«attrs_idx»))) (rw (lent _ _ _ _ (c .before .before .before .before .before .before .before .before .before .before .before .before .before .before .before .pre .0 .long) (c .before .before .before .before .before .before .before .before .before .before .before .before .before .before .before .pre .1)) at (c .before .before .before .before .before .before .push-cmd .ensures))
+returns c = back _ _ _ _ (c .before .before .before .before .before .before .before .before .before .before .before .before .before .before .before .before .pre .0 .long) (c .before .before .before .before .before .before .before .before .before .before .before .before .before .before .before .before .pre .1) (put-command (layer-fill (tiles (c .before .before .before .before .before .before .before .before .before .before .before .before .before .before .before .before .args .fill .span)) (alpha (c .before .before .before .before .before .before .before .before .before .before .before .before .before .before .before .before .args .fill .alpha)) (c .before .before .before .before .before .before .before .before .before .before .before .before .before .before .before .before .args .fill .«attrs_idx»))) _ _ _ (cmd-grown _ (c .before .before .before .before .before .before .before .before .before .before .before .before .before .before .before .before .pre .3 .state) (layer-fill (tiles (c .before .before .before .before .before .before .before .before .before .before .before .before .before .before .before .before .args .fill .span)) (alpha (c .before .before .before .before .before .before .before .before .before .before .before .before .before .before .before .before .args .fill .alpha)) (c .before .before .before .before .before .before .before .before .before .before .before .before .before .before .before .before .args .fill .«attrs_idx»))) (rw (lent _ _ _ _ (c .before .before .before .before .before .before .before .before .before .before .before .before .before .before .before .before .pre .0 .long) (c .before .before .before .before .before .before .before .before .before .before .before .before .before .before .before .before .pre .1)) at (c .before .before .before .before .before .before .push-closing .ensures))
 
 pub close-at-spec : {M : Type 1} → statement M
 close-at-spec =
@@ -131,22 +131,22 @@ close-at-spec =
     mul-x
     mul-y
     mul-z
-    add-push-cmd
-    mul-push-cmd
-    sub-push-cmd
-    part-push-cmd-start
-    part-push-cmd-end
-    add-push-cmd-2
-    mul-push-cmd-2
-    sub-push-cmd-2
-    part-push-cmd-start-2
-    part-push-cmd-end-2
-    add-push-cmd-3
-    mul-push-cmd-3
-    sub-push-cmd-3
-    part-push-cmd-start-3
-    part-push-cmd-end-3
-    push-cmd-requires
+    add-push-closing
+    mul-push-closing
+    sub-push-closing
+    part-push-closing-start
+    part-push-closing-end
+    add-push-closing-2
+    mul-push-closing-2
+    sub-push-closing-2
+    part-push-closing-start-2
+    part-push-closing-end-2
+    add-push-closing-3
+    mul-push-closing-3
+    sub-push-closing-3
+    part-push-closing-start-3
+    part-push-closing-end-3
+    push-closing-requires
     same-length
     same-length-2
     same-length-3

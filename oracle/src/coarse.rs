@@ -10,6 +10,8 @@ pub(crate) mod cmd;
 #[allow(dead_code)]
 pub(crate) mod depth;
 
+#[path = "coarse/probe.rs"]
+#[allow(dead_code)]
 pub(crate) mod probe;
 
 pub(crate) use bucketer::CommandBucketer;

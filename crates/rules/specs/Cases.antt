@@ -7,12 +7,13 @@ use mathlib.Core.Option.{none, some}
 use Rattle.rules.specs.Lists.{every, slice}
 use Rattle.rules.specs.Spans.{span}
 use Rattle.rules.specs.Boxes.{box}
+use Rattle.rules.specs.Blends.{default-blend}
 use Rattle.rules.specs.Recording.{Recording, file}
 use Rattle.rules.specs.Lines.{Line, header, row, D, P, L, B, E, refused, rowlist-words}
 use Rattle.rules.specs.Details.{Detail, paint-attributes, A, layer-attributes, Y, filter-paints, F, painted, p, l, rowdump-words}
 use Rattle.rules.specs.Picture.{same-picture}
 use Rattle.rules.specs.Computing.{computing}
-use Rattle.rules.specs.Samples.{solid, alpha, draw, full, a-nan, layer, composed, clipped, filtered, filter, node, rec, minus}
+use Rattle.rules.specs.Samples.{solid, alpha, opaque-paint, draw, full, a-nan, layer, composed, clipped, filtered, filter, node, rec, minus}
 
 -- An alpha segment cut at the left: the screen begins at tile 4, so its index moves by 4 x 16.
 abbrev pub left-cut : Recording
@@ -287,6 +288,32 @@ pub panel-details :
 unfolding computing
 panel-details = refl
 
+-- Rule 6: of four draws over the same buckets only the first is eligible. The second has a mask, the third a blend, the fourth a paint that
+-- is not opaque.
+abbrev pub ineligible : Recording
+ineligible =
+    record {
+      viewport = box 0 0 512 4;
+      paints = opaque-paint ∷ record { opaque = 0; handle = 8 } ∷ [];
+      segments = solid 0 0 128 ∷ [];
+      draws =
+          draw 0 1
+          ∷ record { thread = 0; start = 0; end = 1; paint = 0; blend = default-blend; mask = 9 }
+          ∷ record { thread = 0; start = 0; end = 1; paint = 0; blend = record { mix = 1; compose = 3 }; mask = 0 }
+          ∷ record { thread = 0; start = 0; end = 1; paint = 1; blend = default-blend; mask = 0 }
+          ∷ [];
+      layers = [];
+      nodes = node 0 4 0 ∷ [];
+      start = 0;
+      end = 1;
+    }
+
+pub ineligible-lines :
+    rowlist-words (file ineligible) ≡
+    header 1 4 4 ∷ row 0 1 3 ∷ D 0 4 0 ∷ P 0 128 none 1 ∷ P 0 128 none 2 ∷ P 0 128 none 3 ∷ []
+unfolding computing
+ineligible-lines = refl
+
 -- Painting gives each tile of each accepted case what plain draw order gives it: one test.
 pub same-pictures :
     every (same-picture 32)
@@ -301,6 +328,7 @@ pub same-pictures :
     ∷ last-bucket
     ∷ away
     ∷ panel
+    ∷ ineligible
     ∷ []) ≡ true
 unfolding computing
 same-pictures = refl

@@ -1,0 +1,4 @@
+pub mod Runs
+pub mod Building
+pub mod Painting
+pub mod Recording

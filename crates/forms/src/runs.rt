@@ -1,8 +1,9 @@
 // Runs as spans in a lent slice of them. `depth` has the form over tile numbers, two words a run.
 use span::TileSpan;
 ghost use mathlib.Core.Path.{_≡_};
-ghost use Prim.Native.Nat.{_<_};
+ghost use Prim.Native.Nat.{_+_, _*_, _<_, _≤_};
 ghost use lib.ListN.{length, set};
+ghost use Rattle.forms.specs.Spans.{span-at, with-spans};
 
 // One run at its place; the others stay.
 pub fn put_run(list: &mut [TileSpan], at: usize, first: u32, end: u32)
@@ -10,4 +11,28 @@ pub fn put_run(list: &mut [TileSpan], at: usize, first: u32, end: u32)
     ensures { λ _. ⌜ now (list .exit) ≡ set (now (list .entry)) at (record { first = first; end = «end» }) ⌝ }
 {
     list[at] = TileSpan { first, end };
+}
+
+// The run at a place of a list of tile numbers.
+pub fn run_at(words: &[u32], n: usize) -> TileSpan
+    requires { ⌜ n * 2 + 1 < length (now words) ⌝ }
+    ensures { λ r. ⌜ r ≡ span-at (now (words .entry)) n ⌝ }
+{
+    let at = n * 2;
+    TileSpan {
+        first: words[at],
+        end: words[at + 1],
+    }
+}
+
+// The first runs of a list of tile numbers as spans, left to right; entries after them stay.
+pub fn write_runs(list: &mut [TileSpan], words: &[u32], count: usize)
+    requires { ⌜ (count ≤ length (now list)) × (count * 2 ≤ length (now words)) ⌝ }
+    ensures { λ _. ⌜ now (list .exit) ≡ with-spans (now (words .entry)) count (now (list .entry)) ⌝ }
+{
+    let mut n: usize = 0;
+    while n < count {
+        list[n] = run_at(words, n);
+        n += 1;
+    }
 }

@@ -2,16 +2,8 @@
 use span::TileSpan;
 ghost use mathlib.Core.Path.{_≡_};
 ghost use Prim.Native.Nat.{_+_, _*_, _<_, _≤_};
-ghost use lib.ListN.{length, set};
-ghost use Rattle.forms.specs.Spans.{span-at, with-spans};
-
-// One run at its place; the others stay.
-pub fn put_run(list: &mut [TileSpan], at: usize, first: u32, end: u32)
-    requires { ⌜ at < length (now list) ⌝ }
-    ensures { λ _. ⌜ now (list .exit) ≡ set (now (list .entry)) at (record { first = first; end = «end» }) ⌝ }
-{
-    list[at] = TileSpan { first, end };
-}
+ghost use lib.ListN.{length, replicate};
+ghost use Rattle.forms.specs.Spans.{span-at, no-span, with-spans};
 
 // The run at a place of a list of tile numbers.
 pub fn run_at(words: &[u32], n: usize) -> TileSpan
@@ -35,4 +27,14 @@ pub fn write_runs(list: &mut [TileSpan], words: &[u32], count: usize)
         list[n] = run_at(words, n);
         n += 1;
     }
+}
+
+// The same by value: a list of 16 spans is made, and lent. A row of 32 buckets has no more runs.
+pub fn runs_of(words: &[u32], count: usize) -> [TileSpan; 16]
+    requires { ⌜ (count ≤ 16) × (count * 2 ≤ length (now words)) ⌝ }
+    ensures { λ r. ⌜ r ≡ with-spans (now (words .entry)) count (replicate 16 no-span) ⌝ }
+{
+    let mut list = [TileSpan { first: 0, end: 0 }; 16];
+    write_runs(&mut list, words, count);
+    list
 }

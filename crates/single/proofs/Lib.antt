@@ -2,3 +2,4 @@ pub mod Runs
 pub mod Building
 pub mod Painting
 pub mod Recording
+pub mod Texts

@@ -3,13 +3,13 @@ use mathlib.Core.Path.{_≡_, refl, sym, ap, _∙_}
 use mathlib.Core.Bool.{Bool, true, false, not, _&&_, _||_, cond}
 use mathlib.Core.List.{List, [], _∷_, _++_, append-nil}
 use mathlib.Core.Option.{Option, none, some}
-use Prim.Native.Nat.{ℕ, _+_, _*_, _≤_}
+use Prim.Native.Nat.{ℕ, _*_, _%_, _≤_}
 use native.Mathlib.Omega.{arith}
 use lib.Dec.{ltb, leb, eqb}
-use lib.ListN.{length, getD, drop, take}
+use lib.ListN.{length, getD, drop}
 use lib.Seq.{length-take-le, getD-drop}
 use borrow.Author.Tests.{le-ltb, lt-ltb, leb-true, leb-false, eq-eqb, eqb-true}
-use Rattle.rules.specs.Answers.{Answer, answer, Done, BadForm}
+use Rattle.rules.specs.Answers.{Answer, answer, Done, BadForm, BadRecord}
 use Rattle.rules.specs.Boxes.{Box, box, good-viewport, rows-of, buckets-of}
 use Rattle.rules.specs.Rows.{Row, fresh-row, row-ops}
 use Rattle.rules.specs.Plans.{Frame}
@@ -17,7 +17,7 @@ use Rattle.rules.specs.Steps.{Screen, reset, call}
 use Rattle.rules.specs.Recording.{Recording, shape, sections, recording, box-at}
 use Rattle.rules.specs.Walk.{Place, Arenas, needed, good-arenas, frame-of, judge-records, or-reset, walk-all, play-records, play}
 use Rattle.rules.specs.Lines as rules
-use Rattle.rules.specs.Lines.{refused, answer-lines, rowlist-place, rowlist-words, line-bytes}
+use Rattle.rules.specs.Lines.{refused, answer-lines, rowlist-place, rowlist-words, words-of, rowlist, line-bytes}
 use Rattle.rules.proofs.All.{never}
 use Rattle.row.specs.Words.{words}
 use Rattle.screen.specs.Screens.{frame, rect-of}
@@ -35,12 +35,15 @@ use Rattle.played.proofs.Laws.{file-plays}
 use Rattle.walk.specs.Recorded.{recorded}
 use Rattle.form.specs.Layouts.{layout, formed, form-of, sections-at}
 use Rattle.form.specs.declared.Form.the-variants as form
+use Rattle.form.specs.Words.{words-in, filled-with}
+use Rattle.form.proofs.Bytes.{rules-words}
 use Rattle.form.proofs.Laid.{good-form}
 use Rattle.form.proofs.Reading.{viewport-is}
 use Rattle.recording.specs.Judging.{box-from}
-use Rattle.list.specs.Listed.{listed, refused-listed, text-of, room-asked}
-use Rattle.listing.specs.Files.{Showed, FileOut, nothing, refusing, showing, answered, recording-text, viewport-of, size, sized-if, sized, size-of, cut-to, text-in, words-text, Roomy}
+use Rattle.list.specs.Listed.{refused-listed, text-of, room-asked}
+use Rattle.listing.specs.Files.{Showed, nothing, refusing, showing, answered, recording-text, viewport-of, size, sized-if, sized, size-of, cut-to, text-in, words-text, Roomy, is-roomy, refused-as-is, bytes-out, bytes-text}
 use Rattle.listing.proofs.Texts.{small}
+use Rattle.listing.proofs.Bytes.{enough}
 use Rattle.printed.proofs.Printed.{row-words, listed-held}
 use Rattle.printed.proofs.Walked.{Kept, walk-keeps}
 
@@ -284,3 +287,24 @@ module _ (ws : List ℕ) (t : Tables) (roomy : Roomy t) (fixed : good-fixed (len
           bs
       go none e = refusing-shows bs room 3 nothing
       go (some ss) e = rw (view ss e) (by-size ss e _ refl)
+
+-- `rowlist`: a file's bytes, with words, tables and room lent as the program has them. What `file_text` writes is the text of the rules' `rowlist` of the bytes.
+module _ (fs ws : List ℕ) (t : Tables) (roomy : is-roomy ws t ≡ true) (fixed : good-fixed (lengths t) ≡ true) (bs : List ℕ) (room : 264256 ≤ length bs) where
+  pub file-printed : shows (bytes-text fs ws t bs .file .showed) ≡ text-first (text-of (rowlist fs)) bs
+  unfolding bytes-text rowlist
+  file-printed = go (leb (length fs) 65536) (eqb (length fs % 4) 0) refl refl
+    where
+      go : (x y : Bool) → leb (length fs) 65536 ≡ x → eqb (length fs % 4) 0 ≡ y
+          → shows (cond (x && y) (cond (is-roomy ws t) (bytes-out (words-text (words-in fs) t bs) (filled-with fs ws .words)) (bytes-out (refused-as-is BadRecord t bs) ws)) (bytes-out (refused-as-is BadForm t bs) ws) .file .showed)
+          ≡ text-first
+          (text-of
+          (elim (ltb 65536 (length fs)) [
+            | true ↦ refused BadForm ∷ []
+            | false ↦ elim (words-of fs) [ none ↦ refused BadForm ∷ [] | some vs ↦ rowlist-words vs ]
+          ]))
+          bs
+      go false y p q = rw (lt-ltb 65536 (length fs) (leb-false _ _ p)) (refusing-shows bs room 3 nothing)
+      go true false p q = rw (le-ltb 65536 (length fs) (leb-true _ _ p), rules-words fs, q) (refusing-shows bs room 3 nothing)
+      go true true p q =
+          rw (le-ltb 65536 (length fs) (leb-true _ _ p), rules-words fs, q, roomy)
+          (words-printed (words-in fs) t (enough fs ws t bs (rw (p, q)) roomy .tables) fixed bs room)

@@ -1,7 +1,7 @@
 -- The lines of a built screen's words are the rules' lines of the screen, and listing it is never refused for a record. Assumes nothing.
-use mathlib.Core.Path.{_≡_, refl, ap, _∙_}
+use mathlib.Core.Path.{_≡_, refl}
 use mathlib.Core.Bool.{Bool, true, false, cond}
-use mathlib.Core.List.{List, [], _∷_}
+use mathlib.Core.List.{List}
 use mathlib.Core.Option.{Option, some}
 use Prim.Native.Nat.{ℕ, zero, suc, _≤_, _<_}
 use native.Mathlib.Omega.{arith}
@@ -26,7 +26,7 @@ use Rattle.painted.specs.Fair.{FairRows}
 use Rattle.painted.proofs.Standing.{stands}
 use Rattle.painted.proofs.Kept.{built-fair, own-words}
 use Rattle.list.specs.Places.{all-below, is-some}
-use Rattle.list.specs.Listed.{Out, depth-fill-at, command-at, screen-lines, good-row, good-rows, list-number, room-asked, left, listing, begun-with, text-of, listed}
+use Rattle.list.specs.Listed.{depth-fill-at, command-at, screen-lines, good-row, good-rows, list-number, room-asked, left, listing, begun-with, text-of, listed}
 use Rattle.list.proofs.ByRules.{Stands, no-fill, screen-by-rules}
 
 -- what is there at each place is some

@@ -25,7 +25,7 @@ use Rattle.dump.specs.Dumped as dumped
 use Rattle.dump.specs.Dumped.{RowOut, row-out, row-dumped, attrs-dumped}
 use Rattle.listing.specs.declared.FileText.{FileText}
 use Rattle.listing.specs.declared.Size.{Size}
-use Rattle.listing.specs.Files.{Showed, showed, FileOut, file-out, BytesOut, bytes-out, recording-text, size-of, bytes-text}
+use Rattle.listing.specs.Files.{showed, FileOut, file-out, BytesOut, bytes-out, recording-text, size-of, bytes-text}
 use Rattle.list.proofs.list_screen as list-call
 use Rattle.list.proofs.refusal_line as refusal-call
 use Rattle.dump.proofs.attrs_text as attrs-call

@@ -89,7 +89,7 @@ module _ (r : Recording) (c d : ℕ) (l : Lent) (old : Screen Row) (t : good-tab
   ours = recorded-in r c d l
 
   no-play : (n : ℕ) → eqb n Done ≡ false → leb n BadForm ≡ true → judge-records 32 (place c d l) r ≡ n → judged-reset (rect-of v) c d (lengths (l .tables)) ≡ n → Plays old l theirs ours
-  no-play n z k e g = rw (refused-play n e z, refused-reset n g z, k) (record { number = refl; value = unaltered refl refl })
+  no-play n z k e g = rw (refused-play n e z, refused-reset n g z, k) (record { number = refl; value = unaltered z refl refl })
 
   bad-view : good-viewport v ≡ false → Plays old l theirs ours
   unfolding judge-records judged-reset
@@ -165,5 +165,5 @@ file-plays ws c d l old h = go (sections shape ws) refl
           | some ss ↦ play-records Row row-ops 32 fresh-row (place c d l) old (recording ss)
         ])
         (of-sections o c d l)
-    go none e = record { number = refl; value = unaltered refl refl }
+    go none e = record { number = refl; value = unaltered refl refl refl }
     go (some ss) e = records-play (recording ss) c d l old (h ss e)

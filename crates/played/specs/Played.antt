@@ -1,7 +1,9 @@
 -- A recording at the words beside the rules' play of it.
 use Prim.Native.Nat.{ℕ}
 use mathlib.Core.Path.{_≡_}
-use Rattle.rules.specs.Answers.{Answer}
+use mathlib.Core.Bool.{false}
+use lib.Dec.{eqb}
+use Rattle.rules.specs.Answers.{Answer, Done}
 use Rattle.rules.specs.Rows.{Row}
 use Rattle.rules.specs.Steps.{Screen}
 use Rattle.rules.specs.Walk.{Place}
@@ -13,12 +15,12 @@ use Rattle.refine.proofs.Refined.{Refines}
 abbrev pub place : ℕ → ℕ → Lent → Place
 place c d l = record { limit = 512; c = c; d = d; arenas = arenas (lengths (l .tables)) }
 
--- what stands afterwards, from the screen s and the words l: both are left as they were, or the words are those of the rules' screen
-pub data Outcome (s : Screen Row) (l : Lent) (s′ : Screen Row) (l′ : Lent) : Type 0 where
-  unaltered : s′ ≡ s → l′ ≡ l → Outcome s l s′ l′
-  made : Refines s′ l′ → Outcome s l s′ l′
+-- what stands afterwards at the number n, from the screen s and the words l: refused, both are left as they were, or the words are those of the rules' screen
+pub data Outcome (n : ℕ) (s : Screen Row) (l : Lent) (s′ : Screen Row) (l′ : Lent) : Type 0 where
+  unaltered : eqb n Done ≡ false → s′ ≡ s → l′ ≡ l → Outcome n s l s′ l′
+  made : Refines s′ l′ → Outcome n s l s′ l′
 
 -- the call at the words beside the rules' play
 pub record Plays (s : Screen Row) (l : Lent) (a : Answer (Screen Row)) (w : Answer Lent) : Type 0 where
   pub number : w .number ≡ a .number
-  pub value : Outcome s l (a .value) (w .value)
+  pub value : Outcome (a .number) s l (a .value) (w .value)

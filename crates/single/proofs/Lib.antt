@@ -1,0 +1,5 @@
+pub mod Runs
+pub mod Building
+pub mod Painting
+pub mod Recording
+pub mod Texts

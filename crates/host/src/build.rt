@@ -1,0 +1,296 @@
+// Reset, the building steps and the recording call.
+use crate::state::Held;
+use crate::state::leave;
+use crate::state::screen_of;
+use cmd::blend::Blend;
+use fill::Draw;
+use fill::fill;
+use filter::Placement;
+use filter::filter_fill;
+use layers::LayerProps;
+use pop::pop_layer;
+use push::push_layer;
+use reading::props_at;
+use rect::Rect;
+use screen::reset;
+use walk::bucket_recording;
+ghost use mathlib.Core.Path.{_≡_};
+ghost use lib.ListN.{length};
+
+#[no_mangle]
+pub extern "C" fn coarse_reset(
+    state: &mut [u32],
+    x0: u32,
+    y0: u32,
+    x1: u32,
+    y1: u32,
+    c: u32,
+    d: u32,
+    render: &mut [u32],
+    fills: &mut [u32],
+    depth: &mut [u32],
+    rows: &mut [u32],
+    painting: &mut [u32],
+    layers: &mut [u32],
+    opacities: &mut [f32],
+    paint_attrs: &mut [u32],
+    layer_attrs: &mut [u32],
+    filter_paints: &mut [i32],
+) -> u32 {
+    let Held::Good(screen) = screen_of(state) else {
+        return 4;
+    };
+    let viewport = Rect { x0, y0, x1, y1 };
+    let built = reset(
+        screen,
+        viewport,
+        c,
+        d,
+        render,
+        fills,
+        depth,
+        rows,
+        painting,
+        layers,
+        opacities,
+        paint_attrs,
+        layer_attrs,
+        filter_paints,
+    );
+    leave(state, built)
+}
+
+#[no_mangle]
+pub extern "C" fn coarse_bucket_recording(
+    state: &mut [u32],
+    file: &[u32],
+    c: u32,
+    d: u32,
+    render: &mut [u32],
+    fills: &mut [u32],
+    depth: &mut [u32],
+    rows: &mut [u32],
+    painting: &mut [u32],
+    layers: &mut [u32],
+    opacities: &mut [f32],
+    paint_attrs: &mut [u32],
+    layer_attrs: &mut [u32],
+    filter_paints: &mut [i32],
+) -> u32 {
+    let Held::Good(screen) = screen_of(state) else {
+        return 4;
+    };
+    let built = bucket_recording(
+        screen,
+        file,
+        c,
+        d,
+        render,
+        fills,
+        depth,
+        rows,
+        painting,
+        layers,
+        opacities,
+        paint_attrs,
+        layer_attrs,
+        filter_paints,
+    );
+    leave(state, built)
+}
+
+#[no_mangle]
+pub extern "C" fn coarse_fill(
+    state: &mut [u32],
+    rows: &mut [u32],
+    render: &mut [u32],
+    fills: &mut [u32],
+    paint_attrs: &mut [u32],
+    paints: &[u32],
+    segments: &[u32],
+    thread: u32,
+    start: usize,
+    end: usize,
+    paint: u32,
+    mix: u32,
+    compose: u32,
+    mask: u32,
+) -> u32 {
+    let Held::Good(screen) = screen_of(state) else {
+        return 4;
+    };
+    let blend = Blend { mix, compose };
+    let draw = Draw {
+        thread,
+        start,
+        end,
+        paint,
+        blend,
+        mask,
+    };
+    let built = fill(
+        screen,
+        rows,
+        render,
+        fills,
+        paint_attrs,
+        paints,
+        segments,
+        draw,
+    );
+    leave(state, built)
+}
+
+// The properties whose clip is there if the flag is 1.
+fn props_of(
+    mix: u32,
+    compose: u32,
+    opacity: u32,
+    mask: u32,
+    clip: u32,
+    x0: u32,
+    y0: u32,
+    x1: u32,
+    y1: u32,
+    start: u32,
+    end: u32,
+    thread: u32,
+) -> LayerProps {
+    let layer = [
+        0,
+        0,
+        0,
+        mix,
+        compose,
+        opacity,
+        mask,
+        clip,
+        x0,
+        y0,
+        x1,
+        y1,
+        start,
+        end,
+        thread,
+        0,
+        0,
+        0,
+        0,
+        0,
+        0,
+        0,
+    ];
+    props_at(&layer, 0)
+}
+
+#[no_mangle]
+pub extern "C" fn coarse_push_layer(
+    state: &mut [u32],
+    rows: &mut [u32],
+    render: &mut [u32],
+    fills: &mut [u32],
+    layers: &mut [u32],
+    opacities: &mut [f32],
+    mix: u32,
+    compose: u32,
+    opacity: u32,
+    mask: u32,
+    clip: u32,
+    x0: u32,
+    y0: u32,
+    x1: u32,
+    y1: u32,
+    start: u32,
+    end: u32,
+    thread: u32,
+) -> u32 {
+    let Held::Good(screen) = screen_of(state) else {
+        return 4;
+    };
+    if 1 < clip {
+        return 4;
+    }
+    let props = props_of(
+        mix,
+        compose,
+        opacity,
+        mask,
+        clip,
+        x0,
+        y0,
+        x1,
+        y1,
+        start,
+        end,
+        thread,
+    );
+    let built = push_layer(screen, rows, render, fills, layers, opacities, props);
+    leave(state, built)
+}
+
+#[no_mangle]
+pub extern "C" fn coarse_pop_layer(
+    state: &mut [u32],
+    rows: &mut [u32],
+    render: &mut [u32],
+    fills: &mut [u32],
+    layers: &mut [u32],
+    opacities: &mut [f32],
+    layer_attrs: &mut [u32],
+    segments: &[u32],
+) -> u32 {
+    let Held::Good(screen) = screen_of(state) else {
+        return 4;
+    };
+    let built = pop_layer(
+        screen,
+        rows,
+        render,
+        fills,
+        layers,
+        opacities,
+        layer_attrs,
+        segments,
+    );
+    leave(state, built)
+}
+
+#[no_mangle]
+pub extern "C" fn coarse_filter_fill(
+    state: &mut [u32],
+    rows: &mut [u32],
+    render: &mut [u32],
+    fills: &mut [u32],
+    paint_attrs: &mut [u32],
+    filter_paints: &mut [i32],
+    x0: u32,
+    y0: u32,
+    x1: u32,
+    y1: u32,
+    source_x: u32,
+    source_y: u32,
+    pixmap: u32,
+    paint_count: u32,
+) -> u32 {
+    let Held::Good(screen) = screen_of(state) else {
+        return 4;
+    };
+    let dest = Rect { x0, y0, x1, y1 };
+    let placement = Placement {
+        dest,
+        source_x,
+        source_y,
+    };
+    let built = filter_fill(
+        screen,
+        rows,
+        render,
+        fills,
+        paint_attrs,
+        filter_paints,
+        placement,
+        pixmap,
+        paint_count,
+    );
+    leave(state, built)
+}

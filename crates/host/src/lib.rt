@@ -1,0 +1,5 @@
+// The calls for a host in C or Rust: words and slices only. A slice crosses as a pointer and a length. Each call gives document 01's number.
+mod build;
+mod painting;
+mod sizes;
+mod state;

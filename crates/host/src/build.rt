@@ -15,7 +15,12 @@ use rect::Rect;
 use screen::reset;
 use walk::bucket_recording;
 ghost use mathlib.Core.Path.{_≡_};
-ghost use lib.ListN.{length};
+ghost use Rattle.rules.specs.Answers.{answer};
+ghost use Rattle.row.specs.Words.{words};
+ghost use Rattle.screen.specs.Tables.{tables};
+ghost use Rattle.pop.specs.Pop.{lent};
+ghost use Rattle.host.specs.State.{rect};
+ghost use Rattle.host.specs.Building.{reset-call, recording-call, draw, fill-call, clip, props, push-call, pop-call, placement, filter-call};
 
 #[no_mangle]
 pub extern "C" fn coarse_reset(
@@ -36,7 +41,10 @@ pub extern "C" fn coarse_reset(
     paint_attrs: &mut [u32],
     layer_attrs: &mut [u32],
     filter_paints: &mut [i32],
-) -> u32 {
+) -> u32
+    ensures { λ r. ⌜ answer r (now (state .exit), tables (now (render .exit)) (now (fills .exit)) (now (depth .exit)) (now (rows .exit)) (now (painting .exit)) (now (layers .exit)) (now (opacities .exit)) (now («paint_attrs» .exit)) (now («layer_attrs» .exit)) (now («filter_paints» .exit)))
+        ≡ reset-call (rect x0 y0 x1 y1) c d (now (state .entry)) (tables (now (render .entry)) (now (fills .entry)) (now (depth .entry)) (now (rows .entry)) (now (painting .entry)) (now (layers .entry)) (now (opacities .entry)) (now («paint_attrs» .entry)) (now («layer_attrs» .entry)) (now («filter_paints» .entry))) ⌝ }
+{
     let Held::Good(screen) = screen_of(state) else {
         return 4;
     };
@@ -76,7 +84,10 @@ pub extern "C" fn coarse_bucket_recording(
     paint_attrs: &mut [u32],
     layer_attrs: &mut [u32],
     filter_paints: &mut [i32],
-) -> u32 {
+) -> u32
+    ensures { λ r. ⌜ answer r (now (state .exit), tables (now (render .exit)) (now (fills .exit)) (now (depth .exit)) (now (rows .exit)) (now (painting .exit)) (now (layers .exit)) (now (opacities .exit)) (now («paint_attrs» .exit)) (now («layer_attrs» .exit)) (now («filter_paints» .exit)))
+        ≡ recording-call (now (file .entry)) c d (now (state .entry)) (tables (now (render .entry)) (now (fills .entry)) (now (depth .entry)) (now (rows .entry)) (now (painting .entry)) (now (layers .entry)) (now (opacities .entry)) (now («paint_attrs» .entry)) (now («layer_attrs» .entry)) (now («filter_paints» .entry))) ⌝ }
+{
     let Held::Good(screen) = screen_of(state) else {
         return 4;
     };
@@ -115,7 +126,10 @@ pub extern "C" fn coarse_fill(
     mix: u32,
     compose: u32,
     mask: u32,
-) -> u32 {
+) -> u32
+    ensures { λ r. ⌜ answer r (now (state .exit), words (now (rows .exit)) (now (render .exit)) (now (fills .exit)), now («paint_attrs» .exit))
+        ≡ fill-call (now (paints .entry)) (now (segments .entry)) (draw thread start «end» paint mix compose mask) (now (state .entry)) (words (now (rows .entry)) (now (render .entry)) (now (fills .entry))) (now («paint_attrs» .entry)) ⌝ }
+{
     let Held::Good(screen) = screen_of(state) else {
         return 4;
     };
@@ -147,7 +161,7 @@ fn props_of(
     compose: u32,
     opacity: u32,
     mask: u32,
-    clip: u32,
+    flag: u32,
     x0: u32,
     y0: u32,
     x1: u32,
@@ -155,7 +169,9 @@ fn props_of(
     start: u32,
     end: u32,
     thread: u32,
-) -> LayerProps {
+) -> LayerProps
+    ensures { λ r. ⌜ r ≡ props mix compose opacity mask flag (clip x0 y0 x1 y1 start «end» thread) ⌝ }
+{
     let layer = [
         0,
         0,
@@ -164,7 +180,7 @@ fn props_of(
         compose,
         opacity,
         mask,
-        clip,
+        flag,
         x0,
         y0,
         x1,
@@ -195,7 +211,7 @@ pub extern "C" fn coarse_push_layer(
     compose: u32,
     opacity: u32,
     mask: u32,
-    clip: u32,
+    flag: u32,
     x0: u32,
     y0: u32,
     x1: u32,
@@ -203,11 +219,14 @@ pub extern "C" fn coarse_push_layer(
     start: u32,
     end: u32,
     thread: u32,
-) -> u32 {
+) -> u32
+    ensures { λ r. ⌜ answer r (now (state .exit), words (now (rows .exit)) (now (render .exit)) (now (fills .exit)), now (layers .exit), now (opacities .exit))
+        ≡ push-call flag (props mix compose opacity mask flag (clip x0 y0 x1 y1 start «end» thread)) (now (state .entry)) (words (now (rows .entry)) (now (render .entry)) (now (fills .entry))) (now (layers .entry)) (now (opacities .entry)) ⌝ }
+{
     let Held::Good(screen) = screen_of(state) else {
         return 4;
     };
-    if 1 < clip {
+    if 1 < flag {
         return 4;
     }
     let props = props_of(
@@ -215,7 +234,7 @@ pub extern "C" fn coarse_push_layer(
         compose,
         opacity,
         mask,
-        clip,
+        flag,
         x0,
         y0,
         x1,
@@ -238,7 +257,10 @@ pub extern "C" fn coarse_pop_layer(
     opacities: &mut [f32],
     layer_attrs: &mut [u32],
     segments: &[u32],
-) -> u32 {
+) -> u32
+    ensures { λ r. ⌜ answer r (now (state .exit), lent (words (now (rows .exit)) (now (render .exit)) (now (fills .exit))) (now (layers .exit)) (now (opacities .exit)) (now («layer_attrs» .exit)))
+        ≡ pop-call (now (segments .entry)) (now (state .entry)) (lent (words (now (rows .entry)) (now (render .entry)) (now (fills .entry))) (now (layers .entry)) (now (opacities .entry)) (now («layer_attrs» .entry))) ⌝ }
+{
     let Held::Good(screen) = screen_of(state) else {
         return 4;
     };
@@ -271,7 +293,10 @@ pub extern "C" fn coarse_filter_fill(
     source_y: u32,
     pixmap: u32,
     paint_count: u32,
-) -> u32 {
+) -> u32
+    ensures { λ r. ⌜ answer r (now (state .exit), words (now (rows .exit)) (now (render .exit)) (now (fills .exit)), now («paint_attrs» .exit), now («filter_paints» .exit))
+        ≡ filter-call (placement (rect x0 y0 x1 y1) «source_x» «source_y») pixmap «paint_count» (now (state .entry)) (words (now (rows .entry)) (now (render .entry)) (now (fills .entry))) (now («paint_attrs» .entry)) (now («filter_paints» .entry)) ⌝ }
+{
     let Held::Good(screen) = screen_of(state) else {
         return 4;
     };

@@ -3,29 +3,44 @@ use crate::state::Held;
 use crate::state::leave;
 use crate::state::put_screen;
 use crate::state::screen_of;
+use cmd::Answer;
 use depth::Edge;
 use depth::Runs;
 use depth::Skip;
 use depth::Split;
 use depth::split_opaque_span;
+use painter::Stepped;
 use painter::begin_painting;
 use painter::can_skip;
 use painter::paint_step;
 use painter::unset_runs;
 use painter::unset_runs_and_write;
 use painter::visible_runs;
-use screen::clear;
 use span::BucketRange;
 use span::TileSpan;
 ghost use mathlib.Core.Path.{_≡_};
+ghost use mathlib.Core.List.{[], _∷_};
 ghost use lib.ListN.{length};
+ghost use Rattle.rules.specs.Answers.{answer};
+ghost use Rattle.rules.specs.Spans.{span};
+ghost use Rattle.rules.specs.Split.{buckets};
+ghost use Rattle.span.specs.Spans as spans;
+ghost use Rattle.depth.specs.Answers.{refusal, beside, skip-of, split-of};
+ghost use Rattle.depth.specs.Listing.{out};
+ghost use Rattle.paint.specs.Painting.{lent};
+ghost use Rattle.painter.specs.Stepping.{painted-of, attributes};
+ghost use Rattle.host.specs.State.{bit};
+ghost use Rattle.host.specs.Painting.{begin-call, step-result, step-call, count-left, unset-call, visible-call, write-call, skip-left, skip-call, slot, slot-words, three-words, split-left, split-call};
 
 #[no_mangle]
 pub extern "C" fn coarse_begin_painting(
     state: &mut [u32],
     depth: &mut [u32],
     painting: &mut [u32],
-) -> u32 {
+) -> u32
+    ensures { λ r. ⌜ answer r (now (state .exit), now (depth .exit), now (painting .exit))
+        ≡ begin-call (now (state .entry)) (now (depth .entry)) (now (painting .entry)) ⌝ }
+{
     let Held::Good(screen) = screen_of(state) else {
         return 4;
     };
@@ -33,8 +48,25 @@ pub extern "C" fn coarse_begin_painting(
     leave(state, built)
 }
 
-fn one(yes: bool) -> usize {
+fn one(yes: bool) -> usize
+    ensures { λ r. ⌜ r ≡ bit yes ⌝ }
+{
     if yes { 1 } else { 0 }
+}
+
+// Whether the row was finished, and how many pieces are listed, where the step is not refused.
+fn put_step(done: Stepped, result: &mut [usize]) -> u32
+    requires { ⌜ length (now result) ≡ 2 ⌝ }
+    ensures { λ r. ⌜ answer r (now (result .exit)) ≡ step-result (now (result .entry)) (painted-of done) ⌝ }
+{
+    let answer = done.answer;
+    let n = answer.number();
+    if n != 0 {
+        return n;
+    }
+    result[0] = one(done.finished);
+    result[1] = done.pieces;
+    0
 }
 
 // result: 1 if the row was finished before this step, else 0; how many pieces are listed, six words each.
@@ -51,7 +83,10 @@ pub extern "C" fn coarse_paint_step(
     layer_attrs: &[u32],
     list: &mut [u32],
     result: &mut [usize],
-) -> u32 {
+) -> u32
+    ensures { λ r. ⌜ answer r (now (depth .exit), now (painting .exit), now (list .exit), now (result .exit))
+        ≡ step-call row (attributes (now («paint_attrs» .entry)) (now («layer_attrs» .entry))) (now (state .entry)) (lent (now (rows .entry)) (now (render .entry)) (now (fills .entry)) (now (depth .entry)) (now (painting .entry)) (now (list .entry))) (now (result .entry)) ⌝ }
+{
     let Held::Good(screen) = screen_of(state) else {
         return 4;
     };
@@ -70,22 +105,24 @@ pub extern "C" fn coarse_paint_step(
         layer_attrs,
         list,
     );
-    let answer = done.answer;
-    let n = answer.number();
-    if n == 0 {
-        result[0] = one(done.finished);
-        result[1] = done.pieces;
-    }
-    n
+    put_step(done, result)
 }
 
-// The number of runs, if there is no refusal.
-fn put_runs(runs: Runs, count: &mut [usize]) -> u32 {
-    if count.len() != 1 {
-        return 4;
-    }
+// The number of a refusal. `Done` is none: 15, which no call gives.
+fn refusal(answer: Answer) -> u32
+    ensures { λ r. ⌜ r ≡ refusal answer ⌝ }
+{
+    let n = answer.number();
+    if n == 0 { 15 } else { n }
+}
+
+// The number of runs, where they are not refused.
+fn put_runs(runs: Runs, count: &mut [usize]) -> u32
+    requires { ⌜ length (now count) ≡ 1 ⌝ }
+    ensures { λ r. ⌜ answer r (now (count .exit)) ≡ count-left (now (count .entry)) (out runs []) ⌝ }
+{
     match runs {
-        Runs::Refused(answer) => answer.number(),
+        Runs::Refused(answer) => refusal(answer),
         Runs::Listed(n) => {
             count[0] = n;
             0
@@ -102,7 +139,10 @@ pub extern "C" fn coarse_unset_runs(
     end: u32,
     list: &mut [u32],
     count: &mut [usize],
-) -> u32 {
+) -> u32
+    ensures { λ r. ⌜ answer r (now (list .exit), now (count .exit))
+        ≡ unset-call row (span first «end») (now (state .entry)) (now (depth .entry)) (now (list .entry)) (now (count .entry)) ⌝ }
+{
     let Held::Good(screen) = screen_of(state) else {
         return 4;
     };
@@ -124,7 +164,10 @@ pub extern "C" fn coarse_visible_runs(
     id: u32,
     list: &mut [u32],
     count: &mut [usize],
-) -> u32 {
+) -> u32
+    ensures { λ r. ⌜ answer r (now (list .exit), now (count .exit))
+        ≡ visible-call row (span first «end») id (now (state .entry)) (now (depth .entry)) (now (list .entry)) (now (count .entry)) ⌝ }
+{
     let Held::Good(screen) = screen_of(state) else {
         return 4;
     };
@@ -146,7 +189,10 @@ pub extern "C" fn coarse_unset_runs_and_write(
     id: u32,
     list: &mut [u32],
     count: &mut [usize],
-) -> u32 {
+) -> u32
+    ensures { λ r. ⌜ answer r (now (state .exit), now (depth .exit), now (list .exit), now (count .exit))
+        ≡ write-call row (span first «end») id (now (state .entry)) (now (depth .entry)) (now (list .entry)) (now (count .entry)) ⌝ }
+{
     let Held::Good(screen) = screen_of(state) else {
         return 4;
     };
@@ -170,7 +216,10 @@ pub extern "C" fn coarse_can_skip(
     end: u32,
     id: u32,
     yes: &mut [u32],
-) -> u32 {
+) -> u32
+    ensures { λ r. ⌜ answer r (now (yes .exit))
+        ≡ skip-call row (span first «end») id (now (state .entry)) (now (rows .entry)) (now (yes .entry)) ⌝ }
+{
     let Held::Good(screen) = screen_of(state) else {
         return 4;
     };
@@ -179,8 +228,16 @@ pub extern "C" fn coarse_can_skip(
     }
     let span = TileSpan { first, end };
     let skip = can_skip(screen, row, rows, span, id);
+    put_skip(skip, yes)
+}
+
+// 1 for yes and 0 for no, where it is not refused.
+fn put_skip(skip: Skip, yes: &mut [u32]) -> u32
+    requires { ⌜ length (now yes) ≡ 1 ⌝ }
+    ensures { λ r. ⌜ answer r (now (yes .exit)) ≡ skip-left (now (yes .entry)) (skip-of skip) ⌝ }
+{
     match skip {
-        Skip::Refused(answer) => answer.number(),
+        Skip::Refused(answer) => refusal(answer),
         Skip::Yes => {
             yes[0] = 1;
             0
@@ -192,60 +249,130 @@ pub extern "C" fn coarse_can_skip(
     }
 }
 
-// A part at a place: 1 for a regular piece or 2 for a depth fill, first, end.
-fn put_part(parts: &mut [u32], at: usize, kind: u32, first: u32, end: u32) {
-    if parts.len() != 9 {
-        return;
-    }
-    if 6 < at {
-        return;
-    }
-    parts[at] = kind;
-    parts[at + 1] = first;
-    parts[at + 2] = end;
+// A part of a split span: 1 for a regular piece or 2 for a depth fill, first, end; zeros for none.
+struct Slot {
+    kind: u32,
+    first: u32,
+    end: u32,
 }
 
-// A regular piece where there is one; the place after it.
-fn put_edge(parts: &mut [u32], at: usize, edge: Edge) -> usize {
-    if 6 < at {
-        return 0;
+struct Slots {
+    a: Slot,
+    b: Slot,
+    c: Slot,
+}
+
+fn blank() -> Slot
+    ensures { λ r. ⌜ r ≡ slot 0 0 0 ⌝ }
+{
+    Slot {
+        kind: 0,
+        first: 0,
+        end: 0,
     }
-    match edge {
-        Edge::Absent => at,
-        Edge::Tiles(s) => {
-            put_part(parts, at, 1, s.first, s.end);
-            at + 3
+}
+
+fn regular(s: TileSpan) -> Slot
+    ensures { λ r. ⌜ r ≡ slot 1 (s .first) (s .«end») ⌝ }
+{
+    Slot {
+        kind: 1,
+        first: s.first,
+        end: s.end,
+    }
+}
+
+// A depth fill with what is beside it.
+fn with_edges(before: Edge, range: BucketRange, after: Edge) -> Slots
+    ensures { λ r. ⌜ slot-words r ≡ three-words (beside before (buckets (spans.buckets range) ∷ beside after [])) ⌝ }
+{
+    let fill = Slot {
+        kind: 2,
+        first: range.first,
+        end: range.end,
+    };
+    match before {
+        Edge::Absent => match after {
+            Edge::Absent => Slots {
+                a: fill,
+                b: blank(),
+                c: blank(),
+            },
+            Edge::Tiles(t) => Slots {
+                a: fill,
+                b: regular(t),
+                c: blank(),
+            },
+        },
+        Edge::Tiles(s) => match after {
+            Edge::Absent => Slots {
+                a: regular(s),
+                b: fill,
+                c: blank(),
+            },
+            Edge::Tiles(t) => Slots {
+                a: regular(s),
+                b: fill,
+                c: regular(t),
+            },
+        },
+    }
+}
+
+fn put_slots(parts: &mut [u32], slots: Slots)
+    requires { ⌜ length (now parts) ≡ 9 ⌝ }
+    ensures { λ _. ⌜ now (parts .exit) ≡ slot-words slots ⌝ }
+{
+    let a = slots.a;
+    let b = slots.b;
+    let c = slots.c;
+    parts[0] = a.kind;
+    parts[1] = a.first;
+    parts[2] = a.end;
+    parts[3] = b.kind;
+    parts[4] = b.first;
+    parts[5] = b.end;
+    parts[6] = c.kind;
+    parts[7] = c.first;
+    parts[8] = c.end;
+}
+
+// The parts' words, where the span is not refused.
+fn put_split(parts: &mut [u32], split: Split) -> u32
+    requires { ⌜ length (now parts) ≡ 9 ⌝ }
+    ensures { λ r. ⌜ answer r (now (parts .exit)) ≡ split-left (now (parts .entry)) (split-of split) ⌝ }
+{
+    match split {
+        Split::Refused(answer) => refusal(answer),
+        Split::Whole(s) => {
+            let slots = Slots {
+                a: regular(s),
+                b: blank(),
+                c: blank(),
+            };
+            put_slots(parts, slots);
+            0
+        }
+        Split::Opaque {
+            before,
+            buckets: range,
+            after,
+        } => {
+            let slots = with_edges(before, range, after);
+            put_slots(parts, slots);
+            0
         }
     }
 }
 
 // parts: three words a part, left to right, then zeros.
 #[no_mangle]
-pub extern "C" fn coarse_split_opaque_span(first: u32, end: u32, parts: &mut [u32]) -> u32 {
+pub extern "C" fn coarse_split_opaque_span(first: u32, end: u32, parts: &mut [u32]) -> u32
+    ensures { λ r. ⌜ answer r (now (parts .exit)) ≡ split-call (span first «end») (now (parts .entry)) ⌝ }
+{
     if parts.len() != 9 {
         return 4;
     }
     let span = TileSpan { first, end };
-    let split = split_opaque_span(span);
-    match split {
-        Split::Refused(answer) => answer.number(),
-        Split::Whole(s) => {
-            clear(parts);
-            put_part(parts, 0, 1, s.first, s.end);
-            0
-        }
-        Split::Opaque {
-            before,
-            buckets,
-            after,
-        } => {
-            clear(parts);
-            let at = put_edge(parts, 0, before);
-            put_part(parts, at, 2, buckets.first, buckets.end);
-            if at <= 3 {
-                put_edge(parts, at + 3, after);
-            }
-            0
-        }
-    }
+    put_split(parts, split_opaque_span(span))
 }

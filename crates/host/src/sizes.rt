@@ -3,7 +3,11 @@ use rect::Rect;
 use screen::fresh;
 use screen::is_good_room;
 ghost use mathlib.Core.Path.{_≡_};
+ghost use mathlib.Core.List.{_∷_};
 ghost use lib.ListN.{length};
+ghost use Rattle.rules.specs.Answers.{answer};
+ghost use Rattle.host.specs.State.{rect};
+ghost use Rattle.host.specs.Sizes.{fixed, size-call};
 
 // The words of ten tables: five that the screen decides, five that are always the same.
 fn put_sizes(
@@ -13,10 +17,10 @@ fn put_sizes(
     depth: usize,
     rows: usize,
     painting: usize,
-) {
-    if sizes.len() != 10 {
-        return;
-    }
+)
+    requires { ⌜ length (now sizes) ≡ 10 ⌝ }
+    ensures { λ _. ⌜ now (sizes .exit) ≡ render ∷ fills ∷ depth ∷ rows ∷ painting ∷ fixed ⌝ }
+{
     sizes[0] = render;
     sizes[1] = fills;
     sizes[2] = depth;
@@ -39,7 +43,10 @@ pub extern "C" fn coarse_sizes(
     c: u32,
     d: u32,
     sizes: &mut [usize],
-) -> u32 {
+) -> u32
+    ensures { λ r. ⌜ answer r (now (sizes .exit))
+        ≡ size-call (rect x0 y0 x1 y1) c d (now (sizes .entry)) ⌝ }
+{
     let viewport = Rect { x0, y0, x1, y1 };
     if !viewport.is_good_viewport() {
         return 2;

@@ -5,6 +5,8 @@ use screen::Built;
 use screen::Screen;
 ghost use mathlib.Core.Path.{_≡_};
 ghost use lib.ListN.{length};
+ghost use Rattle.cmd.specs.Answers.{number-of};
+ghost use Rattle.host.specs.State.{bit, screen-words, screen-of};
 
 // What a host's words stand for.
 pub enum Held {
@@ -13,7 +15,9 @@ pub enum Held {
 }
 
 // The screen of 16 words whose last is 0 or 1.
-pub fn screen_of(state: &[u32]) -> Held {
+pub fn screen_of(state: &[u32]) -> Held
+    ensures { λ r. ⌜ r ≡ screen-of (now (state .entry)) ⌝ }
+{
     if state.len() != 16 {
         return Held::Nothing;
     }
@@ -46,15 +50,17 @@ pub fn screen_of(state: &[u32]) -> Held {
     })
 }
 
-pub fn flag(yes: bool) -> u32 {
+pub fn flag(yes: bool) -> u32
+    ensures { λ r. ⌜ r ≡ bit yes ⌝ }
+{
     if yes { 1 } else { 0 }
 }
 
 // The words of a screen.
-pub fn put_screen(state: &mut [u32], screen: Screen) {
-    if state.len() != 16 {
-        return;
-    }
+pub fn put_screen(state: &mut [u32], screen: Screen)
+    requires { ⌜ length (now state) ≡ 16 ⌝ }
+    ensures { λ _. ⌜ now (state .exit) ≡ screen-words screen ⌝ }
+{
     let v = screen.viewport;
     let b = screen.clip_bbox;
     state[0] = v.x0;
@@ -76,7 +82,10 @@ pub fn put_screen(state: &mut [u32], screen: Screen) {
 }
 
 // What a call gave: its screen's words, and its number.
-pub fn leave(state: &mut [u32], built: Built) -> u32 {
+pub fn leave(state: &mut [u32], built: Built) -> u32
+    requires { ⌜ length (now state) ≡ 16 ⌝ }
+    ensures { λ r. ⌜ (r ≡ number-of (built .answer)) × (now (state .exit) ≡ screen-words (built .screen)) ⌝ }
+{
     let answer = built.answer;
     let screen = built.screen;
     put_screen(state, screen);

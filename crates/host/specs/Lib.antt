@@ -1,0 +1,4 @@
+pub mod State
+pub mod Building
+pub mod Painting
+pub mod Sizes

@@ -96,7 +96,7 @@ uint32_t coarse_fill(uint32_t *state, size_t state_len,
                      uint32_t thread, size_t start, size_t end, uint32_t paint,
                      uint32_t mix, uint32_t compose, uint32_t mask);
 
-/* Opens a layer. opacity: the bits of an f32, any; every pattern is kept. clip: 1 with a clip, whose box, segment range and thread
+/* Opens a layer. opacity: the bits of an f32, any; every pattern is kept. flag: 1 with a clip, whose box, segment range and thread
  * follow, or 0 without, and those are not read. */
 uint32_t coarse_push_layer(uint32_t *state, size_t state_len,
                            uint32_t *rows, size_t rows_len,
@@ -105,7 +105,7 @@ uint32_t coarse_push_layer(uint32_t *state, size_t state_len,
                            uint32_t *layers, size_t layers_len,
                            float *opacities, size_t opacities_len,
                            uint32_t mix, uint32_t compose, uint32_t opacity, uint32_t mask,
-                           uint32_t clip, uint32_t x0, uint32_t y0, uint32_t x1, uint32_t y1,
+                           uint32_t flag, uint32_t x0, uint32_t y0, uint32_t x1, uint32_t y1,
                            uint32_t start, uint32_t end, uint32_t thread);
 
 /* Closes the innermost layer. segments: the list that its clip's range lies in; empty without a clip. */

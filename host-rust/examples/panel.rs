@@ -21,8 +21,18 @@ fn main() -> Result<(), Answer> {
     // Both are opaque. The banner has the whole row, the panel tiles 20 to 70: all of bucket 1, and a part of 0 and of 2.
     let paints = [Paint::new(true, 1), Paint::new(true, 2)];
     let segments = [Segment::solid(0, 0, 128), Segment::solid(0, 20, 70)];
-    let banner = RecordedFill { start: 0, end: 1, paint: 0, ..RecordedFill::default() };
-    let panel = RecordedFill { start: 1, end: 2, paint: 1, ..RecordedFill::default() };
+    let banner = RecordedFill {
+        start: 0,
+        end: 1,
+        paint: 0,
+        ..RecordedFill::default()
+    };
+    let panel = RecordedFill {
+        start: 1,
+        end: 2,
+        paint: 1,
+        ..RecordedFill::default()
+    };
     screen.generate_fill(&paints, &segments, &banner)?;
     screen.generate_fill(&paints, &segments, &panel)?;
 
@@ -34,7 +44,10 @@ fn main() -> Result<(), Answer> {
     }
     let paints: Vec<u32> = screen.paint_attrs().map(|attrs| attrs.paint).collect();
     for piece in &pieces {
-        println!("{} on tiles {} to {}", NAMES[paints[piece.attrs_idx as usize] as usize], piece.first, piece.end);
+        println!(
+            "{} on tiles {} to {}",
+            NAMES[paints[piece.attrs_idx as usize] as usize], piece.first, piece.end
+        );
     }
 
     println!("tile 40: {}", received(&pieces, &paints, 40));

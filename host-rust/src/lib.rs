@@ -4,6 +4,7 @@
 mod sys;
 
 use std::fmt;
+use std::mem::size_of_val;
 
 /// Why a call was refused: document 01's numbers.
 #[derive(Debug, Clone, Copy, PartialEq, Eq)]
@@ -94,7 +95,12 @@ pub struct Paint {
 
 impl Paint {
     pub fn new(opaque: bool, handle: u32) -> Self {
-        Self { opaque: u32::from(opaque), handle, shift_x: 0, shift_y: 0 }
+        Self {
+            opaque: u32::from(opaque),
+            handle,
+            shift_x: 0,
+            shift_y: 0,
+        }
     }
 }
 
@@ -111,11 +117,23 @@ pub struct Segment {
 
 impl Segment {
     pub fn solid(row: u32, first: u32, end: u32) -> Self {
-        Self { kind: 0, row, first, end, alpha: 0 }
+        Self {
+            kind: 0,
+            row,
+            first,
+            end,
+            alpha: 0,
+        }
     }
 
     pub fn alpha(row: u32, first: u32, end: u32, alpha: u32) -> Self {
-        Self { kind: 1, row, first, end, alpha }
+        Self {
+            kind: 1,
+            row,
+            first,
+            end,
+            alpha,
+        }
     }
 }
 
@@ -163,7 +181,12 @@ pub struct LayerProps {
 
 impl Default for LayerProps {
     fn default() -> Self {
-        Self { blend_mode: BlendMode::default(), opacity: 1.0, mask: 0, clip: None }
+        Self {
+            blend_mode: BlendMode::default(),
+            opacity: 1.0,
+            mask: 0,
+            clip: None,
+        }
     }
 }
 
@@ -195,7 +218,7 @@ impl Piece {
     }
 
     pub fn alpha_idx(self) -> Option<u32> {
-        self.tag.is_multiple_of(2).then_some(self.alpha)
+        (self.tag % 2 == 0).then_some(self.alpha)
     }
 
     pub fn covers(self, tile: u32) -> bool {
@@ -242,12 +265,20 @@ pub enum DepthSegment {
 /// Rule 7: the parts of an opaque span, left to right.
 pub fn split_opaque_span(first: u32, end: u32) -> Result<Vec<DepthSegment>, Answer> {
     let mut parts = [0; 9];
-    Answer::check(unsafe { sys::coarse_split_opaque_span(first, end, parts.as_mut_ptr(), parts.len()) })?;
+    Answer::check(unsafe {
+        sys::coarse_split_opaque_span(first, end, parts.as_mut_ptr(), parts.len())
+    })?;
     Ok(parts
         .chunks_exact(3)
         .filter_map(|part| match part[0] {
-            1 => Some(DepthSegment::Regular(Run { first: part[1], end: part[2] })),
-            2 => Some(DepthSegment::Opaque(Run { first: part[1], end: part[2] })),
+            1 => Some(DepthSegment::Regular(Run {
+                first: part[1],
+                end: part[2],
+            })),
+            2 => Some(DepthSegment::Opaque(Run {
+                first: part[1],
+                end: part[2],
+            })),
             _ => None,
         })
         .collect())
@@ -278,7 +309,9 @@ fn segment_words(segments: &[Segment]) -> (*const u32, usize) {
 fn sizes(viewport: Rect, c: u32, d: u32) -> Result<[usize; 10], Answer> {
     let mut sizes = [0; 10];
     let Rect { x0, y0, x1, y1 } = viewport;
-    Answer::check(unsafe { sys::coarse_sizes(x0, y0, x1, y1, c, d, sizes.as_mut_ptr(), sizes.len()) })?;
+    Answer::check(unsafe {
+        sys::coarse_sizes(x0, y0, x1, y1, c, d, sizes.as_mut_ptr(), sizes.len())
+    })?;
     Ok(sizes)
 }
 
@@ -351,7 +384,14 @@ impl CommandBucketer {
     /// A fresh screen. Each row has room for c render commands and d depth fills.
     pub fn new(viewport: Rect, c: u32, d: u32) -> Result<Self, Answer> {
         let tables = Tables::new(sizes(viewport, c, d)?);
-        let mut bucketer = Self { c, d, state: [0; STATE], tables, pieces: Vec::new(), runs: Vec::new() };
+        let mut bucketer = Self {
+            c,
+            d,
+            state: [0; STATE],
+            tables,
+            pieces: Vec::new(),
+            runs: Vec::new(),
+        };
         bucketer.reset(viewport)?;
         Ok(bucketer)
     }
@@ -423,7 +463,10 @@ impl CommandBucketer {
             Ok(sizes) if sizes != self.tables.lens() => {
                 let mut tables = Tables::new(sizes);
                 let done = record(&mut self.state, file, self.c, self.d, &mut tables);
-                if !matches!(done, Err(Answer::BadArena | Answer::BadViewport | Answer::BadForm)) {
+                if !matches!(
+                    done,
+                    Err(Answer::BadArena | Answer::BadViewport | Answer::BadForm)
+                ) {
                     self.tables = tables;
                     self.make_lists();
                 }
@@ -434,7 +477,12 @@ impl CommandBucketer {
     }
 
     /// Rules 3 to 7.
-    pub fn generate_fill(&mut self, paints: &[Paint], segments: &[Segment], fill: &RecordedFill) -> Result<(), Answer> {
+    pub fn generate_fill(
+        &mut self,
+        paints: &[Paint],
+        segments: &[Segment],
+        fill: &RecordedFill,
+    ) -> Result<(), Answer> {
         let t = &mut self.tables;
         let (paints, paints_len) = paint_words(paints);
         let (segments, segments_len) = segment_words(segments);
@@ -468,7 +516,12 @@ impl CommandBucketer {
     /// Rule 8.
     pub fn push_layer(&mut self, props: &LayerProps) -> Result<(), Answer> {
         let t = &mut self.tables;
-        let none = LayerClip { bbox: Rect::default(), start: 0, end: 0, thread_idx: 0 };
+        let none = LayerClip {
+            bbox: Rect::default(),
+            start: 0,
+            end: 0,
+            thread_idx: 0,
+        };
         let clip = props.clip.unwrap_or(none);
         Answer::check(unsafe {
             sys::coarse_push_layer(
@@ -606,7 +659,11 @@ impl CommandBucketer {
                 result.len(),
             )
         })?;
-        Ok(if result[0] == 1 { None } else { self.pieces.get(..result[1]) })
+        Ok(if result[0] == 1 {
+            None
+        } else {
+            self.pieces.get(..result[1])
+        })
     }
 
     /// The tiles first to end whose buckets hold 0, as runs.
@@ -633,7 +690,13 @@ impl CommandBucketer {
     }
 
     /// The tiles first to end whose buckets hold at most the id, as runs.
-    pub fn visible_runs(&mut self, row: usize, first: u32, end: u32, draw_id: u32) -> Result<&[Run], Answer> {
+    pub fn visible_runs(
+        &mut self,
+        row: usize,
+        first: u32,
+        end: u32,
+        draw_id: u32,
+    ) -> Result<&[Run], Answer> {
         let t = &self.tables;
         let mut count = [0];
         let (list, list_len) = words_mut(&mut self.runs);
@@ -657,7 +720,13 @@ impl CommandBucketer {
     }
 
     /// The unset runs of the buckets first to end; the id is stored there, and painting ends.
-    pub fn unset_runs_and_write(&mut self, row: usize, first: u32, end: u32, draw_id: u32) -> Result<&[Run], Answer> {
+    pub fn unset_runs_and_write(
+        &mut self,
+        row: usize,
+        first: u32,
+        end: u32,
+        draw_id: u32,
+    ) -> Result<&[Run], Answer> {
         let t = &mut self.tables;
         let mut count = [0];
         let (list, list_len) = words_mut(&mut self.runs);
@@ -713,7 +782,7 @@ impl CommandBucketer {
 
     /// How many depth buckets a row has.
     pub fn buckets(&self) -> usize {
-        self.width().div_ceil(128) as usize
+        ((self.width() + 127) / 128) as usize
     }
 
     pub fn next_draw_id(&self) -> u32 {
@@ -725,43 +794,70 @@ impl CommandBucketer {
     }
 
     /// The attributes of all fills, in the order of their indices.
-    pub fn paint_attrs(&self) -> impl Iterator<Item = PaintFillAttrs> {
+    pub fn paint_attrs(&self) -> impl Iterator<Item = PaintFillAttrs> + '_ {
         let n = self.state[PAINT_ATTRS] as usize;
-        self.tables.paint_attrs.chunks_exact(8).take(n).map(|w| PaintFillAttrs {
-            paint: w[0],
-            blend_mode: BlendMode { mix: w[1], compose: w[2] },
-            mask: w[3],
-            draw_id: w[4],
-            thread_idx: w[5],
-            origin: (w[6], w[7]),
-        })
+        self.tables
+            .paint_attrs
+            .chunks_exact(8)
+            .take(n)
+            .map(|w| PaintFillAttrs {
+                paint: w[0],
+                blend_mode: BlendMode {
+                    mix: w[1],
+                    compose: w[2],
+                },
+                mask: w[3],
+                draw_id: w[4],
+                thread_idx: w[5],
+                origin: (w[6], w[7]),
+            })
     }
 
     /// The attributes of all popped layers. A NaN opacity has the pattern that was pushed.
-    pub fn layer_attrs(&self) -> impl Iterator<Item = LayerFillAttrs> {
+    pub fn layer_attrs(&self) -> impl Iterator<Item = LayerFillAttrs> + '_ {
         let n = self.state[LAYER_ATTRS] as usize;
         let opacities = self.tables.opacities.iter().skip(16);
         let words = self.tables.layer_attrs.chunks_exact(6);
-        words.zip(opacities).take(n).map(|(w, &opacity)| LayerFillAttrs {
-            blend_mode: BlendMode { mix: w[0], compose: w[1] },
-            opacity: if w[5] == 0 { opacity } else { f32::from_bits(w[5]) },
-            mask: w[2],
-            draw_id: w[3],
-            thread_idx: w[4],
-        })
+        words
+            .zip(opacities)
+            .take(n)
+            .map(|(w, &opacity)| LayerFillAttrs {
+                blend_mode: BlendMode {
+                    mix: w[0],
+                    compose: w[1],
+                },
+                opacity: if w[5] == 0 {
+                    opacity
+                } else {
+                    f32::from_bits(w[5])
+                },
+                mask: w[2],
+                draw_id: w[3],
+                thread_idx: w[4],
+            })
     }
 
-    pub fn filter_paints(&self) -> impl Iterator<Item = FilterPaint> {
+    pub fn filter_paints(&self) -> impl Iterator<Item = FilterPaint> + '_ {
         let n = self.state[FILTER_PAINTS] as usize;
-        self.tables.filter_paints.chunks_exact(4).take(n).map(|w| FilterPaint {
-            pixmap: w[1].unsigned_abs(),
-            shift_x: w[2],
-            shift_y: w[3],
-        })
+        self.tables
+            .filter_paints
+            .chunks_exact(4)
+            .take(n)
+            .map(|w| FilterPaint {
+                pixmap: w[1].unsigned_abs(),
+                shift_x: w[2],
+                shift_y: w[3],
+            })
     }
 }
 
-fn record(state: &mut [u32; STATE], file: &[u32], c: u32, d: u32, t: &mut Tables) -> Result<(), Answer> {
+fn record(
+    state: &mut [u32; STATE],
+    file: &[u32],
+    c: u32,
+    d: u32,
+    t: &mut Tables,
+) -> Result<(), Answer> {
     Answer::check(unsafe {
         sys::coarse_bucket_recording(
             state.as_mut_ptr(),

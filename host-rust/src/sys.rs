@@ -1,7 +1,16 @@
 //! The calls of `include/coarse.h`. A slice crosses as a pointer and a length.
 
-unsafe extern "C" {
-    pub fn coarse_sizes(x0: u32, y0: u32, x1: u32, y1: u32, c: u32, d: u32, sizes: *mut usize, sizes_len: usize) -> u32;
+extern "C" {
+    pub fn coarse_sizes(
+        x0: u32,
+        y0: u32,
+        x1: u32,
+        y1: u32,
+        c: u32,
+        d: u32,
+        sizes: *mut usize,
+        sizes_len: usize,
+    ) -> u32;
 
     pub fn coarse_reset(
         state: *mut u32,
@@ -104,7 +113,7 @@ unsafe extern "C" {
         compose: u32,
         opacity: u32,
         mask: u32,
-        clip: u32,
+        flag: u32,
         x0: u32,
         y0: u32,
         x1: u32,
@@ -246,5 +255,6 @@ unsafe extern "C" {
         yes_len: usize,
     ) -> u32;
 
-    pub fn coarse_split_opaque_span(first: u32, end: u32, parts: *mut u32, parts_len: usize) -> u32;
+    pub fn coarse_split_opaque_span(first: u32, end: u32, parts: *mut u32, parts_len: usize)
+        -> u32;
 }

@@ -2,3 +2,5 @@ pub mod Lists
 pub mod Words
 pub mod Built
 pub mod Results
+pub mod Refused
+pub mod Sized

@@ -24,9 +24,9 @@ use Rattle.filter.specs.declared.Placement.{Placement}
 use Rattle.filter.specs.Filter as filter
 use Rattle.filter.specs.Filter.{given, filtered}
 use Rattle.painter.specs.Beginning.{canvas, beginning}
-use Rattle.host.specs.declared.state.Held.{Held}
-use Rattle.host.specs.declared.state.Held.the-variants as held
-use Rattle.host.specs.State.{screen-words, screen-of, on}
+use Rattle.held.specs.declared.Held.{Held}
+use Rattle.held.specs.declared.Held.the-variants as held
+use Rattle.held.specs.State.{screen-words, screen-of, on}
 use Rattle.host.specs.Building.{tables-left, reset-call, recording-call, fill-left, fill-call, push-left, push-call, pop-left, pop-call, filter-left, filter-call}
 use Rattle.host.specs.Painting.{begin-left, begin-call}
 

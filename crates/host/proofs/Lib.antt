@@ -1,5 +1,3 @@
-pub mod Lists
-pub mod Words
 pub mod Built
 pub mod Results
 pub mod Refused

@@ -27,12 +27,12 @@ use Rattle.filter.specs.Filter as filter
 use Rattle.filter.specs.Filter.{given, filtered}
 use Rattle.painter.specs.Judging.{begin-number}
 use Rattle.painter.specs.Beginning.{Canvas, canvas, begun, beginning}
-use Rattle.host.specs.declared.state.Held.{Held}
-use Rattle.host.specs.declared.state.Held.the-variants as held
-use Rattle.host.specs.State.{screen-words, screen-of, on}
+use Rattle.held.specs.declared.Held.{Held}
+use Rattle.held.specs.declared.Held.the-variants as held
+use Rattle.held.specs.State.{screen-words, screen-of, on}
 use Rattle.host.specs.Building.{reset-call, fill-call, push-call, pop-call, filter-call}
 use Rattle.host.specs.Painting.{begin-call}
-use Rattle.host.proofs.Words.{written-back}
+use Rattle.held.proofs.Words.{written-back}
 
 abbrev Refused : {A : Type 0} → Answer A → Type 0
 Refused a = a .number ≡ 0 → ⊥

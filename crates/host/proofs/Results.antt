@@ -24,12 +24,12 @@ use Rattle.painter.specs.declared.rows.Written.{Written}
 use Rattle.painter.specs.Stepping.{Attributes, stepped}
 use Rattle.painter.specs.Rows.{Wrote, wrote, unset-of, visible-of, write-of, skip-of-row}
 use Rattle.host.specs.declared.painting.Slots.{Slots}
-use Rattle.host.specs.declared.state.Held.{Held}
-use Rattle.host.specs.declared.state.Held.the-variants as held
-use Rattle.host.specs.State.{screen-words, screen-of, on}
+use Rattle.held.specs.declared.Held.{Held}
+use Rattle.held.specs.declared.Held.the-variants as held
+use Rattle.held.specs.State.{screen-words, screen-of, on}
 use Rattle.host.specs.Painting.{result, step-result, step-left, step-call, count-left, runs-left, unset-call, visible-call, write-left, write-call, skip-left, skip-call, slot-words, split-left, split-call}
 use Rattle.host.specs.Sizes.{fixed}
-use Rattle.host.proofs.Lists.{by-length}
+use Rattle.held.proofs.Lists.{by-length}
 
 -- a refusal's number is not 0
 pub refused : (a : cmd.Answer) → eqb (refusal a) 0 ≡ false

@@ -27,7 +27,7 @@ use Rattle.filter.specs.declared.Placement.{Placement}
 use Rattle.filter.specs.Filter as filter
 use Rattle.filter.specs.Filter.{given, filtered}
 use Rattle.reading.specs.Reading.{props-in}
-use Rattle.host.specs.State.{screen-words, screen-of, on}
+use Rattle.held.specs.State.{screen-words, screen-of, on}
 
 -- all tables
 abbrev pub tables-left : Answer Lent → Answer (List ℕ × Tables)

@@ -1,4 +1,3 @@
-pub mod State
 pub mod Building
 pub mod Painting
 pub mod Sizes

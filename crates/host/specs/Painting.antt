@@ -17,7 +17,7 @@ use Rattle.painter.specs.Stepping.{Attributes, stepped}
 use Rattle.painter.specs.Rows.{Wrote, unset-of, visible-of, write-of, skip-of-row}
 use Rattle.host.specs.declared.painting.Slot.{Slot}
 use Rattle.host.specs.declared.painting.Slots.{Slots}
-use Rattle.host.specs.State.{bit, screen-words, screen-of, on}
+use Rattle.held.specs.State.{bit, screen-words, screen-of, on}
 
 -- n result words ws, or 4 where another number of them is lent
 abbrev pub with-room : {T : Type 0} → ℕ → List ℕ → T → Answer T → Answer T

@@ -1,12 +1,12 @@
 // Reset, the building steps and the recording call.
-use crate::state::Held;
-use crate::state::leave;
-use crate::state::screen_of;
 use cmd::blend::Blend;
 use fill::Draw;
 use fill::fill;
 use filter::Placement;
 use filter::filter_fill;
+use held::Held;
+use held::leave;
+use held::screen_of;
 use layers::LayerProps;
 use pop::pop_layer;
 use push::push_layer;
@@ -19,7 +19,7 @@ ghost use Rattle.rules.specs.Answers.{answer};
 ghost use Rattle.row.specs.Words.{words};
 ghost use Rattle.screen.specs.Tables.{tables};
 ghost use Rattle.pop.specs.Pop.{lent};
-ghost use Rattle.host.specs.State.{rect};
+ghost use Rattle.held.specs.State.{rect};
 ghost use Rattle.host.specs.Building.{reset-call, recording-call, draw, fill-call, clip, props, push-call, pop-call, placement, filter-call};
 
 #[no_mangle]

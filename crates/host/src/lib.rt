@@ -2,4 +2,3 @@
 mod build;
 mod painting;
 mod sizes;
-mod state;

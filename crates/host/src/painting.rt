@@ -1,14 +1,14 @@
 // Painting, the runs, `can_skip` and the split.
-use crate::state::Held;
-use crate::state::leave;
-use crate::state::put_screen;
-use crate::state::screen_of;
 use cmd::Answer;
 use depth::Edge;
 use depth::Runs;
 use depth::Skip;
 use depth::Split;
 use depth::split_opaque_span;
+use held::Held;
+use held::leave;
+use held::put_screen;
+use held::screen_of;
 use painter::Stepped;
 use painter::begin_painting;
 use painter::can_skip;
@@ -29,7 +29,7 @@ ghost use Rattle.depth.specs.Answers.{refusal, beside, skip-of, split-of};
 ghost use Rattle.depth.specs.Listing.{out};
 ghost use Rattle.paint.specs.Painting.{lent};
 ghost use Rattle.painter.specs.Stepping.{painted-of, attributes};
-ghost use Rattle.host.specs.State.{bit};
+ghost use Rattle.held.specs.State.{bit};
 ghost use Rattle.host.specs.Painting.{begin-call, step-result, step-call, count-left, unset-call, visible-call, write-call, skip-left, skip-call, slot, slot-words, three-words, split-left, split-call};
 
 #[no_mangle]

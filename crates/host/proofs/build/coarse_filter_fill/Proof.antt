@@ -1,7 +1,7 @@
 use mathlib.Core.Path.{sym, _∙_}
 use Rattle.host.specs.Building.{filter-call}
 use Rattle.host.proofs.Built.{filter-built}
-use Rattle.host.proofs.Words.{long}
+use Rattle.held.proofs.Words.{long}
 use borrow.Author.Needs.{needs}
 use Rattle.host.proofs.build.coarse_filter_fill.Statement.{statement}
 use Rattle.host.proofs.build.coarse_filter_fill.Tie as tie

@@ -1,7 +1,7 @@
 use mathlib.Core.Path.{sym, _∙_}
 use Rattle.host.specs.Building.{push-call}
 use Rattle.host.proofs.Built.{bad-flag, push-built}
-use Rattle.host.proofs.Words.{long}
+use Rattle.held.proofs.Words.{long}
 use borrow.Author.Needs.{needs}
 use Rattle.host.proofs.build.coarse_push_layer.Statement.{statement}
 use Rattle.host.proofs.build.coarse_push_layer.Tie as tie

@@ -1,7 +1,7 @@
 use mathlib.Core.Path.{sym, _∙_}
 use Rattle.host.specs.Painting.{begin-call}
 use Rattle.host.proofs.Built.{begin-built}
-use Rattle.host.proofs.Words.{long}
+use Rattle.held.proofs.Words.{long}
 use borrow.Author.Needs.{needs}
 use Rattle.host.proofs.painting.coarse_begin_painting.Statement.{statement}
 use Rattle.host.proofs.painting.coarse_begin_painting.Tie as tie

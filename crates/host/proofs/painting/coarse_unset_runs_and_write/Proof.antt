@@ -1,7 +1,7 @@
 use mathlib.Core.Path.{sym, _∙_}
 use Rattle.host.proofs.Results.{write-unroomed, write-roomed}
 use Rattle.host.specs.Painting.{write-call}
-use Rattle.host.proofs.Words.{long}
+use Rattle.held.proofs.Words.{long}
 use borrow.Author.Needs.{needs}
 use Rattle.host.proofs.painting.coarse_unset_runs_and_write.Statement.{statement}
 use Rattle.host.proofs.painting.coarse_unset_runs_and_write.Tie as tie

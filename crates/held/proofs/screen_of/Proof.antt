@@ -1,8 +1,8 @@
 use borrow.Author.Tests.{eq-eqb, ne-eqb, le-leb, lt-leb}
-use Rattle.host.specs.State.{screen-of}
+use Rattle.held.specs.State.{screen-of}
 use borrow.Author.Needs.{needs}
-use Rattle.host.proofs.state.screen_of.Statement.{statement}
-use Rattle.host.proofs.state.screen_of.Tie as tie
+use Rattle.held.proofs.screen_of.Statement.{statement}
+use Rattle.held.proofs.screen_of.Tie as tie
 
 returns : tie.Need-returns
 unfolding screen-of

@@ -6,7 +6,7 @@ use screen::Screen;
 ghost use mathlib.Core.Path.{_≡_};
 ghost use lib.ListN.{length};
 ghost use Rattle.cmd.specs.Answers.{number-of};
-ghost use Rattle.host.specs.State.{bit, screen-words, screen-of};
+ghost use Rattle.held.specs.State.{bit, screen-words, screen-of};
 
 // What a host's words stand for.
 pub enum Held {

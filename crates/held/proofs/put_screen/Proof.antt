@@ -1,10 +1,10 @@
 use mathlib.Core.Path.{refl}
-use Rattle.host.proofs.Words.{screen-stored}
+use Rattle.held.proofs.Words.{screen-stored}
 use native.Mathlib.Omega.{arith}
 use lib.ListN.{length-set}
 use borrow.Author.Needs.{needs}
-use Rattle.host.proofs.state.put_screen.Statement.{statement}
-use Rattle.host.proofs.state.put_screen.Tie as tie
+use Rattle.held.proofs.put_screen.Statement.{statement}
+use Rattle.held.proofs.put_screen.Tie as tie
 
 slice-write-state : tie.Need-slice-write-state
 slice-write-state c = search needs

@@ -11,10 +11,10 @@ use Rattle.rules.proofs.All.{both}
 use Rattle.rules.specs.Answers.{Answer, answer, BadRecord}
 use Rattle.rect.specs.declared.Rect.{Rect}
 use Rattle.screen.specs.declared.Screen.{Screen}
-use Rattle.host.specs.declared.state.Held.{Held}
-use Rattle.host.specs.declared.state.Held.the-variants as held
-use Rattle.host.specs.State.{bit, screen-words, screen-at, good-words, screen-of, on}
-use Rattle.host.proofs.Lists.{by-length}
+use Rattle.held.specs.declared.Held.{Held}
+use Rattle.held.specs.declared.Held.the-variants as held
+use Rattle.held.specs.State.{bit, screen-words, screen-at, good-words, screen-of, on}
+use Rattle.held.proofs.Lists.{by-length}
 
 bit-back : (n : ℕ) → n ≤ 1 → bit (eqb n 1) ≡ n
 bit-back zero h = refl

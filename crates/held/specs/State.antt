@@ -7,8 +7,8 @@ use lib.Dec.{leb, eqb}
 use Rattle.rules.specs.Answers.{Answer, answer, BadRecord}
 use Rattle.rect.specs.declared.Rect.{Rect}
 use Rattle.screen.specs.declared.Screen.{Screen}
-use Rattle.host.specs.declared.state.Held.{Held}
-use Rattle.host.specs.declared.state.Held.the-variants as held
+use Rattle.held.specs.declared.Held.{Held}
+use Rattle.held.specs.declared.Held.the-variants as held
 
 abbrev pub bit : Bool → ℕ
 bit true = 1

@@ -47,12 +47,45 @@ fn known_points_of_the_split() {
     assert_eq!(split_opaque_span(0, 8193), Err(Answer::BadRun));
 }
 
-#[test]
-fn the_worked_example() {
-    let file: Vec<u32> = include_bytes!("../../samples/worked.rec")
+fn words(bytes: &[u8]) -> Vec<u32> {
+    bytes
         .chunks_exact(4)
         .map(|b| u32::from_le_bytes([b[0], b[1], b[2], b[3]]))
-        .collect();
+        .collect()
+}
+
+/// Each sample is done, or refused with the number in its name; a done one paints every row to its end.
+#[test]
+fn the_samples() {
+    let folder = concat!(env!("CARGO_MANIFEST_DIR"), "/../samples");
+    let mut seen = 0;
+    for entry in std::fs::read_dir(folder).unwrap() {
+        let path = entry.unwrap().path();
+        if path.extension().map_or(true, |e| e != "rec") {
+            continue;
+        }
+        let name = path.file_stem().unwrap().to_str().unwrap().to_owned();
+        let number = name
+            .strip_prefix("refused-")
+            .map_or(0, |n| n.parse().unwrap());
+        let mut bucketer = CommandBucketer::from_wh(4, 4, 64, 64).unwrap();
+        let done = bucketer.bucket_commands(&words(&std::fs::read(&path).unwrap()));
+        assert_eq!(done.map_or_else(Answer::number, |()| 0), number, "{name}");
+        if number == 0 {
+            bucketer.begin_painting().unwrap();
+            let pieces: usize = (0..bucketer.rows())
+                .map(|row| painted(&mut bucketer, row).len())
+                .sum();
+            assert!(pieces > 0, "{name}");
+        }
+        seen += 1;
+    }
+    assert_eq!(seen, 10);
+}
+
+#[test]
+fn the_worked_example() {
+    let file = words(include_bytes!("../../samples/worked.rec"));
     let mut bucketer = CommandBucketer::from_wh(4, 4, 64, 64).unwrap();
     bucketer.bucket_commands(&file).unwrap();
     assert_eq!(

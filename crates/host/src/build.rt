@@ -22,6 +22,7 @@ ghost use Rattle.pop.specs.Pop.{lent};
 ghost use Rattle.held.specs.State.{rect};
 ghost use Rattle.host.specs.Building.{reset-call, recording-call, draw, fill-call, clip, props, push-call, pop-call, placement, filter-call};
 
+// Rule 1: a fresh screen of a viewport, C and D.
 #[no_mangle]
 pub extern "C" fn coarse_reset(
     state: &mut [u32],
@@ -68,6 +69,7 @@ pub extern "C" fn coarse_reset(
     leave(state, built)
 }
 
+// Rule 2: the words of a recording file, with C and D.
 #[no_mangle]
 pub extern "C" fn coarse_bucket_recording(
     state: &mut [u32],
@@ -110,6 +112,7 @@ pub extern "C" fn coarse_bucket_recording(
     leave(state, built)
 }
 
+// Rules 3 to 7: segments start to end of a list, painted with the paint at a place of a paint list.
 #[no_mangle]
 pub extern "C" fn coarse_fill(
     state: &mut [u32],
@@ -199,6 +202,7 @@ fn props_of(
     props_at(&layer, 0)
 }
 
+// Rule 8. The opacity is the bits of an f32; flag 1: the clip has a box, a range of segments and a thread, 0: there is none.
 #[no_mangle]
 pub extern "C" fn coarse_push_layer(
     state: &mut [u32],
@@ -247,6 +251,7 @@ pub extern "C" fn coarse_push_layer(
     leave(state, built)
 }
 
+// Rules 9 and 10. The segments are those of the layer's clip.
 #[no_mangle]
 pub extern "C" fn coarse_pop_layer(
     state: &mut [u32],
@@ -277,6 +282,7 @@ pub extern "C" fn coarse_pop_layer(
     leave(state, built)
 }
 
+// Rule 11: a pixmap drawn into a box, from a source origin; paint_count is the length of the paint list.
 #[no_mangle]
 pub extern "C" fn coarse_filter_fill(
     state: &mut [u32],

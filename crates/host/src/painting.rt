@@ -32,6 +32,7 @@ ghost use Rattle.painter.specs.Stepping.{painted-of, attributes};
 ghost use Rattle.held.specs.State.{bit};
 ghost use Rattle.host.specs.Painting.{begin-call, step-result, step-call, count-left, unset-call, visible-call, write-call, skip-left, skip-call, slot, slot-words, three-words, split-left, split-call};
 
+// Clears the depth words and sets every row to its first step.
 #[no_mangle]
 pub extern "C" fn coarse_begin_painting(
     state: &mut [u32],
@@ -69,7 +70,7 @@ fn put_step(done: Stepped, result: &mut [usize]) -> u32
     0
 }
 
-// result: 1 if the row was finished before this step, else 0; how many pieces are listed, six words each.
+// The next stored command of a row. result: 1 if none was left, else 0; how many pieces are listed, six words each.
 #[no_mangle]
 pub extern "C" fn coarse_paint_step(
     state: &[u32],
@@ -108,7 +109,7 @@ pub extern "C" fn coarse_paint_step(
     put_step(done, result)
 }
 
-// The number of a refusal. `Done` is none: 15, which no call gives.
+// The number of a refusal. `Done` refuses nothing: 15, as `depth` defines it.
 fn refusal(answer: Answer) -> u32
     ensures { λ r. ⌜ r ≡ refusal answer ⌝ }
 {
@@ -130,6 +131,7 @@ fn put_runs(runs: Runs, count: &mut [usize]) -> u32
     }
 }
 
+// The runs of the tiles first to end whose buckets hold 0; count: how many.
 #[no_mangle]
 pub extern "C" fn coarse_unset_runs(
     state: &[u32],
@@ -154,6 +156,7 @@ pub extern "C" fn coarse_unset_runs(
     put_runs(runs, count)
 }
 
+// The runs of the tiles first to end whose buckets hold at most the id; count: how many.
 #[no_mangle]
 pub extern "C" fn coarse_visible_runs(
     state: &[u32],
@@ -179,6 +182,7 @@ pub extern "C" fn coarse_visible_runs(
     put_runs(runs, count)
 }
 
+// Lists the unset runs of the buckets first to end and stores the id there; count: how many. Done, it ends painting.
 #[no_mangle]
 pub extern "C" fn coarse_unset_runs_and_write(
     state: &mut [u32],
@@ -207,6 +211,7 @@ pub extern "C" fn coarse_unset_runs_and_write(
     put_runs(runs, count)
 }
 
+// Whether a draw over the tiles first to end need not look at the row's depth words; yes: 1 or 0.
 #[no_mangle]
 pub extern "C" fn coarse_can_skip(
     state: &[u32],
@@ -319,6 +324,7 @@ fn with_edges(before: Edge, range: BucketRange, after: Edge) -> Slots
     }
 }
 
+// Their nine words.
 fn put_slots(parts: &mut [u32], slots: Slots)
     requires { ⌜ length (now parts) ≡ 9 ⌝ }
     ensures { λ _. ⌜ now (parts .exit) ≡ slot-words slots ⌝ }
@@ -365,7 +371,7 @@ fn put_split(parts: &mut [u32], split: Split) -> u32
     }
 }
 
-// parts: three words a part, left to right, then zeros.
+// Rule 7: the parts of an opaque span. parts: three words a part, left to right, then zeros.
 #[no_mangle]
 pub extern "C" fn coarse_split_opaque_span(first: u32, end: u32, parts: &mut [u32]) -> u32
     ensures { λ r. ⌜ answer r (now (parts .exit)) ≡ split-call (span first «end») (now (parts .entry)) ⌝ }

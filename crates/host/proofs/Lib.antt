@@ -2,3 +2,4 @@ pub mod Built
 pub mod Results
 pub mod Refused
 pub mod Sized
+pub mod Kept

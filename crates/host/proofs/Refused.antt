@@ -34,10 +34,10 @@ use Rattle.host.specs.Building.{reset-call, fill-call, push-call, pop-ca
 use Rattle.host.specs.Painting.{begin-call}
 use Rattle.held.proofs.Words.{written-back}
 
-abbrev Refused : {A : Type 0} → Answer A → Type 0
+abbrev pub Refused : {A : Type 0} → Answer A → Type 0
 Refused a = a .number ≡ 0 → ⊥
 
-settled : {A : Type 0} (n : ℕ) (x y : A) → Refused (settle n x y) → settle n x y .value ≡ x
+pub settled : {A : Type 0} (n : ℕ) (x y : A) → Refused (settle n x y) → settle n x y .value ≡ x
 settled n x y q = by (eqb n Done) refl q
   where
     by : (b : Bool) → eqb n Done ≡ b → Refused (cond b (answer Done y) (answer n x)) → cond b (answer Done y) (answer n x) .value ≡ x

@@ -12,13 +12,13 @@ use Rattle.rules.specs.Answers.{Answer, answer, first-of, settle, Done, BadRun,
 use Rattle.rules.specs.Spans.{Span, bad-range}
 use Rattle.rules.specs.Split.{split-answer}
 use Rattle.rules.specs.Painting as rules
-use Rattle.rules.specs.Depth.{listed, unset-runs, visible-runs, write-runs, unset-answer, visible-answer, write-answer, write-after}
+use Rattle.rules.specs.Depth.{listed, unset-runs, visible-runs, write-runs, unset-answer, visible-answer, write-answer, write-after, written}
 use Rattle.screen.specs.declared.Screen.{Screen}
 use Rattle.depth.specs.Listing.{numbers, listing, writing}
 use Rattle.paint.specs.Painting as paint
 use Rattle.painter.specs.Judging.{wide, runs-number}
-use Rattle.painter.specs.Stepping.{Attributes, part, with-part, own, number, row-step, stepped}
-use Rattle.painter.specs.Rows.{or-runs, unset-of, visible-of, write-of, write-in-place, skip-of-row}
+use Rattle.painter.specs.Stepping.{Attributes, part, own, in-place, number, row-step, stepped}
+use Rattle.painter.specs.Rows.{Wrote, or-runs, unset-of, visible-of, write-of, write-in-place, skip-of-row}
 use Rattle.held.specs.declared.Held.{Held}
 use Rattle.held.specs.declared.Held.the-variants as held
 use Rattle.held.specs.State.{screen-words, screen-of, on}
@@ -86,3 +86,68 @@ skip-refused r t id st rows old =
 pub split-refused : (s : Span) (parts : List ℕ) → Refused (split-call s parts) → split-call s parts .value ≡ parts
 unfolding split-call
 split-refused s parts = roomed 9 parts parts (split-left parts (split-answer 32 s)) (λ q. rw (ne-eqb _ _ q))
+
+-- Writing. A refusal puts the row's own part back, and leaves the screen.
+abbrev after-write : Screen → ℕ → List ℕ → List ℕ → Answer (List Span) → List ℕ → Wrote
+after-write s r d w a l = write-in-place s r d (record { listed = listing a l; depth = cond (eqb (a .number) Done) w (part (wide s) r d) })
+
+write-kept : (s : Screen) (r : ℕ) (d w l n st : List ℕ) (a : Answer (List Span)) → held.Good s ≡ screen-of st → Bare a → Refused (write-left n (after-write s r d w a l))
+    → write-left n (after-write s r d w a l) .value ≡ (st, d, l, n)
+unfolding listing numbers
+write-kept s r d w l n st a e k q = rw (k q, ne-eqb _ _ q, put-same (r * wide s) (wide s) d, written-back st s e)
+
+module _ (s : Screen) (r : ℕ) (t : Span) (id : ℕ) (st d l n : List ℕ) (e : held.Good s ≡ screen-of st) where
+  at-row : Refused (write-left n (write-of s r d id t l)) → write-left n (write-of s r d id t l) .value ≡ (st, d, l, n)
+  unfolding write-of write-answer write-after listing numbers
+  at-row q = by (eqb (runs-number s r (length d)) Done) refl q
+    where
+      by : (b : Bool) → eqb (runs-number s r (length d)) Done ≡ b
+          → Refused (write-left n (cond b (after-write s r d (written (part (wide s) r d) id t) (write-answer (part (wide s) r d) id t (length l / 2)) l) (record { listed = listing (answer (runs-number s r (length d)) []) l; screen = s; depth = d })))
+          → write-left n (cond b (after-write s r d (written (part (wide s) r d) id t) (write-answer (part (wide s) r d) id t (length l / 2)) l) (record { listed = listing (answer (runs-number s r (length d)) []) l; screen = s; depth = d })) .value ≡ (st, d, l, n)
+      by true f q =
+          write-kept s r d (written (part (wide s) r d) id t) l n st (write-answer (part (wide s) r d) id t (length l / 2)) e
+          (bare-listed (bad-range (length (part (wide s) r d)) t || eqb id 0) (length l / 2) (write-runs (part (wide s) r d) t)) q
+      by false f q = rw (f, written-back st s e)
+
+pub write-refused : (r : ℕ) (t : Span) (id : ℕ) (st d l n : List ℕ) → Refused (write-call r t id st d l n) → write-call r t id st d l n .value ≡ (st, d, l, n)
+unfolding write-call
+write-refused r t id st d l n =
+    at-screen st (st, d, l, n) (λ (s : Screen). with-room 1 n (st, d, l, n) (write-left n (write-of s r d id t l)))
+    (λ (s : Screen) (e : held.Good s ≡ screen-of st). roomed 1 n (st, d, l, n) (write-left n (write-of s r d id t l)) (at-row s r t id st d l n e))
+
+-- A painting step. What a refused row's step leaves.
+row-kept : (o : Option rules.Painted) (d p l : List ℕ) → (paint.settled o d p l .answer .number ≡ 0 → ⊥)
+    → (paint.settled o d p l .depth ≡ d) × (paint.settled o d p l .painting ≡ p) × (paint.settled o d p l .list ≡ l)
+unfolding paint.settled
+row-kept none d p l q = (refl, refl, refl)
+row-kept (some o) d p l q = by (ltb (length l / 6) (length (o .pieces))) q
+  where
+    by : (b : Bool) → (cond b (paint.out (paint.refused NoRoom) d p l) (paint.left o l) .answer .number ≡ 0 → ⊥)
+        → (cond b (paint.out (paint.refused NoRoom) d p l) (paint.left o l) .depth ≡ d) × (cond b (paint.out (paint.refused NoRoom) d p l) (paint.left o l) .painting ≡ p) × (cond b (paint.out (paint.refused NoRoom) d p l) (paint.left o l) .list ≡ l)
+    by true q = (refl, refl, refl)
+    by false q = absurd (q refl)
+
+module _ (s : Screen) (r : ℕ) (a : Attributes) (l : paint.Lent) (res : List ℕ) where
+  abbrev same-step : List ℕ × List ℕ × List ℕ × List ℕ
+  same-step = (l .depth, l .painting, l .list, res)
+
+  placed-kept : (x : paint.Out) → (x .depth ≡ part (wide s) r (l .depth)) × (x .painting ≡ part 2 r (l .painting)) × (x .list ≡ l .list) → Refused (step-left res (in-place s r l x))
+      → step-left res (in-place s r l x) .value ≡ same-step
+  placed-kept x k q = rw (k .0, k .1, k .2, put-same (r * wide s) (wide s) (l .depth), put-same (r * 2) 2 (l .painting), ne-eqb _ _ q)
+
+  step-at-row : Refused (step-left res (stepped s r a l)) → step-left res (stepped s r a l) .value ≡ same-step
+  unfolding stepped row-step paint.painted-row
+  step-at-row q = by (eqb (number s r a l) Done) refl q
+    where
+      by : (b : Bool) → eqb (number s r a l) Done ≡ b → Refused (step-left res (cond b (row-step s r a l) (paint.out (paint.refused (number s r a l)) (l .depth) (l .painting) (l .list))))
+          → step-left res (cond b (row-step s r a l) (paint.out (paint.refused (number s r a l)) (l .depth) (l .painting) (l .list))) .value ≡ same-step
+      by true f q =
+          placed-kept (paint.painted-row (paint.attrs-at (a .paints) (s .«paint_attrs») (a .layers) (s .«layer_attrs»)) (own s r l))
+          (row-kept (paint.next-step (paint.attrs-at (a .paints) (s .«paint_attrs») (a .layers) (s .«layer_attrs»)) (own s r l)) (part (wide s) r (l .depth)) (part 2 r (l .painting)) (l .list) q) q
+      by false f q = rw f
+
+pub step-refused : (r : ℕ) (a : Attributes) (st : List ℕ) (l : paint.Lent) (res : List ℕ) → Refused (step-call r a st l res) → step-call r a st l res .value ≡ (l .depth, l .painting, l .list, res)
+unfolding step-call
+step-refused r a st l res =
+    at-screen st (l .depth, l .painting, l .list, res) (λ (s : Screen). with-room 2 res (l .depth, l .painting, l .list, res) (step-left res (stepped s r a l)))
+    (λ (s : Screen) (e : held.Good s ≡ screen-of st). roomed 2 res (l .depth, l .painting, l .list, res) (step-left res (stepped s r a l)) (step-at-row s r a l res))

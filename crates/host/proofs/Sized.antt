@@ -3,7 +3,7 @@ use mathlib.Core.Path.{_≡_, refl, ap}
 use mathlib.Core.Bool.{Bool, true, false, _&&_, not}
 use mathlib.Core.List.{List, [], _∷_}
 use Prim.Native.Nat.{ℕ}
-use lib.ListN.{getD}
+use lib.ListN.{length, getD}
 use native.Mathlib.Omega.{arith}
 use borrow.Author.Tests.{eq-eqb}
 use Rattle.rules.specs.Answers.{first-of, BadArena, BadViewport}
@@ -13,7 +13,8 @@ use Rattle.rect.specs.declared.Rect.{Rect}
 use Rattle.rect.specs.Rects.{box-of}
 use Rattle.screen.specs.declared.Lengths.{Lengths}
 use Rattle.screen.specs.Judging.{judged-reset}
-use Rattle.host.specs.Sizes.{size-words, size-number}
+use Rattle.host.specs.Sizes.{size-words, size-number, size-call}
+use Rattle.host.proofs.Refused.{Refused, settled}
 
 -- so many words of each table, in the order of a reset
 abbrev pub length-words : Lengths → List ℕ
@@ -43,3 +44,8 @@ sized v c d l q e = by (good-viewport (box-of v)) (good-room c) (good-room d) re
     by true true false f g h q = absurd (omega arith)
     by true false z f g h q = absurd (omega arith)
     by false y z f g h q = absurd (omega arith)
+
+-- refused, the result words are as they were
+pub size-refused : (v : Rect) (c d : ℕ) (old : List ℕ) → Refused (size-call v c d old) → size-call v c d old .value ≡ old
+unfolding size-call
+size-refused v c d old = settled (size-number v c d (length old)) old (size-words v c d)

@@ -1,0 +1,68 @@
+-- A screen as words and back.
+use mathlib.Core.Path.{_≡_, refl, sym, ap, _∙_}
+use mathlib.Core.Bool.{Bool, true, false, _&&_, cond}
+use mathlib.Core.List.{List, [], _∷_}
+use Prim.Native.Nat.{ℕ, zero, suc, _≤_}
+use native.Mathlib.Omega.{arith}
+use lib.ListN.{length, getD, set}
+use lib.Dec.{leb, eqb}
+use borrow.Author.Tests.{eqb-true, leb-true}
+use Rattle.rules.proofs.All.{both}
+use Rattle.rules.specs.Answers.{Answer, answer, BadRecord}
+use Rattle.rect.specs.declared.Rect.{Rect}
+use Rattle.screen.specs.declared.Screen.{Screen}
+use Rattle.held.specs.declared.Held.{Held}
+use Rattle.held.specs.declared.Held.the-variants as held
+use Rattle.held.specs.State.{bit, screen-words, screen-at, good-words, screen-of, on}
+use Rattle.held.proofs.Lists.{by-length}
+
+bit-back : (n : ℕ) → n ≤ 1 → bit (eqb n 1) ≡ n
+bit-back zero h = refl
+bit-back (suc zero) h = refl
+bit-back (suc (suc n)) h = absurd (omega arith)
+
+-- sixteen words, the last of them 0 or 1, are those of the screen that is read from them
+spelled : (st : List ℕ) → length st ≡ 16 → getD st 15 0 ≤ 1 → screen-words (screen-at st) ≡ st
+spelled =
+    by-length 16 (λ (st : List ℕ). getD st 15 0 ≤ 1 → screen-words (screen-at st) ≡ st)
+    (λ a b c d e f g h i j k l m n o p q. rw (bit-back p q))
+
+module _ (st : List ℕ) (s : Screen) where
+  -- what is known of words that stand for the screen s
+  abbrev Known : Type 0
+  Known = (length st ≡ 16) × (screen-words s ≡ st)
+
+  known : (b : Bool) → good-words st ≡ b → held.Good s ≡ cond b (held.Good (screen-at st)) held.Nothing → Known
+  known true q e =
+      let h : s ≡ screen-at st = cc in
+      let g = both (eqb (length st) 16) (leb (getD st 15 0) 1) q in
+      let long = eqb-true (length st) 16 (g .0) in
+      (long, rw h (spelled st long (leb-true (getD st 15 0) 1 (g .1))))
+  known false q e = let z : _≡_ {A = ℕ} 0 1 = cc in absurd (omega arith)
+
+  pub long : held.Good s ≡ screen-of st → length st ≡ 16
+  unfolding screen-of
+  long e = known (good-words st) refl e .0
+
+  -- words that stand for a screen are its words
+  pub written-back : held.Good s ≡ screen-of st → screen-words s ≡ st
+  unfolding screen-of
+  written-back e = known (good-words st) refl e .1
+
+-- the words of a screen stand for it
+pub read-back : (s : Screen) → screen-of (screen-words s) ≡ held.Good s
+unfolding screen-of
+read-back s = by (s .painting) refl
+  where
+    by : (b : Bool) → s .painting ≡ b → screen-of (screen-words s) ≡ held.Good s
+    by true e = rw e
+    by false e = rw e
+
+-- sixteen words stored over sixteen
+pub screen-stored : (s : Screen) (st : List ℕ) → length st ≡ 16
+    → set (set (set (set (set (set (set (set (set (set (set (set (set (set (set (set st 0 (s .viewport .x0)) 1 (s .viewport .y0)) 2 (s .viewport .x1)) 3 (s .viewport .y1)) 4 (s .«clip_bbox» .x0)) 5 (s .«clip_bbox» .y0)) 6 (s .«clip_bbox» .x1)) 7 (s .«clip_bbox» .y1)) 8 (s .c)) 9 (s .d)) 10 (s .«next_draw_id»)) 11 (s .«paint_attrs»)) 12 (s .«layer_attrs»)) 13 (s .«filter_paints»)) 14 (s .layers)) 15 (bit (s .painting))
+    ≡ screen-words s
+screen-stored s =
+    by-length 16
+    (λ (st : List ℕ). set (set (set (set (set (set (set (set (set (set (set (set (set (set (set (set st 0 (s .viewport .x0)) 1 (s .viewport .y0)) 2 (s .viewport .x1)) 3 (s .viewport .y1)) 4 (s .«clip_bbox» .x0)) 5 (s .«clip_bbox» .y0)) 6 (s .«clip_bbox» .x1)) 7 (s .«clip_bbox» .y1)) 8 (s .c)) 9 (s .d)) 10 (s .«next_draw_id»)) 11 (s .«paint_attrs»)) 12 (s .«layer_attrs»)) 13 (s .«filter_paints»)) 14 (s .layers)) 15 (bit (s .painting)) ≡ screen-words s)
+    (λ a b c d e f g h i j k l m n o p. refl)

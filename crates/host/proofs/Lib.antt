@@ -1,0 +1,5 @@
+pub mod Built
+pub mod Results
+pub mod Refused
+pub mod Sized
+pub mod Kept

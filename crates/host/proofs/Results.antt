@@ -1,0 +1,128 @@
+-- Results in lent words of a fixed length.
+use mathlib.Core.Path.{_≡_, refl, sym, ap, _∙_}
+use mathlib.Core.Bool.{Bool, true, false, cond}
+use mathlib.Core.List.{List, [], _∷_}
+use Prim.Native.Nat.{ℕ, _*_}
+use lib.ListN.{length, set}
+use lib.Dec.{eqb}
+use borrow.Author.Tests.{eq-eqb, ne-eqb}
+use Rattle.rules.specs.Answers.{Answer, answer, BadRecord}
+use Rattle.rules.specs.Spans.{Span}
+use Rattle.rules.specs.Split.{split-answer}
+use Rattle.cmd.specs.declared.Answer as cmd
+use Rattle.cmd.specs.Answers.{number-of}
+use Rattle.screen.specs.declared.Screen.{Screen}
+use Rattle.depth.specs.declared.runs.Runs.{Runs}
+use Rattle.depth.specs.declared.runs.Runs.the-variants as runs
+use Rattle.depth.specs.declared.split.Split.{Split}
+use Rattle.depth.specs.declared.state.Skip.{Skip}
+use Rattle.depth.specs.Answers.{refusal, skip-of, split-of}
+use Rattle.depth.specs.Listing.{Out, out}
+use Rattle.paint.specs.declared.Painted.{Painted}
+use Rattle.paint.specs.Painting as paint
+use Rattle.painter.specs.declared.rows.Written.{Written}
+use Rattle.painter.specs.Stepping.{Attributes, stepped}
+use Rattle.painter.specs.Rows.{Wrote, wrote, unset-of, visible-of, write-of, skip-of-row}
+use Rattle.host.specs.declared.painting.Slots.{Slots}
+use Rattle.held.specs.declared.Held.{Held}
+use Rattle.held.specs.declared.Held.the-variants as held
+use Rattle.held.specs.State.{screen-words, screen-of, on}
+use Rattle.host.specs.Painting.{result, step-result, step-left, step-call, count-left, runs-left, unset-call, visible-call, write-left, write-call, skip-left, skip-call, slot-words, split-left, split-call}
+use Rattle.host.specs.Sizes.{fixed}
+use Rattle.held.proofs.Lists.{by-length}
+
+-- a refusal's number is not 0
+pub refused : (a : cmd.Answer) → eqb (refusal a) 0 ≡ false
+refused a = by (eqb (number-of a) 0) refl
+  where
+    by : (b : Bool) → eqb (number-of a) 0 ≡ b → eqb (refusal a) 0 ≡ false
+    by true e = rw e
+    by false e = rw (e, e)
+
+-- words stored over as many
+pub one-stored : (x : ℕ) (xs : List ℕ) → length xs ≡ 1 → set xs 0 x ≡ x ∷ []
+one-stored x = by-length 1 (λ (xs : List ℕ). set xs 0 x ≡ x ∷ []) (λ a. refl)
+
+pub two-stored : (x y : ℕ) (xs : List ℕ) → length xs ≡ 2 → set (set xs 0 x) 1 y ≡ x ∷ y ∷ []
+two-stored x y = by-length 2 (λ (xs : List ℕ). set (set xs 0 x) 1 y ≡ x ∷ y ∷ []) (λ a b. refl)
+
+pub slots-stored : (s : Slots) (xs : List ℕ) → length xs ≡ 9
+    → set (set (set (set (set (set (set (set (set xs 0 (s .a .kind)) 1 (s .a .first)) 2 (s .a .«end»)) 3 (s .b .kind)) 4 (s .b .first)) 5 (s .b .«end»)) 6 (s .c .kind)) 7 (s .c .first)) 8 (s .c .«end») ≡ slot-words s
+slots-stored s =
+    by-length 9
+    (λ (xs : List ℕ). set (set (set (set (set (set (set (set (set xs 0 (s .a .kind)) 1 (s .a .first)) 2 (s .a .«end»)) 3 (s .b .kind)) 4 (s .b .first)) 5 (s .b .«end»)) 6 (s .c .kind)) 7 (s .c .first)) 8 (s .c .«end») ≡ slot-words s)
+    (λ a b c d e f g h i. refl)
+
+pub sizes-stored : (a b c d e : ℕ) (xs : List ℕ) → length xs ≡ 10
+    → set (set (set (set (set (set (set (set (set (set xs 0 a) 1 b) 2 c) 3 d) 4 e) 5 256) 6 1040) 7 8192) 8 6144) 9 1024 ≡ a ∷ b ∷ c ∷ d ∷ e ∷ fixed
+sizes-stored a b c d e =
+    by-length 10
+    (λ (xs : List ℕ). set (set (set (set (set (set (set (set (set (set xs 0 a) 1 b) 2 c) 3 d) 4 e) 5 256) 6 1040) 7 8192) 8 6144) 9 1024 ≡ a ∷ b ∷ c ∷ d ∷ e ∷ fixed)
+    (λ f g h i j k l m n o. refl)
+
+-- the count of some runs, and their list
+listed : (o : Runs) (l n n' : List ℕ) (k : ℕ) → answer k n' ≡ count-left n (out o []) → answer k (l, n') ≡ runs-left n (out o l)
+listed (runs.Refused a) l n n' k e = ap (λ (x : Answer (List ℕ)). answer (x .number) (l, x .value)) e
+listed (runs.Listed m) l n n' k e = ap (λ (x : Answer (List ℕ)). answer (x .number) (l, x .value)) e
+
+written : (o : Written) (d l n n' : List ℕ) (k : ℕ) → answer k n' ≡ count-left n (out (o .runs) []) → answer k (screen-words (o .screen), d, l, n') ≡ write-left n (wrote o l d)
+written o d l n n' k e = ap (λ (x : Answer (List ℕ × List ℕ)). answer (x .number) (screen-words (o .screen), d, x .value .0, x .value .1)) (listed (o .runs) l n n' k e)
+
+module _ (st : List ℕ) (s : Screen) (h : held.Good s ≡ screen-of st) where
+  -- result words of another length
+  pub step-unroomed : (r : ℕ) (a : Attributes) (l : paint.Lent) (res : List ℕ) → (length res ≡ 2 → ⊥)
+      → answer BadRecord (l .depth, l .painting, l .list, res) ≡ step-call r a st l res
+  unfolding step-call
+  step-unroomed r a l res q = rw (← h, ne-eqb _ _ q)
+
+  pub unset-unroomed : (r : ℕ) (t : Span) (d l n : List ℕ) → (length n ≡ 1 → ⊥) → answer BadRecord (l, n) ≡ unset-call r t st d l n
+  unfolding unset-call
+  unset-unroomed r t d l n q = rw (← h, ne-eqb _ _ q)
+
+  pub visible-unroomed : (r : ℕ) (t : Span) (id : ℕ) (d l n : List ℕ) → (length n ≡ 1 → ⊥) → answer BadRecord (l, n) ≡ visible-call r t id st d l n
+  unfolding visible-call
+  visible-unroomed r t id d l n q = rw (← h, ne-eqb _ _ q)
+
+  pub write-unroomed : (r : ℕ) (t : Span) (id : ℕ) (d l n : List ℕ) → (length n ≡ 1 → ⊥) → answer BadRecord (st, d, l, n) ≡ write-call r t id st d l n
+  unfolding write-call
+  write-unroomed r t id d l n q = rw (← h, ne-eqb _ _ q)
+
+  pub skip-unroomed : (r : ℕ) (t : Span) (id : ℕ) (rows old : List ℕ) → (length old ≡ 1 → ⊥) → answer BadRecord old ≡ skip-call r t id st rows old
+  unfolding skip-call
+  skip-unroomed r t id rows old q = rw (← h, ne-eqb _ _ q)
+
+  -- .. and of the right one
+  pub step-roomed : (r k : ℕ) (a : Attributes) (l : paint.Lent) (p : Painted) (d' p' l' res res' : List ℕ) → length res ≡ 2
+      → paint.out p d' p' l' ≡ stepped s r a l → answer k res' ≡ step-result res p → answer k (d', p', l', res') ≡ step-call r a st l res
+  unfolding step-call
+  step-roomed r k a l p d' p' l' res res' q e f =
+      rw (← h, eq-eqb _ _ q) (ap (λ (x : Answer (List ℕ)). answer (x .number) (d', p', l', x .value)) f ∙ ap (step-left res) e)
+
+  pub unset-roomed : (r k : ℕ) (t : Span) (o : Runs) (d l l' n n' : List ℕ) → length n ≡ 1 → out o l' ≡ unset-of s r d t l
+      → answer k n' ≡ count-left n (out o []) → answer k (l', n') ≡ unset-call r t st d l n
+  unfolding unset-call
+  unset-roomed r k t o d l l' n n' q e f = rw (← h, eq-eqb _ _ q) (listed o l' n n' k f ∙ ap (runs-left n) e)
+
+  pub visible-roomed : (r k : ℕ) (t : Span) (id : ℕ) (o : Runs) (d l l' n n' : List ℕ) → length n ≡ 1 → out o l' ≡ visible-of s r d t id l
+      → answer k n' ≡ count-left n (out o []) → answer k (l', n') ≡ visible-call r t id st d l n
+  unfolding visible-call
+  visible-roomed r k t id o d l l' n n' q e f = rw (← h, eq-eqb _ _ q) (listed o l' n n' k f ∙ ap (runs-left n) e)
+
+  pub write-roomed : (r k : ℕ) (t : Span) (id : ℕ) (o : Written) (st' d d' l l' n n' : List ℕ) → length n ≡ 1 → wrote o l' d' ≡ write-of s r d id t l
+      → st' ≡ screen-words (o .screen) → answer k n' ≡ count-left n (out (o .runs) []) → answer k (st', d', l', n') ≡ write-call r t id st d l n
+  unfolding write-call
+  write-roomed r k t id o st' d d' l l' n n' q e sw f = rw (sw, ← h, eq-eqb _ _ q) (written o d' l' n n' k f ∙ ap (write-left n) e)
+
+  pub skip-roomed : (r k : ℕ) (t : Span) (id : ℕ) (o : Skip) (rows old new : List ℕ) → length old ≡ 1 → skip-of o ≡ skip-of-row s r rows t id
+      → answer k new ≡ skip-left old (skip-of o) → answer k new ≡ skip-call r t id st rows old
+  unfolding skip-call
+  skip-roomed r k t id o rows old new q e f = rw (← h, eq-eqb _ _ q) (f ∙ ap (skip-left old) e)
+
+pub split-unroomed : (s : Span) (parts : List ℕ) → (length parts ≡ 9 → ⊥) → answer BadRecord parts ≡ split-call s parts
+unfolding split-call
+split-unroomed s parts q = rw (ne-eqb _ _ q)
+
+pub split-roomed : (s : Span) (k : ℕ) (o : Split) (parts new : List ℕ) → length parts ≡ 9 → split-of o ≡ split-answer 32 s
+    → answer k new ≡ split-left parts (split-of o) → answer k new ≡ split-call s parts
+unfolding split-call
+split-roomed s k o parts new q e f = rw (eq-eqb _ _ q) (f ∙ ap (split-left parts) e)

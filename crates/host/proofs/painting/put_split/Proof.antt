@@ -1,0 +1,71 @@
+use Rattle.host.proofs.Results.{refused}
+use Rattle.host.specs.Painting.{three-words}
+use borrow.Author.Needs.{needs}
+use Rattle.host.proofs.painting.put_split.Statement.{statement}
+use Rattle.host.proofs.painting.put_split.Tie as tie
+
+enum-known-split : tie.Need-enum-known-split
+enum-known-split c = search needs
+
+refusal-requires : tie.Need-refusal-requires
+refusal-requires c κs = search needs
+
+enum-known-split-2 : tie.Need-enum-known-split-2
+enum-known-split-2 c = search needs
+
+regular-requires : tie.Need-regular-requires
+regular-requires c κs = search needs
+
+blank-requires : tie.Need-blank-requires
+blank-requires c κs = search needs
+
+blank-requires-2 : tie.Need-blank-requires-2
+blank-requires-2 c κs = search needs
+
+put-slots-requires : tie.Need-put-slots-requires
+put-slots-requires c κs = search needs
+
+enum-known-split-3 : tie.Need-enum-known-split-3
+enum-known-split-3 c = search needs
+
+with-edges-requires : tie.Need-with-edges-requires
+with-edges-requires c κs = search needs
+
+put-slots-requires-2 : tie.Need-put-slots-requires-2
+put-slots-requires-2 c κs = search needs
+
+returns : tie.Need-returns
+returns c = rw (c .before .before .split .given .1, c .refusal .ensures, refused (c .before .before .split .given .0 .0))
+
+same-length : tie.Need-same-length
+same-length c = search needs
+
+returns-2 : tie.Need-returns-2
+unfolding three-words
+returns-2 c = rw (c .before .before .before .before .before .before .before .before .split2 .given .1, c .before .before .put-slots .ensures, c .before .before .before .before .blank2 .ensures, c .before .before .before .before .before .blank .ensures, c .before .before .before .before .before .before .regular .ensures)
+
+same-length-2 : tie.Need-same-length-2
+same-length-2 c = search needs
+
+returns-3 : tie.Need-returns-3
+returns-3 c = rw (c .before .before .before .before .before .before .split3 .given .1, c .before .before .put-slots2 .ensures, c .before .before .before .before .with-edges .ensures)
+
+pub put-split-spec : {M : Type 1} → statement M
+put-split-spec =
+    tie.close
+    (tie.spec
+    enum-known-split
+    refusal-requires
+    enum-known-split-2
+    regular-requires
+    blank-requires
+    blank-requires-2
+    put-slots-requires
+    enum-known-split-3
+    with-edges-requires
+    put-slots-requires-2
+    returns
+    same-length
+    returns-2
+    same-length-2
+    returns-3)

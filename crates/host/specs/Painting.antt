@@ -1,0 +1,104 @@
+-- Painting, the runs, `can_skip` and the split on a host's words. Results go into lent words of a fixed length; another length is 4, and a
+-- refusal leaves them as they were.
+use Prim.Native.Nat.{ℕ}
+use mathlib.Core.Bool.{Bool, cond}
+use mathlib.Core.List.{List, [], _∷_, _++_}
+use lib.ListN.{length, drop}
+use lib.Dec.{eqb}
+use Rattle.rules.specs.Answers.{Answer, answer, BadRecord}
+use Rattle.rules.specs.Spans.{Span}
+use Rattle.rules.specs.Split.{Part, regular, buckets, split-answer}
+use Rattle.screen.specs.declared.Screen.{Screen}
+use Rattle.depth.specs.Listing.{Out}
+use Rattle.paint.specs.declared.Painted.{Painted}
+use Rattle.paint.specs.Painting as paint
+use Rattle.painter.specs.Beginning.{Canvas, canvas, beginning}
+use Rattle.painter.specs.Stepping.{Attributes, stepped}
+use Rattle.painter.specs.Rows.{Wrote, unset-of, visible-of, write-of, skip-of-row}
+use Rattle.host.specs.declared.painting.Slot.{Slot}
+use Rattle.host.specs.declared.painting.Slots.{Slots}
+use Rattle.held.specs.State.{bit, screen-words, screen-of, on}
+
+-- n result words ws, or 4 where another number of them is lent
+abbrev pub with-room : {T : Type 0} → ℕ → List ℕ → T → Answer T → Answer T
+with-room n ws t a = cond (eqb (length ws) n) a (answer BadRecord t)
+
+-- a done call's result words, else those that were there
+abbrev pub result : ℕ → List ℕ → List ℕ → List ℕ
+result number new old = cond (eqb number 0) new old
+
+-- the depth words and the painting table
+abbrev pub begin-left : Answer Canvas → Answer (List ℕ × List ℕ × List ℕ)
+begin-left a = answer (a .number) (screen-words (a .value .screen), a .value .depth, a .value .painting)
+
+unfoldable pub begin-call : List ℕ → List ℕ → List ℕ → Answer (List ℕ × List ℕ × List ℕ)
+begin-call st d p = on (screen-of st) (st, d, p) (λ s. begin-left (beginning (canvas s d p)))
+
+-- a painting step's result: whether finished, how many pieces
+abbrev pub step-result : List ℕ → Painted → Answer (List ℕ)
+step-result old p = answer (p .number) (result (p .number) (bit (p .finished) ∷ p .pieces ∷ []) old)
+
+-- .. with the depth words, the painting table and the list
+abbrev pub step-left : List ℕ → paint.Out → Answer (List ℕ × List ℕ × List ℕ × List ℕ)
+step-left res o = answer (o .answer .number) (o .depth, o .painting, o .list, step-result res (o .answer) .value)
+
+unfoldable pub step-call : ℕ → Attributes → List ℕ → paint.Lent → List ℕ → Answer (List ℕ × List ℕ × List ℕ × List ℕ)
+step-call r a st l res =
+    on (screen-of st) (l .depth, l .painting, l .list, res)
+    (λ s. with-room 2 res (l .depth, l .painting, l .list, res) (step-left res (stepped s r a l)))
+
+-- how many runs are listed
+abbrev pub count-left : List ℕ → Out → Answer (List ℕ)
+count-left n o = answer (o .number) (result (o .number) (o .count ∷ []) n)
+
+-- .. and the list
+abbrev pub runs-left : List ℕ → Out → Answer (List ℕ × List ℕ)
+runs-left n o = answer (o .number) (o .list, count-left n o .value)
+
+unfoldable pub unset-call : ℕ → Span → List ℕ → List ℕ → List ℕ → List ℕ → Answer (List ℕ × List ℕ)
+unset-call r t st d l n = on (screen-of st) (l, n) (λ s. with-room 1 n (l, n) (runs-left n (unset-of s r d t l)))
+
+unfoldable pub visible-call : ℕ → Span → ℕ → List ℕ → List ℕ → List ℕ → List ℕ → Answer (List ℕ × List ℕ)
+visible-call r t id st d l n = on (screen-of st) (l, n) (λ s. with-room 1 n (l, n) (runs-left n (visible-of s r d t id l)))
+
+-- .. and the depth words
+abbrev pub write-left : List ℕ → Wrote → Answer (List ℕ × List ℕ × List ℕ × List ℕ)
+write-left n o =
+    answer (o .listed .number)
+    (screen-words (o .screen), o .depth, o .listed .list, count-left n (o .listed) .value)
+
+unfoldable pub write-call : ℕ → Span → ℕ → List ℕ → List ℕ → List ℕ → List ℕ → Answer (List ℕ × List ℕ × List ℕ × List ℕ)
+write-call r t id st d l n =
+    on (screen-of st) (st, d, l, n) (λ s. with-room 1 n (st, d, l, n) (write-left n (write-of s r d id t l)))
+
+-- 1 for yes, 0 for no
+abbrev pub skip-left : List ℕ → Answer Bool → Answer (List ℕ)
+skip-left old a = answer (a .number) (result (a .number) (bit (a .value) ∷ []) old)
+
+unfoldable pub skip-call : ℕ → Span → ℕ → List ℕ → List ℕ → List ℕ → Answer (List ℕ)
+skip-call r t id st rows old = on (screen-of st) old (λ s. with-room 1 old old (skip-left old (skip-of-row s r rows t id)))
+
+-- A part is three words: 1 for a regular piece or 2 for a depth fill, first, end.
+abbrev pub slot : ℕ → ℕ → ℕ → Slot
+slot k a b = record { kind = k; first = a; «end» = b }
+
+abbrev pub slot-of : List Part → Slot
+slot-of [] = slot 0 0 0
+slot-of (regular s ∷ ps) = slot 1 (s .first) (s .end)
+slot-of (buckets s ∷ ps) = slot 2 (s .first) (s .end)
+
+abbrev pub one-slot : Slot → List ℕ
+one-slot s = s .kind ∷ s .first ∷ s .«end» ∷ []
+
+abbrev pub slot-words : Slots → List ℕ
+slot-words s = one-slot (s .a) ++ one-slot (s .b) ++ one-slot (s .c)
+
+-- the first three parts, zeros for those that are not there
+unfoldable pub three-words : List Part → List ℕ
+three-words ps = one-slot (slot-of ps) ++ one-slot (slot-of (drop 1 ps)) ++ one-slot (slot-of (drop 2 ps))
+
+abbrev pub split-left : List ℕ → Answer (List Part) → Answer (List ℕ)
+split-left parts a = answer (a .number) (result (a .number) (three-words (a .value)) parts)
+
+unfoldable pub split-call : Span → List ℕ → Answer (List ℕ)
+split-call s parts = with-room 9 parts parts (split-left parts (split-answer 32 s))

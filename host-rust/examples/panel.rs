@@ -1,0 +1,57 @@
+//! A panel over a banner: what the tiles of one row receive.
+
+use coarse::{Answer, CommandBucketer, Paint, Piece, RecordedFill, Segment};
+
+const NAMES: [&str; 2] = ["banner", "panel"];
+
+/// The names of what a tile receives, in the order of painting.
+fn received(pieces: &[Piece], paints: &[u32], tile: u32) -> String {
+    let names: Vec<&str> = pieces
+        .iter()
+        .filter(|piece| piece.covers(tile))
+        .map(|piece| NAMES[paints[piece.attrs_idx as usize] as usize])
+        .collect();
+    names.join(", then ")
+}
+
+fn main() -> Result<(), Answer> {
+    // A screen of 512 x 4 pixels: one row of 128 tiles, in 4 depth buckets of 32.
+    let mut screen = CommandBucketer::from_wh(512, 4, 64, 64)?;
+
+    // Both are opaque. The banner has the whole row, the panel tiles 20 to 70: all of bucket 1, and a part of 0 and of 2.
+    let paints = [Paint::new(true, 1), Paint::new(true, 2)];
+    let segments = [Segment::solid(0, 0, 128), Segment::solid(0, 20, 70)];
+    let banner = RecordedFill {
+        start: 0,
+        end: 1,
+        paint: 0,
+        ..RecordedFill::default()
+    };
+    let panel = RecordedFill {
+        start: 1,
+        end: 2,
+        paint: 1,
+        ..RecordedFill::default()
+    };
+    screen.generate_fill(&paints, &segments, &banner)?;
+    screen.generate_fill(&paints, &segments, &panel)?;
+
+    // The row is painted to its end. Each step gives the pieces of one stored command.
+    screen.begin_painting()?;
+    let mut pieces = Vec::new();
+    while let Some(step) = screen.paint_step(0)? {
+        pieces.extend_from_slice(step);
+    }
+    let paints: Vec<u32> = screen.paint_attrs().map(|attrs| attrs.paint).collect();
+    for piece in &pieces {
+        println!(
+            "{} on tiles {} to {}",
+            NAMES[paints[piece.attrs_idx as usize] as usize], piece.first, piece.end
+        );
+    }
+
+    println!("tile 40: {}", received(&pieces, &paints, 40));
+    println!("tile 25: {}", received(&pieces, &paints, 25));
+    println!("tile 10: {}", received(&pieces, &paints, 10));
+    Ok(())
+}

@@ -1,0 +1,894 @@
+//! The proved coarse stage behind the original's names. A [`CommandBucketer`] owns the tables that the calls of `include/coarse.h` are
+//! lent; each method is one call. Bad input is an [`Answer`], never a panic.
+
+mod sys;
+
+use std::fmt;
+use std::mem::size_of_val;
+
+/// Why a call was refused: document 01's numbers.
+#[derive(Debug, Clone, Copy, PartialEq, Eq)]
+#[repr(u32)]
+pub enum Answer {
+    BadArena = 1,
+    BadViewport = 2,
+    BadForm = 3,
+    BadRecord = 4,
+    BadOrder = 5,
+    Deep = 6,
+    NoLayer = 7,
+    Ids = 8,
+    FullAttrs = 9,
+    FullRow = 10,
+    FullDepth = 11,
+    BadRun = 12,
+    Open = 13,
+    NoRoom = 14,
+}
+
+impl Answer {
+    pub fn number(self) -> u32 {
+        self as u32
+    }
+
+    fn check(number: u32) -> Result<(), Answer> {
+        Err(match number {
+            0 => return Ok(()),
+            1 => Answer::BadArena,
+            2 => Answer::BadViewport,
+            3 => Answer::BadForm,
+            4 => Answer::BadRecord,
+            5 => Answer::BadOrder,
+            6 => Answer::Deep,
+            7 => Answer::NoLayer,
+            8 => Answer::Ids,
+            9 => Answer::FullAttrs,
+            10 => Answer::FullRow,
+            11 => Answer::FullDepth,
+            12 => Answer::BadRun,
+            13 => Answer::Open,
+            _ => Answer::NoRoom,
+        })
+    }
+}
+
+impl fmt::Display for Answer {
+    fn fmt(&self, f: &mut fmt::Formatter<'_>) -> fmt::Result {
+        write!(f, "refused {}", self.number())
+    }
+}
+
+impl std::error::Error for Answer {}
+
+/// A box in pixels.
+#[derive(Debug, Clone, Copy, PartialEq, Eq, Default)]
+pub struct Rect {
+    pub x0: u32,
+    pub y0: u32,
+    pub x1: u32,
+    pub y1: u32,
+}
+
+impl Rect {
+    pub fn new(x0: u32, y0: u32, x1: u32, y1: u32) -> Self {
+        Self { x0, y0, x1, y1 }
+    }
+}
+
+/// From a first tile or bucket to an end, which is not among them.
+#[derive(Debug, Clone, Copy, PartialEq, Eq, Default)]
+#[repr(C)]
+pub struct Run {
+    pub first: u32,
+    pub end: u32,
+}
+
+/// A paint: opaque is 1 or 0, the handle is the host's own.
+#[derive(Debug, Clone, Copy, PartialEq, Eq)]
+#[repr(C)]
+pub struct Paint {
+    pub opaque: u32,
+    pub handle: u32,
+    pub shift_x: i32,
+    pub shift_y: i32,
+}
+
+impl Paint {
+    pub fn new(opaque: bool, handle: u32) -> Self {
+        Self {
+            opaque: u32::from(opaque),
+            handle,
+            shift_x: 0,
+            shift_y: 0,
+        }
+    }
+}
+
+/// Neighbouring tiles of one row. Kind 0 is solid, 1 has an alpha index.
+#[derive(Debug, Clone, Copy, PartialEq, Eq)]
+#[repr(C)]
+pub struct Segment {
+    pub kind: u32,
+    pub row: u32,
+    pub first: u32,
+    pub end: u32,
+    pub alpha: u32,
+}
+
+impl Segment {
+    pub fn solid(row: u32, first: u32, end: u32) -> Self {
+        Self {
+            kind: 0,
+            row,
+            first,
+            end,
+            alpha: 0,
+        }
+    }
+
+    pub fn alpha(row: u32, first: u32, end: u32, alpha: u32) -> Self {
+        Self {
+            kind: 1,
+            row,
+            first,
+            end,
+            alpha,
+        }
+    }
+}
+
+/// Mix 0 to 15, compose 0 to 13.
+#[derive(Debug, Clone, Copy, PartialEq, Eq)]
+pub struct BlendMode {
+    pub mix: u32,
+    pub compose: u32,
+}
+
+impl Default for BlendMode {
+    fn default() -> Self {
+        Self { mix: 0, compose: 3 }
+    }
+}
+
+/// The original's `RecordedFill`: segments start to end of a list, with the paint at a place of a paint list.
+#[derive(Debug, Clone, Copy, PartialEq, Eq, Default)]
+pub struct RecordedFill {
+    pub thread_idx: u32,
+    pub start: usize,
+    pub end: usize,
+    pub paint: u32,
+    pub blend_mode: BlendMode,
+    pub mask: u32,
+}
+
+/// A layer's clip: its box, its segments and the thread that has their alphas.
+#[derive(Debug, Clone, Copy, PartialEq, Eq)]
+pub struct LayerClip {
+    pub bbox: Rect,
+    pub start: u32,
+    pub end: u32,
+    pub thread_idx: u32,
+}
+
+/// What a layer is pushed with. The opacity is kept bit for bit.
+#[derive(Debug, Clone, Copy, PartialEq)]
+pub struct LayerProps {
+    pub blend_mode: BlendMode,
+    pub opacity: f32,
+    pub mask: u32,
+    pub clip: Option<LayerClip>,
+}
+
+impl Default for LayerProps {
+    fn default() -> Self {
+        Self {
+            blend_mode: BlendMode::default(),
+            opacity: 1.0,
+            mask: 0,
+            clip: None,
+        }
+    }
+}
+
+/// Where a filter layer's pixmap is drawn, and from where in it.
+#[derive(Debug, Clone, Copy, PartialEq, Eq)]
+pub struct FilterLayerPlacement {
+    pub dest: Rect,
+    pub source_x: u32,
+    pub source_y: u32,
+}
+
+/// What a tile range receives in one painting step.
+#[derive(Debug, Clone, Copy, PartialEq, Eq, Default)]
+#[repr(C)]
+pub struct Piece {
+    /// 1 paint solid, 2 paint alpha, 3 layer solid, 4 layer alpha.
+    pub tag: u32,
+    pub attrs_idx: u32,
+    pub first: u32,
+    pub end: u32,
+    /// 0 where the piece is solid.
+    pub alpha: u32,
+    pub nesting: u32,
+}
+
+impl Piece {
+    pub fn is_layer(self) -> bool {
+        self.tag >= 3
+    }
+
+    pub fn alpha_idx(self) -> Option<u32> {
+        (self.tag % 2 == 0).then_some(self.alpha)
+    }
+
+    pub fn covers(self, tile: u32) -> bool {
+        self.first <= tile && tile < self.end
+    }
+}
+
+/// What a fill left for the fine stage.
+#[derive(Debug, Clone, Copy, PartialEq, Eq)]
+pub struct PaintFillAttrs {
+    pub paint: u32,
+    pub blend_mode: BlendMode,
+    pub mask: u32,
+    pub draw_id: u32,
+    pub thread_idx: u32,
+    pub origin: (u32, u32),
+}
+
+/// What a popped layer left for the fine stage.
+#[derive(Debug, Clone, Copy, PartialEq)]
+pub struct LayerFillAttrs {
+    pub blend_mode: BlendMode,
+    pub opacity: f32,
+    pub mask: u32,
+    pub draw_id: u32,
+    pub thread_idx: u32,
+}
+
+/// A paint that a filter fill added after the paint list.
+#[derive(Debug, Clone, Copy, PartialEq, Eq)]
+pub struct FilterPaint {
+    pub pixmap: u32,
+    pub shift_x: i32,
+    pub shift_y: i32,
+}
+
+/// A part of an opaque span: tiles, or buckets for a depth fill.
+#[derive(Debug, Clone, Copy, PartialEq, Eq)]
+pub enum DepthSegment {
+    Regular(Run),
+    Opaque(Run),
+}
+
+/// Rule 7: the parts of an opaque span, left to right.
+pub fn split_opaque_span(first: u32, end: u32) -> Result<Vec<DepthSegment>, Answer> {
+    let mut parts = [0; 9];
+    Answer::check(unsafe {
+        sys::coarse_split_opaque_span(first, end, parts.as_mut_ptr(), parts.len())
+    })?;
+    Ok(parts
+        .chunks_exact(3)
+        .filter_map(|part| match part[0] {
+            1 => Some(DepthSegment::Regular(Run {
+                first: part[1],
+                end: part[2],
+            })),
+            2 => Some(DepthSegment::Opaque(Run {
+                first: part[1],
+                end: part[2],
+            })),
+            _ => None,
+        })
+        .collect())
+}
+
+/// A record of `repr(C)` with 32-bit fields alone.
+///
+/// # Safety
+/// The type has no padding, and any words are a value of it.
+unsafe trait Words: Copy + Default {}
+
+// Each has 32-bit integers alone.
+unsafe impl Words for Run {}
+unsafe impl Words for Piece {}
+
+fn words_mut<T: Words>(records: &mut [T]) -> (*mut u32, usize) {
+    (records.as_mut_ptr().cast(), size_of_val(records) / 4)
+}
+
+fn paint_words(paints: &[Paint]) -> (*const u32, usize) {
+    (paints.as_ptr().cast(), size_of_val(paints) / 4)
+}
+
+fn segment_words(segments: &[Segment]) -> (*const u32, usize) {
+    (segments.as_ptr().cast(), size_of_val(segments) / 4)
+}
+
+fn sizes(viewport: Rect, c: u32, d: u32) -> Result<[usize; 10], Answer> {
+    let mut sizes = [0; 10];
+    let Rect { x0, y0, x1, y1 } = viewport;
+    Answer::check(unsafe {
+        sys::coarse_sizes(x0, y0, x1, y1, c, d, sizes.as_mut_ptr(), sizes.len())
+    })?;
+    Ok(sizes)
+}
+
+#[derive(Debug, Clone, Default)]
+struct Tables {
+    render: Vec<u32>,
+    fills: Vec<u32>,
+    depth: Vec<u32>,
+    rows: Vec<u32>,
+    painting: Vec<u32>,
+    layers: Vec<u32>,
+    opacities: Vec<f32>,
+    paint_attrs: Vec<u32>,
+    layer_attrs: Vec<u32>,
+    filter_paints: Vec<i32>,
+}
+
+impl Tables {
+    fn new(sizes: [usize; 10]) -> Self {
+        Self {
+            render: vec![0; sizes[0]],
+            fills: vec![0; sizes[1]],
+            depth: vec![0; sizes[2]],
+            rows: vec![0; sizes[3]],
+            painting: vec![0; sizes[4]],
+            layers: vec![0; sizes[5]],
+            opacities: vec![0.0; sizes[6]],
+            paint_attrs: vec![0; sizes[7]],
+            layer_attrs: vec![0; sizes[8]],
+            filter_paints: vec![0; sizes[9]],
+        }
+    }
+
+    fn lens(&self) -> [usize; 10] {
+        [
+            self.render.len(),
+            self.fills.len(),
+            self.depth.len(),
+            self.rows.len(),
+            self.painting.len(),
+            self.layers.len(),
+            self.opacities.len(),
+            self.paint_attrs.len(),
+            self.layer_attrs.len(),
+            self.filter_paints.len(),
+        ]
+    }
+}
+
+/// Places in the state's words.
+const STATE: usize = 16;
+const NEXT_DRAW_ID: usize = 10;
+const PAINT_ATTRS: usize = 11;
+const LAYER_ATTRS: usize = 12;
+const FILTER_PAINTS: usize = 13;
+const LAYERS: usize = 14;
+
+/// A screen with all its tables.
+#[derive(Debug, Clone)]
+pub struct CommandBucketer {
+    c: u32,
+    d: u32,
+    state: [u32; STATE],
+    tables: Tables,
+    pieces: Vec<Piece>,
+    runs: Vec<Run>,
+}
+
+impl CommandBucketer {
+    /// A fresh screen. Each row has room for c render commands and d depth fills.
+    pub fn new(viewport: Rect, c: u32, d: u32) -> Result<Self, Answer> {
+        let tables = Tables::new(sizes(viewport, c, d)?);
+        let mut bucketer = Self {
+            c,
+            d,
+            state: [0; STATE],
+            tables,
+            pieces: Vec::new(),
+            runs: Vec::new(),
+        };
+        bucketer.reset(viewport)?;
+        Ok(bucketer)
+    }
+
+    pub fn from_wh(width: u32, height: u32, c: u32, d: u32) -> Result<Self, Answer> {
+        Self::new(Rect::new(0, 0, width, height), c, d)
+    }
+
+    /// Rule 1. Tables are made anew only where the viewport asks for other lengths.
+    pub fn reset(&mut self, viewport: Rect) -> Result<(), Answer> {
+        let sizes = sizes(viewport, self.c, self.d)?;
+        if self.tables.lens() != sizes {
+            self.tables = Tables::new(sizes);
+        }
+        let Rect { x0, y0, x1, y1 } = viewport;
+        let t = &mut self.tables;
+        Answer::check(unsafe {
+            sys::coarse_reset(
+                self.state.as_mut_ptr(),
+                STATE,
+                x0,
+                y0,
+                x1,
+                y1,
+                self.c,
+                self.d,
+                t.render.as_mut_ptr(),
+                t.render.len(),
+                t.fills.as_mut_ptr(),
+                t.fills.len(),
+                t.depth.as_mut_ptr(),
+                t.depth.len(),
+                t.rows.as_mut_ptr(),
+                t.rows.len(),
+                t.painting.as_mut_ptr(),
+                t.painting.len(),
+                t.layers.as_mut_ptr(),
+                t.layers.len(),
+                t.opacities.as_mut_ptr(),
+                t.opacities.len(),
+                t.paint_attrs.as_mut_ptr(),
+                t.paint_attrs.len(),
+                t.layer_attrs.as_mut_ptr(),
+                t.layer_attrs.len(),
+                t.filter_paints.as_mut_ptr(),
+                t.filter_paints.len(),
+            )
+        })?;
+        self.make_lists();
+        Ok(())
+    }
+
+    /// Room for every run that a row can have, and for its pieces.
+    fn make_lists(&mut self) {
+        let room = self.buckets() + 1;
+        self.pieces.resize(room, Piece::default());
+        self.runs.resize(room, Run::default());
+    }
+
+    /// Rule 2: a recording file's words, bucketed from a fresh screen of its own viewport.
+    ///
+    /// Refused by 1 to 3 it changes nothing; by another number it leaves a fresh screen of the file's viewport.
+    pub fn bucket_commands(&mut self, file: &[u32]) -> Result<(), Answer> {
+        let viewport = match file {
+            [_, x0, y0, x1, y1, ..] => Rect::new(*x0, *y0, *x1, *y1),
+            _ => return Err(Answer::BadForm),
+        };
+        match sizes(viewport, self.c, self.d) {
+            Ok(sizes) if sizes != self.tables.lens() => {
+                let mut tables = Tables::new(sizes);
+                let done = record(&mut self.state, file, self.c, self.d, &mut tables);
+                if !matches!(
+                    done,
+                    Err(Answer::BadArena | Answer::BadViewport | Answer::BadForm)
+                ) {
+                    self.tables = tables;
+                    self.make_lists();
+                }
+                done
+            }
+            _ => record(&mut self.state, file, self.c, self.d, &mut self.tables),
+        }
+    }
+
+    /// Rules 3 to 7.
+    pub fn generate_fill(
+        &mut self,
+        paints: &[Paint],
+        segments: &[Segment],
+        fill: &RecordedFill,
+    ) -> Result<(), Answer> {
+        let t = &mut self.tables;
+        let (paints, paints_len) = paint_words(paints);
+        let (segments, segments_len) = segment_words(segments);
+        Answer::check(unsafe {
+            sys::coarse_fill(
+                self.state.as_mut_ptr(),
+                STATE,
+                t.rows.as_mut_ptr(),
+                t.rows.len(),
+                t.render.as_mut_ptr(),
+                t.render.len(),
+                t.fills.as_mut_ptr(),
+                t.fills.len(),
+                t.paint_attrs.as_mut_ptr(),
+                t.paint_attrs.len(),
+                paints,
+                paints_len,
+                segments,
+                segments_len,
+                fill.thread_idx,
+                fill.start,
+                fill.end,
+                fill.paint,
+                fill.blend_mode.mix,
+                fill.blend_mode.compose,
+                fill.mask,
+            )
+        })
+    }
+
+    /// Rule 8.
+    pub fn push_layer(&mut self, props: &LayerProps) -> Result<(), Answer> {
+        let t = &mut self.tables;
+        let none = LayerClip {
+            bbox: Rect::default(),
+            start: 0,
+            end: 0,
+            thread_idx: 0,
+        };
+        let clip = props.clip.unwrap_or(none);
+        Answer::check(unsafe {
+            sys::coarse_push_layer(
+                self.state.as_mut_ptr(),
+                STATE,
+                t.rows.as_mut_ptr(),
+                t.rows.len(),
+                t.render.as_mut_ptr(),
+                t.render.len(),
+                t.fills.as_mut_ptr(),
+                t.fills.len(),
+                t.layers.as_mut_ptr(),
+                t.layers.len(),
+                t.opacities.as_mut_ptr(),
+                t.opacities.len(),
+                props.blend_mode.mix,
+                props.blend_mode.compose,
+                props.opacity.to_bits(),
+                props.mask,
+                u32::from(props.clip.is_some()),
+                clip.bbox.x0,
+                clip.bbox.y0,
+                clip.bbox.x1,
+                clip.bbox.y1,
+                clip.start,
+                clip.end,
+                clip.thread_idx,
+            )
+        })
+    }
+
+    /// Rules 9 and 10. The list has the segments of the layer's clip.
+    pub fn pop_layer(&mut self, segments: &[Segment]) -> Result<(), Answer> {
+        let t = &mut self.tables;
+        let (segments, segments_len) = segment_words(segments);
+        Answer::check(unsafe {
+            sys::coarse_pop_layer(
+                self.state.as_mut_ptr(),
+                STATE,
+                t.rows.as_mut_ptr(),
+                t.rows.len(),
+                t.render.as_mut_ptr(),
+                t.render.len(),
+                t.fills.as_mut_ptr(),
+                t.fills.len(),
+                t.layers.as_mut_ptr(),
+                t.layers.len(),
+                t.opacities.as_mut_ptr(),
+                t.opacities.len(),
+                t.layer_attrs.as_mut_ptr(),
+                t.layer_attrs.len(),
+                segments,
+                segments_len,
+            )
+        })
+    }
+
+    /// Rule 11. paint_count is the paint list's length.
+    pub fn generate_filter_layer_fill(
+        &mut self,
+        pixmap: u32,
+        placement: &FilterLayerPlacement,
+        paint_count: u32,
+    ) -> Result<(), Answer> {
+        let t = &mut self.tables;
+        let Rect { x0, y0, x1, y1 } = placement.dest;
+        Answer::check(unsafe {
+            sys::coarse_filter_fill(
+                self.state.as_mut_ptr(),
+                STATE,
+                t.rows.as_mut_ptr(),
+                t.rows.len(),
+                t.render.as_mut_ptr(),
+                t.render.len(),
+                t.fills.as_mut_ptr(),
+                t.fills.len(),
+                t.paint_attrs.as_mut_ptr(),
+                t.paint_attrs.len(),
+                t.filter_paints.as_mut_ptr(),
+                t.filter_paints.len(),
+                x0,
+                y0,
+                x1,
+                y1,
+                placement.source_x,
+                placement.source_y,
+                pixmap,
+                paint_count,
+            )
+        })
+    }
+
+    /// Clears the depth words and sets every row to its first step.
+    pub fn begin_painting(&mut self) -> Result<(), Answer> {
+        let t = &mut self.tables;
+        Answer::check(unsafe {
+            sys::coarse_begin_painting(
+                self.state.as_mut_ptr(),
+                STATE,
+                t.depth.as_mut_ptr(),
+                t.depth.len(),
+                t.painting.as_mut_ptr(),
+                t.painting.len(),
+            )
+        })
+    }
+
+    /// The pieces of the next stored command of a row, or `None` where none is left.
+    pub fn paint_step(&mut self, row: usize) -> Result<Option<&[Piece]>, Answer> {
+        let t = &mut self.tables;
+        let mut result = [0; 2];
+        let (list, list_len) = words_mut(&mut self.pieces);
+        Answer::check(unsafe {
+            sys::coarse_paint_step(
+                self.state.as_ptr(),
+                STATE,
+                row,
+                t.rows.as_ptr(),
+                t.rows.len(),
+                t.render.as_ptr(),
+                t.render.len(),
+                t.fills.as_ptr(),
+                t.fills.len(),
+                t.depth.as_mut_ptr(),
+                t.depth.len(),
+                t.painting.as_mut_ptr(),
+                t.painting.len(),
+                t.paint_attrs.as_ptr(),
+                t.paint_attrs.len(),
+                t.layer_attrs.as_ptr(),
+                t.layer_attrs.len(),
+                list,
+                list_len,
+                result.as_mut_ptr(),
+                result.len(),
+            )
+        })?;
+        Ok(if result[0] == 1 {
+            None
+        } else {
+            self.pieces.get(..result[1])
+        })
+    }
+
+    /// The tiles first to end whose buckets hold 0, as runs.
+    pub fn unset_runs(&mut self, row: usize, first: u32, end: u32) -> Result<&[Run], Answer> {
+        let t = &self.tables;
+        let mut count = [0];
+        let (list, list_len) = words_mut(&mut self.runs);
+        Answer::check(unsafe {
+            sys::coarse_unset_runs(
+                self.state.as_ptr(),
+                STATE,
+                row,
+                t.depth.as_ptr(),
+                t.depth.len(),
+                first,
+                end,
+                list,
+                list_len,
+                count.as_mut_ptr(),
+                count.len(),
+            )
+        })?;
+        Ok(self.runs.get(..count[0]).unwrap_or_default())
+    }
+
+    /// The tiles first to end whose buckets hold at most the id, as runs.
+    pub fn visible_runs(
+        &mut self,
+        row: usize,
+        first: u32,
+        end: u32,
+        draw_id: u32,
+    ) -> Result<&[Run], Answer> {
+        let t = &self.tables;
+        let mut count = [0];
+        let (list, list_len) = words_mut(&mut self.runs);
+        Answer::check(unsafe {
+            sys::coarse_visible_runs(
+                self.state.as_ptr(),
+                STATE,
+                row,
+                t.depth.as_ptr(),
+                t.depth.len(),
+                first,
+                end,
+                draw_id,
+                list,
+                list_len,
+                count.as_mut_ptr(),
+                count.len(),
+            )
+        })?;
+        Ok(self.runs.get(..count[0]).unwrap_or_default())
+    }
+
+    /// The unset runs of the buckets first to end; the id is stored there, and painting ends.
+    pub fn unset_runs_and_write(
+        &mut self,
+        row: usize,
+        first: u32,
+        end: u32,
+        draw_id: u32,
+    ) -> Result<&[Run], Answer> {
+        let t = &mut self.tables;
+        let mut count = [0];
+        let (list, list_len) = words_mut(&mut self.runs);
+        Answer::check(unsafe {
+            sys::coarse_unset_runs_and_write(
+                self.state.as_mut_ptr(),
+                STATE,
+                row,
+                t.depth.as_mut_ptr(),
+                t.depth.len(),
+                first,
+                end,
+                draw_id,
+                list,
+                list_len,
+                count.as_mut_ptr(),
+                count.len(),
+            )
+        })?;
+        Ok(self.runs.get(..count[0]).unwrap_or_default())
+    }
+
+    /// Whether a draw over the tiles first to end need not look at the row's depth words.
+    pub fn can_skip(&self, row: usize, first: u32, end: u32, draw_id: u32) -> Result<bool, Answer> {
+        let mut yes = [0];
+        let rows = &self.tables.rows;
+        Answer::check(unsafe {
+            sys::coarse_can_skip(
+                self.state.as_ptr(),
+                STATE,
+                row,
+                rows.as_ptr(),
+                rows.len(),
+                first,
+                end,
+                draw_id,
+                yes.as_mut_ptr(),
+                yes.len(),
+            )
+        })?;
+        Ok(yes[0] == 1)
+    }
+
+    /// How many rows of tiles the screen has.
+    pub fn rows(&self) -> usize {
+        (self.state[3].saturating_sub(self.state[1]) / 4) as usize
+    }
+
+    /// The viewport's width in pixels.
+    pub fn width(&self) -> u32 {
+        self.state[2].saturating_sub(self.state[0])
+    }
+
+    /// How many depth buckets a row has.
+    pub fn buckets(&self) -> usize {
+        ((self.width() + 127) / 128) as usize
+    }
+
+    pub fn next_draw_id(&self) -> u32 {
+        self.state[NEXT_DRAW_ID]
+    }
+
+    pub fn open_layers(&self) -> u32 {
+        self.state[LAYERS]
+    }
+
+    /// The attributes of all fills, in the order of their indices.
+    pub fn paint_attrs(&self) -> impl Iterator<Item = PaintFillAttrs> + '_ {
+        let n = self.state[PAINT_ATTRS] as usize;
+        self.tables
+            .paint_attrs
+            .chunks_exact(8)
+            .take(n)
+            .map(|w| PaintFillAttrs {
+                paint: w[0],
+                blend_mode: BlendMode {
+                    mix: w[1],
+                    compose: w[2],
+                },
+                mask: w[3],
+                draw_id: w[4],
+                thread_idx: w[5],
+                origin: (w[6], w[7]),
+            })
+    }
+
+    /// The attributes of all popped layers. A NaN opacity has the pattern that was pushed.
+    pub fn layer_attrs(&self) -> impl Iterator<Item = LayerFillAttrs> + '_ {
+        let n = self.state[LAYER_ATTRS] as usize;
+        let opacities = self.tables.opacities.iter().skip(16);
+        let words = self.tables.layer_attrs.chunks_exact(6);
+        words
+            .zip(opacities)
+            .take(n)
+            .map(|(w, &opacity)| LayerFillAttrs {
+                blend_mode: BlendMode {
+                    mix: w[0],
+                    compose: w[1],
+                },
+                opacity: if w[5] == 0 {
+                    opacity
+                } else {
+                    f32::from_bits(w[5])
+                },
+                mask: w[2],
+                draw_id: w[3],
+                thread_idx: w[4],
+            })
+    }
+
+    pub fn filter_paints(&self) -> impl Iterator<Item = FilterPaint> + '_ {
+        let n = self.state[FILTER_PAINTS] as usize;
+        self.tables
+            .filter_paints
+            .chunks_exact(4)
+            .take(n)
+            .map(|w| FilterPaint {
+                pixmap: w[1].unsigned_abs(),
+                shift_x: w[2],
+                shift_y: w[3],
+            })
+    }
+}
+
+fn record(
+    state: &mut [u32; STATE],
+    file: &[u32],
+    c: u32,
+    d: u32,
+    t: &mut Tables,
+) -> Result<(), Answer> {
+    Answer::check(unsafe {
+        sys::coarse_bucket_recording(
+            state.as_mut_ptr(),
+            STATE,
+            file.as_ptr(),
+            file.len(),
+            c,
+            d,
+            t.render.as_mut_ptr(),
+            t.render.len(),
+            t.fills.as_mut_ptr(),
+            t.fills.len(),
+            t.depth.as_mut_ptr(),
+            t.depth.len(),
+            t.rows.as_mut_ptr(),
+            t.rows.len(),
+            t.painting.as_mut_ptr(),
+            t.painting.len(),
+            t.layers.as_mut_ptr(),
+            t.layers.len(),
+            t.opacities.as_mut_ptr(),
+            t.opacities.len(),
+            t.paint_attrs.as_mut_ptr(),
+            t.paint_attrs.len(),
+            t.layer_attrs.as_mut_ptr(),
+            t.layer_attrs.len(),
+            t.filter_paints.as_mut_ptr(),
+            t.filter_paints.len(),
+        )
+    })
+}
+
+#[cfg(test)]
+mod tests;

@@ -1,0 +1,379 @@
+use super::*;
+
+const SOLID: BlendMode = BlendMode { mix: 0, compose: 3 };
+
+fn fill(start: usize, end: usize, paint: u32) -> RecordedFill {
+    RecordedFill {
+        start,
+        end,
+        paint,
+        ..RecordedFill::default()
+    }
+}
+
+/// All pieces of a row, in painting order.
+fn painted(bucketer: &mut CommandBucketer, row: usize) -> Vec<Piece> {
+    let mut all = Vec::new();
+    while let Some(pieces) = bucketer.paint_step(row).unwrap() {
+        all.extend_from_slice(pieces);
+    }
+    all
+}
+
+fn paint(attrs_idx: u32, first: u32, end: u32) -> Piece {
+    Piece {
+        tag: 1,
+        attrs_idx,
+        first,
+        end,
+        alpha: 0,
+        nesting: 0,
+    }
+}
+
+#[test]
+fn known_points_of_the_split() {
+    let regular = |first, end| DepthSegment::Regular(Run { first, end });
+    let opaque = |first, end| DepthSegment::Opaque(Run { first, end });
+    assert_eq!(
+        split_opaque_span(10, 100),
+        Ok(vec![regular(10, 32), opaque(1, 3), regular(96, 100)])
+    );
+    assert_eq!(split_opaque_span(10, 40), Ok(vec![regular(10, 40)]));
+    assert_eq!(split_opaque_span(0, 64), Ok(vec![opaque(0, 2)]));
+    assert_eq!(split_opaque_span(32, 64), Ok(vec![opaque(1, 2)]));
+    assert_eq!(split_opaque_span(5, 5), Ok(vec![regular(5, 5)]));
+    assert_eq!(split_opaque_span(6, 5), Err(Answer::BadRun));
+    assert_eq!(split_opaque_span(0, 8193), Err(Answer::BadRun));
+}
+
+fn words(bytes: &[u8]) -> Vec<u32> {
+    bytes
+        .chunks_exact(4)
+        .map(|b| u32::from_le_bytes([b[0], b[1], b[2], b[3]]))
+        .collect()
+}
+
+/// Each sample is done, or refused with the number in its name; a done one paints every row to its end.
+#[test]
+fn the_samples() {
+    let folder = concat!(env!("CARGO_MANIFEST_DIR"), "/../samples");
+    let mut seen = 0;
+    for entry in std::fs::read_dir(folder).unwrap() {
+        let path = entry.unwrap().path();
+        if path.extension().map_or(true, |e| e != "rec") {
+            continue;
+        }
+        let name = path.file_stem().unwrap().to_str().unwrap().to_owned();
+        let number = name
+            .strip_prefix("refused-")
+            .map_or(0, |n| n.parse().unwrap());
+        let mut bucketer = CommandBucketer::from_wh(4, 4, 64, 64).unwrap();
+        let done = bucketer.bucket_commands(&words(&std::fs::read(&path).unwrap()));
+        assert_eq!(done.map_or_else(Answer::number, |()| 0), number, "{name}");
+        if number == 0 {
+            bucketer.begin_painting().unwrap();
+            let pieces: usize = (0..bucketer.rows())
+                .map(|row| painted(&mut bucketer, row).len())
+                .sum();
+            assert!(pieces > 0, "{name}");
+        }
+        seen += 1;
+    }
+    assert_eq!(seen, 10);
+}
+
+#[test]
+fn the_worked_example() {
+    let file = words(include_bytes!("../../samples/worked.rec"));
+    let mut bucketer = CommandBucketer::from_wh(4, 4, 64, 64).unwrap();
+    bucketer.bucket_commands(&file).unwrap();
+    assert_eq!(
+        (bucketer.rows(), bucketer.buckets(), bucketer.next_draw_id()),
+        (2, 2, 4)
+    );
+    bucketer.begin_painting().unwrap();
+    assert_eq!(
+        painted(&mut bucketer, 0),
+        [paint(0, 32, 64), paint(0, 10, 32)]
+    );
+    let layer = Piece {
+        tag: 3,
+        attrs_idx: 0,
+        first: 0,
+        end: 64,
+        alpha: 0,
+        nesting: 1,
+    };
+    assert_eq!(
+        painted(&mut bucketer, 1),
+        [
+            Piece {
+                nesting: 1,
+                ..paint(1, 0, 8)
+            },
+            layer
+        ]
+    );
+    assert_eq!(
+        bucketer
+            .layer_attrs()
+            .map(|a| a.opacity)
+            .collect::<Vec<_>>(),
+        [0.5]
+    );
+}
+
+#[test]
+fn refused_recordings_change_nothing_or_leave_a_fresh_screen() {
+    let mut bucketer = CommandBucketer::from_wh(256, 8, 64, 64).unwrap();
+    bucketer
+        .generate_fill(
+            &[Paint::new(true, 1)],
+            &[Segment::solid(0, 0, 64)],
+            &fill(0, 1, 0),
+        )
+        .unwrap();
+    let before = bucketer.clone();
+    for file in [
+        &[][..],
+        &[1, 0, 0, 8, 8],
+        &[1, 0, 0, 8, 8, 0, 0, 0, 0, 0, 1, 0, 0, 0],
+    ] {
+        assert_eq!(bucketer.bucket_commands(file), Err(Answer::BadForm));
+    }
+    assert_eq!(
+        bucketer.bucket_commands(&[1, 1, 0, 8, 8, 0, 0, 0, 0, 0, 1, 0, 0]),
+        Err(Answer::BadViewport)
+    );
+    assert_eq!(
+        (bucketer.state, &bucketer.tables.render),
+        (before.state, &before.tables.render)
+    );
+    assert_eq!(
+        bucketer.bucket_commands(&[1, 0, 0, 8, 12, 0, 0, 0, 0, 0, 1, 0, 1]),
+        Err(Answer::BadRecord)
+    );
+    assert_eq!((bucketer.rows(), bucketer.next_draw_id()), (3, 1));
+}
+
+#[test]
+fn layers_keep_their_opacity() {
+    let mut bucketer = CommandBucketer::from_wh(256, 8, 64, 64).unwrap();
+    let patterns = [
+        0x3f00_0000,
+        0x7fc0_0000,
+        0x7f80_0001,
+        0xffff_ffff,
+        0x8000_0000,
+        0x7f80_0000,
+    ];
+    for bits in patterns {
+        bucketer
+            .push_layer(&LayerProps {
+                opacity: f32::from_bits(bits),
+                ..LayerProps::default()
+            })
+            .unwrap();
+        bucketer.pop_layer(&[]).unwrap();
+    }
+    let kept: Vec<u32> = bucketer
+        .layer_attrs()
+        .map(|a| a.opacity.to_bits())
+        .collect();
+    assert_eq!(kept, patterns);
+}
+
+#[test]
+fn a_clipped_layer() {
+    let mut bucketer = CommandBucketer::from_wh(256, 8, 64, 64).unwrap();
+    let clip = LayerClip {
+        bbox: Rect::new(0, 0, 64, 4),
+        start: 0,
+        end: 1,
+        thread_idx: 7,
+    };
+    bucketer
+        .push_layer(&LayerProps {
+            clip: Some(clip),
+            ..LayerProps::default()
+        })
+        .unwrap();
+    bucketer
+        .generate_fill(
+            &[Paint::new(true, 1)],
+            &[Segment::solid(0, 8, 40)],
+            &fill(0, 1, 0),
+        )
+        .unwrap();
+    bucketer
+        .pop_layer(&[Segment::alpha(0, 2, 12, 160)])
+        .unwrap();
+    bucketer.begin_painting().unwrap();
+    let closing = Piece {
+        tag: 4,
+        attrs_idx: 0,
+        first: 2,
+        end: 12,
+        alpha: 160,
+        nesting: 1,
+    };
+    assert_eq!(
+        painted(&mut bucketer, 0),
+        [
+            Piece {
+                nesting: 1,
+                ..paint(0, 8, 16)
+            },
+            closing
+        ]
+    );
+    assert_eq!(closing.alpha_idx(), Some(160));
+    assert_eq!(bucketer.layer_attrs().next().unwrap().thread_idx, 7);
+}
+
+#[test]
+fn a_filter_fill() {
+    let mut bucketer = CommandBucketer::from_wh(256, 8, 64, 64).unwrap();
+    let placement = FilterLayerPlacement {
+        dest: Rect::new(16, 2, 48, 6),
+        source_x: 4,
+        source_y: 5,
+    };
+    bucketer
+        .generate_filter_layer_fill(9, &placement, 3)
+        .unwrap();
+    assert_eq!(
+        bucketer.filter_paints().collect::<Vec<_>>(),
+        [FilterPaint {
+            pixmap: 9,
+            shift_x: -12,
+            shift_y: 3
+        }]
+    );
+    let attrs: Vec<PaintFillAttrs> = bucketer.paint_attrs().collect();
+    let expected = PaintFillAttrs {
+        paint: 3,
+        blend_mode: SOLID,
+        mask: 0,
+        draw_id: 1,
+        thread_idx: 0,
+        origin: (0, 0),
+    };
+    assert_eq!(attrs, [expected]);
+    bucketer.begin_painting().unwrap();
+    assert_eq!(painted(&mut bucketer, 0), [paint(0, 4, 12)]);
+    assert_eq!(painted(&mut bucketer, 1), [paint(0, 4, 12)]);
+}
+
+#[test]
+fn runs_and_skips() {
+    let mut bucketer = CommandBucketer::from_wh(512, 4, 8, 8).unwrap();
+    let run = |first, end| Run { first, end };
+    assert_eq!(
+        bucketer.unset_runs_and_write(0, 1, 2, 7).unwrap(),
+        [run(1, 2)]
+    );
+    assert_eq!(
+        bucketer.unset_runs(0, 10, 100).unwrap(),
+        [run(10, 32), run(64, 100)]
+    );
+    assert_eq!(
+        bucketer.visible_runs(0, 10, 100, 7).unwrap(),
+        [run(10, 100)]
+    );
+    assert_eq!(
+        bucketer.visible_runs(0, 10, 100, 6).unwrap(),
+        [run(10, 32), run(64, 100)]
+    );
+    assert_eq!(bucketer.unset_runs(1, 10, 100), Err(Answer::BadRun));
+    assert_eq!(
+        bucketer.unset_runs_and_write(0, 0, 1, 0),
+        Err(Answer::BadRun)
+    );
+    assert_eq!(bucketer.can_skip(0, 0, 128, 1), Ok(true));
+    bucketer
+        .generate_fill(
+            &[Paint::new(true, 1)],
+            &[Segment::solid(0, 32, 64)],
+            &fill(0, 1, 0),
+        )
+        .unwrap();
+    bucketer
+        .generate_fill(
+            &[Paint::new(true, 1)],
+            &[Segment::solid(0, 32, 64)],
+            &fill(0, 1, 0),
+        )
+        .unwrap();
+    assert_eq!(bucketer.can_skip(0, 0, 128, 2), Ok(true));
+    assert_eq!(bucketer.can_skip(0, 0, 128, 1), Ok(false));
+    assert_eq!(bucketer.can_skip(0, 0, 32, 1), Ok(true));
+    assert_eq!(bucketer.can_skip(9, 0, 32, 1), Err(Answer::BadRun));
+}
+
+#[test]
+fn refusals_change_nothing() {
+    assert_eq!(
+        CommandBucketer::from_wh(6, 8, 64, 64).err(),
+        Some(Answer::BadViewport)
+    );
+    assert_eq!(
+        CommandBucketer::from_wh(8, 8, 0, 64).err(),
+        Some(Answer::BadArena)
+    );
+    let mut bucketer = CommandBucketer::from_wh(256, 8, 1, 1).unwrap();
+    let opaque = [Paint::new(true, 1)];
+    assert_eq!(bucketer.pop_layer(&[]), Err(Answer::NoLayer));
+    assert_eq!(bucketer.paint_step(0), Err(Answer::Open));
+    assert_eq!(
+        bucketer.generate_fill(&opaque, &[], &fill(0, 1, 0)),
+        Err(Answer::BadRecord)
+    );
+    assert_eq!(
+        bucketer.generate_fill(&opaque, &[Segment::solid(0, 3, 3)], &fill(0, 1, 0)),
+        Err(Answer::BadRecord)
+    );
+    let unordered = [Segment::solid(1, 0, 4), Segment::solid(0, 0, 4)];
+    assert_eq!(
+        bucketer.generate_fill(&opaque, &unordered, &fill(0, 2, 0)),
+        Err(Answer::BadOrder)
+    );
+    let clear = [Paint::new(false, 1)];
+    let two = [Segment::solid(0, 0, 4), Segment::solid(0, 8, 12)];
+    assert_eq!(
+        bucketer.generate_fill(&clear, &two, &fill(0, 2, 0)),
+        Err(Answer::FullRow)
+    );
+    let buckets = [Segment::solid(0, 0, 32), Segment::solid(0, 32, 64)];
+    assert_eq!(
+        bucketer.generate_fill(&opaque, &buckets, &fill(0, 2, 0)),
+        Err(Answer::FullDepth)
+    );
+    assert_eq!(bucketer.next_draw_id(), 1);
+    for _ in 0..16 {
+        bucketer.push_layer(&LayerProps::default()).unwrap();
+    }
+    assert_eq!(
+        bucketer.push_layer(&LayerProps::default()),
+        Err(Answer::Deep)
+    );
+    assert_eq!(bucketer.begin_painting(), Err(Answer::Open));
+    assert_eq!((bucketer.open_layers(), bucketer.next_draw_id()), (16, 1));
+}
+
+#[test]
+fn words_that_are_no_screen() {
+    let mut bucketer = CommandBucketer::from_wh(256, 8, 8, 8).unwrap();
+    bucketer.state[15] = 2;
+    let before = bucketer.clone();
+    assert_eq!(
+        bucketer.push_layer(&LayerProps::default()),
+        Err(Answer::BadRecord)
+    );
+    assert_eq!(
+        bucketer.reset(Rect::new(0, 0, 256, 8)),
+        Err(Answer::BadRecord)
+    );
+    assert_eq!(bucketer.state, before.state);
+}

@@ -1,0 +1,176 @@
+/* The coarse stage of a renderer, proved. Link target/staticlib/libhost.a (x86-64).
+ *
+ * Every slice is a pointer and a length in elements. Slices of one call must not overlap; a pointer is never null. Nothing is
+ * allocated, and no call keeps a pointer. Every call takes any numbers, words and lengths, and ends.
+ *
+ * Each call returns one of the answers below. A refused call changes no word; only coarse_bucket_recording, refused for its
+ * records or its steps, leaves a freshly reset screen. */
+#ifndef COARSE_H
+#define COARSE_H
+
+#include <stddef.h>
+#include <stdint.h>
+
+#ifdef __cplusplus
+extern "C" {
+#endif
+
+enum coarse_answer {
+    COARSE_DONE = 0,
+    COARSE_BAD_ARENA = 1,    /* render, fills or depth of a wrong length, or C or D not from 1 to 1,024 */
+    COARSE_BAD_VIEWPORT = 2, /* a side no multiple of 4, an end before its start, past 32,768, wider than 4,096, higher than 2,048 */
+    COARSE_BAD_FORM = 3,     /* a recording that is not exactly its sections */
+    COARSE_BAD_RECORD = 4,   /* a field out of bounds, a table or result of a wrong length, words that are no screen */
+    COARSE_BAD_ORDER = 5,    /* a segment list out of order */
+    COARSE_DEEP = 6,         /* a push with 16 layers open */
+    COARSE_NO_LAYER = 7,     /* a pop with none open */
+    COARSE_IDS = 8,          /* no draw id left */
+    COARSE_FULL_ATTRS = 9,   /* no room for an attribute or a filter paint */
+    COARSE_FULL_ROW = 10,    /* a row's render commands pass C */
+    COARSE_FULL_DEPTH = 11,  /* a row's depth fills pass D */
+    COARSE_BAD_RUN = 12,     /* no such row, a range out of order or past its end, or id 0 where it is written */
+    COARSE_OPEN = 13,        /* painting with a layer open, or a step with painting not begun */
+    COARSE_NO_ROOM = 14      /* the list is shorter than the result */
+};
+
+/* The screen's own numbers: viewport x0 y0 x1 y1, clip box x0 y0 x1 y1, C, D, next draw id, the numbers of paint attributes, layer
+ * attributes, filter paints and open layers, and 1 if painting has begun, else 0. A host starts with zeros and lends them to every
+ * call. Another length, or a last word above 1, is answer 4. */
+#define COARSE_STATE 16
+
+/* Lengths that no viewport changes. coarse_sizes gives the others. */
+#define COARSE_LAYERS 256
+#define COARSE_OPACITIES 1040
+#define COARSE_PAINT_ATTRS 8192
+#define COARSE_LAYER_ATTRS 6144
+#define COARSE_FILTER_PAINTS 1024
+
+/* Words of one record. */
+#define COARSE_PAINT 4   /* a paint: 1 if opaque else 0, handle, shift x, shift y */
+#define COARSE_SEGMENT 5 /* a segment: 0 solid or 1 alpha, tile row, first tile, end tile, alpha index or 0 */
+#define COARSE_PIECE 6   /* a piece: 1 paint solid, 2 paint alpha, 3 layer solid, 4 layer alpha; attribute; first tile; end tile; alpha index or 0; nesting */
+#define COARSE_RUN 2     /* a run: first, end */
+
+/* The lengths of the ten tables for a viewport, C and D, in the order that coarse_reset takes them. sizes_len is 10. */
+uint32_t coarse_sizes(uint32_t x0, uint32_t y0, uint32_t x1, uint32_t y1, uint32_t c, uint32_t d,
+                      size_t *sizes, size_t sizes_len);
+
+/* A fresh screen of this viewport, with room for C render commands and D depth fills in a row: every lent word is 0. */
+uint32_t coarse_reset(uint32_t *state, size_t state_len,
+                      uint32_t x0, uint32_t y0, uint32_t x1, uint32_t y1, uint32_t c, uint32_t d,
+                      uint32_t *render, size_t render_len,
+                      uint32_t *fills, size_t fills_len,
+                      uint32_t *depth, size_t depth_len,
+                      uint32_t *rows, size_t rows_len,
+                      uint32_t *painting, size_t painting_len,
+                      uint32_t *layers, size_t layers_len,
+                      float *opacities, size_t opacities_len,
+                      uint32_t *paint_attrs, size_t paint_attrs_len,
+                      uint32_t *layer_attrs, size_t layer_attrs_len,
+                      int32_t *filter_paints, size_t filter_paints_len);
+
+/* A recording, as the little-endian words of its file, bucketed from a fresh screen of its own viewport. The tables have the lengths
+ * that coarse_sizes gives for that viewport. */
+uint32_t coarse_bucket_recording(uint32_t *state, size_t state_len,
+                                 const uint32_t *file, size_t file_len, uint32_t c, uint32_t d,
+                                 uint32_t *render, size_t render_len,
+                                 uint32_t *fills, size_t fills_len,
+                                 uint32_t *depth, size_t depth_len,
+                                 uint32_t *rows, size_t rows_len,
+                                 uint32_t *painting, size_t painting_len,
+                                 uint32_t *layers, size_t layers_len,
+                                 float *opacities, size_t opacities_len,
+                                 uint32_t *paint_attrs, size_t paint_attrs_len,
+                                 uint32_t *layer_attrs, size_t layer_attrs_len,
+                                 int32_t *filter_paints, size_t filter_paints_len);
+
+/* The segments start to end of a list, filled with the paint at a place of a paint list. Default blend is mix 0, compose 3; mask 0 is
+ * none. */
+uint32_t coarse_fill(uint32_t *state, size_t state_len,
+                     uint32_t *rows, size_t rows_len,
+                     uint32_t *render, size_t render_len,
+                     uint32_t *fills, size_t fills_len,
+                     uint32_t *paint_attrs, size_t paint_attrs_len,
+                     const uint32_t *paints, size_t paints_len,
+                     const uint32_t *segments, size_t segments_len,
+                     uint32_t thread, size_t start, size_t end, uint32_t paint,
+                     uint32_t mix, uint32_t compose, uint32_t mask);
+
+/* Opens a layer. opacity: the bits of an f32, any; every pattern is kept. flag: 1 with a clip, whose box, segment range and thread
+ * follow, or 0 without, and those are not read. */
+uint32_t coarse_push_layer(uint32_t *state, size_t state_len,
+                           uint32_t *rows, size_t rows_len,
+                           uint32_t *render, size_t render_len,
+                           uint32_t *fills, size_t fills_len,
+                           uint32_t *layers, size_t layers_len,
+                           float *opacities, size_t opacities_len,
+                           uint32_t mix, uint32_t compose, uint32_t opacity, uint32_t mask,
+                           uint32_t flag, uint32_t x0, uint32_t y0, uint32_t x1, uint32_t y1,
+                           uint32_t start, uint32_t end, uint32_t thread);
+
+/* Closes the innermost layer. segments: the list that its clip's range lies in; empty without a clip. */
+uint32_t coarse_pop_layer(uint32_t *state, size_t state_len,
+                          uint32_t *rows, size_t rows_len,
+                          uint32_t *render, size_t render_len,
+                          uint32_t *fills, size_t fills_len,
+                          uint32_t *layers, size_t layers_len,
+                          float *opacities, size_t opacities_len,
+                          uint32_t *layer_attrs, size_t layer_attrs_len,
+                          const uint32_t *segments, size_t segments_len);
+
+/* Draws a filter layer's pixmap into a box. paint_count: how many paints the paint list has. */
+uint32_t coarse_filter_fill(uint32_t *state, size_t state_len,
+                            uint32_t *rows, size_t rows_len,
+                            uint32_t *render, size_t render_len,
+                            uint32_t *fills, size_t fills_len,
+                            uint32_t *paint_attrs, size_t paint_attrs_len,
+                            int32_t *filter_paints, size_t filter_paints_len,
+                            uint32_t x0, uint32_t y0, uint32_t x1, uint32_t y1,
+                            uint32_t source_x, uint32_t source_y, uint32_t pixmap, uint32_t paint_count);
+
+/* Clears the depth words and sets every row to its first step. */
+uint32_t coarse_begin_painting(uint32_t *state, size_t state_len,
+                               uint32_t *depth, size_t depth_len,
+                               uint32_t *painting, size_t painting_len);
+
+/* The next stored command of a row: its pieces at the start of the list, six words each. result_len is 2: 1 if no command was left,
+ * else 0; how many pieces. */
+uint32_t coarse_paint_step(const uint32_t *state, size_t state_len, size_t row,
+                           const uint32_t *rows, size_t rows_len,
+                           const uint32_t *render, size_t render_len,
+                           const uint32_t *fills, size_t fills_len,
+                           uint32_t *depth, size_t depth_len,
+                           uint32_t *painting, size_t painting_len,
+                           const uint32_t *paint_attrs, size_t paint_attrs_len,
+                           const uint32_t *layer_attrs, size_t layer_attrs_len,
+                           uint32_t *list, size_t list_len,
+                           size_t *result, size_t result_len);
+
+/* The runs of the tiles first to end whose buckets are unset, or hold at most the id: two words a run. count_len is 1. */
+uint32_t coarse_unset_runs(const uint32_t *state, size_t state_len, size_t row,
+                           const uint32_t *depth, size_t depth_len, uint32_t first, uint32_t end,
+                           uint32_t *list, size_t list_len, size_t *count, size_t count_len);
+
+uint32_t coarse_visible_runs(const uint32_t *state, size_t state_len, size_t row,
+                             const uint32_t *depth, size_t depth_len, uint32_t first, uint32_t end, uint32_t id,
+                             uint32_t *list, size_t list_len, size_t *count, size_t count_len);
+
+/* Lists the unset runs of the buckets first to end, and stores the id there. Done, it ends painting. count_len is 1. */
+uint32_t coarse_unset_runs_and_write(uint32_t *state, size_t state_len, size_t row,
+                                     uint32_t *depth, size_t depth_len, uint32_t first, uint32_t end, uint32_t id,
+                                     uint32_t *list, size_t list_len, size_t *count, size_t count_len);
+
+/* 1 if a draw of the id over the tiles first to end need not look at the row's depth words, else 0. yes_len is 1. */
+uint32_t coarse_can_skip(const uint32_t *state, size_t state_len, size_t row,
+                         const uint32_t *rows, size_t rows_len, uint32_t first, uint32_t end, uint32_t id,
+                         uint32_t *yes, size_t yes_len);
+
+/* The parts of an opaque span of tiles, left to right, three words each: 1 for a regular piece or 2 for a depth fill, first, end (tiles
+ * of a piece, buckets of a depth fill). parts_len is 9; zeros follow. */
+uint32_t coarse_split_opaque_span(uint32_t first, uint32_t end, uint32_t *parts, size_t parts_len);
+
+#ifdef __cplusplus
+}
+#endif
+
+#endif

@@ -4,7 +4,11 @@ use crate::coarse::bucketer::RowState;
 use crate::coarse::cmd::{PaintFillAttrs, RenderCmd};
 use crate::coarse::depth::{BucketRange, DepthBuffer};
 use crate::coarse::{CommandBucketer, probe};
-use crate::file::{good_blend, good_box, good_dest, good_segment, in_order};
+use crate::file::{good_blend, good_box, good_dest, good_segment, good_viewport, in_order};
+use crate::limits::{
+    self, BAD_ARENA, BAD_ORDER, BAD_RECORD, BAD_RUN, BAD_VIEWPORT, HANDLES, LAST_PIXEL, LAST_TILE, MOST_RECORDS, MOST_ROOM, NO_LAYER, NO_ROOM, OPEN,
+    THREADS,
+};
 use crate::print::handle;
 use crate::scene::{blend, draw, mask, paint, rect, strip};
 use crate::span::TileAlignedSpan;
@@ -14,25 +18,6 @@ use vello_common::filter::FilterLayerPlacement;
 use vello_common::paint::{ImageSource, Paint};
 use vello_common::pixmap::Pixmap;
 use vello_common::record::{LayerClip, LayerProps};
-
-const BAD_ARENA: u32 = 1;
-const BAD_VIEWPORT: u32 = 2;
-const BAD_RECORD: u32 = 4;
-const BAD_ORDER: u32 = 5;
-const DEEP: u32 = 6;
-const NO_LAYER: u32 = 7;
-const IDS: u32 = 8;
-const FULL_ATTRS: u32 = 9;
-const FULL_ROW: u32 = 10;
-const FULL_DEPTH: u32 = 11;
-const BAD_RUN: u32 = 12;
-const OPEN: u32 = 13;
-const NO_ROOM: u32 = 14;
-
-const LAST_TILE: u32 = 8_192;
-const LAST_PIXEL: u32 = 32_768;
-const LAST_ID: u32 = 1_048_576;
-const HANDLES: u32 = 1 << 31;
 
 /// What a list holds before a call.
 pub(crate) const MARK: u32 = 0xa5a5_a5a5;
@@ -214,11 +199,10 @@ impl Screen {
     }
 
     fn reset(&mut self, viewport: [u32; 4], c: u32, d: u32) -> u32 {
-        let [x0, y0, x1, y1] = viewport;
-        if !(good_box(viewport) && x1 - x0 <= 4_096 && y1 - y0 <= 2_048) {
+        if !good_viewport(viewport) {
             return BAD_VIEWPORT;
         }
-        if ![c, d].iter().all(|room| (1..=1_024).contains(room)) {
+        if ![c, d].iter().all(|room| (1..=MOST_ROOM).contains(room)) {
             return BAD_ARENA;
         }
         (self.viewport, self.c, self.d) = (viewport, c as usize, d as usize);
@@ -243,12 +227,11 @@ impl Screen {
             return inputs;
         }
         self.perform(call);
-        let limit = self.limits();
-        if limit == 0 {
+        let Err(limit) = limits::within(&self.bucketer, self.c, self.d) else {
             self.done.push(call.clone());
             self.begun = false;
             return 0;
-        }
+        };
         self.bucketer.reset(rect(self.viewport));
         for call in self.done.clone() {
             self.perform(&call);
@@ -261,11 +244,11 @@ impl Screen {
         match call {
             Call::Fill { draw: [thread, start, end, paint, mix, compose, mask], paints, segments } => {
                 let good_paint = paints.get(*paint as usize).is_some_and(|&[flag, handle, _, _]| flag <= 1 && handle < HANDLES);
-                let good = *thread < 256 && good_paint && good_blend(*mix, *compose) && *mask < HANDLES;
+                let good = *thread < THREADS && good_paint && good_blend(*mix, *compose) && *mask < HANDLES;
                 if good { judge_list(segments, *start, *end) } else { BAD_RECORD }
             }
             Call::Push { mix, compose, mask, flag, clip: [x0, y0, x1, y1, start, end, thread], .. } => {
-                let clipped = *flag == 0 || (good_box([*x0, *y0, *x1, *y1]) && start <= end && *thread < 256);
+                let clipped = *flag == 0 || (good_box([*x0, *y0, *x1, *y1]) && start <= end && *thread < THREADS);
                 if good_blend(*mix, *compose) && *mask < HANDLES && clipped { 0 } else { BAD_RECORD }
             }
             Call::Pop { segments } => match probe::innermost_clip(&self.bucketer) {
@@ -274,7 +257,7 @@ impl Screen {
                 Some(Some(range)) => judge_list(segments, u32::try_from(range.start).expect("a word"), u32::try_from(range.end).expect("a word")),
             },
             Call::Filter { pixmap, dest, source, count } => {
-                let good = *pixmap < HANDLES && good_dest(*dest) && source.iter().all(|edge| *edge <= LAST_PIXEL) && *count <= 4_096;
+                let good = *pixmap < HANDLES && good_dest(*dest) && source.iter().all(|edge| *edge <= LAST_PIXEL) && *count <= MOST_RECORDS;
                 if good { 0 } else { BAD_RECORD }
             }
             _ => 0,
@@ -328,20 +311,6 @@ impl Screen {
             Call::NextId(id) => probe::set_next_id(&mut self.bucketer, *id),
             _ => {}
         }
-    }
-
-    /// The smallest number that refuses the step just done.
-    fn limits(&self) -> u32 {
-        let screen = &self.bucketer;
-        let attrs = [screen.paint_fill_attrs.len(), screen.layer_fill_attrs.len()].iter().any(|count| *count > 1_024);
-        let passed = [
-            (DEEP, probe::open_layers(screen) > 16),
-            (IDS, probe::next_id(screen) > LAST_ID + 1),
-            (FULL_ATTRS, attrs || screen.filter_paints.len() > 256),
-            (FULL_ROW, screen.rows().iter().any(|row| row.render_cmds.len() > self.c)),
-            (FULL_DEPTH, screen.rows().iter().any(|row| row.depth_cmds.len() > self.d)),
-        ];
-        passed.iter().find(|(_, yes)| *yes).map_or(0, |(number, _)| *number)
     }
 
     fn begin(&mut self) -> u32 {

@@ -1,21 +1,8 @@
 //! The recording file of document 01: its form, its records, and whether they are good.
 
-/// Answer numbers of document 01.
-pub(crate) const BAD_VIEWPORT: u32 = 2;
-pub(crate) const BAD_FORM: u32 = 3;
-pub(crate) const BAD_RECORD: u32 = 4;
-pub(crate) const BAD_ORDER: u32 = 5;
-
-/// Limits of the program `rowlist`.
-const MOST_BYTES: usize = 65_536;
-const MOST_ROWS: u32 = 32;
-/// The most records of a section.
-const MOST_RECORDS: u32 = 4_096;
-/// The last pixel edge and the last tile edge.
-const LAST_PIXEL: u32 = 32_768;
-const LAST_TILE: u32 = 8_192;
-/// Masks and pixmaps are handles below this.
-const HANDLES: u32 = 1 << 31;
+use crate::limits::{
+    BAD_FORM, BAD_ORDER, BAD_RECORD, BAD_VIEWPORT, HANDLES, HIGHEST, LAST_PIXEL, LAST_TILE, MOST_BYTES, MOST_RECORDS, MOST_ROWS, THREADS, WIDEST,
+};
 
 /// A file's sections, each record as its words.
 pub(crate) struct Recording {
@@ -43,7 +30,7 @@ pub(crate) fn stream(mut bytes: &[u8]) -> Vec<&[u8]> {
 /// A file that is good up to the order of its segment lists, or the number that refuses it.
 pub(crate) fn judged(bytes: &[u8]) -> Result<Recording, u32> {
     let recording = sections(bytes).ok_or(BAD_FORM)?;
-    if !good_viewport(recording.viewport) {
+    if !few_rows(recording.viewport) {
         Err(BAD_VIEWPORT)
     } else if !good_records(&recording) {
         Err(BAD_RECORD)
@@ -97,8 +84,14 @@ fn only<const N: usize>(rest: &mut &[u32]) -> Option<[u32; N]> {
     }
 }
 
-fn good_viewport([x0, y0, x1, y1]: [u32; 4]) -> bool {
-    good_box([x0, y0, x1, y1]) && x1 - x0 <= 4_096 && y1 - y0 <= 2_048 && (y1 - y0) / 4 <= MOST_ROWS
+/// A viewport that `rowlist` takes.
+fn few_rows(viewport: [u32; 4]) -> bool {
+    good_viewport(viewport) && (viewport[3] - viewport[1]) / 4 <= MOST_ROWS
+}
+
+/// A box that is no larger than a screen can be.
+pub(crate) fn good_viewport([x0, y0, x1, y1]: [u32; 4]) -> bool {
+    good_box([x0, y0, x1, y1]) && x1 - x0 <= WIDEST && y1 - y0 <= HIGHEST
 }
 
 /// Multiples of 4, ends not before starts, all on the scene.
@@ -134,7 +127,7 @@ pub(crate) fn good_blend(mix: u32, compose: u32) -> bool {
 }
 
 fn good_draw(r: &Recording, &[thread, start, end, paint, mix, compose, mask]: &[u32; 7]) -> bool {
-    thread < 256
+    thread < THREADS
         && good_range(start, end, r.segments.len())
         && (paint as usize) < r.paints.len()
         && good_blend(mix, compose)
@@ -160,7 +153,7 @@ fn good_layer(r: &Recording, layer: &[u32; 22]) -> bool {
 
 fn good_clip(r: &Recording, layer: &[u32; 22]) -> bool {
     let &[.., x0, y0, x1, y1, start, end, thread, _, _, _, _, _, _, _] = layer;
-    good_box([x0, y0, x1, y1]) && good_range(start, end, r.segments.len()) && thread < 256
+    good_box([x0, y0, x1, y1]) && good_range(start, end, r.segments.len()) && thread < THREADS
 }
 
 fn good_placement(layer: &[u32; 22]) -> bool {

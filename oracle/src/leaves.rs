@@ -2,14 +2,10 @@
 
 use crate::coarse::depth::{BucketRange, DepthBuffer, DepthSegment, DepthState, split_opaque_span};
 use crate::coarse::probe::depth_words;
+use crate::limits::{LAST_ID, LAST_TILE, MOST_BUCKETS};
 use crate::random::Random;
 use crate::span::TileAlignedSpan;
 use std::fmt::Write;
-
-/// The last tile edge, and the most buckets of a screen.
-const LAST_TILE: u32 = 8_192;
-const MOST_BUCKETS: u32 = 32;
-const LAST_ID: u32 = 1_048_576;
 
 /// First and end, of tiles or buckets.
 type Range = (u32, u32);

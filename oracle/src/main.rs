@@ -11,6 +11,7 @@ mod kurbo {
     pub(crate) use vello_common::kurbo::*;
 }
 mod leaves;
+mod limits;
 mod painting;
 mod peniko {
     pub(crate) use vello_common::peniko::*;

@@ -3,24 +3,11 @@
 use crate::coarse::cmd::PaintFillAttrs;
 use crate::coarse::{CommandBucketer, probe};
 use crate::file;
+use crate::limits::{ROOM, within};
 use crate::peniko::BlendMode;
 use crate::record::RecordedFill;
 use crate::scene::{Scene, scene};
 use vello_common::record::{Node, RecordedLayer, RecordedLayerKind};
-
-/// Answer numbers of steps.
-const DEEP: u32 = 6;
-const IDS: u32 = 8;
-const FULL_ATTRS: u32 = 9;
-const FULL_ROW: u32 = 10;
-const FULL_DEPTH: u32 = 11;
-
-/// Limits of document 01; room for commands and depth fills as in `rowlist`.
-const MOST_LAYERS: usize = 16;
-const LAST_ID: u32 = 1_048_576;
-const MOST_ATTRS: usize = 1_024;
-const MOST_FILTERS: usize = 256;
-const ROOM: usize = 64;
 
 /// Plays recordings one after another on one screen, reset before each, as the dispatcher does.
 pub(crate) struct Player {
@@ -118,20 +105,7 @@ fn pop(bucketer: &mut CommandBucketer, scene: &Scene) -> Result<(), u32> {
     limits(bucketer)
 }
 
-/// The smallest number that refuses the step just done; a count that equals its limit is fine.
+/// The limits of `rowlist`, after a step.
 fn limits(bucketer: &CommandBucketer) -> Result<(), u32> {
-    let rows = bucketer.rows();
-    let passed = [
-        (DEEP, probe::open_layers(bucketer) > MOST_LAYERS),
-        (IDS, probe::next_id(bucketer) > LAST_ID + 1),
-        (
-            FULL_ATTRS,
-            bucketer.paint_fill_attrs.len() > MOST_ATTRS
-                || bucketer.layer_fill_attrs.len() > MOST_ATTRS
-                || bucketer.filter_paints.len() > MOST_FILTERS,
-        ),
-        (FULL_ROW, rows.iter().any(|row| row.render_cmds.len() > ROOM)),
-        (FULL_DEPTH, rows.iter().any(|row| row.depth_cmds.len() > ROOM)),
-    ];
-    passed.iter().find(|(_, yes)| *yes).map_or(Ok(()), |(number, _)| Err(*number))
+    within(bucketer, ROOM, ROOM)
 }

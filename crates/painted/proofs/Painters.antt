@@ -10,7 +10,7 @@ use lib.ListN.{length, getD, take, length-replicate}
 use borrow.Author.Tests.{lt-ltb, ltb-true, ltb-false, ne-eqb}
 use Rattle.rules.specs.Lists.{is-none, is-empty}
 use Rattle.rules.specs.Spans.{Span, span}
-use Rattle.rules.specs.Depth.{Summary, written-from, written}
+use Rattle.rules.specs.Depth.{Summary, written}
 use Rattle.rules.specs.Commands.{Command, paint-fill, layer-fill, push-buf, pop-buf}
 use Rattle.rules.specs.Attributes.{Attrs}
 use Rattle.rules.specs.Rows.{Row}
@@ -22,6 +22,7 @@ use Rattle.shown.proofs.Skips.{sound-blank}
 use Rattle.paint.specs.Painting.{good-id, good-paint, good-command}
 use Rattle.paint.specs.Standing.{Ready}
 use Rattle.paint.proofs.ByRules.{AllIncluded, sound-step}
+use Rattle.tiles.proofs.Newest.{written-length}
 use Rattle.painted.specs.Fair.{FairCommand, Nested, nesting-after, Fair}
 use Rattle.painted.specs.Painters.{Going}
 
@@ -68,10 +69,6 @@ summary-same d (some s) e n h =
     let y : first-of (d .union) ≡ s .first = ap first-of e in
     let w : end-of (d .union) ≡ s .end = ap end-of e in
     rw (ne-eqb (d .largest) 0 z, y, w) (ap (λ (u : Option Span). record { union = u; largest = d .largest }) (sym e))
-
-pub length-written : (id : ℕ) (s : Span) (i : ℕ) (bs : List ℕ) → length (written-from i id s bs) ≡ length bs
-length-written id s i [] = refl
-length-written id s i (b ∷ bs) = ap suc (length-written id s (suc i) bs)
 
 some-there : {A : Type 0} (xs : List A) → 0 < length xs → is-empty xs ≡ false
 some-there [] h = absurd (omega arith)
@@ -129,7 +126,7 @@ module _ (a : Attrs) (n : ℕ) (r : Row) (o : Fine r) (h : Fair a n r) where
             let l : p .steps < length (r .fills) = ltb-true _ _ e in
             let z : p .steps + 1 - length (r .fills) ≡ p .steps - length (r .fills) = omega arith in
             record {
-              wide = length-written (paint-id a (getD (r .fills) (length (r .fills) - (p .steps + 1)) no-fill .attribute)) (getD (r .fills) (length (r .fills) - (p .steps + 1)) no-fill .buckets) 0 (p .buckets) ∙ g .wide;
+              wide = written-length (p .buckets) (paint-id a (getD (r .fills) (length (r .fills) - (p .steps + 1)) no-fill .attribute)) (getD (r .fills) (length (r .fills) - (p .steps + 1)) no-fill .buckets) ∙ g .wide;
               steps = omega arith;
               nesting = rw z (g .nesting);
               sound = q;

@@ -34,10 +34,11 @@ use Rattle.painter.specs.Judging.{runs-number, skip-number}
 use Rattle.painter.specs.Beginning.{begun}
 use Rattle.painter.specs.Stepping.{part, with-part}
 use Rattle.painter.specs.Rows.{Wrote, or-runs, unset-of, visible-of, write-in-place, write-of, record-skip, skip-of-row}
+use Rattle.tiles.proofs.Newest.{written-length}
 use Rattle.painted.specs.Fair.{Fair}
 use Rattle.painted.specs.Canvases.{buckets-in, standing-in, depth-of, painting-of, Whole, listed-of, wrote-of}
 use Rattle.painted.proofs.Kept.{fine-at, own-words, row-stands}
-use Rattle.painted.proofs.Painters.{summary-same, length-written, taken}
+use Rattle.painted.proofs.Painters.{summary-same, taken}
 use Rattle.painted.proofs.Begin.{judged-0, all-standing, depth-long}
 use Rattle.painted.proofs.Step.{part-join, put-join, set-same}
 use Rattle.painted.proofs.Whole.{all-set}
@@ -145,7 +146,7 @@ module _ (k : calls.Canvas) (w : Whole k) (i : ℕ) where
     after-long = go (eqb (wrote-answer .number) Done)
       where
         go : (b : Bool) → length (cond b (written (p .buckets) id t) (p .buckets)) ≡ length (p .buckets)
-        go true = length-written id t 0 (p .buckets)
+        go true = written-length (p .buckets) id t
         go false = refl
 
     only-written : or-nothing [] wrote-answer ≡ wrote-answer

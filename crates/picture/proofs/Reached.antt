@@ -29,15 +29,11 @@ use Rattle.painted.proofs.Whole.{begin-whole, paint-whole}
 use Rattle.painted.proofs.Painted.{reset-whole, step-whole}
 use Rattle.painted.proofs.Runs.{write-whole, same-screen}
 use Rattle.tiles.proofs.Turns.{call-screen}
+use Rattle.tiles.proofs.Walked.{built-append}
 use Rattle.tiles.specs.Built.{Built, no-step, then}
 use Rattle.picture.specs.Reached.{Reached, by-reset, by-step, by-begin, by-paint, by-write, begin-at, paint-at, write-at}
 use Rattle.picture.specs.Standing.{Stands}
 use Rattle.picture.proofs.Words.{step-words, begin-words, paint-words, write-words, begin-screen}
-
--- one done step more
-built-more : {w : ℕ} {xs : List Step} {s u : Screen Row} (x : Step) → Built w xs s u → call Row row-ops w x u .number ≡ Done → Built w (xs ++ (x ∷ [])) s (call Row row-ops w x u .value)
-built-more x no-step e = then e no-step
-built-more x (then d b) e = then d (built-more x b e)
 
 -- a done reset
 module _ (v : Rect) (c d : ℕ) (l : Lent) (z : judged-reset v c d (lengths (l .tables)) ≡ 0) where
@@ -102,7 +98,7 @@ module _ {f : Frame} {xs : List Step} {l : Lent} (h : Stands f xs l) where
       record {
         canvas = step-call 32 x k .value;
         whole = step-whole x k (h .whole);
-        built = rw (d .1) (built-more x (h .built) (d .0));
+        built = rw (d .1) (built-append 32 (h .built) (then (d .0) no-step));
         same = ap (λ (a : Answer Lent). a .value) q;
       }
 

@@ -57,10 +57,10 @@ module _ (w t k x e a b A B : ℕ) (lo : k * w ≤ t) (hi : t < suc k * w) (n : 
       (le-leb x t (omega arith)) (lt-ltb t e (omega arith))
     where
       go : (c d : Bool) → leb b a ≡ false → leb x (k * w) ≡ true → leb (suc k * w) e ≡ true → leb A k ≡ true → ltb k B ≡ true → ltb t a ≡ false → leb b t ≡ false → leb x t ≡ true → ltb t e ≡ true → Hit w t k (span x e) (cond (leb b a) (regular (span x e) ∷ []) (keep c (regular (span x a)) (buckets (span A B) ∷ keep d (regular (span b e)) [])))
-      go true true q₁ q₂ q₃ q₄ q₅ q₆ q₇ q₈ q₉ = record { regular-one = simp (q₁, q₂, q₃, q₄, q₅, q₆, q₇, q₈, q₉); bucket-one = simp (q₁, q₂, q₃, q₄, q₅, q₆, q₇) }
-      go true false q₁ q₂ q₃ q₄ q₅ q₆ q₇ q₈ q₉ = record { regular-one = simp (q₁, q₂, q₃, q₄, q₅, q₆, q₇, q₈, q₉); bucket-one = simp (q₁, q₂, q₃, q₄, q₅, q₆, q₇) }
-      go false true q₁ q₂ q₃ q₄ q₅ q₆ q₇ q₈ q₉ = record { regular-one = simp (q₁, q₂, q₃, q₄, q₅, q₆, q₇, q₈, q₉); bucket-one = simp (q₁, q₂, q₃, q₄, q₅, q₆, q₇) }
-      go false false q₁ q₂ q₃ q₄ q₅ q₆ q₇ q₈ q₉ = record { regular-one = simp (q₁, q₂, q₃, q₄, q₅, q₆, q₇, q₈, q₉); bucket-one = simp (q₁, q₂, q₃, q₄, q₅, q₆, q₇) }
+      go true true q₁ q₂ q₃ q₄ q₅ q₆ q₇ q₈ q₉ = record { regular-one = simp (q₁, q₂, q₃, q₆, q₇, q₈, q₉); bucket-one = simp (q₁, q₂, q₃, q₄, q₅) }
+      go true false q₁ q₂ q₃ q₄ q₅ q₆ q₇ q₈ q₉ = record { regular-one = simp (q₁, q₂, q₃, q₆, q₈, q₉); bucket-one = simp (q₁, q₂, q₃, q₄, q₅) }
+      go false true q₁ q₂ q₃ q₄ q₅ q₆ q₇ q₈ q₉ = record { regular-one = simp (q₁, q₂, q₃, q₇, q₈, q₉); bucket-one = simp (q₁, q₂, q₃, q₄, q₅) }
+      go false false q₁ q₂ q₃ q₄ q₅ q₆ q₇ q₈ q₉ = record { regular-one = simp (q₁, q₂, q₃, q₈, q₉); bucket-one = simp (q₁, q₂, q₃, q₄, q₅) }
 
   -- one regular piece, the span itself
   alone : whole-at w k (span x e) ≡ false → Hit w t k (span x e) (regular (span x e) ∷ [])
@@ -72,17 +72,17 @@ module _ (w t k x e a b A B : ℕ) (lo : k * w ≤ t) (hi : t < suc k * w) (n : 
 
   -- a bucket before the depth fill's
   before-cut : k < A → a < b → (c d g : Bool) → ltb x a ≡ c → leb x t ≡ g → leb x (k * w) ≡ false → leb A k ≡ false → ltb t a ≡ true → ltb t e ≡ true → leb b t ≡ false → Hit w t k (span x e) (cut c d)
-  before-cut h l true true true q r v u₁ u₂ u₃ u₄ = record { regular-one = simp (v, r, u₁, u₂, u₃, u₄); bucket-one = simp (v, u₁) }
-  before-cut h l true true false q r v u₁ u₂ u₃ u₄ = record { regular-one = simp (v, r, u₁, u₂, u₃, u₄); bucket-one = simp (v, u₁) }
-  before-cut h l true false true q r v u₁ u₂ u₃ u₄ = record { regular-one = simp (v, r, u₁, u₂, u₃, u₄); bucket-one = simp (v, u₁) }
-  before-cut h l true false false q r v u₁ u₂ u₃ u₄ = record { regular-one = simp (v, r, u₁, u₂, u₃, u₄); bucket-one = simp (v, u₁) }
+  before-cut h l true true true q r v u₁ u₂ u₃ u₄ = record { regular-one = simp (v, r, u₂, u₃, u₄); bucket-one = simp (v, u₁) }
+  before-cut h l true true false q r v u₁ u₂ u₃ u₄ = record { regular-one = simp (v, r, u₂, u₃, u₄); bucket-one = simp (v, u₁) }
+  before-cut h l true false true q r v u₁ u₂ u₃ u₄ = record { regular-one = simp (v, r, u₂, u₃); bucket-one = simp (v, u₁) }
+  before-cut h l true false false q r v u₁ u₂ u₃ u₄ = record { regular-one = simp (v, r, u₂, u₃); bucket-one = simp (v, u₁) }
   before-cut h l false d true q r v u₁ u₂ u₃ u₄ =
       let g₁ : a ≤ x = ltb-false x a q in
       let g₂ : x ≤ t = leb-true x t r in
       let g₃ : t < a = ltb-true t a u₂ in
       absurd (omega arith)
-  before-cut h l false true false q r v u₁ u₂ u₃ u₄ = record { regular-one = simp (v, r, u₁, u₂, u₃, u₄); bucket-one = simp (v, u₁) }
-  before-cut h l false false false q r v u₁ u₂ u₃ u₄ = record { regular-one = simp (v, r, u₁, u₂, u₃, u₄); bucket-one = simp (v, u₁) }
+  before-cut h l false true false q r v u₁ u₂ u₃ u₄ = record { regular-one = simp (v, r, u₃, u₄); bucket-one = simp (v, u₁) }
+  before-cut h l false false false q r v u₁ u₂ u₃ u₄ = record { regular-one = simp (v, r, u₃); bucket-one = simp (v, u₁) }
 
   before : k < A → Hit w t k (span x e) (parts x e a b A B)
   before h =
@@ -101,14 +101,14 @@ module _ (w t k x e a b A B : ℕ) (lo : k * w ≤ t) (hi : t < suc k * w) (n : 
   after-cut : (c d g : Bool) → ltb b e ≡ d → ltb t e ≡ g → b ≤ t → leb x (k * w) ≡ true → leb (suc k * w) e ≡ false → ltb k B ≡ false → leb A k ≡ true → ltb t a ≡ false → leb b t ≡ true → leb x t ≡ true → Hit w t k (span x e) (cut c d)
   after-cut true true true q r l v₁ v₂ u₁ u₂ u₃ u₄ u₅ = record { regular-one = simp (v₁, v₂, r, u₃, u₄, u₅); bucket-one = simp (v₁, v₂, u₁, u₂) }
   after-cut true true false q r l v₁ v₂ u₁ u₂ u₃ u₄ u₅ = record { regular-one = simp (v₁, v₂, r, u₃, u₄, u₅); bucket-one = simp (v₁, v₂, u₁, u₂) }
-  after-cut false true true q r l v₁ v₂ u₁ u₂ u₃ u₄ u₅ = record { regular-one = simp (v₁, v₂, r, u₃, u₄, u₅); bucket-one = simp (v₁, v₂, u₁, u₂) }
-  after-cut false true false q r l v₁ v₂ u₁ u₂ u₃ u₄ u₅ = record { regular-one = simp (v₁, v₂, r, u₃, u₄, u₅); bucket-one = simp (v₁, v₂, u₁, u₂) }
+  after-cut false true true q r l v₁ v₂ u₁ u₂ u₃ u₄ u₅ = record { regular-one = simp (v₁, v₂, r, u₄, u₅); bucket-one = simp (v₁, v₂, u₁, u₂) }
+  after-cut false true false q r l v₁ v₂ u₁ u₂ u₃ u₄ u₅ = record { regular-one = simp (v₁, v₂, r, u₄, u₅); bucket-one = simp (v₁, v₂, u₁, u₂) }
   after-cut c false true q r l v₁ v₂ u₁ u₂ u₃ u₄ u₅ =
       let g₁ : e ≤ b = ltb-false b e q in
       let g₂ : t < e = ltb-true t e r in
       absurd (omega arith)
-  after-cut true false false q r l v₁ v₂ u₁ u₂ u₃ u₄ u₅ = record { regular-one = simp (v₁, v₂, r, u₃, u₄, u₅); bucket-one = simp (v₁, v₂, u₁, u₂) }
-  after-cut false false false q r l v₁ v₂ u₁ u₂ u₃ u₄ u₅ = record { regular-one = simp (v₁, v₂, r, u₃, u₄, u₅); bucket-one = simp (v₁, v₂, u₁, u₂) }
+  after-cut true false false q r l v₁ v₂ u₁ u₂ u₃ u₄ u₅ = record { regular-one = simp (v₁, v₂, r, u₃, u₅); bucket-one = simp (v₁, v₂, u₁, u₂) }
+  after-cut false false false q r l v₁ v₂ u₁ u₂ u₃ u₄ u₅ = record { regular-one = simp (v₁, v₂, r, u₅); bucket-one = simp (v₁, v₂, u₁, u₂) }
 
   and-false : (c : Bool) → (c && false) ≡ false
   and-false true = refl

@@ -141,7 +141,7 @@ module _ (w : ℕ) where
   pub record Walks (A B : List Layer → Type 0) (g : Logged Row → Answer (Logged Row)) (f : Screen Row → Answer (Screen Row)) : Type 0 where
     pub at : (l : Logged Row) → A (l .screen .state .layers) → Walked B (g l) (f (l .screen)) l
 
-  built-append : {xs ys : List Step} {s u v : Screen Row} → Built w xs s u → Built w ys u v → Built w (xs ++ ys) s v
+  pub built-append : {xs ys : List Step} {s u v : Screen Row} → Built w xs s u → Built w ys u v → Built w (xs ++ ys) s v
   built-append no-step b = b
   built-append ((then) e a) b = (then) e (built-append a b)
 

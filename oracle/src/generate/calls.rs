@@ -4,9 +4,9 @@ use super::damage::WORDS;
 use super::draft::{HALF, ONE, solid};
 use super::scenes::{OPACITIES, blend, bounds, new_list, viewport};
 use crate::calls::Call;
+use crate::limits::{LAST_ID, MOST_ROOM};
 use crate::random::Random;
 
-const LAST_ID: u32 = 1_048_576;
 const DEFAULT: [u32; 2] = [0, 3];
 
 /// Words that a program which replays sequences has for the arenas of a screen.
@@ -456,7 +456,7 @@ fn damaged_reset(sketch: &mut Sketch, random: &mut Random) -> Call {
     change(random, &mut words);
     let [x0, y0, x1, y1, c, d] = words;
     let rows = y1.saturating_sub(y0).div_ceil(4);
-    let fits = rows <= MOST_ROWS && rows * 4 * c.min(1_024) <= MOST_RENDER && rows * 2 * d.min(1_024) <= MOST_FILLS;
+    let fits = rows <= MOST_ROWS && rows * 4 * c.min(MOST_ROOM) <= MOST_RENDER && rows * 2 * d.min(MOST_ROOM) <= MOST_FILLS;
     let (c, d) = if fits { (c, d) } else { (0, 0) };
     // Known only as a guess: pops that come later may be refused.
     sketch.open.clear();

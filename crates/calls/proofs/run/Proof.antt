@@ -10,7 +10,7 @@ use Rattle.calls.proofs.run.Lts as lts
 use Rattle.calls.proofs.first_screen.Reads as first-screen-reads
 use Rattle.calls.proofs.size_of.Reads as size-of-reads
 use Rattle.calls.proofs.step_at.Reads as step-at-reads
-use Rattle.calls.proofs.words.after.Reads as after-reads
+use Rattle.callwords.proofs.after.Reads as after-reads
 
 abbrev Inv-loop : tie.InvT-loop
 Inv-loop input out₀ render₀ fills₀ depth₀ rows₀ painting₀ layers₀ opacities₀ paint-attrs₀ layer-attrs₀ filter-paints₀ list₀ stand₀ at₀ out render fills depth rows painting layers opacities paint-attrs layer-attrs filter-paints list stand at =
@@ -20,47 +20,47 @@ abbrev μ-loop : tie.MeasureT-loop
 μ-loop input out₀ render₀ fills₀ depth₀ rows₀ painting₀ layers₀ opacities₀ paint-attrs₀ layer-attrs₀ filter-paints₀ list₀ stand₀ at₀ out render fills depth rows painting layers opacities paint-attrs layer-attrs filter-paints list stand at =
     length input - at
 
--- src/lib.rt:637:17
+-- src/lib.rt:210:17
 first-screen-requires : tie.Need-first-screen-requires Inv-loop μ-loop
 first-screen-requires c κs = search needs
 
--- src/lib.rt:642:5
+-- src/lib.rt:215:5
 loop-holds : tie.Need-loop-holds Inv-loop μ-loop
 loop-holds c = search needs
 
--- src/lib.rt:643:28
+-- src/lib.rt:216:28
 mul-size-of : tie.Need-mul-size-of Inv-loop μ-loop
 mul-size-of c = search needs
 
--- src/lib.rt:643:28
+-- src/lib.rt:216:28
 sub-size-of : tie.Need-sub-size-of Inv-loop μ-loop
 sub-size-of c = search needs
 
--- src/lib.rt:643:28
+-- src/lib.rt:216:28
 part-size-of-start : tie.Need-part-size-of-start Inv-loop μ-loop
 part-size-of-start c = search needs
 
--- src/lib.rt:643:28
+-- src/lib.rt:216:28
 part-size-of-end : tie.Need-part-size-of-end Inv-loop μ-loop
 part-size-of-end c = search needs
 
--- src/lib.rt:643:13
+-- src/lib.rt:216:13
 size-of-requires : tie.Need-size-of-requires Inv-loop μ-loop
 size-of-requires c κs = search needs
 
--- src/lib.rt:644:13
+-- src/lib.rt:217:13
 after-requires : tie.Need-after-requires Inv-loop μ-loop
 after-requires c κs = search needs
 
--- src/lib.rt:645:9
+-- src/lib.rt:218:9
 step-at-requires : tie.Need-step-at-requires Inv-loop μ-loop
 step-at-requires c κs = search needs
 
--- src/lib.rt:642:5
+-- src/lib.rt:215:5
 loop-less : tie.Need-loop-less Inv-loop μ-loop
 loop-less c = omega (arith, c .before .before .before .before .before .before .before .before .before .before .before .before .before .before .before .before .before .before .before .before .before .before .before .before .before .before .before .before .before .before .before .before .before .before .before .before .after .ensures .2 (c .before .before .before .before .before .before .before .before .before .before .before .before .before .before .before .before .before .before .before .before .before .before .before .before .before .before .before .before .before .before .before .before .before .before .before .before .before .size-of .ensures) (c .before .before .before .before .before .before .before .before .before .before .before .before .before .before .before .before .before .before .before .before .before .before .before .before .before .before .before .before .before .before .before .before .before .before .before .before .before .before .before .loop-test .taken), c .before .before .before .before .before .before .before .before .before .before .before .before .before .before .before .before .before .before .before .before .before .before .before .before .before .before .before .before .before .before .before .before .before .before .before .before .after .ensures .1)
 
--- src/lib.rt:642:5
+-- src/lib.rt:215:5
 loop-again : tie.Need-loop-again Inv-loop μ-loop
 loop-again c = (
   (c .before .before .before .before .before .before .before .before .before .before .before .before .before .before .before .before .before .before .before .before .before .before .before .before .before .before .before .before .before .before .before .before .before .before .before .before .after .ensures .1),
@@ -78,55 +78,55 @@ loop-again c = (
   c .before .before .before .before .before .before .before .before .before .before .before .before .before .before .before .before .before .before .before .before .before .before .before .step-at .kept .1 .1 .1 .1 .1 .1 .1 .1 .1 .1 .1 .1 .1 .1 .1 .0 ∙ c .before .before .before .before .before .before .before .before .before .before .before .before .before .before .before .before .before .before .before .before .before .before .before .before .before .before .before .before .before .before .before .before .before .before .before .before .before .before .before .before .loop .inv .12,
 )
 
--- src/lib.rt:621:1
+-- src/lib.rt:194:1
 same-length : tie.Need-same-length Inv-loop μ-loop
 same-length c = search needs
 
--- src/lib.rt:621:1
+-- src/lib.rt:194:1
 same-length-2 : tie.Need-same-length-2 Inv-loop μ-loop
 same-length-2 c = search needs
 
--- src/lib.rt:621:1
+-- src/lib.rt:194:1
 same-length-3 : tie.Need-same-length-3 Inv-loop μ-loop
 same-length-3 c = search needs
 
--- src/lib.rt:621:1
+-- src/lib.rt:194:1
 same-length-4 : tie.Need-same-length-4 Inv-loop μ-loop
 same-length-4 c = search needs
 
--- src/lib.rt:621:1
+-- src/lib.rt:194:1
 same-length-5 : tie.Need-same-length-5 Inv-loop μ-loop
 same-length-5 c = search needs
 
--- src/lib.rt:621:1
+-- src/lib.rt:194:1
 same-length-6 : tie.Need-same-length-6 Inv-loop μ-loop
 same-length-6 c = search needs
 
--- src/lib.rt:621:1
+-- src/lib.rt:194:1
 same-length-7 : tie.Need-same-length-7 Inv-loop μ-loop
 same-length-7 c = search needs
 
--- src/lib.rt:621:1
+-- src/lib.rt:194:1
 same-length-8 : tie.Need-same-length-8 Inv-loop μ-loop
 same-length-8 c = search needs
 
--- src/lib.rt:621:1
+-- src/lib.rt:194:1
 same-length-9 : tie.Need-same-length-9 Inv-loop μ-loop
 same-length-9 c = search needs
 
--- src/lib.rt:621:1
+-- src/lib.rt:194:1
 same-length-10 : tie.Need-same-length-10 Inv-loop μ-loop
 same-length-10 c = search needs
 
--- src/lib.rt:621:1
+-- src/lib.rt:194:1
 same-length-11 : tie.Need-same-length-11 Inv-loop μ-loop
 same-length-11 c = search needs
 
--- src/lib.rt:621:1
+-- src/lib.rt:194:1
 same-length-12 : tie.Need-same-length-12 Inv-loop μ-loop
 same-length-12 c = search needs
 
--- src/lib.rt:621:1
+-- src/lib.rt:194:1
 returns : tie.Need-returns Inv-loop μ-loop
 returns c = search needs
 

@@ -1,0 +1,58 @@
+//! Answer numbers and limits of document 01, and which limit a screen passes.
+
+use crate::coarse::{CommandBucketer, probe};
+
+pub(crate) const BAD_ARENA: u32 = 1;
+pub(crate) const BAD_VIEWPORT: u32 = 2;
+pub(crate) const BAD_FORM: u32 = 3;
+pub(crate) const BAD_RECORD: u32 = 4;
+pub(crate) const BAD_ORDER: u32 = 5;
+const DEEP: u32 = 6;
+pub(crate) const NO_LAYER: u32 = 7;
+const IDS: u32 = 8;
+const FULL_ATTRS: u32 = 9;
+const FULL_ROW: u32 = 10;
+const FULL_DEPTH: u32 = 11;
+pub(crate) const BAD_RUN: u32 = 12;
+pub(crate) const OPEN: u32 = 13;
+pub(crate) const NO_ROOM: u32 = 14;
+
+/// The last pixel edge and the last tile edge.
+pub(crate) const LAST_PIXEL: u32 = 32_768;
+pub(crate) const LAST_TILE: u32 = 8_192;
+/// A viewport's largest width and height, and the buckets of the widest.
+pub(crate) const WIDEST: u32 = 4_096;
+pub(crate) const HIGHEST: u32 = 2_048;
+pub(crate) const MOST_BUCKETS: u32 = 32;
+/// Masks and pixmaps are handles below this.
+pub(crate) const HANDLES: u32 = 1 << 31;
+/// Thread numbers are below this.
+pub(crate) const THREADS: u32 = 256;
+/// The most records of a section.
+pub(crate) const MOST_RECORDS: u32 = 4_096;
+/// The most commands or depth fills that a row can have room for.
+pub(crate) const MOST_ROOM: u32 = 1_024;
+pub(crate) const LAST_ID: u32 = 1_048_576;
+const MOST_LAYERS: usize = 16;
+const MOST_ATTRS: usize = 1_024;
+const MOST_FILTERS: usize = 256;
+
+/// Limits of the program `rowlist`: bytes, rows, and C and D.
+pub(crate) const MOST_BYTES: usize = 65_536;
+pub(crate) const MOST_ROWS: u32 = 32;
+pub(crate) const ROOM: usize = 64;
+
+/// The smallest number that refuses the step just done on a screen with room for c commands and d depth fills a row; a count that equals its
+/// limit is fine.
+pub(crate) fn within(screen: &CommandBucketer, c: usize, d: usize) -> Result<(), u32> {
+    let rows = screen.rows();
+    let attrs = [screen.paint_fill_attrs.len(), screen.layer_fill_attrs.len()].iter().any(|count| *count > MOST_ATTRS);
+    let passed = [
+        (DEEP, probe::open_layers(screen) > MOST_LAYERS),
+        (IDS, probe::next_id(screen) > LAST_ID + 1),
+        (FULL_ATTRS, attrs || screen.filter_paints.len() > MOST_FILTERS),
+        (FULL_ROW, rows.iter().any(|row| row.render_cmds.len() > c)),
+        (FULL_DEPTH, rows.iter().any(|row| row.depth_cmds.len() > d)),
+    ];
+    passed.iter().find(|(_, yes)| *yes).map_or(Ok(()), |(number, _)| Err(*number))
+}

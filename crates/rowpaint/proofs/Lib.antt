@@ -1,2 +1,5 @@
 pub mod Runs
 pub mod Parts
+pub mod Looks
+pub mod Saying
+pub mod Along

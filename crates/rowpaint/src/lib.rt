@@ -9,6 +9,7 @@ ghost use Rattle.paint.specs.Painting.{lent, out};
 ghost use Rattle.painter.specs.Stepping.{painted-of, attributes, Ready};
 ghost use Rattle.rowpaint.specs.Running.{row-run, row-painted};
 
+pub mod plain;
 pub mod run;
 
 // The steps of a row that is there, painting having begun: the row's own parts are handed on.

@@ -56,8 +56,16 @@ module _ (a : Attrs) (s re fi D : List ℕ) (c : Calm s re fi) where
         ≡ step-to a (summary-at s) D m (word re (4 * at)) (word re (4 * at + 1)) (word re (4 * at + 2)) (word re (4 * at + 3)) (d + at) ((d + at) ∷ m ∷ []) l
     unfolding painted-row next-step
     taken l =
-        rw (le-ltb (length re) (4 * word s 0) (c .renders), le-ltb (length fi) (2 * word s 1) (c .depths), le-ltb 16 m g,
-        le-ltb (word s 1 + word s 0) (d + at) (omega arith), c .summary, le-ltb (d + at) d (omega arith), one-back, lt-ltb at (word s 0) h)
+        rw (
+          le-ltb (length re) (4 * word s 0) (c .renders),
+          le-ltb (length fi) (2 * word s 1) (c .depths),
+          le-ltb 16 m g,
+          le-ltb (word s 1 + word s 0) (d + at) (omega arith),
+          c .summary,
+          le-ltb (d + at) d (omega arith),
+          one-back,
+          lt-ltb at (word s 0) h,
+        )
 
   module _ (start : Place) (at n m : ℕ) (l : List ℕ) (z : Reaches steps D d start (place at n m l)) (h : at < word s 0) (r : ℕ)
       (q : Said a (summary-at s) D m (word re (4 * at)) (word re (4 * at + 1)) (word re (4 * at + 2)) (word re (4 * at + 3)) r) where

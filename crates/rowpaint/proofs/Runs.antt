@@ -15,6 +15,7 @@ use Rattle.rules.specs.Painting as rules
 use Rattle.paint.specs.declared.Painted.{Painted}
 use Rattle.paint.specs.Painting.{Lent, lent, Out, out, listed, settled, painted-row}
 use Rattle.rowpaint.specs.Running.{goes-on, ended, one-more, run, most, own-step}
+use Rattle.rowpaint.specs.Kinds.{Onward}
 
 -- a step's pieces have room in its list
 settled-few : (x : Option rules.Painted) (d p l : List ℕ) → 6 * settled x d p l .answer .pieces ≤ length l
@@ -82,6 +83,12 @@ module _ (step : List ℕ → List ℕ → List ℕ → Out) where
 
   pub rest-all : (g : Out) → Rest g g 0
   rest-all g = record { few = omega arith; whole = refl }
+
+  -- steps that are done together
+  pub rest-far : {start now next : Out} {k n : ℕ} → Rest start now k → n ≤ most - k → Onward step n now next → Rest start next (k + n)
+  rest-far {k = k} {n = n} z h g =
+      let e : most - k - n ≡ most - (k + n) = omega (arith, z .few) in
+      record { few = omega (arith, z .few); whole = rw (← e) (sym (g (most - k) k h) ∙ z .whole) }
 
   no-and : (b : Bool) → (b && false) ≡ false
   no-and true = refl

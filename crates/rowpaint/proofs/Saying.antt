@@ -94,9 +94,9 @@ module _ (attrs : Attrs) (u : Summary) (D : List ℕ) (m : ℕ) where
     from-fill layer a id r f g =
         record {
           whole = λ z q P l h. let o = g (omega arith) in
-          ap (λ (c : Option rules.Painted). settled c D P l) (o .0 q) ∙ fill-whole layer a (word-span w) i id q P l (f .whole z) h ∙ rw (o .1, o .2);
+              ap (λ (c : Option rules.Painted). settled c D P l) (o .0 q) ∙ fill-whole layer a (word-span w) i id q P l (f .whole z) h ∙ rw (o .1, o .2);
           hidden = λ z q P l. let o = g (omega arith) in
-          ap (λ (c : Option rules.Painted). settled c D P l) (o .0 q) ∙ fill-hidden layer a (word-span w) i id q P l (f .hidden z);
+              ap (λ (c : Option rules.Painted). settled c D P l) (o .0 q) ∙ fill-hidden layer a (word-span w) i id q P l (f .hidden z);
           pushed = λ z. absurd (omega (arith, f .low));
           popped = λ z. absurd (omega (arith, f .low));
         }

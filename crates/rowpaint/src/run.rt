@@ -1,4 +1,5 @@
 // The steps of one row, over its own words. Parts: where a function asks something, its callers have judged it.
+use crate::plain::run_plain;
 use paint::Painted;
 use paint::step_row;
 ghost use mathlib.Core.Path.{_≡_};
@@ -47,7 +48,7 @@ fn step_on(
     }
 }
 
-// The row's steps, until one is refused or the row is finished.
+// The row's steps, until one is refused or the row is finished: commands that one look settles together, every other step by itself.
 pub fn run_row(
     state: &[u32],
     render: &[u32],
@@ -67,7 +68,7 @@ pub fn run_row(
     let mut pieces: usize = 0;
     let mut steps: usize = 0;
     while steps < 2049 {
-        let done = step_on(
+        let gone = run_plain(
             state,
             render,
             fills,
@@ -79,9 +80,24 @@ pub fn run_row(
             layers,
             list,
             pieces,
+            2048 - steps,
+        );
+        let k = steps + gone.steps;
+        let done = step_on(
+            state,
+            render,
+            fills,
+            depth,
+            painting,
+            paint_attrs,
+            paints,
+            layer_attrs,
+            layers,
+            list,
+            gone.pieces,
         );
         if done.number != 0 {
-            if steps == 0 {
+            if k == 0 {
                 return done;
             }
             return Painted {
@@ -94,7 +110,7 @@ pub fn run_row(
             return done;
         }
         pieces = done.pieces;
-        steps += 1;
+        steps = k + 1;
     }
     Painted {
         number: 0,

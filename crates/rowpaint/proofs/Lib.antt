@@ -3,3 +3,4 @@ pub mod Parts
 pub mod Looks
 pub mod Saying
 pub mod Along
+pub mod Laws

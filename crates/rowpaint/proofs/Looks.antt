@@ -5,14 +5,14 @@ use mathlib.Core.List.{List, [], _∷_}
 use mathlib.Core.Option.{none, some}
 use Prim.Native.Nat.{ℕ, suc, _+_, _-_, _*_, _/_, _%_, _≤_, _<_, min, max}
 use native.Mathlib.Omega.{arith}
-use lib.ListN.{length, getD, take, drop}
-use lib.Seq.{drop-cons}
+use lib.ListN.{length, getD}
 use lib.Dec.{leb, ltb, eqb}
 use borrow.Author.Tests.{lt-ltb, le-leb, lt-leb, eq-eqb, ne-eqb}
 use Rattle.rules.specs.Spans.{Span, span}
-use Rattle.rules.specs.Depth.{Summary, can-skip, is-visible, bucket-runs, runs-in, runs, visible-runs}
+use Rattle.rules.specs.Depth.{Summary, can-skip, is-visible, runs-in, runs, visible-runs}
 use Rattle.rules.specs.Commands.{word-span}
 use Rattle.cmd.proofs.Tests.{sum-test}
+use Rattle.depth.proofs.Searching.{runs-end, runs-closed, Reached, reach-end}
 use Rattle.shown.specs.Summaries.{shown-runs}
 use Rattle.rowpaint.specs.Kinds.{summary-by, good-index, Fills, FillSaid}
 
@@ -42,30 +42,48 @@ module _ (a e n f g id : ℕ) where
     unfolding can-skip
     apart-left i = rw (lt-leb _ _ h, some-there, lt-leb _ _ i)
 
--- a fill within one bucket
-module _ (D : List ℕ) (id f g k : ℕ) (e : k ≡ f / 32) (h : f < g) (i : g ≤ 32 * k + 32) (j : k < length D) where
-  met-one : (g + 31) / 32 - k ≡ 1
-  met-one = omega arith
+-- buckets looked at one by one
+pub no-true : {P : Type 0} → false ≡ true → P
+no-true e = let z : _≡_ {A = ℕ} 0 1 = cc in absurd (omega arith)
 
-  one-there : take 1 (drop k D) ≡ getD D k 0 ∷ []
-  one-there = rw (drop-cons D k 0 j)
+module _ (D : List ℕ) (id a e : ℕ) where
+  -- all up to i hold at most the id
+  abbrev pub Seen : ℕ → Type 0
+  Seen i = Reached (is-visible id) D e a i
 
-  low : max f (k * 32) ≡ f
+  pub seen-end : (i : ℕ) → e ≤ length D → Seen i → e ≤ i → runs-in (is-visible id) D (span a e) ≡ span a e ∷ []
+  seen-end i f r h =
+      let o = reach-end (is-visible id) D e f a i r h in
+      let s : i ≡ e = omega (arith, r .within) in
+      o .run ∙ rw (s, runs-end (is-visible id) D e e (omega arith))
+
+  -- all up to i hold more
+  pub record Hidden (i : ℕ) : Type 0 where
+    pub within : i ≤ e
+    pub rest : runs-in (is-visible id) D (span a e) ≡ runs-in (is-visible id) D (span i e)
+
+  pub hidden-on : (i : ℕ) → e ≤ length D → Hidden i → i < e → id < getD D i 0 → Hidden (i + 1)
+  hidden-on i f r h g = record { within = omega arith; rest = r .rest ∙ runs-closed (is-visible id) D e f i h (lt-leb _ _ g) }
+
+  pub hidden-end : (i : ℕ) → Hidden i → e ≤ i → runs-in (is-visible id) D (span a e) ≡ []
+  hidden-end i r h = r .rest ∙ runs-end (is-visible id) D e i h
+
+-- the buckets that a fill meets, all open or all shut
+module _ (D : List ℕ) (id f g : ℕ) (h : f < g) where
+  low : max f (f / 32 * 32) ≡ f
   low = omega arith
 
-  high : min g (suc k * 32) ≡ g
+  high : min g ((g + 31) / 32 * 32) ≡ g
   high = omega arith
 
-  either : (b : Bool) → is-visible id (getD D k 0) ≡ b → visible-runs 32 D id (span f g) ≡ cond b (span f g ∷ []) []
-  unfolding visible-runs runs runs-in bucket-runs
-  either true q = rw (lt-ltb _ _ h, ← e, met-one, one-there, q, low, high)
-  either false q = rw (lt-ltb _ _ h, ← e, met-one, one-there, q)
+  pub met-seen : runs-in (is-visible id) D (span (f / 32) ((g + 31) / 32)) ≡ span (f / 32) ((g + 31) / 32) ∷ []
+      → visible-runs 32 D id (span f g) ≡ span f g ∷ []
+  unfolding visible-runs runs
+  met-seen e = rw (lt-ltb _ _ h, e, low, high)
 
-  pub bucket-seen : getD D k 0 ≤ id → visible-runs 32 D id (span f g) ≡ span f g ∷ []
-  bucket-seen q = either true (le-leb _ _ q)
-
-  pub bucket-hidden : id < getD D k 0 → visible-runs 32 D id (span f g) ≡ []
-  bucket-hidden q = either false (lt-leb _ _ q)
+  pub met-hidden : runs-in (is-visible id) D (span (f / 32) ((g + 31) / 32)) ≡ [] → visible-runs 32 D id (span f g) ≡ []
+  unfolding visible-runs runs
+  met-hidden e = rw (lt-ltb _ _ h, e)
 
 -- what is shown of a fill, by the summary or the depth words
 module _ (u : Summary) (D : List ℕ) (id : ℕ) (s : Span) (h : s .first < s .end) (g : s .end ≤ 32 * length D) where

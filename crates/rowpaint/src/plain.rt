@@ -8,7 +8,7 @@ ghost use Prim.Native.Nat.{ℕ, _+_, _-_, _*_, _/_, _%_, _≤_, _<_};
 ghost use lib.ListN.{length};
 ghost use Rattle.rules.specs.Attributes.{Attrs};
 ghost use Rattle.rules.specs.Spans.{span};
-ghost use Rattle.rules.specs.Depth.{Summary, can-skip};
+ghost use Rattle.rules.specs.Depth.{Summary, can-skip, is-visible, runs-in};
 ghost use Rattle.cmd.specs.Attrs.{words-at};
 ghost use Rattle.paint.specs.Painting.{word, given, attrs-at, out, listed};
 ghost use Rattle.rowpaint.specs.Running.{own-step};
@@ -79,6 +79,39 @@ fn is_apart(from: u32, to: u32, largest: u32, first: u32, end: u32, id: u32) -> 
     end <= from
 }
 
+// Every bucket from a to e holds at most the id.
+fn is_seen(depth: &[u32], a: usize, e: usize, id: u32) -> bool
+    requires { ⌜ (a < e) × (e ≤ length (now depth)) ⌝ }
+    ensures { λ r. ⌜ (r ≡ true → runs-in (is-visible id) (now (depth .entry)) (span a e) ≡ span a e ∷ []) ⌝ }
+{
+    if id < depth[a] {
+        return false;
+    }
+    let mut i = a + 1;
+    while i < e {
+        if id < depth[i] {
+            return false;
+        }
+        i += 1;
+    }
+    true
+}
+
+// Every bucket from a to e holds more.
+fn is_hidden(depth: &[u32], a: usize, e: usize, id: u32) -> bool
+    requires { ⌜ (a < e) × (e ≤ length (now depth)) ⌝ }
+    ensures { λ r. ⌜ (r ≡ true → runs-in (is-visible id) (now (depth .entry)) (span a e) ≡ []) ⌝ }
+{
+    let mut i = a;
+    while i < e {
+        if depth[i] <= id {
+            return false;
+        }
+        i += 1;
+    }
+    true
+}
+
 // What one look shows of a fill's words.
 fn fill_kind(
     tag: u32,
@@ -110,14 +143,15 @@ fn fill_kind(
     if is_apart(from, to, largest, first, end, id) {
         return 1;
     }
-    let bucket = first / BUCKET;
-    if 32 * bucket + 32 < end {
-        return 0;
-    }
-    if depth[wide(bucket)] <= id {
+    let a = wide(first / BUCKET);
+    let e = wide((end + 31) / BUCKET);
+    if is_seen(depth, a, e, id) {
         return 1;
     }
-    2
+    if is_hidden(depth, a, e, id) {
+        return 2;
+    }
+    0
 }
 
 // A buffer's words.

@@ -12,7 +12,7 @@ use Rattle.rules.specs.Spans.{Span, span}
 use Rattle.rules.specs.Depth.{Summary, can-skip, is-visible, runs-in, runs, visible-runs}
 use Rattle.rules.specs.Commands.{word-span}
 use Rattle.cmd.proofs.Tests.{sum-test}
-use Rattle.depth.proofs.Searching.{runs-end, runs-closed, Reached, reach-end}
+use Rattle.depth.proofs.Searching.{runs-end, runs-closed, Reached, reach-first, reach-end}
 use Rattle.shown.specs.Summaries.{shown-runs}
 use Rattle.rowpaint.specs.Kinds.{summary-by, good-index, Fills, FillSaid}
 
@@ -67,6 +67,14 @@ module _ (D : List ℕ) (id a e : ℕ) where
 
   pub hidden-end : (i : ℕ) → Hidden i → e ≤ i → runs-in (is-visible id) D (span a e) ≡ []
   hidden-end i r h = r .rest ∙ runs-end (is-visible id) D e i h
+
+-- .. a single one
+module _ (D : List ℕ) (id a e : ℕ) (f : e ≤ length D) (h : a < e) (g : e ≤ a + 1) where
+  pub one-seen : getD D a 0 ≤ id → runs-in (is-visible id) D (span a e) ≡ span a e ∷ []
+  one-seen i = seen-end D id a e (a + 1) f (reach-first (is-visible id) D e f a h (le-leb _ _ i)) g
+
+  pub one-hidden : id < getD D a 0 → runs-in (is-visible id) D (span a e) ≡ []
+  one-hidden i = hidden-end D id a e (a + 1) (hidden-on D id a e a f (record { within = omega arith; rest = refl }) h i) g
 
 -- the buckets that a fill meets, all open or all shut
 module _ (D : List ℕ) (id f g : ℕ) (h : f < g) where

@@ -145,8 +145,17 @@ fn fill_kind(
     }
     let a = wide(first / BUCKET);
     let e = wide((end + 31) / BUCKET);
-    if is_seen(depth, a, e, id) {
-        return 1;
+    if depth[a] <= id {
+        if e <= a + 1 {
+            return 1;
+        }
+        if is_seen(depth, a, e, id) {
+            return 1;
+        }
+        return 0;
+    }
+    if e <= a + 1 {
+        return 2;
     }
     if is_hidden(depth, a, e, id) {
         return 2;

@@ -4,7 +4,7 @@ use native.Mathlib.Omega.{arith}
 use borrow.Author.Tests.{not-false}
 use Rattle.rules.specs.Commands.{word-span}
 use Rattle.rowpaint.specs.Kinds.{summary-by}
-use Rattle.rowpaint.proofs.Looks.{met-seen, met-hidden, clear-whole, searched, none-said, whole-said, hidden-said}
+use Rattle.rowpaint.proofs.Looks.{one-seen, one-hidden, met-seen, met-hidden, clear-whole, searched, none-said, whole-said, hidden-said}
 use borrow.Author.Needs.{needs}
 use Rattle.rowpaint.proofs.plain.fill_kind.Statement.{statement}
 use Rattle.rowpaint.proofs.plain.fill_kind.Tie as tie
@@ -69,24 +69,52 @@ wide-requires-3 : tie.Need-wide-requires-3
 wide-requires-3 c κs = search needs
 
 -- src/plain.rt:148:8
-is-seen-requires : tie.Need-is-seen-requires
-is-seen-requires c κs = (omega (arith, c .before .wide2 .ensures, c .wide3 .ensures, c .before .before .before .before .before .before .before .before .before .if1 .left), omega (arith, c .wide3 .ensures, c .before .before .before .before .before .wide .ensures, c .before .before .before .before .if4 .left))
+mul-if6 : tie.Need-mul-if6
+mul-if6 c = search needs
 
--- src/plain.rt:149:9
+-- src/plain.rt:148:8
+shared-slice-read-if6 : tie.Need-shared-slice-read-if6
+shared-slice-read-if6 c = search needs
+
+-- src/plain.rt:149:17
+add-if7 : tie.Need-add-if7
+add-if7 c = search needs
+
+-- src/plain.rt:150:13
 returns-6 : tie.Need-returns-6
-returns-6 c = whole-said (summary-by (c .before .before .before .before .before .before .before .before .before .before .before .before .before .args .from) (c .before .before .before .before .before .before .before .before .before .before .before .before .before .args .to) (c .before .before .before .before .before .before .before .before .before .before .before .before .before .args .largest)) (c .before .before .before .before .before .before .before .before .before .before .before .before .before .args .depth .now) (c .before .before .before .before .before .before .before .before .before .before .before .before .before .args .id) (c .before .before .before .before .before .before .before .before .before .before .before .before .before .args .tag) (c .before .before .before .before .before .before .before .before .before .before .before .before .before .args .tiles) (c .before .before .before .before .before .before .before .before .before .before .before .before .before .args .alpha) (c .before .before .before .before .before .before .before .before .before .before .before .if1 .left) (c .before .before .before .before .before .before .before .before .before .before .if2 .left) (sym (c .before .before .before .before .before .before .before .before .before .is-good-index .ensures) ∙ not-false _ (c .before .before .before .before .before .before .before .before .if3 .left)) (searched (summary-by (c .before .before .before .before .before .before .before .before .before .before .before .before .before .args .from) (c .before .before .before .before .before .before .before .before .before .before .before .before .before .args .to) (c .before .before .before .before .before .before .before .before .before .before .before .before .before .args .largest)) (c .before .before .before .before .before .before .before .before .before .before .before .before .before .args .depth .now) (c .before .before .before .before .before .before .before .before .before .before .before .before .before .args .id) (word-span (c .before .before .before .before .before .before .before .before .before .before .before .before .before .args .tiles)) (c .before .before .before .before .before .before .before .before .before .before .before .if1 .left) (omega (arith, c .before .before .before .before .before .before .before .wide .ensures, c .before .before .before .before .before .before .if4 .left)) (sym (c .before .before .before .before .before .is-apart .ensures) ∙ c .before .before .before .before .if5 .left) _ (met-seen (c .before .before .before .before .before .before .before .before .before .before .before .before .before .args .depth .now) (c .before .before .before .before .before .before .before .before .before .before .before .before .before .args .id) (c .before .before .before .before .before .before .before .before .before .before .before .before .before .args .tiles / 65536) (c .before .before .before .before .before .before .before .before .before .before .before .before .before .args .tiles % 65536) (c .before .before .before .before .before .before .before .before .before .before .before .if1 .left) (rw (c .before .before .before .wide2 .ensures, c .before .before .wide3 .ensures) at (c .before .is-seen .ensures (c .if6 .taken)))))
+returns-6 c = whole-said (summary-by (c .before .before .before .before .before .before .before .before .before .before .before .before .before .before .args .from) (c .before .before .before .before .before .before .before .before .before .before .before .before .before .before .args .to) (c .before .before .before .before .before .before .before .before .before .before .before .before .before .before .args .largest)) (c .before .before .before .before .before .before .before .before .before .before .before .before .before .before .args .depth .now) (c .before .before .before .before .before .before .before .before .before .before .before .before .before .before .args .id) (c .before .before .before .before .before .before .before .before .before .before .before .before .before .before .args .tag) (c .before .before .before .before .before .before .before .before .before .before .before .before .before .before .args .tiles) (c .before .before .before .before .before .before .before .before .before .before .before .before .before .before .args .alpha) (c .before .before .before .before .before .before .before .before .before .before .before .before .if1 .left) (c .before .before .before .before .before .before .before .before .before .before .before .if2 .left) (sym (c .before .before .before .before .before .before .before .before .before .before .is-good-index .ensures) ∙ not-false _ (c .before .before .before .before .before .before .before .before .before .if3 .left)) (searched (summary-by (c .before .before .before .before .before .before .before .before .before .before .before .before .before .before .args .from) (c .before .before .before .before .before .before .before .before .before .before .before .before .before .before .args .to) (c .before .before .before .before .before .before .before .before .before .before .before .before .before .before .args .largest)) (c .before .before .before .before .before .before .before .before .before .before .before .before .before .before .args .depth .now) (c .before .before .before .before .before .before .before .before .before .before .before .before .before .before .args .id) (word-span (c .before .before .before .before .before .before .before .before .before .before .before .before .before .before .args .tiles)) (c .before .before .before .before .before .before .before .before .before .before .before .before .if1 .left) (omega (arith, c .before .before .before .before .before .before .before .before .wide .ensures, c .before .before .before .before .before .before .before .if4 .left)) (sym (c .before .before .before .before .before .before .is-apart .ensures) ∙ c .before .before .before .before .before .if5 .left) _ (met-seen (c .before .before .before .before .before .before .before .before .before .before .before .before .before .before .args .depth .now) (c .before .before .before .before .before .before .before .before .before .before .before .before .before .before .args .id) (c .before .before .before .before .before .before .before .before .before .before .before .before .before .before .args .tiles / 65536) (c .before .before .before .before .before .before .before .before .before .before .before .before .before .before .args .tiles % 65536) (c .before .before .before .before .before .before .before .before .before .before .before .before .if1 .left) (rw (c .before .before .before .before .wide2 .ensures, c .before .before .before .wide3 .ensures) at (one-seen (c .before .before .before .before .before .before .before .before .before .before .before .before .before .before .args .depth .now) (c .before .before .before .before .before .before .before .before .before .before .before .before .before .before .args .id) (c .before .before .before .before .wide2 .result) (c .before .before .before .wide3 .result) (omega (arith, c .before .before .before .wide3 .ensures, c .before .before .before .before .before .before .before .before .wide .ensures, c .before .before .before .before .before .before .before .if4 .left)) (omega (arith, c .before .before .before .before .wide2 .ensures, c .before .before .before .wide3 .ensures, c .before .before .before .before .before .before .before .before .before .before .before .before .if1 .left)) (c .if7 .taken) (c .before .if6 .taken)))))
 
--- src/plain.rt:151:8
-is-hidden-requires : tie.Need-is-hidden-requires
-is-hidden-requires c κs = (omega (arith, c .before .before .before .wide2 .ensures, c .before .before .wide3 .ensures, c .before .before .before .before .before .before .before .before .before .before .before .if1 .left), omega (arith, c .before .before .wide3 .ensures, c .before .before .before .before .before .before .before .wide .ensures, c .before .before .before .before .before .before .if4 .left))
+-- src/plain.rt:152:12
+is-seen-requires : tie.Need-is-seen-requires
+is-seen-requires c κs = ((omega (arith, c .before .before .before .before .wide2 .ensures, c .before .before .before .wide3 .ensures, c .before .before .before .before .before .before .before .before .before .before .before .before .if1 .left)), (omega (arith, c .before .before .before .wide3 .ensures, c .before .before .before .before .before .before .before .before .wide .ensures, c .before .before .before .before .before .before .before .if4 .left)))
 
--- src/plain.rt:152:9
+-- src/plain.rt:153:13
 returns-7 : tie.Need-returns-7
-returns-7 c = hidden-said (summary-by (c .before .before .before .before .before .before .before .before .before .before .before .before .before .before .before .args .from) (c .before .before .before .before .before .before .before .before .before .before .before .before .before .before .before .args .to) (c .before .before .before .before .before .before .before .before .before .before .before .before .before .before .before .args .largest)) (c .before .before .before .before .before .before .before .before .before .before .before .before .before .before .before .args .depth .now) (c .before .before .before .before .before .before .before .before .before .before .before .before .before .before .before .args .id) (c .before .before .before .before .before .before .before .before .before .before .before .before .before .before .before .args .tag) (c .before .before .before .before .before .before .before .before .before .before .before .before .before .before .before .args .tiles) (c .before .before .before .before .before .before .before .before .before .before .before .before .before .before .before .args .alpha) (c .before .before .before .before .before .before .before .before .before .before .before .before .before .if1 .left) (c .before .before .before .before .before .before .before .before .before .before .before .before .if2 .left) (sym (c .before .before .before .before .before .before .before .before .before .before .before .is-good-index .ensures) ∙ not-false _ (c .before .before .before .before .before .before .before .before .before .before .if3 .left)) (searched (summary-by (c .before .before .before .before .before .before .before .before .before .before .before .before .before .before .before .args .from) (c .before .before .before .before .before .before .before .before .before .before .before .before .before .before .before .args .to) (c .before .before .before .before .before .before .before .before .before .before .before .before .before .before .before .args .largest)) (c .before .before .before .before .before .before .before .before .before .before .before .before .before .before .before .args .depth .now) (c .before .before .before .before .before .before .before .before .before .before .before .before .before .before .before .args .id) (word-span (c .before .before .before .before .before .before .before .before .before .before .before .before .before .before .before .args .tiles)) (c .before .before .before .before .before .before .before .before .before .before .before .before .before .if1 .left) (omega (arith, c .before .before .before .before .before .before .before .before .before .wide .ensures, c .before .before .before .before .before .before .before .before .if4 .left)) (sym (c .before .before .before .before .before .before .before .is-apart .ensures) ∙ c .before .before .before .before .before .before .if5 .left) _ (met-hidden (c .before .before .before .before .before .before .before .before .before .before .before .before .before .before .before .args .depth .now) (c .before .before .before .before .before .before .before .before .before .before .before .before .before .before .before .args .id) (c .before .before .before .before .before .before .before .before .before .before .before .before .before .before .before .args .tiles / 65536) (c .before .before .before .before .before .before .before .before .before .before .before .before .before .before .before .args .tiles % 65536) (c .before .before .before .before .before .before .before .before .before .before .before .before .before .if1 .left) (rw (c .before .before .before .before .before .wide2 .ensures, c .before .before .before .before .wide3 .ensures) at (c .before .is-hidden .ensures (c .if7 .taken)))))
+returns-7 c = whole-said (summary-by (c .before .before .before .before .before .before .before .before .before .before .before .before .before .before .before .before .args .from) (c .before .before .before .before .before .before .before .before .before .before .before .before .before .before .before .before .args .to) (c .before .before .before .before .before .before .before .before .before .before .before .before .before .before .before .before .args .largest)) (c .before .before .before .before .before .before .before .before .before .before .before .before .before .before .before .before .args .depth .now) (c .before .before .before .before .before .before .before .before .before .before .before .before .before .before .before .before .args .id) (c .before .before .before .before .before .before .before .before .before .before .before .before .before .before .before .before .args .tag) (c .before .before .before .before .before .before .before .before .before .before .before .before .before .before .before .before .args .tiles) (c .before .before .before .before .before .before .before .before .before .before .before .before .before .before .before .before .args .alpha) (c .before .before .before .before .before .before .before .before .before .before .before .before .before .before .if1 .left) (c .before .before .before .before .before .before .before .before .before .before .before .before .before .if2 .left) (sym (c .before .before .before .before .before .before .before .before .before .before .before .before .is-good-index .ensures) ∙ not-false _ (c .before .before .before .before .before .before .before .before .before .before .before .if3 .left)) (searched (summary-by (c .before .before .before .before .before .before .before .before .before .before .before .before .before .before .before .before .args .from) (c .before .before .before .before .before .before .before .before .before .before .before .before .before .before .before .before .args .to) (c .before .before .before .before .before .before .before .before .before .before .before .before .before .before .before .before .args .largest)) (c .before .before .before .before .before .before .before .before .before .before .before .before .before .before .before .before .args .depth .now) (c .before .before .before .before .before .before .before .before .before .before .before .before .before .before .before .before .args .id) (word-span (c .before .before .before .before .before .before .before .before .before .before .before .before .before .before .before .before .args .tiles)) (c .before .before .before .before .before .before .before .before .before .before .before .before .before .before .if1 .left) (omega (arith, c .before .before .before .before .before .before .before .before .before .before .wide .ensures, c .before .before .before .before .before .before .before .before .before .if4 .left)) (sym (c .before .before .before .before .before .before .before .before .is-apart .ensures) ∙ c .before .before .before .before .before .before .before .if5 .left) _ (met-seen (c .before .before .before .before .before .before .before .before .before .before .before .before .before .before .before .before .args .depth .now) (c .before .before .before .before .before .before .before .before .before .before .before .before .before .before .before .before .args .id) (c .before .before .before .before .before .before .before .before .before .before .before .before .before .before .before .before .args .tiles / 65536) (c .before .before .before .before .before .before .before .before .before .before .before .before .before .before .before .before .args .tiles % 65536) (c .before .before .before .before .before .before .before .before .before .before .before .before .before .before .if1 .left) (rw (c .before .before .before .before .before .before .wide2 .ensures, c .before .before .before .before .before .wide3 .ensures) at (c .before .is-seen .ensures (c .if8 .taken)))))
+
+-- src/plain.rt:155:9
+returns-8 : tie.Need-returns-8
+returns-8 c = none-said (summary-by (c .before .before .before .before .before .before .before .before .before .before .before .before .before .before .before .before .args .from) (c .before .before .before .before .before .before .before .before .before .before .before .before .before .before .before .before .args .to) (c .before .before .before .before .before .before .before .before .before .before .before .before .before .before .before .before .args .largest)) (c .before .before .before .before .before .before .before .before .before .before .before .before .before .before .before .before .args .depth .now) (c .before .before .before .before .before .before .before .before .before .before .before .before .before .before .before .before .args .id) (c .before .before .before .before .before .before .before .before .before .before .before .before .before .before .before .before .args .tag) (c .before .before .before .before .before .before .before .before .before .before .before .before .before .before .before .before .args .tiles) (c .before .before .before .before .before .before .before .before .before .before .before .before .before .before .before .before .args .alpha)
+
+-- src/plain.rt:157:13
+add-if9 : tie.Need-add-if9
+add-if9 c = search needs
+
+-- src/plain.rt:158:9
+returns-9 : tie.Need-returns-9
+returns-9 c = hidden-said (summary-by (c .before .before .before .before .before .before .before .before .before .before .before .before .before .before .args .from) (c .before .before .before .before .before .before .before .before .before .before .before .before .before .before .args .to) (c .before .before .before .before .before .before .before .before .before .before .before .before .before .before .args .largest)) (c .before .before .before .before .before .before .before .before .before .before .before .before .before .before .args .depth .now) (c .before .before .before .before .before .before .before .before .before .before .before .before .before .before .args .id) (c .before .before .before .before .before .before .before .before .before .before .before .before .before .before .args .tag) (c .before .before .before .before .before .before .before .before .before .before .before .before .before .before .args .tiles) (c .before .before .before .before .before .before .before .before .before .before .before .before .before .before .args .alpha) (c .before .before .before .before .before .before .before .before .before .before .before .before .if1 .left) (c .before .before .before .before .before .before .before .before .before .before .before .if2 .left) (sym (c .before .before .before .before .before .before .before .before .before .before .is-good-index .ensures) ∙ not-false _ (c .before .before .before .before .before .before .before .before .before .if3 .left)) (searched (summary-by (c .before .before .before .before .before .before .before .before .before .before .before .before .before .before .args .from) (c .before .before .before .before .before .before .before .before .before .before .before .before .before .before .args .to) (c .before .before .before .before .before .before .before .before .before .before .before .before .before .before .args .largest)) (c .before .before .before .before .before .before .before .before .before .before .before .before .before .before .args .depth .now) (c .before .before .before .before .before .before .before .before .before .before .before .before .before .before .args .id) (word-span (c .before .before .before .before .before .before .before .before .before .before .before .before .before .before .args .tiles)) (c .before .before .before .before .before .before .before .before .before .before .before .before .if1 .left) (omega (arith, c .before .before .before .before .before .before .before .before .wide .ensures, c .before .before .before .before .before .before .before .if4 .left)) (sym (c .before .before .before .before .before .before .is-apart .ensures) ∙ c .before .before .before .before .before .if5 .left) _ (met-hidden (c .before .before .before .before .before .before .before .before .before .before .before .before .before .before .args .depth .now) (c .before .before .before .before .before .before .before .before .before .before .before .before .before .before .args .id) (c .before .before .before .before .before .before .before .before .before .before .before .before .before .before .args .tiles / 65536) (c .before .before .before .before .before .before .before .before .before .before .before .before .before .before .args .tiles % 65536) (c .before .before .before .before .before .before .before .before .before .before .before .before .if1 .left) (rw (c .before .before .before .before .wide2 .ensures, c .before .before .before .wide3 .ensures) at (one-hidden (c .before .before .before .before .before .before .before .before .before .before .before .before .before .before .args .depth .now) (c .before .before .before .before .before .before .before .before .before .before .before .before .before .before .args .id) (c .before .before .before .before .wide2 .result) (c .before .before .before .wide3 .result) (omega (arith, c .before .before .before .wide3 .ensures, c .before .before .before .before .before .before .before .before .wide .ensures, c .before .before .before .before .before .before .before .if4 .left)) (omega (arith, c .before .before .before .before .wide2 .ensures, c .before .before .before .wide3 .ensures, c .before .before .before .before .before .before .before .before .before .before .before .before .if1 .left)) (c .if9 .taken) (c .before .if6 .left)))))
+
+-- src/plain.rt:160:8
+is-hidden-requires : tie.Need-is-hidden-requires
+is-hidden-requires c κs = ((omega (arith, c .before .before .before .before .wide2 .ensures, c .before .before .before .wide3 .ensures, c .before .before .before .before .before .before .before .before .before .before .before .before .if1 .left)), (omega (arith, c .before .before .before .wide3 .ensures, c .before .before .before .before .before .before .before .before .wide .ensures, c .before .before .before .before .before .before .before .if4 .left)))
+
+-- src/plain.rt:161:9
+returns-10 : tie.Need-returns-10
+returns-10 c = hidden-said (summary-by (c .before .before .before .before .before .before .before .before .before .before .before .before .before .before .before .before .args .from) (c .before .before .before .before .before .before .before .before .before .before .before .before .before .before .before .before .args .to) (c .before .before .before .before .before .before .before .before .before .before .before .before .before .before .before .before .args .largest)) (c .before .before .before .before .before .before .before .before .before .before .before .before .before .before .before .before .args .depth .now) (c .before .before .before .before .before .before .before .before .before .before .before .before .before .before .before .before .args .id) (c .before .before .before .before .before .before .before .before .before .before .before .before .before .before .before .before .args .tag) (c .before .before .before .before .before .before .before .before .before .before .before .before .before .before .before .before .args .tiles) (c .before .before .before .before .before .before .before .before .before .before .before .before .before .before .before .before .args .alpha) (c .before .before .before .before .before .before .before .before .before .before .before .before .before .before .if1 .left) (c .before .before .before .before .before .before .before .before .before .before .before .before .before .if2 .left) (sym (c .before .before .before .before .before .before .before .before .before .before .before .before .is-good-index .ensures) ∙ not-false _ (c .before .before .before .before .before .before .before .before .before .before .before .if3 .left)) (searched (summary-by (c .before .before .before .before .before .before .before .before .before .before .before .before .before .before .before .before .args .from) (c .before .before .before .before .before .before .before .before .before .before .before .before .before .before .before .before .args .to) (c .before .before .before .before .before .before .before .before .before .before .before .before .before .before .before .before .args .largest)) (c .before .before .before .before .before .before .before .before .before .before .before .before .before .before .before .before .args .depth .now) (c .before .before .before .before .before .before .before .before .before .before .before .before .before .before .before .before .args .id) (word-span (c .before .before .before .before .before .before .before .before .before .before .before .before .before .before .before .before .args .tiles)) (c .before .before .before .before .before .before .before .before .before .before .before .before .before .before .if1 .left) (omega (arith, c .before .before .before .before .before .before .before .before .before .before .wide .ensures, c .before .before .before .before .before .before .before .before .before .if4 .left)) (sym (c .before .before .before .before .before .before .before .before .is-apart .ensures) ∙ c .before .before .before .before .before .before .before .if5 .left) _ (met-hidden (c .before .before .before .before .before .before .before .before .before .before .before .before .before .before .before .before .args .depth .now) (c .before .before .before .before .before .before .before .before .before .before .before .before .before .before .before .before .args .id) (c .before .before .before .before .before .before .before .before .before .before .before .before .before .before .before .before .args .tiles / 65536) (c .before .before .before .before .before .before .before .before .before .before .before .before .before .before .before .before .args .tiles % 65536) (c .before .before .before .before .before .before .before .before .before .before .before .before .before .before .if1 .left) (rw (c .before .before .before .before .before .before .wide2 .ensures, c .before .before .before .before .before .wide3 .ensures) at (c .before .is-hidden .ensures (c .if10 .taken)))))
 
 -- src/plain.rt:116:1
-returns-8 : tie.Need-returns-8
-returns-8 c = none-said (summary-by (c .before .before .before .before .before .before .before .before .before .before .before .before .before .before .before .args .from) (c .before .before .before .before .before .before .before .before .before .before .before .before .before .before .before .args .to) (c .before .before .before .before .before .before .before .before .before .before .before .before .before .before .before .args .largest)) (c .before .before .before .before .before .before .before .before .before .before .before .before .before .before .before .args .depth .now) (c .before .before .before .before .before .before .before .before .before .before .before .before .before .before .before .args .id) (c .before .before .before .before .before .before .before .before .before .before .before .before .before .before .before .args .tag) (c .before .before .before .before .before .before .before .before .before .before .before .before .before .before .before .args .tiles) (c .before .before .before .before .before .before .before .before .before .before .before .before .before .before .before .args .alpha)
+returns-11 : tie.Need-returns-11
+returns-11 c = none-said (summary-by (c .before .before .before .before .before .before .before .before .before .before .before .before .before .before .before .before .args .from) (c .before .before .before .before .before .before .before .before .before .before .before .before .before .before .before .before .args .to) (c .before .before .before .before .before .before .before .before .before .before .before .before .before .before .before .before .args .largest)) (c .before .before .before .before .before .before .before .before .before .before .before .before .before .before .before .before .args .depth .now) (c .before .before .before .before .before .before .before .before .before .before .before .before .before .before .before .before .args .id) (c .before .before .before .before .before .before .before .before .before .before .before .before .before .before .before .before .args .tag) (c .before .before .before .before .before .before .before .before .before .before .before .before .before .before .before .before .args .tiles) (c .before .before .before .before .before .before .before .before .before .before .before .before .before .before .before .before .args .alpha)
 
 pub fill-kind-spec : {M : Type 1} → statement M
 fill-kind-spec =
@@ -105,8 +133,15 @@ fill-kind-spec =
     wide-requires-2
     add-wide
     wide-requires-3
-    is-seen-requires
+    mul-if6
+    shared-slice-read-if6
+    add-if7
     returns-6
-    is-hidden-requires
+    is-seen-requires
     returns-7
-    returns-8)
+    returns-8
+    add-if9
+    returns-9
+    is-hidden-requires
+    returns-10
+    returns-11)

@@ -1,8 +1,9 @@
 -- A fill's number, for each way through its judge. Assumes nothing.
-use mathlib.Core.Path.{_≡_, refl, sym, _∙_}
-use mathlib.Core.Bool.{Bool, true, false, _&&_, cond}
+use mathlib.Core.Path.{_≡_, refl, sym, ap, _∙_}
+use mathlib.Core.Bool.{Bool, true, false, _&&_, not, cond}
 use mathlib.Core.List.{List}
-use Prim.Native.Nat.{ℕ, _+_, _-_, _%_, _≤_, _<_}
+use mathlib.Core.Option.{Option, none, some}
+use Prim.Native.Nat.{ℕ, _+_, _-_, _*_, _%_, _≤_, _<_}
 use native.Mathlib.Omega.{arith}
 use lib.Dec.{ltb, eqb}
 use lib.ListN.{length}
@@ -10,7 +11,7 @@ use borrow.Author.Tests.{eqb-true, eqb-false, eq-eqb, ne-eqb, lt-ltb, le-ltb}
 use Rattle.rules.specs.Lists.{every}
 use Rattle.rules.specs.Answers.{Done, BadRecord}
 use Rattle.rules.specs.Boxes.{rows-of}
-use Rattle.rules.specs.Segments.{good-segment, judge-segments}
+use Rattle.rules.specs.Segments.{Segment, good-segment, ordered, judge-segments}
 use Rattle.rules.specs.Inputs.{good-draw}
 use Rattle.rules.specs.Attributes.{attrs-full}
 use Rattle.rules.specs.Steps.{done, passes, refusal}
@@ -32,8 +33,8 @@ use Rattle.segments.proofs.Laws.{scene-starts}
 use Rattle.fillrows.specs.Filling as filling
 use Rattle.fillrows.specs.Filling.{count-rows, puts-of}
 use Rattle.fillrows.proofs.Laws.{rows-counted}
-use Rattle.tally.specs.declared.Tally.{Tally}
-use Rattle.tally.specs.Tallies.{tally-cuts, verdict, cuts-of, none-yet, Rowed, Listed}
+use Rattle.tally.specs.Tallies.{Tally, tally-cuts, verdict, cuts-of, none-yet, Rowed, list-number}
+use Rattle.tally.proofs.Hands.{bad-either}
 use Rattle.tally.proofs.Rising.{rising}
 use Rattle.tally.proofs.Judged.{run, flags, verdict-any, verdict-is, all-landed}
 use Rattle.fill.specs.declared.Draw.{Draw}
@@ -74,6 +75,54 @@ four true t h = go (t .full) (t .deep) h
 not-four : (g : Bool) (t : Tally) → (cond g (flags t) 4 ≡ 4 → ⊥) → g ≡ true
 not-four true t h = refl
 not-four false t h = absurd (h refl)
+
+-- numbers that the list can say
+zero-else : (ss : List Segment) → (judge-segments false ss ≡ 4 → ⊥) → (judge-segments false ss ≡ 5 → ⊥) → judge-segments false ss ≡ 0
+unfolding judge-segments
+zero-else ss = go (every good-segment ss) (ordered ss)
+  where
+    go : (x y : Bool) → (_≡_ {A = ℕ} (cond (not x) 4 (cond (not y) 5 0)) 4 → ⊥) → (_≡_ {A = ℕ} (cond (not x) 4 (cond (not y) 5 0)) 5 → ⊥) → _≡_ {A = ℕ} (cond (not x) 4 (cond (not y) 5 0)) 0
+    go true true f g = refl
+    go true false f g = absurd (g refl)
+    go false y f g = absurd (f refl)
+
+never-five : (o : Option Tally) → verdict o ≡ 5 → ⊥
+never-five none e = omega arith
+never-five (some t) e = go (t .full) (t .deep) e
+  where
+    go : (a b : Bool) → _≡_ {A = ℕ} (cond a 10 (cond b 11 0)) 5 → ⊥
+    go true b e = omega arith
+    go false true e = omega arith
+    go false false e = omega arith
+
+-- the number of a list, a, and of its rows, v, taken apart
+module _ (a v : ℕ) where
+  four-by : {P : Type 0} → list-number a v ≡ 4 → (a ≡ 4 → P) → ((a ≡ 4 → ⊥) → v ≡ 4 → P) → P
+  four-by {P} e f g = go (eqb a 4) refl (eqb v 4) refl (eqb a 0) e
+    where
+      go : (x : Bool) → eqb a 4 ≡ x → (y : Bool) → eqb v 4 ≡ y → (z : Bool) → cond x 4 (cond y 4 (cond z v a)) ≡ 4 → P
+      go true p y r z e = f (eqb-true a 4 p)
+      go false p true r z e = g (eqb-false a 4 p) (eqb-true v 4 r)
+      go false p false r true e = absurd (eqb-false v 4 r e)
+      go false p false r false e = absurd (eqb-false a 4 p e)
+
+  not-bad : (list-number a v ≡ 4 → ⊥) → (a ≡ 4 → ⊥) × (v ≡ 4 → ⊥)
+  not-bad n = (λ e. n (ap (λ (x : ℕ). list-number x v) e), λ e. n (ap (λ (y : ℕ). list-number a y) e ∙ sym (bad-either a)))
+
+  five-by : list-number a v ≡ 5 → (v ≡ 5 → ⊥) → a ≡ 5
+  five-by e f = go (eqb a 4) (eqb v 4) (eqb a 0) e
+    where
+      go : (x y z : Bool) → cond x 4 (cond y 4 (cond z v a)) ≡ 5 → a ≡ 5
+      go true y z e = absurd (omega arith)
+      go false true z e = absurd (omega arith)
+      go false false true e = absurd (f e)
+      go false false false e = e
+
+  not-five : (list-number a v ≡ 4 → ⊥) → (list-number a v ≡ 5 → ⊥) → a ≡ 5 → ⊥
+  not-five m n e = n (ap (λ (x : ℕ). list-number x v) e ∙ rw (ne-eqb v 4 (not-bad m .1)))
+
+  rows-number : a ≡ 0 → (v ≡ 4 → ⊥) → list-number a v ≡ v
+  rows-number e k = ap (λ (x : ℕ). list-number x v) e ∙ rw (ne-eqb v 4 k)
 
 either-way : (g : Bool) {n : ℕ} → n ≡ 4 → 4 ≡ cond g n 4
 either-way true e = sym e
@@ -126,13 +175,17 @@ module _ (l : Lent) (ps ss : List ℕ) (d : Draw) where
           starts = scene-starts (scene-of-it (box-of (l .screen .viewport)) (box-of (l .screen .«clip_bbox»)));
           bottom = omega (arith, k .bottom, v .y0-by-4);
           long = o .row-words;
+          few = few-rows (box-of (l .screen .viewport)) (o .view);
         }
 
     module _ (q : good-draw (paints-of ps) (segs-of ss) (draw-of d) ≡ true) where
       pub drawn : GoodDraw ps ss d
       drawn = draw-facts ps ss d q
 
-      pub bad-list : judge-segments false (segs.segs ss (d .start) (d .end - d .start)) ≡ 4 → 4 ≡ fill-number l ps ss d
+      pub list-asked : Rowed (job-of (l .screen) ps d) (count-rows (l .words .state)) (l .words .state) × (d .start ≤ d .end) × (5 * d .end ≤ length ss)
+      list-asked = (rw (rows-counted (l .words .state) (rows-of (box-of (l .screen .viewport))) (rowed .long)) rowed, drawn .range, omega (arith, drawn .ends))
+
+      bad-list : judge-segments false (segs.segs ss (d .start) (d .end - d .start)) ≡ 4 → 4 ≡ fill-number l ps ss d
       bad-list e = own-four (refused-are (l .screen) ps ss d drawn q ∙ e)
 
       pub good-are : good-records
@@ -143,11 +196,6 @@ module _ (l : Lent) (ps ss : List ℕ) (d : Draw) where
         pub all-good : every good-segment (segs.segs ss (d .start) (d .end - d .start)) ≡ true
         all-good = good-unless _ h
 
-        pub rows-asked : Listed (job-of (l .screen) ps d) (count-rows (l .words .state)) (l .words .state) ss (d .start) (d .end)
-        rows-asked =
-            rw (rows-counted (l .words .state) (rows-of (box-of (l .screen .viewport))) (rowed .long))
-            (record { rowed = rowed; within = omega (arith, drawn .ends); good = all-good })
-
         -- 4 exactly if a record is bad
         any-verdict : verdict (tally-cuts (job-of (l .screen) ps d) (l .words .state) none-yet (cuts-of (job-of (l .screen) ps d) ss (d .start) (d .end)))
             ≡ cond good-records (flags (run (job-of (l .screen) ps d) (l .words .state) none-yet (cuts-of (job-of (l .screen) ps d) ss (d .start) (d .end)))) 4
@@ -156,7 +204,7 @@ module _ (l : Lent) (ps ss : List ℕ) (d : Draw) where
             (verdict-any (job-of (l .screen) ps d) (box-of (l .screen .viewport)) (rows-of (box-of (l .screen .viewport))) (l .words) (rowed .layers) long
             (all-landed rowed (segs.segs ss (d .start) (d .end - d .start)) all-good))
 
-        pub bad-record : verdict (tally-cuts (job-of (l .screen) ps d) (l .words .state) none-yet (cuts-of (job-of (l .screen) ps d) ss (d .start) (d .end))) ≡ 4 → 4 ≡ fill-number l ps ss d
+        bad-record : verdict (tally-cuts (job-of (l .screen) ps d) (l .words .state) none-yet (cuts-of (job-of (l .screen) ps d) ss (d .start) (d .end))) ≡ 4 → 4 ≡ fill-number l ps ss d
         bad-record e = rw (after-first, four good-records (run (job-of (l .screen) ps d) (l .words .state) none-yet (cuts-of (job-of (l .screen) ps d) ss (d .start) (d .end))) (sym any-verdict ∙ e))
 
         module _ (k : verdict (tally-cuts (job-of (l .screen) ps d) (l .words .state) none-yet (cuts-of (job-of (l .screen) ps d) ss (d .start) (d .end))) ≡ 4 → ⊥) where
@@ -166,7 +214,7 @@ module _ (l : Lent) (ps ss : List ℕ) (d : Draw) where
           by-rules : fill-number l ps ss d ≡ rules-number
           by-rules = after-first ∙ rw records
 
-          pub bad-order : {n : ℕ} → n ≡ judge-segments false (segs.segs ss (d .start) (d .end - d .start)) → (n ≡ 0 → ⊥) → n ≡ fill-number l ps ss d
+          bad-order : {n : ℕ} → n ≡ judge-segments false (segs.segs ss (d .start) (d .end - d .start)) → (n ≡ 0 → ⊥) → n ≡ fill-number l ps ss d
           bad-order {n} e f =
               let r : fill-plan (l .screen) ps ss d .refused ≡ n = refused-are (l .screen) ps ss d drawn q ∙ sym e in
               sym r ∙ sym (own-number (λ t. f (sym r ∙ t))) ∙ sym by-rules
@@ -207,20 +255,57 @@ module _ (l : Lent) (ps ss : List ℕ) (d : Draw) where
             number-is : fill-number l ps ss d ≡ cond (ltb 1048577 (l .screen .«next_draw_id» + 1)) 8 (cond (attrs-full (fill-plan (l .screen) ps ss d .attrs)) 9 (verdict (tally-cuts (job-of (l .screen) ps d) (l .words .state) none-yet (cuts-of (job-of (l .screen) ps d) ss (d .start) (d .end)))))
             number-is = by-rules ∙ tests
 
-            pub no-id : 1048576 < l .screen .«next_draw_id» → 8 ≡ fill-number l ps ss d
+            no-id : 1048576 < l .screen .«next_draw_id» → 8 ≡ fill-number l ps ss d
             no-id f = rw (number-is, lt-ltb 1048577 (l .screen .«next_draw_id» + 1) (omega arith))
 
             module _ (f : l .screen .«next_draw_id» ≤ 1048576) where
               an-id : ltb 1048577 (l .screen .«next_draw_id» + 1) ≡ false
               an-id = le-ltb 1048577 (l .screen .«next_draw_id» + 1) (omega arith)
 
-              pub no-attr : (d .start ≡ d .end → ⊥) → 1024 ≤ l .screen .«paint_attrs» → 9 ≡ fill-number l ps ss d
+              no-attr : (d .start ≡ d .end → ⊥) → 1024 ≤ l .screen .«paint_attrs» → 9 ≡ fill-number l ps ss d
               no-attr u v = rw (number-is, an-id, attrs-more (l .screen) ps ss d drawn u, full-attrs (l .screen) passing d v)
 
-              pub by-tally : (d .start ≡ d .end → ⊥) → l .screen .«paint_attrs» < 1024
+              by-tally : (d .start ≡ d .end → ⊥) → l .screen .«paint_attrs» < 1024
                   → verdict (tally-cuts (job-of (l .screen) ps d) (l .words .state) none-yet (cuts-of (job-of (l .screen) ps d) ss (d .start) (d .end))) ≡ fill-number l ps ss d
               by-tally u v = rw (number-is, an-id, attrs-more (l .screen) ps ss d drawn u, room-for-one (l .screen) passing d v)
 
-              pub empty-done : d .start ≡ d .end → 0 ≡ fill-number l ps ss d
+              empty-done : d .start ≡ d .end → 0 ≡ fill-number l ps ss d
               unfolding tally-cuts
               empty-done u = rw (number-is, an-id, attrs-same (l .screen) ps ss d drawn u, not-full (l .screen) passing, listed.segs-end ss (d .start) (d .end) (omega arith))
+
+      -- by the number of the one pass
+      module _ {n : ℕ} (w : n ≡ list-number (judge-segments false (segs.segs ss (d .start) (d .end - d .start))) (verdict (tally-cuts (job-of (l .screen) ps d) (l .words .state) none-yet (cuts-of (job-of (l .screen) ps d) ss (d .start) (d .end))))) where
+        abbrev of-list : ℕ
+        of-list = judge-segments false (segs.segs ss (d .start) (d .end - d .start))
+
+        abbrev of-rows : ℕ
+        of-rows = verdict (tally-cuts (job-of (l .screen) ps d) (l .words .state) none-yet (cuts-of (job-of (l .screen) ps d) ss (d .start) (d .end)))
+
+        pub list-four : n ≡ 4 → 4 ≡ fill-number l ps ss d
+        list-four e = four-by of-list of-rows (sym w ∙ e) bad-list bad-record
+
+        pub list-five : n ≡ 5 → 5 ≡ fill-number l ps ss d
+        list-five e =
+            let o = not-bad of-list of-rows (λ f. omega (arith, e, w, f)) in
+            let f = five-by of-list of-rows (sym w ∙ e) (never-five (tally-cuts (job-of (l .screen) ps d) (l .words .state) none-yet (cuts-of (job-of (l .screen) ps d) ss (d .start) (d .end)))) in
+            bad-order (o .0) (o .1) (sym f) (λ z. omega arith)
+
+        module _ (f : n ≡ 4 → ⊥) (g : n ≡ 5 → ⊥) where
+          sound : (of-list ≡ 4 → ⊥) × (of-rows ≡ 4 → ⊥)
+          sound = not-bad of-list of-rows (λ e. f (w ∙ e))
+
+          in-order : of-list ≡ 0
+          in-order = zero-else (segs.segs ss (d .start) (d .end - d .start)) (sound .0) (not-five of-list of-rows (λ e. f (w ∙ e)) (λ e. g (w ∙ e)))
+
+          pub list-no-id : 1048576 < l .screen .«next_draw_id» → 8 ≡ fill-number l ps ss d
+          list-no-id = no-id (sound .0) (sound .1) in-order
+
+          module _ (i : l .screen .«next_draw_id» ≤ 1048576) where
+            pub list-empty : d .start ≡ d .end → 0 ≡ fill-number l ps ss d
+            list-empty = empty-done (sound .0) (sound .1) in-order i
+
+            pub list-no-attr : (d .start ≡ d .end → ⊥) → 1024 ≤ l .screen .«paint_attrs» → 9 ≡ fill-number l ps ss d
+            list-no-attr = no-attr (sound .0) (sound .1) in-order i
+
+            pub list-rows : (d .start ≡ d .end → ⊥) → l .screen .«paint_attrs» < 1024 → n ≡ fill-number l ps ss d
+            list-rows u v = w ∙ rows-number of-list of-rows in-order (sound .1) ∙ by-tally (sound .0) (sound .1) in-order i u v

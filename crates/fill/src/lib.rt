@@ -9,9 +9,8 @@ use screen::Built;
 use screen::Screen;
 use screen::answer_of;
 use screen::judge_screen;
-use segments::judge_segments;
 use segments::scene_of;
-use tally::judge_rows;
+use tally::judge_list;
 ghost use mathlib.Core.Path.{_≡_};
 ghost use Prim.Native.Nat.{_+_, _/_, _≤_, _<_};
 ghost use lib.Dec.{eqb};
@@ -160,17 +159,13 @@ fn judge_fill(
     }
     let start = draw.start;
     let end = draw.end;
-    let listed = judge_segments(segments, start, end);
-    if listed == 4 {
-        return 4;
-    }
     let job = job_of(screen, paints, draw);
-    let room = judge_rows(rows, segments, start, end, job);
-    if room == 4 {
+    let n = judge_list(rows, segments, start, end, job);
+    if n == 4 {
         return 4;
     }
-    if listed != 0 {
-        return listed;
+    if n == 5 {
+        return 5;
     }
     if 1048576 < screen.next_draw_id {
         return 8;
@@ -181,7 +176,7 @@ fn judge_fill(
     if 1024 <= screen.paint_attrs {
         return 9;
     }
-    room
+    n
 }
 
 // The screen after a fill: one id more, and `more` attributes.

@@ -1,7 +1,8 @@
 -- What a fill's puts do to a screen's rows of words. Assumes nothing.
 use mathlib.Core.Path.{_≡_, refl, sym, ap, _∙_}
-use mathlib.Core.Bool.{true}
+use mathlib.Core.Bool.{Bool, true, false}
 use mathlib.Core.List.{List, [], _∷_, _++_}
+use mathlib.Core.Option.{Option, none, some}
 use Prim.Native.Nat.{ℕ, _+_, _-_, _*_, _≤_, _<_}
 use native.Mathlib.Omega.{arith}
 use lib.ListN.{length, getD}
@@ -10,10 +11,13 @@ use Rattle.rules.specs.Segments.{Segment, Cut, good-segment, cut-in}
 use Rattle.rules.specs.Plans.{Put, on, draw-act, draw-puts}
 use Rattle.rules.specs.Steps.{do-puts}
 use Rattle.rules.proofs.Changes.{change-same, change-at, puts-append}
-use Rattle.row.specs.Words.{Words, words, word, word-ops, Room}
+use Rattle.rules.specs.Spans.{Span}
+use Rattle.rules.specs.Commands.{paint-fill}
+use Rattle.rules.proofs.All.{never}
+use Rattle.row.specs.Words.{Words, words, word, put-command, word-ops, Room}
 use Rattle.row.proofs.Laws.{room-first, grown-refl}
-use Rattle.act.specs.Acts.{acted}
-use Rattle.act.proofs.Laws.{Sound, sound-trans, room-after, acted-sound}
+use Rattle.act.specs.Acts.{ensured, acted, drawn}
+use Rattle.act.proofs.Laws.{drawn-alpha, drawn-plain, Sound, sound-trans, room-after, acted-sound}
 use Rattle.arena.specs.Arena.{nowhere, Sizes, sizes, lay, Long}
 use Rattle.arena.proofs.Laws.{cut-length, lay-cut}
 use Rattle.row.specs.Cmds.{Short}
@@ -22,11 +26,21 @@ use Rattle.segments.specs.declared.Placed.{Placed}
 use Rattle.segments.specs.Segs.{seg-at, segs, origin, bounds, placed-of}
 use Rattle.segments.proofs.Laws.{segs-end, segs-first, good-first, good-rest, landed}
 use Rattle.fillrows.specs.declared.Job.{Job}
-use Rattle.fillrows.specs.Filling.{count-rows, rows-of, draws, puts-of, one-put, puts, done, Roomy, none-put, one-more, Whole, Ready}
+use Rattle.fillrows.specs.Filling.{count-rows, rows-of, draws, puts-of, one-put, puts, done, unsplit, Roomy, none-put, one-more, Whole, Ready}
 
 -- n rows have n records
 pub rows-counted : (s : List ℕ) (n : ℕ) → length s ≡ n * 54 → count-rows s ≡ n
 rows-counted s n e = omega arith
+
+-- one command, on a row that has its layers
+module _ (n : ℕ) (s : Span) (i id : ℕ) (w : Words) (h : word 5 w ≡ n) where
+  all-there : ensured n w ≡ w
+  all-there = let z : n - word 5 w ≡ 0 = omega arith in rw z
+
+  pub drawn-once : (e : Bool) (a : Option ℕ) → unsplit e a ≡ true → drawn n e s a i id w ≡ put-command (paint-fill s a i) w
+  drawn-once e (some a) u = drawn-alpha n s i id w e a ∙ ap (put-command (paint-fill s (some a) i)) all-there
+  drawn-once false none u = drawn-plain n s i id w ∙ ap (put-command (paint-fill s none i)) all-there
+  drawn-once true none u = never (sym u)
 
 -- one segment
 module _ (j : Job) (g : Segment) (rs : List Words) where

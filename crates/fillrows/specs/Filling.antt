@@ -1,9 +1,9 @@
 -- The doing half of a fill: the rules' puts at rows of words, and what the judging half has shown.
 use Prim.Native.Nat.{ℕ, _+_, _-_, _*_, _/_, _≤_}
 use mathlib.Core.Path.{_≡_}
-use mathlib.Core.Bool.{true}
+use mathlib.Core.Bool.{Bool, true, not}
 use mathlib.Core.List.{List, [], _∷_}
-use mathlib.Core.Option.{Option}
+use mathlib.Core.Option.{Option, none, some}
 use lib.ListN.{getD, length}
 use Rattle.rules.specs.Lists.{join, every}
 use Rattle.rules.specs.Spans.{Span}
@@ -27,6 +27,11 @@ rows-of j n w = cut (sizes (j .c) (j .d)) n w
 -- rules 5 to 7 on one row
 abbrev pub draws : Job → Span → Option ℕ → Words → Words
 draws j s a w = drawn (j .layers) (j .eligible) s a (j .attr) (j .id) w
+
+-- rule 6: a stretch with alpha index a becomes one command; e says that the draw is eligible
+abbrev pub unsplit : Bool → Option ℕ → Bool
+unsplit e none = not e
+unsplit e (some a) = true
 
 -- rule 4: a cut segment's acts
 abbrev pub puts-of : Job → List Cut → List Put

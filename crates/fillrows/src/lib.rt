@@ -1,10 +1,13 @@
 // The doing half of a fill (rules 3 to 7), over a whole screen's words. Parts: each has a `requires`, which `fill` has judged.
 use act::push_fill;
+use row::push_paint;
 use segments::Placed;
 use segments::Scene;
 use segments::place;
 use segments::segment_at;
+use span::Alpha;
 use span::Stretch;
+use span::TileSpan;
 ghost use mathlib.Core.Path.{_≡_};
 ghost use mathlib.Core.Bool.{true};
 ghost use Prim.Native.Nat.{_+_, _*_, _-_, _≤_, _<_};
@@ -14,9 +17,10 @@ ghost use Rattle.rules.specs.Segments.{good-segment};
 ghost use Rattle.span.specs.Spans.{tiles, alpha};
 ghost use Rattle.row.specs.Words.{words, Room};
 ghost use Rattle.row.specs.Cmds.{Short};
+ghost use Rattle.act.specs.Acts.{alpha-of, drawn};
 ghost use Rattle.arena.specs.Arena.{nowhere, lay};
 ghost use Rattle.segments.specs.Segs.{seg-at};
-ghost use Rattle.fillrows.specs.Filling.{count-rows, rows-of, draws, one-put, puts, done, Roomy, Whole, Ready};
+ghost use Rattle.fillrows.specs.Filling.{count-rows, rows-of, draws, one-put, puts, done, unsplit, Roomy, Whole, Ready};
 
 // What stays the same over all the segments of a fill: the scene, room for commands and depth fills in a row, open layers, whether
 // solid segments are eligible, attribute and id.
@@ -28,6 +32,51 @@ pub struct Job {
     pub eligible: bool,
     pub attr: u32,
     pub id: u32,
+}
+
+// One command comes of it.
+fn is_unsplit(eligible: bool, alpha: Alpha) -> bool
+    ensures { λ r. ⌜ r ≡ unsplit eligible (alpha-of alpha) ⌝ }
+{
+    match alpha {
+        Alpha::At(_) => true,
+        Alpha::Solid => !eligible,
+    }
+}
+
+// `push_fill`, with a short way for one command on a row that has its layers.
+fn push_row(
+    state: &mut [u32],
+    render: &mut [u32],
+    fills: &mut [u32],
+    n: u32,
+    eligible: bool,
+    span: TileSpan,
+    alpha: Alpha,
+    attrs_idx: u32,
+    draw_id: u32,
+)
+    requires { ⌜ Short (tiles span) × (n ≤ 16) × Room (words (now state) (now render) (now fills)) (drawn n eligible (tiles span) (alpha-of alpha) «attrs_idx» «draw_id» (words (now state) (now render) (now fills))) ⌝ }
+    ensures { λ _. ⌜ words (now (state .exit)) (now (render .exit)) (now (fills .exit)) ≡ drawn n eligible (tiles span) (alpha-of alpha) «attrs_idx» «draw_id» (words (now (state .entry)) (now (render .entry)) (now (fills .entry))) ⌝ }
+{
+    let levels = state[5];
+    if levels == n {
+        if is_unsplit(eligible, alpha) {
+            push_paint(state, render, fills, span, alpha, attrs_idx);
+            return;
+        }
+    }
+    push_fill(
+        state,
+        render,
+        fills,
+        n,
+        eligible,
+        span,
+        alpha,
+        attrs_idx,
+        draw_id,
+    );
 }
 
 // What is left of a segment, on row r.
@@ -51,7 +100,7 @@ fn fill_row(
     let z = (r as usize) * d;
     let tiles = stretch.tiles;
     let alpha = stretch.alpha;
-    push_fill(
+    push_row(
         &mut rows[x..x + 54],
         &mut render[y..y + c],
         &mut fills[z..z + d],

@@ -25,8 +25,7 @@ use Rattle.building.specs.Building.{good-row, good-at, good-rows}
 use Rattle.segments.specs.Segs.{origin, bounds}
 use Rattle.fillrows.specs.declared.Job.{Job}
 use Rattle.fillrows.specs.Filling.{rows-of, draws, puts-of, done, Roomy, none-put, one-more}
-use Rattle.tally.specs.declared.Tally.{Tally}
-use Rattle.tally.specs.Tallies.{stored, known, drawn-counts, tally-of, tallied, record-at, tally-cuts, verdict, none-yet, Rowed}
+use Rattle.tally.specs.Tallies.{Tally, stored, known, drawn-counts, tally-of, tallied, record-at, tally-cuts, verdict, none-yet, Rowed}
 use Rattle.tally.proofs.Laws.{good-small, at-most-one, lands}
 use Rattle.tally.proofs.Running.{full-at, running, SaneAt, sane-after, runs, passes-are}
 use Rattle.tally.proofs.Rising.{Rising, then}

@@ -19,10 +19,9 @@ use Rattle.rules.specs.Steps.{do-act, put-part, ensure}
 use Rattle.counts.specs.Counts.{Counts, counts, count-ops}
 use Rattle.fillrows.specs.declared.Job.{Job}
 use Rattle.building.specs.Building.{good-row, good-summary, good-top}
-use Rattle.segments.specs.Segs.{seg-at, origin, bounds}
-use Rattle.segments.proofs.Laws.{segs-end, segs-first, good-first, good-rest, landed}
-use Rattle.tally.specs.declared.Tally.{Tally}
-use Rattle.tally.specs.Tallies.{edge-count, added, stored, known, tallied, record-at, tally-cuts, verdict, cuts-of, none-yet, Low, Fits, Rowed, Listed}
+use Rattle.segments.specs.Segs.{origin, bounds}
+use Rattle.segments.proofs.Laws.{landed}
+use Rattle.tally.specs.Tallies.{Tally, edge-count, added, stored, known, tallied, record-at, tally-cuts, Rowed}
 
 -- the parts of a split span: how many are regular, and how many are depth fills
 abbrev regulars : List Part → ℕ
@@ -147,6 +146,12 @@ good-small c d n s g =
     let h1 = both r f (h2 .0) in
     record { renders = leb-true _ _ (h1 .0); depths = leb-true _ _ (h1 .1); levels = leb-true _ _ (h2 .1) }
 
+-- the counts at hand are small before segment i
+pub record Fits (j : Job) (i : ℕ) (t : Tally) : Type 0 where
+  pub levels : t .levels ≤ j .layers
+  pub renders : t .renders + (j .layers - t .levels) ≤ 1040 + 2 * i
+  pub depths : t .depths ≤ 1024 + i
+
 -- one turn
 module _ (j : Job) (s : List ℕ) (t : Tally) where
   module _ (i r : ℕ) (f : Fits j i t) (c : j .c ≤ 1024) (d : j .d ≤ 1024) (l : j .layers ≤ 16) (g : good-row (j .c) (j .d) (j .layers) s ≡ true) where
@@ -159,9 +164,6 @@ module _ (j : Job) (s : List ℕ) (t : Tally) where
             × (cond b (counts (t .renders) (t .depths) (t .levels)) (stored s) .depths ≤ 1024 + i)
         go true = (f .levels, f .renders, f .depths)
         go false = let o = good-small (j .c) (j .d) (j .layers) s g in (o .levels, omega (arith, o .renders, c, l), omega (arith, o .depths, d))
-
-    pub low-known : 2 * i ≤ 8000000000000000000 → Low (j .layers) (known t s r)
-    low-known h = record { levels = near .0; renders = omega (arith, near .1); depths = omega (arith, near .2) }
 
   module _ (k : Cut) (c : Counts) (e : c ≡ known t s (k .row)) (h : c .levels ≤ j .layers) where
     pub turned : record {
@@ -206,11 +208,11 @@ module _ (j : Job) (rows : List ℕ) where
       rw (tally-append (tallied j (record-at rows (k .row)) t k) ks ls)
       (after-if (good-row (j .c) (j .d) (j .layers) (record-at rows (k .row))) (tally-cuts j rows (tallied j (record-at rows (k .row)) t k) ks) (λ (u : Tally). tally-cuts j rows u ls))
 
-  tally-more : (t u : Tally) (ks ls : List Cut) → some u ≡ tally-cuts j rows t ks → tally-cuts j rows t (ks ++ ls) ≡ tally-cuts j rows u ls
+  pub tally-more : (t u : Tally) (ks ls : List Cut) → some u ≡ tally-cuts j rows t ks → tally-cuts j rows t (ks ++ ls) ≡ tally-cuts j rows u ls
   unfolding after
   tally-more t u ks ls e = rw (tally-append t ks ls, ← e)
 
-  tally-stop : (t : Tally) (ks ls : List Cut) → none ≡ tally-cuts j rows t ks → tally-cuts j rows t (ks ++ ls) ≡ none
+  pub tally-stop : (t : Tally) (ks ls : List Cut) → none ≡ tally-cuts j rows t ks → tally-cuts j rows t (ks ++ ls) ≡ none
   unfolding after
   tally-stop t ks ls e = rw (tally-append t ks ls, ← e)
 
@@ -249,7 +251,7 @@ module _ (j : Job) (rows : List ℕ) (t u : Tally) (i : ℕ) (f : Fits j i t) (c
       rw p (fits-turned j (record-at rows (k .row)) t k i f c d l q)
   told k false q e = let z : _≡_ {A = ℕ} 0 1 = cc in absurd (omega arith)
 
-  fits-after : (ks : List Cut) → length ks ≤ 1 → some u ≡ tally-cuts j rows t ks → Fits j (i + 1) u
+  pub fits-after : (ks : List Cut) → length ks ≤ 1 → some u ≡ tally-cuts j rows t ks → Fits j (i + 1) u
   unfolding tally-cuts
   fits-after [] h e = later (cc)
   fits-after (k ∷ []) h e = told k (good-row (j .c) (j .d) (j .layers) (record-at rows (k .row))) refl e
@@ -261,40 +263,6 @@ pub lands : (j : Job) (n : ℕ) (rows : List ℕ) (g : Segment) (k : Cut) → Ro
 lands j n rows g k o t e =
     let l = landed (origin (j .scene)) (bounds (j .scene)) g k t (o .starts) e in
     (omega (arith, l .row, o .bottom), omega (arith, l .order, l .ends), l .ends)
-
--- the loop over the segments from a to b, at segment i
-pub record Tallying (j : Job) (n : ℕ) (rows ws : List ℕ) (a b i : ℕ) (t : Tally) : Type 0 where
-  pub listed : Listed j n rows ws i b
-  pub fits : Fits j i t
-  pub rest : verdict (tally-cuts j rows t (cuts-of j ws i b)) ≡ verdict (tally-cuts j rows none-yet (cuts-of j ws a b))
-
-pub begun : {j : Job} {n : ℕ} {rows ws : List ℕ} {a b : ℕ} → Listed j n rows ws a b → Tallying j n rows ws a b a none-yet
-begun l = record { listed = l; fits = record { levels = omega arith; renders = omega (arith, l .rowed .layers); depths = omega arith }; rest = refl }
-
-module _ {j : Job} {n : ℕ} {rows ws : List ℕ} {a b i : ℕ} {t : Tally} (v : Tallying j n rows ws a b i t) where
-  pub told-at-last : b ≤ i → cond (t .full) 10 (cond (t .deep) 11 0) ≡ verdict (tally-cuts j rows none-yet (cuts-of j ws a b))
-  unfolding tally-cuts
-  told-at-last h = rw (segs-end ws i b h) at (v .rest)
-
-  module _ (h : i < b) where
-    pub good-here : good-segment (seg-at ws i) ≡ true
-    good-here = good-first ws i b h (v .listed .good)
-
-    split-cuts : cuts-of j ws i b ≡ cut-in (origin (j .scene)) (bounds (j .scene)) (seg-at ws i) ++ cuts-of j ws (i + 1) b
-    split-cuts = rw (segs-first ws i b h)
-
-    pub stopped : none ≡ tally-cuts j rows t (cut-in (origin (j .scene)) (bounds (j .scene)) (seg-at ws i)) → 4 ≡ verdict (tally-cuts j rows none-yet (cuts-of j ws a b))
-    stopped e =
-        rw (split-cuts, tally-stop j rows t (cut-in (origin (j .scene)) (bounds (j .scene)) (seg-at ws i)) (cuts-of j ws (i + 1) b) e) at (v .rest)
-
-    pub again : (u : Tally) → some u ≡ tally-cuts j rows t (cut-in (origin (j .scene)) (bounds (j .scene)) (seg-at ws i)) → Tallying j n rows ws a b (i + 1) u
-    again u e =
-        let o = v .listed .rowed in
-        record {
-          listed = record { rowed = o; within = v .listed .within; good = good-rest ws i b h (v .listed .good) };
-          fits = fits-after j rows t u i (v .fits) (o .c) (o .d) (o .layers) (cut-in (origin (j .scene)) (bounds (j .scene)) (seg-at ws i)) (at-most-one _ _ (seg-at ws i)) e;
-          rest = rw (split-cuts, tally-more j rows t u (cut-in (origin (j .scene)) (bounds (j .scene)) (seg-at ws i)) (cuts-of j ws (i + 1) b) e) at (v .rest);
-        }
 
 -- a row's record as code cuts it out
 pub row-part : (r : ℕ) (rows : List ℕ) → take (r * 54 + 54 - r * 54) (drop (r * 54) rows) ≡ record-at rows r

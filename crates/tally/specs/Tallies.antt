@@ -1,15 +1,15 @@
 -- A running tally over the cut segments of a list: the counts of the row at hand, loaded from its record when the row changes.
 use Prim.Native.Nat.{ℕ, _+_, _-_, _*_, _/_, _≤_}
 use mathlib.Core.Path.{_≡_}
-use mathlib.Core.Bool.{Bool, true, false, _||_, cond}
+use mathlib.Core.Bool.{Bool, false, _||_, cond}
 use mathlib.Core.List.{List, [], _∷_}
 use mathlib.Core.Option.{Option, none, some}
 use lib.Dec.{ltb, eqb}
 use lib.ListN.{getD, length, take, drop}
-use Rattle.rules.specs.Lists.{every, join}
-use Rattle.rules.specs.Answers.{Done, BadRecord, FullRow, FullDepth}
+use Rattle.rules.specs.Lists.{join}
+use Rattle.rules.specs.Answers.{Done, BadRecord, BadOrder, FullRow, FullDepth}
 use Rattle.rules.specs.Spans.{Span}
-use Rattle.rules.specs.Segments.{Cut, cut-in, good-segment}
+use Rattle.rules.specs.Segments.{Cut, cut-in}
 use Rattle.rules.specs.Plans.{draw-act}
 use Rattle.rules.specs.Steps.{do-act}
 use Rattle.counts.specs.Counts as count
@@ -17,13 +17,16 @@ use Rattle.counts.specs.Counts.{counts, count-ops}
 use Rattle.building.specs.Building.{good-row}
 use Rattle.segments.specs.Segs.{segs, origin, bounds, Starts}
 use Rattle.fillrows.specs.declared.Job.{Job}
-use Rattle.tally.specs.declared.Counts.{Counts}
-use Rattle.tally.specs.declared.Tally.{Tally}
-use Rattle.tally.specs.declared.Taken.{Taken}
-use Rattle.tally.specs.declared.Taken.the-variants.{Bad, On}
+use Rattle.tally.specs.declared.Hand.{Hand}
 
-abbrev pub counts-of : Counts → count.Counts
-counts-of k = counts (k .renders) (k .depths) (k .levels)
+-- the counts of the row at hand, and whether a row has passed its room so far
+pub record Tally : Type 0 where
+  pub row : ℕ
+  pub renders : ℕ
+  pub depths : ℕ
+  pub levels : ℕ
+  pub full : Bool
+  pub deep : Bool
 
 abbrev pub edge-count : ℕ → ℕ → ℕ
 edge-count a b = cond (ltb a b) 1 0
@@ -71,10 +74,6 @@ tally-cuts j rows t (k ∷ ks) =
     let more = tally-cuts j rows (tallied j s t k) ks in
     cond (good-row (j .c) (j .d) (j .layers) s) more none
 
-abbrev pub taken : Taken → Option Tally
-taken Bad = none
-taken (On t) = some t
-
 abbrev pub verdict : Option Tally → ℕ
 verdict none = BadRecord
 verdict (some t) = cond (t .full) FullRow (cond (t .deep) FullDepth Done)
@@ -87,18 +86,6 @@ cuts-of j ws a b = join (cut-in (origin (j .scene)) (bounds (j .scene))) (segs w
 abbrev pub none-yet : Tally
 none-yet = record { row = 8192; renders = 0; depths = 0; levels = 0; full = false; deep = false }
 
--- with n layers open: counts that can grow by one stretch
-pub record Low (n : ℕ) (k : count.Counts) : Type 0 where
-  pub levels : k .levels ≤ n
-  pub renders : k .renders + (n - k .levels) ≤ 9223372036854775808
-  pub depths : k .depths ≤ 9223372036854775808
-
--- the counts at hand are small before segment i
-pub record Fits (j : Job) (i : ℕ) (t : Tally) : Type 0 where
-  pub levels : t .levels ≤ j .layers
-  pub renders : t .renders + (j .layers - t .levels) ≤ 1040 + 2 * i
-  pub depths : t .depths ≤ 1024 + i
-
 -- the job's numbers, and the records of n rows
 pub record Rowed (j : Job) (n : ℕ) (rows : List ℕ) : Type 0 where
   pub c : j .c ≤ 1024
@@ -107,9 +94,42 @@ pub record Rowed (j : Job) (n : ℕ) (rows : List ℕ) : Type 0 where
   pub starts : Starts (origin (j .scene)) (bounds (j .scene))
   pub bottom : j .scene .rows .end ≤ j .scene .y / 4 + n
   pub long : length rows ≡ n * 54
+  pub few : n ≤ 512
 
--- .. and the segments from a to b of a list, each of them good
-pub record Listed (j : Job) (n : ℕ) (rows ws : List ℕ) (a b : ℕ) : Type 0 where
-  pub rowed : Rowed j n rows
-  pub within : 5 * b ≤ length ws
-  pub good : every good-segment (segs ws a (b - a)) ≡ true
+-- the number of a list and of its rows: 4 for either, then the list's, then the rows'
+abbrev pub list-number : ℕ → ℕ → ℕ
+list-number a v = cond (eqb a BadRecord) BadRecord (cond (eqb v BadRecord) BadRecord (cond (eqb a Done) v a))
+
+-- the number n, after counts that pass c if f, and d if g
+abbrev pub noted : ℕ → Bool → Bool → ℕ
+noted n f g = cond f (cond (eqb n BadOrder) BadOrder FullRow) (cond g (cond (eqb n Done) FullDepth n) n)
+
+abbrev pub marked-by : Hand → Bool → Hand
+marked-by h follows = cond follows h (record { row = h .row; renders = h .renders; depths = h .depths; code = BadOrder })
+
+-- row r at hand, whose record at entry is s, with its layers
+unfoldable pub turned-to : Job → List ℕ → Hand → ℕ → Hand
+turned-to j s h r =
+    let read : Hand = record { row = r; renders = getD s 0 0 + (j .layers - getD s 5 0); depths = getD s 1 0; code = h .code } in
+    let bad : Hand = record { row = r; renders = 0; depths = 0; code = BadRecord } in
+    cond (eqb (h .row) r) h (cond (good-row (j .c) (j .d) (j .layers) s) read bad)
+
+-- one more stretch on the row at hand
+unfoldable pub stretched : Job → Hand → Span → Option ℕ → Hand
+stretched j h s a =
+    let renders = h .renders + added (j .eligible) s a .renders in
+    let depths = h .depths + added (j .eligible) s a .depths in
+    record { row = h .row; renders = renders; depths = depths; code = noted (h .code) (ltb (j .c) renders) (ltb (j .d) depths) }
+
+-- more cut segments; a bad record ends it
+unfoldable pub hand-cuts : Job → List ℕ → Hand → List Cut → Hand
+hand-cuts j rows h [] = h
+hand-cuts j rows h (k ∷ ks) =
+    let u = turned-to j (record-at rows (k .row)) h (k .row) in
+    let more = hand-cuts j rows (stretched j u (k .tiles) (k .alpha)) ks in
+    cond (eqb (u .code) BadRecord) u more
+
+-- counts that can grow by one stretch
+pub record Low (h : Hand) : Type 0 where
+  pub renders : h .renders ≤ 9223372036854775808
+  pub depths : h .depths ≤ 9223372036854775808

@@ -1,10 +1,9 @@
 use mathlib.Core.Path.{sym, _∙_}
-use native.Mathlib.Omega.{arith}
 use borrow.Author.Tests.{not-true, not-false}
 use Rattle.row.specs.Words.{words}
 use Rattle.fill.specs.Fills.{lent}
 use Rattle.fill.proofs.Inputs.{draw-facts}
-use Rattle.fill.proofs.Numbers.{by-first, bad-draw, passing, bad-list, rows-asked, bad-record, bad-order, no-id, no-attr, by-tally, empty-done}
+use Rattle.fill.proofs.Numbers.{by-first, bad-draw, passing, list-asked, list-four, list-five, list-no-id, list-empty, list-no-attr, list-rows}
 use borrow.Author.Needs.{needs}
 use Rattle.fill.proofs.judge_fill.Statement.{statement}
 use Rattle.fill.proofs.judge_fill.Tie as tie
@@ -13,64 +12,55 @@ use Rattle.fill.proofs.judge_fill.Lts as lts
 use Rattle.fill.proofs.is_good_draw.Reads as is-good-draw-reads
 use Rattle.fill.proofs.job_of.Reads as job-of-reads
 use Rattle.fill.proofs.judge_lent.Reads as judge-lent-reads
-use Rattle.segments.proofs.judge_segments.Reads as judge-segments-reads
-use Rattle.tally.proofs.judge_rows.Reads as judge-rows-reads
+use Rattle.tally.proofs.judge_list.Reads as judge-list-reads
 
--- src/lib.rt:146:9
+-- src/lib.rt:145:9
 judge-lent-requires : tie.Need-judge-lent-requires
 judge-lent-requires c κs = search needs
 
--- src/lib.rt:156:9
+-- src/lib.rt:155:9
 returns : tie.Need-returns
 returns c = by-first (lent (c .before .before .before .before .before .before .before .before .args .screen) (words (c .before .before .before .before .before .before .before .before .args .rows .now) (c .before .before .before .before .before .before .before .before .args .render .now) (c .before .before .before .before .before .before .before .before .args .fills .now)) (c .before .before .before .before .before .before .before .before .args .paint-attrs .now)) (c .before .before .before .before .before .before .before .before .args .paints .now) (c .before .before .before .before .before .before .before .before .args .segments .now) (c .before .before .before .before .before .before .before .before .args .draw) (c .before .judge-lent .ensures) (c .if1 .taken)
 
--- src/lib.rt:158:9
+-- src/lib.rt:157:9
 is-good-draw-requires : tie.Need-is-good-draw-requires
 is-good-draw-requires c κs = search needs
 
--- src/lib.rt:159:9
+-- src/lib.rt:158:9
 returns-2 : tie.Need-returns-2
 returns-2 c = bad-draw (lent (c .before .before .before .before .before .before .before .before .before .before .args .screen) (words (c .before .before .before .before .before .before .before .before .before .before .args .rows .now) (c .before .before .before .before .before .before .before .before .before .before .args .render .now) (c .before .before .before .before .before .before .before .before .before .before .args .fills .now)) (c .before .before .before .before .before .before .before .before .before .before .args .paint-attrs .now)) (c .before .before .before .before .before .before .before .before .before .before .args .paints .now) (c .before .before .before .before .before .before .before .before .before .before .args .segments .now) (c .before .before .before .before .before .before .before .before .before .before .args .draw) (sym (c .before .before .before .judge-lent .ensures) ∙ c .before .before .if1 .left) (sym (c .before .is-good-draw .ensures) ∙ not-true (c .before .is-good-draw .result) (c .if2 .taken))
 
+-- src/lib.rt:162:9
+job-of-requires : tie.Need-job-of-requires
+job-of-requires c κs = (passing (lent (c .before .before .before .before .before .before .before .before .before .before .args .screen) (words (c .before .before .before .before .before .before .before .before .before .before .args .rows .now) (c .before .before .before .before .before .before .before .before .before .before .args .render .now) (c .before .before .before .before .before .before .before .before .before .before .args .fills .now)) (c .before .before .before .before .before .before .before .before .before .before .args .paint-attrs .now)) (c .before .before .before .before .before .before .before .before .before .before .args .paints .now) (c .before .before .before .before .before .before .before .before .before .before .args .segments .now) (c .before .before .before .before .before .before .before .before .before .before .args .draw) (sym (c .before .before .before .judge-lent .ensures) ∙ c .before .before .if1 .left), (draw-facts (c .before .before .before .before .before .before .before .before .before .before .args .paints .now) (c .before .before .before .before .before .before .before .before .before .before .args .segments .now) (c .before .before .before .before .before .before .before .before .before .before .args .draw) (sym (c .before .is-good-draw .ensures) ∙ not-false (c .before .is-good-draw .result) (c .if2 .left))) .paint)
+
 -- src/lib.rt:163:9
-judge-segments-requires : tie.Need-judge-segments-requires
-judge-segments-requires c κs = ((draw-facts (c .before .before .before .before .before .before .before .before .before .before .args .paints .now) (c .before .before .before .before .before .before .before .before .before .before .args .segments .now) (c .before .before .before .before .before .before .before .before .before .before .args .draw) (sym (c .before .is-good-draw .ensures) ∙ not-false (c .before .is-good-draw .result) (c .if2 .left))) .range, omega (arith, (draw-facts (c .before .before .before .before .before .before .before .before .before .before .args .paints .now) (c .before .before .before .before .before .before .before .before .before .before .args .segments .now) (c .before .before .before .before .before .before .before .before .before .before .args .draw) (sym (c .before .is-good-draw .ensures) ∙ not-false (c .before .is-good-draw .result) (c .if2 .left))) .ends))
+judge-list-requires : tie.Need-judge-list-requires
+judge-list-requires c κs = rw (c .job-of .ensures) (list-asked (lent (c .before .before .before .before .before .before .before .before .before .before .before .args .screen) (words (c .before .before .before .before .before .before .before .before .before .before .before .args .rows .now) (c .before .before .before .before .before .before .before .before .before .before .before .args .render .now) (c .before .before .before .before .before .before .before .before .before .before .before .args .fills .now)) (c .before .before .before .before .before .before .before .before .before .before .before .args .paint-attrs .now)) (c .before .before .before .before .before .before .before .before .before .before .before .args .paints .now) (c .before .before .before .before .before .before .before .before .before .before .before .args .segments .now) (c .before .before .before .before .before .before .before .before .before .before .before .args .draw) (sym (c .before .before .before .before .judge-lent .ensures) ∙ c .before .before .before .if1 .left) (sym (c .before .before .is-good-draw .ensures) ∙ not-false (c .before .before .is-good-draw .result) (c .before .if2 .left)))
 
 -- src/lib.rt:165:9
 returns-3 : tie.Need-returns-3
-returns-3 c = bad-list (lent (c .before .before .before .before .before .before .before .before .before .before .before .before .args .screen) (words (c .before .before .before .before .before .before .before .before .before .before .before .before .args .rows .now) (c .before .before .before .before .before .before .before .before .before .before .before .before .args .render .now) (c .before .before .before .before .before .before .before .before .before .before .before .before .args .fills .now)) (c .before .before .before .before .before .before .before .before .before .before .before .before .args .paint-attrs .now)) (c .before .before .before .before .before .before .before .before .before .before .before .before .args .paints .now) (c .before .before .before .before .before .before .before .before .before .before .before .before .args .segments .now) (c .before .before .before .before .before .before .before .before .before .before .before .before .args .draw) (sym (c .before .before .before .before .before .judge-lent .ensures) ∙ c .before .before .before .before .if1 .left) (sym (c .before .before .before .is-good-draw .ensures) ∙ not-false (c .before .before .before .is-good-draw .result) (c .before .before .if2 .left)) (sym (c .before .judge-segments .ensures) ∙ c .if3 .taken)
-
--- src/lib.rt:167:9
-job-of-requires : tie.Need-job-of-requires
-job-of-requires c κs = (passing (lent (c .before .before .before .before .before .before .before .before .before .before .before .before .args .screen) (words (c .before .before .before .before .before .before .before .before .before .before .before .before .args .rows .now) (c .before .before .before .before .before .before .before .before .before .before .before .before .args .render .now) (c .before .before .before .before .before .before .before .before .before .before .before .before .args .fills .now)) (c .before .before .before .before .before .before .before .before .before .before .before .before .args .paint-attrs .now)) (c .before .before .before .before .before .before .before .before .before .before .before .before .args .paints .now) (c .before .before .before .before .before .before .before .before .before .before .before .before .args .segments .now) (c .before .before .before .before .before .before .before .before .before .before .before .before .args .draw) (sym (c .before .before .before .before .before .judge-lent .ensures) ∙ c .before .before .before .before .if1 .left), (draw-facts (c .before .before .before .before .before .before .before .before .before .before .before .before .args .paints .now) (c .before .before .before .before .before .before .before .before .before .before .before .before .args .segments .now) (c .before .before .before .before .before .before .before .before .before .before .before .before .args .draw) (sym (c .before .before .before .is-good-draw .ensures) ∙ not-false (c .before .before .before .is-good-draw .result) (c .before .before .if2 .left))) .paint)
+returns-3 c = list-four (lent (c .before .before .before .before .before .before .before .before .before .before .before .before .before .args .screen) (words (c .before .before .before .before .before .before .before .before .before .before .before .before .before .args .rows .now) (c .before .before .before .before .before .before .before .before .before .before .before .before .before .args .render .now) (c .before .before .before .before .before .before .before .before .before .before .before .before .before .args .fills .now)) (c .before .before .before .before .before .before .before .before .before .before .before .before .before .args .paint-attrs .now)) (c .before .before .before .before .before .before .before .before .before .before .before .before .before .args .paints .now) (c .before .before .before .before .before .before .before .before .before .before .before .before .before .args .segments .now) (c .before .before .before .before .before .before .before .before .before .before .before .before .before .args .draw) (sym (c .before .before .before .before .before .before .judge-lent .ensures) ∙ c .before .before .before .before .before .if1 .left) (sym (c .before .before .before .before .is-good-draw .ensures) ∙ not-false (c .before .before .before .before .is-good-draw .result) (c .before .before .before .if2 .left)) (rw (c .before .before .job-of .ensures) at (c .before .judge-list .ensures)) (c .if3 .taken)
 
 -- src/lib.rt:168:9
-judge-rows-requires : tie.Need-judge-rows-requires
-judge-rows-requires c κs = rw (c .job-of .ensures) (rows-asked (lent (c .before .before .before .before .before .before .before .before .before .before .before .before .before .args .screen) (words (c .before .before .before .before .before .before .before .before .before .before .before .before .before .args .rows .now) (c .before .before .before .before .before .before .before .before .before .before .before .before .before .args .render .now) (c .before .before .before .before .before .before .before .before .before .before .before .before .before .args .fills .now)) (c .before .before .before .before .before .before .before .before .before .before .before .before .before .args .paint-attrs .now)) (c .before .before .before .before .before .before .before .before .before .before .before .before .before .args .paints .now) (c .before .before .before .before .before .before .before .before .before .before .before .before .before .args .segments .now) (c .before .before .before .before .before .before .before .before .before .before .before .before .before .args .draw) (sym (c .before .before .before .before .before .before .judge-lent .ensures) ∙ c .before .before .before .before .before .if1 .left) (sym (c .before .before .before .before .is-good-draw .ensures) ∙ not-false (c .before .before .before .before .is-good-draw .result) (c .before .before .before .if2 .left)) (λ e. c .before .if3 .left (c .before .before .judge-segments .ensures ∙ e)))
-
--- src/lib.rt:170:9
 returns-4 : tie.Need-returns-4
-returns-4 c = bad-record (lent (c .before .before .before .before .before .before .before .before .before .before .before .before .before .before .before .args .screen) (words (c .before .before .before .before .before .before .before .before .before .before .before .before .before .before .before .args .rows .now) (c .before .before .before .before .before .before .before .before .before .before .before .before .before .before .before .args .render .now) (c .before .before .before .before .before .before .before .before .before .before .before .before .before .before .before .args .fills .now)) (c .before .before .before .before .before .before .before .before .before .before .before .before .before .before .before .args .paint-attrs .now)) (c .before .before .before .before .before .before .before .before .before .before .before .before .before .before .before .args .paints .now) (c .before .before .before .before .before .before .before .before .before .before .before .before .before .before .before .args .segments .now) (c .before .before .before .before .before .before .before .before .before .before .before .before .before .before .before .args .draw) (sym (c .before .before .before .before .before .before .before .before .judge-lent .ensures) ∙ c .before .before .before .before .before .before .before .if1 .left) (sym (c .before .before .before .before .before .before .is-good-draw .ensures) ∙ not-false (c .before .before .before .before .before .before .is-good-draw .result) (c .before .before .before .before .before .if2 .left)) (λ e. c .before .before .before .if3 .left (c .before .before .before .before .judge-segments .ensures ∙ e)) (sym (rw (c .before .before .job-of .ensures) at (c .before .judge-rows .ensures)) ∙ c .if4 .taken)
+returns-4 c = list-five (lent (c .before .before .before .before .before .before .before .before .before .before .before .before .before .before .args .screen) (words (c .before .before .before .before .before .before .before .before .before .before .before .before .before .before .args .rows .now) (c .before .before .before .before .before .before .before .before .before .before .before .before .before .before .args .render .now) (c .before .before .before .before .before .before .before .before .before .before .before .before .before .before .args .fills .now)) (c .before .before .before .before .before .before .before .before .before .before .before .before .before .before .args .paint-attrs .now)) (c .before .before .before .before .before .before .before .before .before .before .before .before .before .before .args .paints .now) (c .before .before .before .before .before .before .before .before .before .before .before .before .before .before .args .segments .now) (c .before .before .before .before .before .before .before .before .before .before .before .before .before .before .args .draw) (sym (c .before .before .before .before .before .before .before .judge-lent .ensures) ∙ c .before .before .before .before .before .before .if1 .left) (sym (c .before .before .before .before .before .is-good-draw .ensures) ∙ not-false (c .before .before .before .before .before .is-good-draw .result) (c .before .before .before .before .if2 .left)) (rw (c .before .before .before .job-of .ensures) at (c .before .before .judge-list .ensures)) (c .if4 .taken)
 
--- src/lib.rt:173:9
+-- src/lib.rt:171:9
 returns-5 : tie.Need-returns-5
-returns-5 c = bad-order (lent (c .before .before .before .before .before .before .before .before .before .before .before .before .before .before .before .before .args .screen) (words (c .before .before .before .before .before .before .before .before .before .before .before .before .before .before .before .before .args .rows .now) (c .before .before .before .before .before .before .before .before .before .before .before .before .before .before .before .before .args .render .now) (c .before .before .before .before .before .before .before .before .before .before .before .before .before .before .before .before .args .fills .now)) (c .before .before .before .before .before .before .before .before .before .before .before .before .before .before .before .before .args .paint-attrs .now)) (c .before .before .before .before .before .before .before .before .before .before .before .before .before .before .before .before .args .paints .now) (c .before .before .before .before .before .before .before .before .before .before .before .before .before .before .before .before .args .segments .now) (c .before .before .before .before .before .before .before .before .before .before .before .before .before .before .before .before .args .draw) (sym (c .before .before .before .before .before .before .before .before .before .judge-lent .ensures) ∙ c .before .before .before .before .before .before .before .before .if1 .left) (sym (c .before .before .before .before .before .before .before .is-good-draw .ensures) ∙ not-false (c .before .before .before .before .before .before .before .is-good-draw .result) (c .before .before .before .before .before .before .if2 .left)) (λ e. c .before .before .before .before .if3 .left (c .before .before .before .before .before .judge-segments .ensures ∙ e)) (λ e. c .before .if4 .left ((rw (c .before .before .before .job-of .ensures) at (c .before .before .judge-rows .ensures)) ∙ e)) (c .before .before .before .before .before .judge-segments .ensures) (c .if5 .taken)
+returns-5 c = list-no-id (lent (c .before .before .before .before .before .before .before .before .before .before .before .before .before .before .before .before .args .screen) (words (c .before .before .before .before .before .before .before .before .before .before .before .before .before .before .before .before .args .rows .now) (c .before .before .before .before .before .before .before .before .before .before .before .before .before .before .before .before .args .render .now) (c .before .before .before .before .before .before .before .before .before .before .before .before .before .before .before .before .args .fills .now)) (c .before .before .before .before .before .before .before .before .before .before .before .before .before .before .before .before .args .paint-attrs .now)) (c .before .before .before .before .before .before .before .before .before .before .before .before .before .before .before .before .args .paints .now) (c .before .before .before .before .before .before .before .before .before .before .before .before .before .before .before .before .args .segments .now) (c .before .before .before .before .before .before .before .before .before .before .before .before .before .before .before .before .args .draw) (sym (c .before .before .before .before .before .before .before .before .before .judge-lent .ensures) ∙ c .before .before .before .before .before .before .before .before .if1 .left) (sym (c .before .before .before .before .before .before .before .is-good-draw .ensures) ∙ not-false (c .before .before .before .before .before .before .before .is-good-draw .result) (c .before .before .before .before .before .before .if2 .left)) (rw (c .before .before .before .before .before .job-of .ensures) at (c .before .before .before .before .judge-list .ensures)) (c .before .before .before .if3 .left) (c .before .before .if4 .left) (c .if5 .taken)
 
--- src/lib.rt:176:9
+-- src/lib.rt:174:9
 returns-6 : tie.Need-returns-6
-returns-6 c = no-id (lent (c .before .before .before .before .before .before .before .before .before .before .before .before .before .before .before .before .before .before .args .screen) (words (c .before .before .before .before .before .before .before .before .before .before .before .before .before .before .before .before .before .before .args .rows .now) (c .before .before .before .before .before .before .before .before .before .before .before .before .before .before .before .before .before .before .args .render .now) (c .before .before .before .before .before .before .before .before .before .before .before .before .before .before .before .before .before .before .args .fills .now)) (c .before .before .before .before .before .before .before .before .before .before .before .before .before .before .before .before .before .before .args .paint-attrs .now)) (c .before .before .before .before .before .before .before .before .before .before .before .before .before .before .before .before .before .before .args .paints .now) (c .before .before .before .before .before .before .before .before .before .before .before .before .before .before .before .before .before .before .args .segments .now) (c .before .before .before .before .before .before .before .before .before .before .before .before .before .before .before .before .before .before .args .draw) (sym (c .before .before .before .before .before .before .before .before .before .before .before .judge-lent .ensures) ∙ c .before .before .before .before .before .before .before .before .before .before .if1 .left) (sym (c .before .before .before .before .before .before .before .before .before .is-good-draw .ensures) ∙ not-false (c .before .before .before .before .before .before .before .before .before .is-good-draw .result) (c .before .before .before .before .before .before .before .before .if2 .left)) (λ e. c .before .before .before .before .before .before .if3 .left (c .before .before .before .before .before .before .before .judge-segments .ensures ∙ e)) (λ e. c .before .before .before .if4 .left ((rw (c .before .before .before .before .before .job-of .ensures) at (c .before .before .before .before .judge-rows .ensures)) ∙ e)) (sym (c .before .before .before .before .before .before .before .judge-segments .ensures) ∙ c .before .before .if5 .left) (c .if6 .taken)
+returns-6 c = list-empty (lent (c .before .before .before .before .before .before .before .before .before .before .before .before .before .before .before .before .before .args .screen) (words (c .before .before .before .before .before .before .before .before .before .before .before .before .before .before .before .before .before .args .rows .now) (c .before .before .before .before .before .before .before .before .before .before .before .before .before .before .before .before .before .args .render .now) (c .before .before .before .before .before .before .before .before .before .before .before .before .before .before .before .before .before .args .fills .now)) (c .before .before .before .before .before .before .before .before .before .before .before .before .before .before .before .before .before .args .paint-attrs .now)) (c .before .before .before .before .before .before .before .before .before .before .before .before .before .before .before .before .before .args .paints .now) (c .before .before .before .before .before .before .before .before .before .before .before .before .before .before .before .before .before .args .segments .now) (c .before .before .before .before .before .before .before .before .before .before .before .before .before .before .before .before .before .args .draw) (sym (c .before .before .before .before .before .before .before .before .before .before .judge-lent .ensures) ∙ c .before .before .before .before .before .before .before .before .before .if1 .left) (sym (c .before .before .before .before .before .before .before .before .is-good-draw .ensures) ∙ not-false (c .before .before .before .before .before .before .before .before .is-good-draw .result) (c .before .before .before .before .before .before .before .if2 .left)) (rw (c .before .before .before .before .before .before .job-of .ensures) at (c .before .before .before .before .before .judge-list .ensures)) (c .before .before .before .before .if3 .left) (c .before .before .before .if4 .left) (c .before .if5 .left) (c .if6 .taken)
 
--- src/lib.rt:179:9
+-- src/lib.rt:177:9
 returns-7 : tie.Need-returns-7
-returns-7 c = empty-done (lent (c .before .before .before .before .before .before .before .before .before .before .before .before .before .before .before .before .before .before .before .args .screen) (words (c .before .before .before .before .before .before .before .before .before .before .before .before .before .before .before .before .before .before .before .args .rows .now) (c .before .before .before .before .before .before .before .before .before .before .before .before .before .before .before .before .before .before .before .args .render .now) (c .before .before .before .before .before .before .before .before .before .before .before .before .before .before .before .before .before .before .before .args .fills .now)) (c .before .before .before .before .before .before .before .before .before .before .before .before .before .before .before .before .before .before .before .args .paint-attrs .now)) (c .before .before .before .before .before .before .before .before .before .before .before .before .before .before .before .before .before .before .before .args .paints .now) (c .before .before .before .before .before .before .before .before .before .before .before .before .before .before .before .before .before .before .before .args .segments .now) (c .before .before .before .before .before .before .before .before .before .before .before .before .before .before .before .before .before .before .before .args .draw) (sym (c .before .before .before .before .before .before .before .before .before .before .before .before .judge-lent .ensures) ∙ c .before .before .before .before .before .before .before .before .before .before .before .if1 .left) (sym (c .before .before .before .before .before .before .before .before .before .before .is-good-draw .ensures) ∙ not-false (c .before .before .before .before .before .before .before .before .before .before .is-good-draw .result) (c .before .before .before .before .before .before .before .before .before .if2 .left)) (λ e. c .before .before .before .before .before .before .before .if3 .left (c .before .before .before .before .before .before .before .before .judge-segments .ensures ∙ e)) (λ e. c .before .before .before .before .if4 .left ((rw (c .before .before .before .before .before .before .job-of .ensures) at (c .before .before .before .before .before .judge-rows .ensures)) ∙ e)) (sym (c .before .before .before .before .before .before .before .before .judge-segments .ensures) ∙ c .before .before .before .if5 .left) (c .before .if6 .left) (c .if7 .taken)
+returns-7 c = list-no-attr (lent (c .before .before .before .before .before .before .before .before .before .before .before .before .before .before .before .before .before .before .before .args .screen) (words (c .before .before .before .before .before .before .before .before .before .before .before .before .before .before .before .before .before .before .before .args .rows .now) (c .before .before .before .before .before .before .before .before .before .before .before .before .before .before .before .before .before .before .before .args .render .now) (c .before .before .before .before .before .before .before .before .before .before .before .before .before .before .before .before .before .before .before .args .fills .now)) (c .before .before .before .before .before .before .before .before .before .before .before .before .before .before .before .before .before .before .before .args .paint-attrs .now)) (c .before .before .before .before .before .before .before .before .before .before .before .before .before .before .before .before .before .before .before .args .paints .now) (c .before .before .before .before .before .before .before .before .before .before .before .before .before .before .before .before .before .before .before .args .segments .now) (c .before .before .before .before .before .before .before .before .before .before .before .before .before .before .before .before .before .before .before .args .draw) (sym (c .before .before .before .before .before .before .before .before .before .before .before .before .judge-lent .ensures) ∙ c .before .before .before .before .before .before .before .before .before .before .before .if1 .left) (sym (c .before .before .before .before .before .before .before .before .before .before .is-good-draw .ensures) ∙ not-false (c .before .before .before .before .before .before .before .before .before .before .is-good-draw .result) (c .before .before .before .before .before .before .before .before .before .if2 .left)) (rw (c .before .before .before .before .before .before .before .before .job-of .ensures) at (c .before .before .before .before .before .before .before .judge-list .ensures)) (c .before .before .before .before .before .before .if3 .left) (c .before .before .before .before .before .if4 .left) (c .before .before .before .if5 .left) (c .before .before .if6 .left) (c .if7 .taken)
 
--- src/lib.rt:182:9
+-- src/lib.rt:133:1
 returns-8 : tie.Need-returns-8
-returns-8 c = no-attr (lent (c .before .before .before .before .before .before .before .before .before .before .before .before .before .before .before .before .before .before .before .before .before .args .screen) (words (c .before .before .before .before .before .before .before .before .before .before .before .before .before .before .before .before .before .before .before .before .before .args .rows .now) (c .before .before .before .before .before .before .before .before .before .before .before .before .before .before .before .before .before .before .before .before .before .args .render .now) (c .before .before .before .before .before .before .before .before .before .before .before .before .before .before .before .before .before .before .before .before .before .args .fills .now)) (c .before .before .before .before .before .before .before .before .before .before .before .before .before .before .before .before .before .before .before .before .before .args .paint-attrs .now)) (c .before .before .before .before .before .before .before .before .before .before .before .before .before .before .before .before .before .before .before .before .before .args .paints .now) (c .before .before .before .before .before .before .before .before .before .before .before .before .before .before .before .before .before .before .before .before .before .args .segments .now) (c .before .before .before .before .before .before .before .before .before .before .before .before .before .before .before .before .before .before .before .before .before .args .draw) (sym (c .before .before .before .before .before .before .before .before .before .before .before .before .before .before .judge-lent .ensures) ∙ c .before .before .before .before .before .before .before .before .before .before .before .before .before .if1 .left) (sym (c .before .before .before .before .before .before .before .before .before .before .before .before .is-good-draw .ensures) ∙ not-false (c .before .before .before .before .before .before .before .before .before .before .before .before .is-good-draw .result) (c .before .before .before .before .before .before .before .before .before .before .before .if2 .left)) (λ e. c .before .before .before .before .before .before .before .before .before .if3 .left (c .before .before .before .before .before .before .before .before .before .before .judge-segments .ensures ∙ e)) (λ e. c .before .before .before .before .before .before .if4 .left ((rw (c .before .before .before .before .before .before .before .before .job-of .ensures) at (c .before .before .before .before .before .before .before .judge-rows .ensures)) ∙ e)) (sym (c .before .before .before .before .before .before .before .before .before .before .judge-segments .ensures) ∙ c .before .before .before .before .before .if5 .left) (c .before .before .before .if6 .left) (c .before .before .if7 .left) (c .if8 .taken)
-
--- src/lib.rt:134:1
-returns-9 : tie.Need-returns-9
-returns-9 c = (rw (c .before .before .before .before .before .before .before .before .job-of .ensures) at (c .before .before .before .before .before .before .before .judge-rows .ensures)) ∙ by-tally (lent (c .before .before .before .before .before .before .before .before .before .before .before .before .before .before .before .before .before .before .before .before .before .args .screen) (words (c .before .before .before .before .before .before .before .before .before .before .before .before .before .before .before .before .before .before .before .before .before .args .rows .now) (c .before .before .before .before .before .before .before .before .before .before .before .before .before .before .before .before .before .before .before .before .before .args .render .now) (c .before .before .before .before .before .before .before .before .before .before .before .before .before .before .before .before .before .before .before .before .before .args .fills .now)) (c .before .before .before .before .before .before .before .before .before .before .before .before .before .before .before .before .before .before .before .before .before .args .paint-attrs .now)) (c .before .before .before .before .before .before .before .before .before .before .before .before .before .before .before .before .before .before .before .before .before .args .paints .now) (c .before .before .before .before .before .before .before .before .before .before .before .before .before .before .before .before .before .before .before .before .before .args .segments .now) (c .before .before .before .before .before .before .before .before .before .before .before .before .before .before .before .before .before .before .before .before .before .args .draw) (sym (c .before .before .before .before .before .before .before .before .before .before .before .before .before .before .judge-lent .ensures) ∙ c .before .before .before .before .before .before .before .before .before .before .before .before .before .if1 .left) (sym (c .before .before .before .before .before .before .before .before .before .before .before .before .is-good-draw .ensures) ∙ not-false (c .before .before .before .before .before .before .before .before .before .before .before .before .is-good-draw .result) (c .before .before .before .before .before .before .before .before .before .before .before .if2 .left)) (λ e. c .before .before .before .before .before .before .before .before .before .if3 .left (c .before .before .before .before .before .before .before .before .before .before .judge-segments .ensures ∙ e)) (λ e. c .before .before .before .before .before .before .if4 .left ((rw (c .before .before .before .before .before .before .before .before .job-of .ensures) at (c .before .before .before .before .before .before .before .judge-rows .ensures)) ∙ e)) (sym (c .before .before .before .before .before .before .before .before .before .before .judge-segments .ensures) ∙ c .before .before .before .before .before .if5 .left) (c .before .before .before .if6 .left) (c .before .before .if7 .left) (c .if8 .left)
+returns-8 c = list-rows (lent (c .before .before .before .before .before .before .before .before .before .before .before .before .before .before .before .before .before .before .before .args .screen) (words (c .before .before .before .before .before .before .before .before .before .before .before .before .before .before .before .before .before .before .before .args .rows .now) (c .before .before .before .before .before .before .before .before .before .before .before .before .before .before .before .before .before .before .before .args .render .now) (c .before .before .before .before .before .before .before .before .before .before .before .before .before .before .before .before .before .before .before .args .fills .now)) (c .before .before .before .before .before .before .before .before .before .before .before .before .before .before .before .before .before .before .before .args .paint-attrs .now)) (c .before .before .before .before .before .before .before .before .before .before .before .before .before .before .before .before .before .before .before .args .paints .now) (c .before .before .before .before .before .before .before .before .before .before .before .before .before .before .before .before .before .before .before .args .segments .now) (c .before .before .before .before .before .before .before .before .before .before .before .before .before .before .before .before .before .before .before .args .draw) (sym (c .before .before .before .before .before .before .before .before .before .before .before .before .judge-lent .ensures) ∙ c .before .before .before .before .before .before .before .before .before .before .before .if1 .left) (sym (c .before .before .before .before .before .before .before .before .before .before .is-good-draw .ensures) ∙ not-false (c .before .before .before .before .before .before .before .before .before .before .is-good-draw .result) (c .before .before .before .before .before .before .before .before .before .if2 .left)) (rw (c .before .before .before .before .before .before .before .before .job-of .ensures) at (c .before .before .before .before .before .before .before .judge-list .ensures)) (c .before .before .before .before .before .before .if3 .left) (c .before .before .before .before .before .if4 .left) (c .before .before .before .if5 .left) (c .before .before .if6 .left) (c .if7 .left)
 
 pub judge-fill-spec : {M : Type 1} → statement M
 judge-fill-spec =
@@ -80,13 +70,11 @@ judge-fill-spec =
     returns
     is-good-draw-requires
     returns-2
-    judge-segments-requires
-    returns-3
     job-of-requires
-    judge-rows-requires
+    judge-list-requires
+    returns-3
     returns-4
     returns-5
     returns-6
     returns-7
-    returns-8
-    returns-9)
+    returns-8)

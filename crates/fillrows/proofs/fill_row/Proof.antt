@@ -9,7 +9,7 @@ use Rattle.fillrows.proofs.fill_row.Statement.{statement}
 use Rattle.fillrows.proofs.fill_row.Tie as tie
 use Rattle.fillrows.proofs.fill_row.Reads as reads
 use Rattle.fillrows.proofs.fill_row.Lts as lts
-use Rattle.act.proofs.push_fill.Reads as push-fill-reads
+use Rattle.fillrows.proofs.push_row.Reads as push-row-reads
 
 -- src/lib.rt:48:18
 cast-c : tie.Need-cast-c
@@ -40,68 +40,68 @@ mul-z : tie.Need-mul-z
 mul-z c = record { fits = omega (arith, small _ _ (2 * c .before .before .before .before .before .args .job .d) (c .before .before .before .before .before .pre .1) (c .before .before .before .before .before .pre .0 .rows) (omega (arith, c .before .before .before .before .before .pre .0 .d))) }
 
 -- src/lib.rt:56:22
-add-push-fill : tie.Need-add-push-fill
-add-push-fill c = search needs
+add-push-row : tie.Need-add-push-row
+add-push-row c = search needs
 
 -- src/lib.rt:56:9
-mul-push-fill : tie.Need-mul-push-fill
-mul-push-fill c = search needs
+mul-push-row : tie.Need-mul-push-row
+mul-push-row c = search needs
 
 -- src/lib.rt:56:9
-sub-push-fill : tie.Need-sub-push-fill
-sub-push-fill c = search needs
+sub-push-row : tie.Need-sub-push-row
+sub-push-row c = search needs
 
 -- src/lib.rt:56:9
-part-push-fill-start : tie.Need-part-push-fill-start
-part-push-fill-start c = search needs
+part-push-row-start : tie.Need-part-push-row-start
+part-push-row-start c = search needs
 
 -- src/lib.rt:56:9
-part-push-fill-end : tie.Need-part-push-fill-end
-part-push-fill-end c = search needs
+part-push-row-end : tie.Need-part-push-row-end
+part-push-row-end c = search needs
 
 -- src/lib.rt:57:24
-add-push-fill-2 : tie.Need-add-push-fill-2
-add-push-fill-2 c = record { fits = omega (arith, small _ _ (4 * c .before .before .before .before .before .before .before .args .job .c) (c .before .before .before .before .before .before .before .pre .1) (c .before .before .before .before .before .before .before .pre .0 .rows) (omega (arith, c .before .before .before .before .before .before .before .pre .0 .c)), c .before .before .before .before .before .before .before .pre .0 .c) }
+add-push-row-2 : tie.Need-add-push-row-2
+add-push-row-2 c = record { fits = omega (arith, small _ _ (4 * c .before .before .before .before .before .before .before .args .job .c) (c .before .before .before .before .before .before .before .pre .1) (c .before .before .before .before .before .before .before .pre .0 .rows) (omega (arith, c .before .before .before .before .before .before .before .pre .0 .c)), c .before .before .before .before .before .before .before .pre .0 .c) }
 
 -- src/lib.rt:57:9
-mul-push-fill-2 : tie.Need-mul-push-fill-2
-mul-push-fill-2 c = record { fits = omega (arith, small _ _ (4 * c .before .before .before .before .before .before .before .args .job .c) (c .before .before .before .before .before .before .before .pre .1) (c .before .before .before .before .before .before .before .pre .0 .rows) (omega (arith, c .before .before .before .before .before .before .before .pre .0 .c))) }
+mul-push-row-2 : tie.Need-mul-push-row-2
+mul-push-row-2 c = record { fits = omega (arith, small _ _ (4 * c .before .before .before .before .before .before .before .args .job .c) (c .before .before .before .before .before .before .before .pre .1) (c .before .before .before .before .before .before .before .pre .0 .rows) (omega (arith, c .before .before .before .before .before .before .before .pre .0 .c))) }
 
 -- src/lib.rt:57:9
-sub-push-fill-2 : tie.Need-sub-push-fill-2
-sub-push-fill-2 c = search needs
+sub-push-row-2 : tie.Need-sub-push-row-2
+sub-push-row-2 c = search needs
 
 -- src/lib.rt:57:9
-part-push-fill-start-2 : tie.Need-part-push-fill-start-2
-part-push-fill-start-2 c = search needs
+part-push-row-start-2 : tie.Need-part-push-row-start-2
+part-push-row-start-2 c = search needs
 
 -- src/lib.rt:57:9
-part-push-fill-end-2 : tie.Need-part-push-fill-end-2
-part-push-fill-end-2 c = omega (arith, within _ _ (4 * c .before .before .before .before .before .before .before .args .job .c) (c .before .before .before .before .before .before .before .pre .1), c .before .before .before .before .before .before .before .pre .0 .long .render)
+part-push-row-end-2 : tie.Need-part-push-row-end-2
+part-push-row-end-2 c = omega (arith, within _ _ (4 * c .before .before .before .before .before .before .before .args .job .c) (c .before .before .before .before .before .before .before .pre .1), c .before .before .before .before .before .before .before .pre .0 .long .render)
 
 -- src/lib.rt:58:23
-add-push-fill-3 : tie.Need-add-push-fill-3
-add-push-fill-3 c = record { fits = omega (arith, small _ _ (2 * c .before .before .before .before .before .before .before .before .args .job .d) (c .before .before .before .before .before .before .before .before .pre .1) (c .before .before .before .before .before .before .before .before .pre .0 .rows) (omega (arith, c .before .before .before .before .before .before .before .before .pre .0 .d)), c .before .before .before .before .before .before .before .before .pre .0 .d) }
+add-push-row-3 : tie.Need-add-push-row-3
+add-push-row-3 c = record { fits = omega (arith, small _ _ (2 * c .before .before .before .before .before .before .before .before .args .job .d) (c .before .before .before .before .before .before .before .before .pre .1) (c .before .before .before .before .before .before .before .before .pre .0 .rows) (omega (arith, c .before .before .before .before .before .before .before .before .pre .0 .d)), c .before .before .before .before .before .before .before .before .pre .0 .d) }
 
 -- src/lib.rt:58:9
-mul-push-fill-3 : tie.Need-mul-push-fill-3
-mul-push-fill-3 c = record { fits = omega (arith, small _ _ (2 * c .before .before .before .before .before .before .before .before .args .job .d) (c .before .before .before .before .before .before .before .before .pre .1) (c .before .before .before .before .before .before .before .before .pre .0 .rows) (omega (arith, c .before .before .before .before .before .before .before .before .pre .0 .d))) }
+mul-push-row-3 : tie.Need-mul-push-row-3
+mul-push-row-3 c = record { fits = omega (arith, small _ _ (2 * c .before .before .before .before .before .before .before .before .args .job .d) (c .before .before .before .before .before .before .before .before .pre .1) (c .before .before .before .before .before .before .before .before .pre .0 .rows) (omega (arith, c .before .before .before .before .before .before .before .before .pre .0 .d))) }
 
 -- src/lib.rt:58:9
-sub-push-fill-3 : tie.Need-sub-push-fill-3
-sub-push-fill-3 c = search needs
+sub-push-row-3 : tie.Need-sub-push-row-3
+sub-push-row-3 c = search needs
 
 -- src/lib.rt:58:9
-part-push-fill-start-3 : tie.Need-part-push-fill-start-3
-part-push-fill-start-3 c = search needs
+part-push-row-start-3 : tie.Need-part-push-row-start-3
+part-push-row-start-3 c = search needs
 
 -- src/lib.rt:58:9
-part-push-fill-end-3 : tie.Need-part-push-fill-end-3
-part-push-fill-end-3 c = omega (arith, within _ _ (2 * c .before .before .before .before .before .before .before .before .args .job .d) (c .before .before .before .before .before .before .before .before .pre .1), c .before .before .before .before .before .before .before .before .pre .0 .long .fills)
+part-push-row-end-3 : tie.Need-part-push-row-end-3
+part-push-row-end-3 c = omega (arith, within _ _ (2 * c .before .before .before .before .before .before .before .before .args .job .d) (c .before .before .before .before .before .before .before .before .pre .1), c .before .before .before .before .before .before .before .before .pre .0 .long .fills)
 
 -- src/lib.rt:55:5
-push-fill-requires : tie.Need-push-fill-requires
-push-fill-requires c κs = (c .before .before .before .before .before .before .before .before .before .pre .2, c .before .before .before .before .before .before .before .before .before .pre .0 .layers, rw (lent _ _ _ _ (c .before .before .before .before .before .before .before .before .before .pre .0 .long) (c .before .before .before .before .before .before .before .before .before .pre .1)) (c .before .before .before .before .before .before .before .before .before .pre .3))
+push-row-requires : tie.Need-push-row-requires
+push-row-requires c κs = (c .before .before .before .before .before .before .before .before .before .pre .2, c .before .before .before .before .before .before .before .before .before .pre .0 .layers, rw (lent _ _ _ _ (c .before .before .before .before .before .before .before .before .before .pre .0 .long) (c .before .before .before .before .before .before .before .before .before .pre .1)) (c .before .before .before .before .before .before .before .before .before .pre .3))
 
 -- src/lib.rt:35:1
 same-length : tie.Need-same-length
@@ -117,7 +117,7 @@ same-length-3 c = search needs
 
 -- src/lib.rt:35:1
 returns : tie.Need-returns
-returns c = back _ _ _ _ (c .before .before .before .before .before .before .before .before .before .before .before .before .before .before .before .before .pre .0 .long) (c .before .before .before .before .before .before .before .before .before .before .before .before .before .before .before .before .pre .1) (draws (c .before .before .before .before .before .before .before .before .before .before .before .before .before .before .before .before .args .job) (tiles (c .before .before .before .before .before .before .before .before .before .before .before .before .before .before .before .before .args .stretch .tiles)) (alpha (c .before .before .before .before .before .before .before .before .before .before .before .before .before .before .before .before .args .stretch .alpha))) _ _ _ (drawn-sound _ _ _ (tiles (c .before .before .before .before .before .before .before .before .before .before .before .before .before .before .before .before .args .stretch .tiles)) _ (c .before .before .before .before .before .before .before .before .before .before .before .before .before .before .before .before .pre .3 .state) (c .before .before .before .before .before .before .before .before .before .before .before .before .before .before .before .before .pre .3 .levels) (c .before .before .before .before .before .before .before .before .before .before .before .before .before .before .before .before .pre .0 .layers) (c .before .before .before .before .before .before .before .before .before .before .before .before .before .before .before .before .args .job .eligible) (alpha (c .before .before .before .before .before .before .before .before .before .before .before .before .before .before .before .before .args .stretch .alpha)) .grown) (rw (lent _ _ _ _ (c .before .before .before .before .before .before .before .before .before .before .before .before .before .before .before .before .pre .0 .long) (c .before .before .before .before .before .before .before .before .before .before .before .before .before .before .before .before .pre .1)) at (c .before .before .before .before .before .before .push-fill .ensures))
+returns c = back _ _ _ _ (c .before .before .before .before .before .before .before .before .before .before .before .before .before .before .before .before .pre .0 .long) (c .before .before .before .before .before .before .before .before .before .before .before .before .before .before .before .before .pre .1) (draws (c .before .before .before .before .before .before .before .before .before .before .before .before .before .before .before .before .args .job) (tiles (c .before .before .before .before .before .before .before .before .before .before .before .before .before .before .before .before .args .stretch .tiles)) (alpha (c .before .before .before .before .before .before .before .before .before .before .before .before .before .before .before .before .args .stretch .alpha))) _ _ _ (drawn-sound _ _ _ (tiles (c .before .before .before .before .before .before .before .before .before .before .before .before .before .before .before .before .args .stretch .tiles)) _ (c .before .before .before .before .before .before .before .before .before .before .before .before .before .before .before .before .pre .3 .state) (c .before .before .before .before .before .before .before .before .before .before .before .before .before .before .before .before .pre .3 .levels) (c .before .before .before .before .before .before .before .before .before .before .before .before .before .before .before .before .pre .0 .layers) (c .before .before .before .before .before .before .before .before .before .before .before .before .before .before .before .before .args .job .eligible) (alpha (c .before .before .before .before .before .before .before .before .before .before .before .before .before .before .before .before .args .stretch .alpha)) .grown) (rw (lent _ _ _ _ (c .before .before .before .before .before .before .before .before .before .before .before .before .before .before .before .before .pre .0 .long) (c .before .before .before .before .before .before .before .before .before .before .before .before .before .before .before .before .pre .1)) at (c .before .before .before .before .before .before .push-row .ensures))
 
 pub fill-row-spec : {M : Type 1} → statement M
 fill-row-spec =
@@ -130,22 +130,22 @@ fill-row-spec =
     mul-x
     mul-y
     mul-z
-    add-push-fill
-    mul-push-fill
-    sub-push-fill
-    part-push-fill-start
-    part-push-fill-end
-    add-push-fill-2
-    mul-push-fill-2
-    sub-push-fill-2
-    part-push-fill-start-2
-    part-push-fill-end-2
-    add-push-fill-3
-    mul-push-fill-3
-    sub-push-fill-3
-    part-push-fill-start-3
-    part-push-fill-end-3
-    push-fill-requires
+    add-push-row
+    mul-push-row
+    sub-push-row
+    part-push-row-start
+    part-push-row-end
+    add-push-row-2
+    mul-push-row-2
+    sub-push-row-2
+    part-push-row-start-2
+    part-push-row-end-2
+    add-push-row-3
+    mul-push-row-3
+    sub-push-row-3
+    part-push-row-start-3
+    part-push-row-end-3
+    push-row-requires
     same-length
     same-length-2
     same-length-3

@@ -3,62 +3,62 @@ use native.Mathlib.Omega.{arith}
 use Rattle.tally.proofs.Laws.{added-alpha, added-plain, added-one, added-more, edge-small}
 use Prim.Native.Nat.{_+_, _*_, _/_}
 use borrow.Author.Needs.{needs}
-use Rattle.tally.proofs.commands_of.Statement.{statement}
-use Rattle.tally.proofs.commands_of.Tie as tie
-use Rattle.tally.proofs.commands_of.Reads as reads
-use Rattle.tally.proofs.commands_of.Lts as lts
+use Rattle.tally.proofs.added_by.Statement.{statement}
+use Rattle.tally.proofs.added_by.Tie as tie
+use Rattle.tally.proofs.added_by.Reads as reads
+use Rattle.tally.proofs.added_by.Lts as lts
 use Rattle.tally.proofs.edge.Reads as edge-reads
 
--- src/lib.rt:58:25
+-- src/lib.rt:51:25
 enum-told : tie.Need-enum-told
 enum-told c = search needs
 
--- src/lib.rt:60:16
+-- src/lib.rt:56:16
 enum-told-2 : tie.Need-enum-told-2
 enum-told-2 c = search needs
 
--- src/lib.rt:61:26
+-- src/lib.rt:57:26
 add-a : tie.Need-add-a
 add-a c = search needs
 
--- src/lib.rt:61:25
+-- src/lib.rt:57:25
 mul-a : tie.Need-mul-a
 mul-a c = search needs
 
--- src/lib.rt:62:25
+-- src/lib.rt:58:25
 mul-b : tie.Need-mul-b
 mul-b c = search needs
 
--- src/lib.rt:64:21
+-- src/lib.rt:60:21
 returns : tie.Need-returns
 returns c = rw (c .before .before .before .before .enum-told2 .given .1, c .before .before .before .if1 .taken, added-one (tiles (c .before .before .before .before .before .before .before .args .stretch .tiles)) (c .if2 .taken))
 
--- src/lib.rt:66:24
+-- src/lib.rt:66:30
 edge-requires : tie.Need-edge-requires
 edge-requires c κs = search needs
 
--- src/lib.rt:66:47
+-- src/lib.rt:66:53
 edge-requires-2 : tie.Need-edge-requires-2
 edge-requires-2 c κs = search needs
 
--- src/lib.rt:66:24
-add-result : tie.Need-add-result
-add-result c = record { fits = omega (arith, c .before .edge .ensures, c .edge2 .ensures, edge-small (c .before .before .before .before .before .before .before .before .before .args .stretch .tiles .first) ((c .before .before .before .before .before .before .before .before .before .args .stretch .tiles .first + 31) / 32 * 32), edge-small (c .before .before .before .before .before .before .before .before .before .args .stretch .tiles .end / 32 * 32) (c .before .before .before .before .before .before .before .before .before .args .stretch .tiles .end)) }
+-- src/lib.rt:66:30
+add-t14 : tie.Need-add-t14
+add-t14 c = record { fits = omega (arith, c .before .edge .ensures, c .edge2 .ensures, edge-small (c .before .before .before .before .before .before .before .before .before .args .stretch .tiles .first) ((c .before .before .before .before .before .before .before .before .before .args .stretch .tiles .first + 31) / 32 * 32), edge-small (c .before .before .before .before .before .before .before .before .before .args .stretch .tiles .end / 32 * 32) (c .before .before .before .before .before .before .before .before .before .args .stretch .tiles .end)) }
 
--- src/lib.rt:66:17
+-- src/lib.rt:65:17
 returns-2 : tie.Need-returns-2
 returns-2 c = rw (c .before .before .before .before .before .before .enum-told2 .given .1, c .before .before .before .before .before .if1 .taken, added-more (tiles (c .before .before .before .before .before .before .before .before .before .args .stretch .tiles)) (c .before .before .if2 .left), c .before .edge .ensures, c .edge2 .ensures)
 
--- src/lib.rt:51:1
+-- src/lib.rt:44:1
 returns-3 : tie.Need-returns-3
 returns-3 c = rw (c .enum-told .given .1, added-alpha)
 
--- src/lib.rt:51:1
+-- src/lib.rt:44:1
 returns-4 : tie.Need-returns-4
 returns-4 c = rw (c .before .enum-told2 .given .1, c .if1 .left, added-plain)
 
-pub commands-of-spec : {M : Type 1} → statement M
-commands-of-spec =
+pub added-by-spec : {M : Type 1} → statement M
+added-by-spec =
     tie.close
     (tie.spec
     enum-told
@@ -69,7 +69,7 @@ commands-of-spec =
     returns
     edge-requires
     edge-requires-2
-    add-result
+    add-t14
     returns-2
     returns-3
     returns-4)

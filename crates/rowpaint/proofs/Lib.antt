@@ -1,0 +1,6 @@
+pub mod Runs
+pub mod Parts
+pub mod Looks
+pub mod Saying
+pub mod Along
+pub mod Laws

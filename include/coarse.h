@@ -146,6 +146,19 @@ uint32_t coarse_paint_step(const uint32_t *state, size_t state_len, size_t row,
                            uint32_t *list, size_t list_len,
                            size_t *result, size_t result_len);
 
+/* A row's steps from where it stands to its end, or up to the first whose pieces have no room left in the list: then call again with
+ * more room. The pieces stand one after the other. result_len is 2: 1 if the row has come to its end, else 0; how many pieces. */
+uint32_t coarse_paint_row(const uint32_t *state, size_t state_len, size_t row,
+                          const uint32_t *rows, size_t rows_len,
+                          const uint32_t *render, size_t render_len,
+                          const uint32_t *fills, size_t fills_len,
+                          uint32_t *depth, size_t depth_len,
+                          uint32_t *painting, size_t painting_len,
+                          const uint32_t *paint_attrs, size_t paint_attrs_len,
+                          const uint32_t *layer_attrs, size_t layer_attrs_len,
+                          uint32_t *list, size_t list_len,
+                          size_t *result, size_t result_len);
+
 /* The runs of the tiles first to end whose buckets are unset, or hold at most the id: two words a run. count_len is 1. */
 uint32_t coarse_unset_runs(const uint32_t *state, size_t state_len, size_t row,
                            const uint32_t *depth, size_t depth_len, uint32_t first, uint32_t end,

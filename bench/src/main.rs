@@ -68,6 +68,7 @@ fn race(it: &scenes::Scene, rounds: usize) {
     let mut reset = Race::new();
     let mut build = Race::new();
     let mut paint = Race::new();
+    let mut by_steps = Race::new();
     let mut depth = DepthBuffer::new(bucketer.width());
     let mut given: Vec<Piece> = Vec::new();
     let mut list = vec![0; 6 << 16];
@@ -82,10 +83,16 @@ fn race(it: &scenes::Scene, rounds: usize) {
         paint.port(|| count = port.paint(&mut list));
         let same = || given.iter().copied().eq(list[..6 * count].chunks(6).map(port::piece));
         assert!(round != 0 || same(), "{}: the pieces differ", it.name);
+        given.clear();
+        by_steps.original(|| original::paint(&bucketer, &mut depth, |_, piece| given.push(piece)));
+        by_steps.port(|| count = port.paint_by_steps(&mut list));
+        let same = || given.iter().copied().eq(list[..6 * count].chunks(6).map(port::piece));
+        assert!(round != 0 || same(), "{}: the pieces differ by steps", it.name);
     }
     reset.line(it.name, "reset");
     build.line(it.name, "build");
     paint.line(it.name, "paint");
+    by_steps.line(it.name, "by steps");
 
     let file = it.draft.words();
     let mut walk = Race::new();

@@ -46,6 +46,12 @@ unsafe extern "C" {
         paint_attrs: *const u32, paint_attrs_n: usize, layer_attrs: *const u32, layer_attrs_n: usize,
         list: *mut u32, list_n: usize, result: *mut usize, result_n: usize,
     ) -> u32;
+    fn coarse_paint_row(
+        state: *const u32, state_n: usize, row: usize, rows: *const u32, rows_n: usize, render: *const u32, render_n: usize,
+        fills: *const u32, fills_n: usize, depth: *mut u32, depth_n: usize, painting: *mut u32, painting_n: usize,
+        paint_attrs: *const u32, paint_attrs_n: usize, layer_attrs: *const u32, layer_attrs_n: usize,
+        list: *mut u32, list_n: usize, result: *mut usize, result_n: usize,
+    ) -> u32;
 }
 
 pub(crate) struct Port {
@@ -171,18 +177,45 @@ impl Port {
         }
     }
 
-    /// Every row painted to its end; the pieces' words one after another in `list`, which is long enough. How many pieces.
-    pub(crate) fn paint(&mut self, list: &mut [u32]) -> usize {
+    fn begin(&mut self) {
         let n = unsafe {
             coarse_begin_painting(
                 self.state.as_mut_ptr(), 16, self.depth.as_mut_ptr(), self.depth.len(), self.painting.as_mut_ptr(), self.painting.len(),
             )
         };
         assert_eq!(n, 0);
+    }
+
+    /// Every row painted to its end, a call for each; the pieces' words one after another in `list`, which is long enough. How many pieces.
+    pub(crate) fn paint(&mut self, list: &mut [u32]) -> usize {
+        self.begin();
         let mut at = 0;
         for row in 0..self.painting.len() / 2 {
-            loop {
-                let mut result = [0_usize; 2];
+            let mut result = [0_usize; 2];
+            while result[0] == 0 {
+                let list = &mut list[6 * at..];
+                let n = unsafe {
+                    coarse_paint_row(
+                        self.state.as_ptr(), 16, row, self.rows.as_ptr(), self.rows.len(), self.render.as_ptr(), self.render.len(),
+                        self.fills.as_ptr(), self.fills.len(), self.depth.as_mut_ptr(), self.depth.len(),
+                        self.painting.as_mut_ptr(), self.painting.len(), self.paint_attrs.as_ptr(), self.paint_attrs.len(),
+                        self.layer_attrs.as_ptr(), self.layer_attrs.len(), list.as_mut_ptr(), list.len(), result.as_mut_ptr(), 2,
+                    )
+                };
+                assert_eq!(n, 0);
+                at += result[1];
+            }
+        }
+        at
+    }
+
+    /// The same, a call for each step.
+    pub(crate) fn paint_by_steps(&mut self, list: &mut [u32]) -> usize {
+        self.begin();
+        let mut at = 0;
+        for row in 0..self.painting.len() / 2 {
+            let mut result = [0_usize; 2];
+            while result[0] == 0 {
                 let list = &mut list[6 * at..];
                 let n = unsafe {
                     coarse_paint_step(
@@ -193,9 +226,6 @@ impl Port {
                     )
                 };
                 assert_eq!(n, 0);
-                if result[0] == 1 {
-                    break;
-                }
                 at += result[1];
             }
         }

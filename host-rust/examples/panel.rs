@@ -36,12 +36,9 @@ fn main() -> Result<(), Answer> {
     screen.generate_fill(&paints, &segments, &banner)?;
     screen.generate_fill(&paints, &segments, &panel)?;
 
-    // The row is painted to its end. Each step gives the pieces of one stored command.
+    // The row is painted to its end.
     screen.begin_painting()?;
-    let mut pieces = Vec::new();
-    while let Some(step) = screen.paint_step(0)? {
-        pieces.extend_from_slice(step);
-    }
+    let pieces = screen.paint_row(0)?.to_vec();
     let paints: Vec<u32> = screen.paint_attrs().map(|attrs| attrs.paint).collect();
     for piece in &pieces {
         println!(

@@ -666,6 +666,57 @@ impl CommandBucketer {
         })
     }
 
+    /// A row's steps into the list from piece `at` on: whether the row has come to its end, and how many pieces.
+    fn paint_on(&mut self, row: usize, at: usize) -> Result<(bool, usize), Answer> {
+        let t = &mut self.tables;
+        let mut result = [0; 2];
+        let (list, list_len) = words_mut(self.pieces.get_mut(at..).unwrap_or_default());
+        Answer::check(unsafe {
+            sys::coarse_paint_row(
+                self.state.as_ptr(),
+                STATE,
+                row,
+                t.rows.as_ptr(),
+                t.rows.len(),
+                t.render.as_ptr(),
+                t.render.len(),
+                t.fills.as_ptr(),
+                t.fills.len(),
+                t.depth.as_mut_ptr(),
+                t.depth.len(),
+                t.painting.as_mut_ptr(),
+                t.painting.len(),
+                t.paint_attrs.as_ptr(),
+                t.paint_attrs.len(),
+                t.layer_attrs.as_ptr(),
+                t.layer_attrs.len(),
+                list,
+                list_len,
+                result.as_mut_ptr(),
+                result.len(),
+            )
+        })?;
+        Ok((result[0] == 1, result[1]))
+    }
+
+    /// All pieces of a row, from where it stands to its end.
+    pub fn paint_row(&mut self, row: usize) -> Result<&[Piece], Answer> {
+        // Each call has room for one step at least, and a row has at most c + d.
+        let step = self.buckets() + 1;
+        let mut count = 0;
+        for _ in 0..=self.c + self.d {
+            if self.pieces.len() < count + step {
+                self.pieces.resize(2 * (count + step), Piece::default());
+            }
+            let (finished, pieces) = self.paint_on(row, count)?;
+            count += pieces;
+            if finished {
+                return Ok(self.pieces.get(..count).unwrap_or_default());
+            }
+        }
+        Err(Answer::NoRoom)
+    }
+
     /// The tiles first to end whose buckets hold 0, as runs.
     pub fn unset_runs(&mut self, row: usize, first: u32, end: u32) -> Result<&[Run], Answer> {
         let t = &self.tables;

@@ -198,6 +198,30 @@ extern "C" {
         result_len: usize,
     ) -> u32;
 
+    pub fn coarse_paint_row(
+        state: *const u32,
+        state_len: usize,
+        row: usize,
+        rows: *const u32,
+        rows_len: usize,
+        render: *const u32,
+        render_len: usize,
+        fills: *const u32,
+        fills_len: usize,
+        depth: *mut u32,
+        depth_len: usize,
+        painting: *mut u32,
+        painting_len: usize,
+        paint_attrs: *const u32,
+        paint_attrs_len: usize,
+        layer_attrs: *const u32,
+        layer_attrs_len: usize,
+        list: *mut u32,
+        list_len: usize,
+        result: *mut usize,
+        result_len: usize,
+    ) -> u32;
+
     pub fn coarse_unset_runs(
         state: *const u32,
         state_len: usize,

@@ -312,6 +312,71 @@ fn runs_and_skips() {
     assert_eq!(bucketer.can_skip(9, 0, 32, 1), Err(Answer::BadRun));
 }
 
+/// Fills in and around two layers, one in the other, over rows 0 and 1 of 128 tiles.
+fn nested() -> CommandBucketer {
+    let mut bucketer = CommandBucketer::from_wh(512, 8, 64, 64).unwrap();
+    let paints = [Paint::new(true, 1), Paint::new(false, 2)];
+    let fills = |bucketer: &mut CommandBucketer, n: u32| {
+        for i in 0..n {
+            let segments = [
+                Segment::solid(0, 3 * i, 70 + i),
+                Segment::alpha(0, 70 + i, 72 + i, 160 * i),
+                Segment::solid(1, 2 * i, 40 + 8 * i),
+            ];
+            bucketer
+                .generate_fill(&paints, &segments, &fill(0, 3, i % 2))
+                .unwrap();
+        }
+    };
+    fills(&mut bucketer, 4);
+    bucketer.push_layer(&LayerProps::default()).unwrap();
+    fills(&mut bucketer, 3);
+    bucketer.push_layer(&LayerProps::default()).unwrap();
+    fills(&mut bucketer, 5);
+    bucketer.pop_layer(&[]).unwrap();
+    bucketer.pop_layer(&[]).unwrap();
+    fills(&mut bucketer, 6);
+    bucketer.begin_painting().unwrap();
+    bucketer
+}
+
+#[test]
+fn a_row_is_its_steps() {
+    let mut by_steps = nested();
+    let mut by_rows = nested();
+    for row in 0..2 {
+        let pieces = painted(&mut by_steps, row);
+        assert!(pieces.iter().any(|piece| piece.is_layer()));
+        assert!(pieces.iter().any(|piece| piece.nesting == 2));
+        assert_eq!(by_rows.paint_row(row).unwrap(), pieces);
+        assert_eq!(by_rows.paint_row(row).unwrap(), []);
+        assert_eq!(by_rows.paint_step(row), Ok(None));
+    }
+    assert_eq!(by_rows.tables.depth, by_steps.tables.depth);
+    assert_eq!(by_rows.tables.painting, by_steps.tables.painting);
+    assert_eq!(by_rows.paint_row(2), Err(Answer::BadRun));
+    assert_eq!(by_rows.paint_row(usize::MAX), Err(Answer::BadRun));
+}
+
+#[test]
+fn a_row_with_little_room() {
+    let mut by_steps = nested();
+    let mut by_rows = nested();
+    let pieces = painted(&mut by_steps, 0);
+    // A list of two pieces holds the first steps alone.
+    by_rows.pieces.truncate(2);
+    let (finished, n) = by_rows.paint_on(0, 0).unwrap();
+    assert!(!finished && n <= 2);
+    assert_eq!(by_rows.pieces[..n], pieces[..n]);
+    assert_eq!(by_rows.paint_row(0).unwrap(), &pieces[n..]);
+    // Without room the first step that has pieces is refused; the list grows as the row asks.
+    let mut by_rows = nested();
+    by_rows.pieces.clear();
+    assert_eq!(by_rows.paint_on(0, 0), Err(Answer::NoRoom));
+    assert_eq!(by_rows.paint_row(0).unwrap(), pieces);
+    assert!(pieces.len() > by_rows.buckets() + 1);
+}
+
 #[test]
 fn refusals_change_nothing() {
     assert_eq!(
@@ -326,6 +391,7 @@ fn refusals_change_nothing() {
     let opaque = [Paint::new(true, 1)];
     assert_eq!(bucketer.pop_layer(&[]), Err(Answer::NoLayer));
     assert_eq!(bucketer.paint_step(0), Err(Answer::Open));
+    assert_eq!(bucketer.paint_row(0), Err(Answer::Open));
     assert_eq!(
         bucketer.generate_fill(&opaque, &[], &fill(0, 1, 0)),
         Err(Answer::BadRecord)

@@ -1,9 +1,10 @@
 -- Refused painting calls: the lent words and the result words are as they were.
 use mathlib.Core.Path.{_≡_, refl, sym, ap, _∙_}
-use mathlib.Core.Bool.{Bool, true, false, cond, _||_}
+use mathlib.Core.Bool.{Bool, true, false, cond, not, _||_}
 use mathlib.Core.List.{List, [], _∷_}
 use mathlib.Core.Option.{Option, none, some}
-use Prim.Native.Nat.{ℕ, _*_, _/_}
+use Prim.Native.Nat.{ℕ, zero, suc, _+_, _*_, _/_}
+use native.Mathlib.Omega.{arith}
 use lib.ListN.{length}
 use lib.Dec.{eqb, ltb}
 use borrow.Author.Tests.{ne-eqb, eqb-true}
@@ -13,17 +14,19 @@ use Rattle.rules.specs.Spans.{Span, bad-range}
 use Rattle.rules.specs.Split.{split-answer}
 use Rattle.rules.specs.Painting as rules
 use Rattle.rules.specs.Depth.{listed, unset-runs, visible-runs, write-runs, unset-answer, visible-answer, write-answer, write-after, written}
+use Rattle.cmd.proofs.Tests.{and-left}
 use Rattle.screen.specs.declared.Screen.{Screen}
 use Rattle.depth.specs.Listing.{numbers, listing, writing}
 use Rattle.paint.specs.Painting as paint
 use Rattle.painter.specs.Judging.{wide, runs-number}
 use Rattle.painter.specs.Stepping.{Attributes, part, own, in-place, number, row-step, stepped}
+use Rattle.rowpaint.specs.Running.{goes-on, ended, one-more, run, most, standing, call-step, row-painted}
 use Rattle.painter.specs.Rows.{Wrote, or-runs, unset-of, visible-of, write-of, write-in-place, skip-of-row}
 use Rattle.held.specs.declared.Held.{Held}
 use Rattle.held.specs.declared.Held.the-variants as held
 use Rattle.held.specs.State.{screen-words, screen-of, on}
 use Rattle.held.proofs.Words.{written-back}
-use Rattle.host.specs.Painting.{with-room, step-left, step-call, runs-left, unset-call, visible-call, write-left, write-call, skip-left, skip-call, split-left, split-call}
+use Rattle.host.specs.Painting.{with-room, step-left, step-call, row-call, runs-left, unset-call, visible-call, write-left, write-call, skip-left, skip-call, split-left, split-call}
 use Rattle.host.proofs.Refused.{Refused, settled}
 
 -- result words of another length, or a call that keeps t where it is refused
@@ -151,3 +154,64 @@ unfolding step-call
 step-refused r a st l res =
     at-screen st (l .depth, l .painting, l .list, res) (λ (s : Screen). with-room 2 res (l .depth, l .painting, l .list, res) (step-left res (stepped s r a l)))
     (λ (s : Screen) (e : held.Good s ≡ screen-of st). roomed 2 res (l .depth, l .painting, l .list, res) (step-left res (stepped s r a l)) (step-at-row s r a l res))
+
+-- A row's steps. After one that is done the call is not refused, ..
+gone-on : (o : paint.Out) → goes-on (o .answer) ≡ true → o .answer .number ≡ 0
+gone-on o e = eqb-true (o .answer .number) 0 (and-left (eqb (o .answer .number) 0) (not (o .answer .finished)) e)
+
+late : (k : ℕ) (o : paint.Out) → (k ≡ 0 → ⊥) → ended k o .answer .number ≡ 0
+late k o h = rw (ne-eqb k 0 h)
+
+module _ (step : List ℕ → List ℕ → List ℕ → paint.Out) where
+  on-done : (f k : ℕ) (g : paint.Out) → g .answer .number ≡ 0 → run step f (k + 1) g .answer .number ≡ 0
+  unfolding run
+  on-done zero k g e = e
+  on-done (suc f) k g e = by (goes-on (one-more step g .answer)) refl (on-done f (k + 1) (one-more step g))
+    where
+      by : (b : Bool) → goes-on (one-more step g .answer) ≡ b → (one-more step g .answer .number ≡ 0 → run step f (k + 1 + 1) (one-more step g) .answer .number ≡ 0)
+          → cond b (run step f (k + 1 + 1) (one-more step g)) (ended (k + 1) (one-more step g)) .answer .number ≡ 0
+      by true i more = more (gone-on (one-more step g) i)
+      by false i more = late (k + 1) (one-more step g) (λ z. omega (arith, z))
+
+-- .. and a refused first step leaves what it was lent.
+abbrev As-lent : paint.Out → List ℕ → List ℕ → List ℕ → Type 0
+As-lent o d p l = (o .depth ≡ d) × (o .painting ≡ p) × (o .list ≡ l)
+
+left-kept : (o : paint.Out) (d p l res : List ℕ) → As-lent o d p l → Refused (step-left res o) → step-left res o .value ≡ (d, p, l, res)
+left-kept o d p l res k q = rw (k .0, k .1, k .2, ne-eqb _ _ q)
+
+module _ (step : List ℕ → List ℕ → List ℕ → paint.Out) (d p l : List ℕ) (keeps : (step d p l .answer .number ≡ 0 → ⊥) → As-lent (step d p l) d p l) where
+  abbrev first : paint.Out
+  first = one-more step (standing d p l)
+
+  first-kept : (first .answer .number ≡ 0 → ⊥) → As-lent first d p l
+  unfolding one-more
+  first-kept q = keeps q
+
+  run-kept : (f : ℕ) → (run step f 0 (standing d p l) .answer .number ≡ 0 → ⊥) → As-lent (run step f 0 (standing d p l)) d p l
+  unfolding run
+  run-kept zero q = (refl, refl, refl)
+  run-kept (suc f) q = by (goes-on (first .answer)) refl q
+    where
+      by : (b : Bool) → goes-on (first .answer) ≡ b → (cond b (run step f 1 first) (ended 0 first) .answer .number ≡ 0 → ⊥) → As-lent (cond b (run step f 1 first) (ended 0 first)) d p l
+      by true i q = absurd (q (on-done step f 0 first (gone-on first i)))
+      by false i q = first-kept q
+
+module _ (s : Screen) (r : ℕ) (a : Attributes) (l : paint.Lent) (res : List ℕ) where
+  stepped-kept : (stepped s r a l .answer .number ≡ 0 → ⊥) → As-lent (stepped s r a l) (l .depth) (l .painting) (l .list)
+  stepped-kept q =
+      let e = step-at-row s r a l res q in
+      (ap (λ (x : List ℕ × List ℕ × List ℕ × List ℕ). x .0) e, ap (λ (x : List ℕ × List ℕ × List ℕ × List ℕ). x .1) e, ap (λ (x : List ℕ × List ℕ × List ℕ × List ℕ). x .2) e)
+
+  steps-kept : (row-painted s r a l .answer .number ≡ 0 → ⊥) → As-lent (row-painted s r a l) (l .depth) (l .painting) (l .list)
+  unfolding row-painted
+  steps-kept = run-kept (call-step s r a (l .state) (l .render) (l .fills)) (l .depth) (l .painting) (l .list) stepped-kept most
+
+  steps-at-row : Refused (step-left res (row-painted s r a l)) → step-left res (row-painted s r a l) .value ≡ (l .depth, l .painting, l .list, res)
+  steps-at-row q = left-kept (row-painted s r a l) (l .depth) (l .painting) (l .list) res (steps-kept q) q
+
+pub row-refused : (r : ℕ) (a : Attributes) (st : List ℕ) (l : paint.Lent) (res : List ℕ) → Refused (row-call r a st l res) → row-call r a st l res .value ≡ (l .depth, l .painting, l .list, res)
+unfolding row-call
+row-refused r a st l res =
+    at-screen st (l .depth, l .painting, l .list, res) (λ (s : Screen). with-room 2 res (l .depth, l .painting, l .list, res) (step-left res (row-painted s r a l)))
+    (λ (s : Screen) (e : held.Good s ≡ screen-of st). roomed 2 res (l .depth, l .painting, l .list, res) (step-left res (row-painted s r a l)) (steps-at-row s r a l res))

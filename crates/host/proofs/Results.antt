@@ -22,12 +22,13 @@ use Rattle.paint.specs.declared.Painted.{Painted}
 use Rattle.paint.specs.Painting as paint
 use Rattle.painter.specs.declared.rows.Written.{Written}
 use Rattle.painter.specs.Stepping.{Attributes, stepped}
+use Rattle.rowpaint.specs.Running.{row-painted}
 use Rattle.painter.specs.Rows.{Wrote, wrote, unset-of, visible-of, write-of, skip-of-row}
 use Rattle.host.specs.declared.painting.Slots.{Slots}
 use Rattle.held.specs.declared.Held.{Held}
 use Rattle.held.specs.declared.Held.the-variants as held
 use Rattle.held.specs.State.{screen-words, screen-of, on}
-use Rattle.host.specs.Painting.{result, step-result, step-left, step-call, count-left, runs-left, unset-call, visible-call, write-left, write-call, skip-left, skip-call, slot-words, split-left, split-call}
+use Rattle.host.specs.Painting.{result, step-result, step-left, step-call, row-call, count-left, runs-left, unset-call, visible-call, write-left, write-call, skip-left, skip-call, slot-words, split-left, split-call}
 use Rattle.host.specs.Sizes.{fixed}
 use Rattle.held.proofs.Lists.{by-length}
 
@@ -75,6 +76,11 @@ module _ (st : List ℕ) (s : Screen) (h : held.Good s ≡ screen-of st) where
   unfolding step-call
   step-unroomed r a l res q = rw (← h, ne-eqb _ _ q)
 
+  pub row-unroomed : (r : ℕ) (a : Attributes) (l : paint.Lent) (res : List ℕ) → (length res ≡ 2 → ⊥)
+      → answer BadRecord (l .depth, l .painting, l .list, res) ≡ row-call r a st l res
+  unfolding row-call
+  row-unroomed r a l res q = rw (← h, ne-eqb _ _ q)
+
   pub unset-unroomed : (r : ℕ) (t : Span) (d l n : List ℕ) → (length n ≡ 1 → ⊥) → answer BadRecord (l, n) ≡ unset-call r t st d l n
   unfolding unset-call
   unset-unroomed r t d l n q = rw (← h, ne-eqb _ _ q)
@@ -96,6 +102,12 @@ module _ (st : List ℕ) (s : Screen) (h : held.Good s ≡ screen-of st) where
       → paint.out p d' p' l' ≡ stepped s r a l → answer k res' ≡ step-result res p → answer k (d', p', l', res') ≡ step-call r a st l res
   unfolding step-call
   step-roomed r k a l p d' p' l' res res' q e f =
+      rw (← h, eq-eqb _ _ q) (ap (λ (x : Answer (List ℕ)). answer (x .number) (d', p', l', x .value)) f ∙ ap (step-left res) e)
+
+  pub row-roomed : (r k : ℕ) (a : Attributes) (l : paint.Lent) (p : Painted) (d' p' l' res res' : List ℕ) → length res ≡ 2
+      → paint.out p d' p' l' ≡ row-painted s r a l → answer k res' ≡ step-result res p → answer k (d', p', l', res') ≡ row-call r a st l res
+  unfolding row-call
+  row-roomed r k a l p d' p' l' res res' q e f =
       rw (← h, eq-eqb _ _ q) (ap (λ (x : Answer (List ℕ)). answer (x .number) (d', p', l', x .value)) f ∙ ap (step-left res) e)
 
   pub unset-roomed : (r k : ℕ) (t : Span) (o : Runs) (d l l' n n' : List ℕ) → length n ≡ 1 → out o l' ≡ unset-of s r d t l

@@ -15,6 +15,7 @@ use Rattle.paint.specs.Painting as paint
 use Rattle.painter.specs.Beginning.{Canvas, canvas, beginning}
 use Rattle.painter.specs.Stepping.{Attributes, stepped}
 use Rattle.painter.specs.Rows.{Wrote, unset-of, visible-of, write-of, skip-of-row}
+use Rattle.rowpaint.specs.Running.{row-painted}
 use Rattle.host.specs.declared.painting.Slot.{Slot}
 use Rattle.host.specs.declared.painting.Slots.{Slots}
 use Rattle.held.specs.State.{bit, screen-words, screen-of, on}
@@ -46,6 +47,12 @@ unfoldable pub step-call : ℕ → Attributes → List ℕ → paint.Lent → Li
 step-call r a st l res =
     on (screen-of st) (l .depth, l .painting, l .list, res)
     (λ s. with-room 2 res (l .depth, l .painting, l .list, res) (step-left res (stepped s r a l)))
+
+-- a row's next steps in one call
+unfoldable pub row-call : ℕ → Attributes → List ℕ → paint.Lent → List ℕ → Answer (List ℕ × List ℕ × List ℕ × List ℕ)
+row-call r a st l res =
+    on (screen-of st) (l .depth, l .painting, l .list, res)
+    (λ s. with-room 2 res (l .depth, l .painting, l .list, res) (step-left res (row-painted s r a l)))
 
 -- how many runs are listed
 abbrev pub count-left : List ℕ → Out → Answer (List ℕ)

@@ -16,6 +16,7 @@ use painter::paint_step;
 use painter::unset_runs;
 use painter::unset_runs_and_write;
 use painter::visible_runs;
+use rowpaint::paint_row;
 use span::BucketRange;
 use span::TileSpan;
 ghost use mathlib.Core.Path.{_≡_};
@@ -30,7 +31,7 @@ ghost use Rattle.depth.specs.Listing.{out};
 ghost use Rattle.paint.specs.Painting.{lent};
 ghost use Rattle.painter.specs.Stepping.{painted-of, attributes};
 ghost use Rattle.held.specs.State.{bit};
-ghost use Rattle.host.specs.Painting.{begin-call, step-result, step-call, count-left, unset-call, visible-call, write-call, skip-left, skip-call, slot, slot-words, three-words, split-left, split-call};
+ghost use Rattle.host.specs.Painting.{begin-call, step-result, step-call, row-call, count-left, unset-call, visible-call, write-call, skip-left, skip-call, slot, slot-words, three-words, split-left, split-call};
 
 // Clears the depth words and sets every row to its first step.
 #[no_mangle]
@@ -95,6 +96,46 @@ pub extern "C" fn coarse_paint_step(
         return 4;
     }
     let done = paint_step(
+        screen,
+        row,
+        rows,
+        render,
+        fills,
+        depth,
+        painting,
+        paint_attrs,
+        layer_attrs,
+        list,
+    );
+    put_step(done, result)
+}
+
+// A row's steps from where it stands to its end, or up to the first whose pieces have no room left. result: 1 if the row has come to its end,
+// else 0; how many pieces are listed, six words each.
+#[no_mangle]
+pub extern "C" fn coarse_paint_row(
+    state: &[u32],
+    row: usize,
+    rows: &[u32],
+    render: &[u32],
+    fills: &[u32],
+    depth: &mut [u32],
+    painting: &mut [u32],
+    paint_attrs: &[u32],
+    layer_attrs: &[u32],
+    list: &mut [u32],
+    result: &mut [usize],
+) -> u32
+    ensures { λ r. ⌜ answer r (now (depth .exit), now (painting .exit), now (list .exit), now (result .exit))
+        ≡ row-call row (attributes (now («paint_attrs» .entry)) (now («layer_attrs» .entry))) (now (state .entry)) (lent (now (rows .entry)) (now (render .entry)) (now (fills .entry)) (now (depth .entry)) (now (painting .entry)) (now (list .entry))) (now (result .entry)) ⌝ }
+{
+    let Held::Good(screen) = screen_of(state) else {
+        return 4;
+    };
+    if result.len() != 2 {
+        return 4;
+    }
+    let done = paint_row(
         screen,
         row,
         rows,

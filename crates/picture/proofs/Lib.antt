@@ -7,3 +7,4 @@ pub mod Picture
 pub mod Finishes
 pub mod Skip
 pub mod Recorded
+pub mod Rows

@@ -4,3 +4,4 @@ pub mod Turns
 pub mod Picture
 pub mod Skip
 pub mod Recorded
+pub mod Rows

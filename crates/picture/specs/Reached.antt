@@ -45,8 +45,9 @@ write-at i id t list l = let o = write-out i id t list l in with-canvas l (o .sc
 
 -- The words l of a screen after a done reset to the frame f and calls on it; xs are the building steps done since the reset, in order.
 -- Demand 3 calls such a screen *built*: nothing but its own calls has written its words, each given what the last one left. Painting
--- calls and writing runs may come between the steps, done or refused. A done recording is a reset and steps (`recorded-reached`). The
--- other calls, and a refused step (`refused-step`), leave every lent word as it was: they need no case.
+-- calls and writing runs may come between the steps, done or refused. A done recording is a reset and steps (`recorded-reached`), a
+-- row painted by one call is painting steps (`row-reached`). The other calls, and a refused step (`refused-step`), leave every lent word as
+-- it was: they need no case.
 pub data Reached : Frame → List Step → Lent → Type 0 where
   by-reset : (v : Rect) (c d : ℕ) (l : Lent) → reset-to v c d l .number ≡ Done → Reached (frame v c d) [] (reset-to v c d l .value)
   by-step : {f : Frame} {xs : List Step} {l : Lent} (x : Step) → Reached f xs l → call-at x l .number ≡ Done → Reached f (xs ++ (x ∷ [])) (call-at x l .value)

@@ -15,6 +15,9 @@ mod filter;
 mod kurbo {
     pub(crate) use vello_common::kurbo::*;
 }
+#[path = "../../oracle/src/limits.rs"]
+#[allow(dead_code)]
+mod limits;
 mod original;
 #[path = "../../oracle/src/painting.rs"]
 #[allow(dead_code)]
@@ -40,16 +43,15 @@ use coarse::depth::DepthBuffer;
 use draft::Draft;
 use painting::Piece;
 use port::Port;
+use std::hint::black_box;
 use timing::Race;
 
 fn main() {
     let rounds = std::env::args().nth(1).and_then(|n| n.parse().ok()).unwrap_or(401);
     println!("{:<14} {:<10} {:>12} {:>12} {:>7}", "scene", "what", "original us", "port us", "ratio");
-    for scene in scenes::all() {
-        race(&scene, rounds);
-    }
-    for words in [1 << 12, 1 << 16, 1 << 20] {
-        timing::copying(words, rounds);
+    let only = std::env::args().nth(2).unwrap_or_default();
+    for scene in scenes::all().iter().filter(|scene| scene.name.contains(&only)) {
+        race(scene, rounds);
     }
 }
 
@@ -59,49 +61,62 @@ fn recording(draft: &Draft) -> file::Recording {
 }
 
 fn race(it: &scenes::Scene, rounds: usize) {
-    let ours = recording(&it.draft);
-    let theirs = scene::scene(&ours);
+    let theirs = scene::scene(&recording(&it.draft));
     let steps = steps::steps(&it.draft);
     let mut bucketer = CommandBucketer::new(theirs.viewport);
     let mut port = Port::new(&it.draft, it.c, it.d);
-
-    let mut reset = Race::new();
-    let mut build = Race::new();
-    let mut paint = Race::new();
-    let mut by_steps = Race::new();
     let mut depth = DepthBuffer::new(bucketer.width());
-    let mut given: Vec<Piece> = Vec::new();
-    let mut list = vec![0; 6 << 16];
-    for round in 0..rounds {
+    let mut list = Vec::new();
+    let [mut reset, mut build, mut paint, mut by_steps] = [(); 4].map(|()| Race::new());
+    for _ in 0..rounds {
         reset.original(|| bucketer.reset(theirs.viewport));
         reset.port(|| port.reset());
         build.original(|| original::build(&mut bucketer, &theirs, &steps));
         build.port(|| port.build(&steps));
-        given.clear();
-        let mut count = 0;
-        paint.original(|| original::paint(&bucketer, &mut depth, |_, piece| given.push(piece)));
-        paint.port(|| count = port.paint(&mut list));
-        let same = || given.iter().copied().eq(list[..6 * count].chunks(6).map(port::piece));
-        assert!(round != 0 || same(), "{}: the pieces differ", it.name);
-        given.clear();
-        by_steps.original(|| original::paint(&bucketer, &mut depth, |_, piece| given.push(piece)));
-        by_steps.port(|| count = port.paint_by_steps(&mut list));
-        let same = || given.iter().copied().eq(list[..6 * count].chunks(6).map(port::piece));
-        assert!(round != 0 || same(), "{}: the pieces differ by steps", it.name);
+        for race in [&mut paint, &mut by_steps] {
+            race.original(|| original::paint(&bucketer, &mut depth, &mut list, read));
+        }
+        paint.port(|| port.paint(read));
+        by_steps.port(|| port.paint_by_steps(read));
     }
     reset.line(it.name, "reset");
     build.line(it.name, "build");
     paint.line(it.name, "paint");
     by_steps.line(it.name, "by steps");
 
+    // Both sides have given the same pieces.
+    let [mut given, mut listed, mut stepped] = [(); 3].map(|()| Vec::<Piece>::new());
+    original::paint(&bucketer, &mut depth, &mut list, |pieces| given.extend(pieces));
+    port.paint(|pieces| listed.extend(pieces.iter().map(port::piece)));
+    port.paint_by_steps(|pieces| stepped.extend(pieces.iter().map(port::piece)));
+    assert!(given == listed && given == stepped, "{}: the pieces differ", it.name);
+
     let file = it.draft.words();
-    let mut walk = Race::new();
     if port.record(&file) {
+        let mut walk = Race::new();
         for _ in 0..rounds {
             walk.original(|| original::walk(&mut bucketer, &theirs));
             walk.port(|| assert!(port.record(&file)));
         }
         walk.line(it.name, "recording");
     }
-    println!("{:<14} {} steps, {} segments, {} pieces, {} words lent", it.name, steps.len(), it.draft.segments.len(), given.len(), port.words());
+    println!("{:<14} {} steps, {} segments, {} pieces", it.name, steps.len(), it.draft.segments.len(), given.len());
+    words(it, &bucketer, &reset, &build, &paint, given.len(), rounds);
+}
+
+/// Takes what was painted.
+fn read<T>(pieces: &[T]) {
+    black_box(pieces);
+}
+
+/// Words written each second, beside a plain copy of as many.
+fn words(it: &scenes::Scene, bucketer: &CommandBucketer, reset: &Race, build: &Race, paint: &Race, pieces: usize, rounds: usize) {
+    let [x0, y0, x1, y1] = it.draft.viewport.map(|edge| edge as usize);
+    let (rows, buckets) = ((y1 - y0) / 4, ((x1 - x0) / 4).div_ceil(32));
+    let lent = rows * (4 * it.c as usize + 2 * it.d as usize + buckets + 54 + 2) + 256 + 1_040 + 8_192 + 6_144 + 1_024;
+    let commands: usize = bucketer.rows().iter().map(|row| 4 * row.render_cmds.len() + 2 * row.depth_cmds.len()).sum();
+    let built = commands + 8 * bucketer.paint_fill_attrs.len() + 6 * bucketer.layer_fill_attrs.len();
+    for (what, race, words) in [("reset", reset, lent), ("build", build, built), ("paint", paint, 6 * pieces)] {
+        race.words(it.name, what, words, rounds);
+    }
 }

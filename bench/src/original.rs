@@ -36,15 +36,16 @@ pub(crate) fn walk(bucketer: &mut CommandBucketer, scene: &Scene) {
     bucketer.bucket_commands(&scene.root, &scene.draws, &scene.layers, &scene.strips, &scene.paints, &scene.filters);
 }
 
-/// Every row painted, its pieces handed to `give`; depth fills newest first, then commands, the search left out where it can be.
-pub(crate) fn paint(bucketer: &CommandBucketer, depth: &mut DepthBuffer, mut give: impl FnMut(usize, Piece)) {
-    for (i, row) in bucketer.rows().iter().enumerate() {
+/// Every row painted into a list, which is handed to `give`; depth fills newest first, then commands, the search left out where it can be.
+pub(crate) fn paint(bucketer: &CommandBucketer, depth: &mut DepthBuffer, list: &mut Vec<Piece>, mut give: impl FnMut(&[Piece])) {
+    for row in bucketer.rows() {
         depth.clear();
+        list.clear();
         for fill in row.depth_cmds.iter().rev() {
             let id = bucketer.paint_fill_attrs[fill.attrs_idx as usize].draw_id;
             depth.for_each_unset_run_and_write(fill.bucket_range(), id, |run: BucketRange| {
                 let (layer, attribute, alpha, nesting) = (false, fill.attrs_idx, None, 0);
-                give(i, Piece { layer, attribute, first: run.span().tile_x(), end: run.span().tile_end(), alpha, nesting });
+                list.push(Piece { layer, attribute, first: run.span().tile_x(), end: run.span().tile_end(), alpha, nesting });
             });
         }
         let mut nesting = 0;
@@ -69,7 +70,7 @@ pub(crate) fn paint(bucketer: &CommandBucketer, depth: &mut DepthBuffer, mut giv
             };
             let mut run = |run: TileAlignedSpan| {
                 let alpha = alpha.map(|alpha| alpha + 16 * u32::from(run.tile_x() - span.tile_x()));
-                give(i, Piece { layer, attribute, first: run.tile_x(), end: run.tile_end(), alpha, nesting });
+                list.push(Piece { layer, attribute, first: run.tile_x(), end: run.tile_end(), alpha, nesting });
             };
             if row.can_skip_depth(span, id) {
                 run(span);
@@ -77,5 +78,6 @@ pub(crate) fn paint(bucketer: &CommandBucketer, depth: &mut DepthBuffer, mut giv
                 depth.for_each_visible_run(span, id, run);
             }
         }
+        give(list);
     }
 }

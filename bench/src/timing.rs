@@ -37,13 +37,19 @@ impl Race {
         let (original, port) = (median(&self.original), median(&self.port));
         println!("{scene:<14} {what:<10} {original:>12.1} {port:>12.1} {:>7.2}", port / original);
     }
+
+    /// How many words the port wrote in its time, and a plain copy of as many.
+    pub(crate) fn words(&self, scene: &str, what: &str, words: usize, rounds: usize) {
+        let rate = |time: f64| words as f64 / time;
+        let (port, copy) = (rate(median(&self.port)), rate(copying(words, rounds)));
+        println!("{scene:<14} {what:<10} {words:>8} words, {port:>7.0} million a second; a plain copy {copy:>7.0}");
+    }
 }
 
-/// A plain copy of so many words.
-pub(crate) fn copying(words: usize, rounds: usize) {
+/// A plain copy of so many words, in microseconds.
+fn copying(words: usize, rounds: usize) -> f64 {
     let from = vec![7_u32; words];
     let mut to = vec![0_u32; words];
     let times: Vec<f64> = (0..rounds).map(|_| micros(|| black_box(&mut to[..]).copy_from_slice(black_box(&from)))).collect();
-    let time = median(&times);
-    println!("a plain copy of {words} words: {time:.1} us, {:.0} million words a second", words as f64 / time);
+    median(&times)
 }

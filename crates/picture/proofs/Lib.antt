@@ -8,3 +8,4 @@ pub mod Finishes
 pub mod Skip
 pub mod Recorded
 pub mod Rows
+pub mod RowEnds

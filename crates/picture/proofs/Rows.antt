@@ -75,26 +75,26 @@ or-no false = refl
 
 -- the calls of row i at the words l, one after the other
 module _ (i : ℕ) (l : Lent) where
-  abbrev step : List ℕ → List ℕ → List ℕ → Out
+  abbrev pub step : List ℕ → List ℕ → List ℕ → Out
   step = call-step (l .screen) i (attributes (l .tables .paint-attrs) (l .tables .layer-attrs)) (l .tables .rows) (l .tables .render) (l .tables .fills)
 
   -- the words where the row's painting stands at g
-  abbrev at : Out → Lent
+  abbrev pub at : Out → Lent
   at g = with-canvas l (l .screen) (g .depth) (g .painting)
 
   -- the next step, on what is left of the list
-  abbrev next : Out → Turn
+  abbrev pub next : Out → Turn
   next g = record { row = i; list = drop (6 * g .answer .pieces) (g .list) }
 
   -- the list holds the pieces so far
-  abbrev Holds : Out → Type 0
+  abbrev pub Holds : Out → Type 0
   Holds g = 6 * g .answer .pieces ≤ length (g .list)
 
-  one-words : (g : Out) → paint-at i (next g .list) (at g) ≡ at (one-more step g)
+  pub one-words : (g : Out) → paint-at i (next g .list) (at g) ≡ at (one-more step g)
   unfolding one-more paint-out
   one-words g = refl
 
-  one-holds : (g : Out) → Holds g → Holds (one-more step g)
+  pub one-holds : (g : Out) → Holds g → Holds (one-more step g)
   unfolding one-more
   one-holds g h =
       let o = step-holds (l .screen) i (attributes (l .tables .paint-attrs) (l .tables .layer-attrs)) (paint.lent (l .tables .rows) (l .tables .render) (l .tables .fills) (g .depth) (g .painting) (next g .list)) in

@@ -1,19 +1,20 @@
 // A run of rows, a to b: judged, and the same act done on each. Parts: each has a `requires`, which the steps have judged.
 ghost use mathlib.Core.Path.{_≡_};
+ghost use mathlib.Core.Bool.{false};
 ghost use mathlib.Core.Option.{none};
 ghost use Prim.Native.Nat.{_≤_, _*_};
 ghost use lib.ListN.{length};
 ghost use Rattle.rules.specs.Lists.{range, change};
 ghost use Rattle.rules.specs.Plans.{touch, paint};
 ghost use Rattle.span.specs.Spans.{tiles};
-ghost use Rattle.row.specs.Words.{words};
+ghost use Rattle.row.specs.Words.{words, Room};
 ghost use Rattle.row.specs.Cmds.{Short};
 ghost use Rattle.arena.specs.Arena.{lay};
-ghost use Rattle.act.specs.Acts.{acted};
+ghost use Rattle.act.specs.Acts.{acted, drawn};
 ghost use Rattle.band.specs.Band.{row-number, band-number, rows-on, OnRow, OnRows, each};
 use act::ensure_row_layers;
-use act::push_fill;
 use building::is_good_row;
+use row::push_paint;
 use screen::ROW;
 use screen::Screen;
 use span::Alpha;
@@ -99,6 +100,22 @@ pub fn touch_rows(
     }
 }
 
+// Rules 5 to 7 on one row, for a solid fill that is no depth fill.
+fn push_plain(
+    state: &mut [u32],
+    render: &mut [u32],
+    fills: &mut [u32],
+    n: u32,
+    span: TileSpan,
+    attrs_idx: u32,
+)
+    requires { ⌜ Short (tiles span) × (n ≤ 16) × Room (words (now state) (now render) (now fills)) (drawn n false (tiles span) none «attrs_idx» 0 (words (now state) (now render) (now fills))) ⌝ }
+    ensures { λ _. ⌜ words (now (state .exit)) (now (render .exit)) (now (fills .exit)) ≡ drawn n false (tiles span) none «attrs_idx» 0 (words (now (state .entry)) (now (render .entry)) (now (fills .entry))) ⌝ }
+{
+    ensure_row_layers(state, render, fills, n);
+    push_paint(state, render, fills, span, Alpha::Solid, attrs_idx);
+}
+
 // A solid fill on row r that is no depth fill, with n layers open.
 fn paint_row(
     screen: Screen,
@@ -118,16 +135,13 @@ fn paint_row(
     let x = r * ROW;
     let y = r * cw;
     let z = r * dw;
-    push_fill(
+    push_plain(
         &mut rows[x..x + ROW],
         &mut render[y..y + cw],
         &mut fills[z..z + dw],
         n,
-        false,
         span,
-        Alpha::Solid,
         attrs_idx,
-        0,
     );
 }
 

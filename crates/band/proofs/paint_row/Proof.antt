@@ -29,53 +29,53 @@ mul-y c = record { fits = omega (arith, small _ _ (4 * c .before .before .before
 mul-z : tie.Need-mul-z
 mul-z c = record { fits = omega (arith, small _ _ (2 * c .before .before .before .before .before .args .screen .d) (c .before .before .before .before .before .pre .1 .within) (c .before .before .before .before .before .pre .1 .whole .rows) (omega (arith, c .before .before .before .before .before .pre .1 .whole .d))) }
 
-add-push-fill : tie.Need-add-push-fill
-add-push-fill c = search needs
+add-push-plain : tie.Need-add-push-plain
+add-push-plain c = search needs
 
-mul-push-fill : tie.Need-mul-push-fill
-mul-push-fill c = search needs
+mul-push-plain : tie.Need-mul-push-plain
+mul-push-plain c = search needs
 
-sub-push-fill : tie.Need-sub-push-fill
-sub-push-fill c = search needs
+sub-push-plain : tie.Need-sub-push-plain
+sub-push-plain c = search needs
 
-part-push-fill-start : tie.Need-part-push-fill-start
-part-push-fill-start c = search needs
+part-push-plain-start : tie.Need-part-push-plain-start
+part-push-plain-start c = search needs
 
-part-push-fill-end : tie.Need-part-push-fill-end
-part-push-fill-end c = search needs
+part-push-plain-end : tie.Need-part-push-plain-end
+part-push-plain-end c = search needs
 
-add-push-fill-2 : tie.Need-add-push-fill-2
-add-push-fill-2 c = record { fits = omega (arith, small _ _ (4 * c .before .before .before .before .before .before .args .screen .c) (c .before .before .before .before .before .before .pre .1 .within) (c .before .before .before .before .before .before .pre .1 .whole .rows) (omega (arith, c .before .before .before .before .before .before .pre .1 .whole .c)), c .before .before .before .before .before .before .pre .1 .whole .c) }
+add-push-plain-2 : tie.Need-add-push-plain-2
+add-push-plain-2 c = record { fits = omega (arith, small _ _ (4 * c .before .before .before .before .before .before .args .screen .c) (c .before .before .before .before .before .before .pre .1 .within) (c .before .before .before .before .before .before .pre .1 .whole .rows) (omega (arith, c .before .before .before .before .before .before .pre .1 .whole .c)), c .before .before .before .before .before .before .pre .1 .whole .c) }
 
-mul-push-fill-2 : tie.Need-mul-push-fill-2
-mul-push-fill-2 c = record { fits = omega (arith, small _ _ (4 * c .before .before .before .before .before .before .args .screen .c) (c .before .before .before .before .before .before .pre .1 .within) (c .before .before .before .before .before .before .pre .1 .whole .rows) (omega (arith, c .before .before .before .before .before .before .pre .1 .whole .c))) }
+mul-push-plain-2 : tie.Need-mul-push-plain-2
+mul-push-plain-2 c = record { fits = omega (arith, small _ _ (4 * c .before .before .before .before .before .before .args .screen .c) (c .before .before .before .before .before .before .pre .1 .within) (c .before .before .before .before .before .before .pre .1 .whole .rows) (omega (arith, c .before .before .before .before .before .before .pre .1 .whole .c))) }
 
-sub-push-fill-2 : tie.Need-sub-push-fill-2
-sub-push-fill-2 c = search needs
+sub-push-plain-2 : tie.Need-sub-push-plain-2
+sub-push-plain-2 c = search needs
 
-part-push-fill-start-2 : tie.Need-part-push-fill-start-2
-part-push-fill-start-2 c = search needs
+part-push-plain-start-2 : tie.Need-part-push-plain-start-2
+part-push-plain-start-2 c = search needs
 
-part-push-fill-end-2 : tie.Need-part-push-fill-end-2
-part-push-fill-end-2 c = omega (arith, within _ _ (4 * c .before .before .before .before .before .before .args .screen .c) (c .before .before .before .before .before .before .pre .1 .within), c .before .before .before .before .before .before .pre .1 .whole .long .render)
+part-push-plain-end-2 : tie.Need-part-push-plain-end-2
+part-push-plain-end-2 c = omega (arith, within _ _ (4 * c .before .before .before .before .before .before .args .screen .c) (c .before .before .before .before .before .before .pre .1 .within), c .before .before .before .before .before .before .pre .1 .whole .long .render)
 
-add-push-fill-3 : tie.Need-add-push-fill-3
-add-push-fill-3 c = record { fits = omega (arith, small _ _ (2 * c .before .before .before .before .before .before .before .args .screen .d) (c .before .before .before .before .before .before .before .pre .1 .within) (c .before .before .before .before .before .before .before .pre .1 .whole .rows) (omega (arith, c .before .before .before .before .before .before .before .pre .1 .whole .d)), c .before .before .before .before .before .before .before .pre .1 .whole .d) }
+add-push-plain-3 : tie.Need-add-push-plain-3
+add-push-plain-3 c = record { fits = omega (arith, small _ _ (2 * c .before .before .before .before .before .before .before .args .screen .d) (c .before .before .before .before .before .before .before .pre .1 .within) (c .before .before .before .before .before .before .before .pre .1 .whole .rows) (omega (arith, c .before .before .before .before .before .before .before .pre .1 .whole .d)), c .before .before .before .before .before .before .before .pre .1 .whole .d) }
 
-mul-push-fill-3 : tie.Need-mul-push-fill-3
-mul-push-fill-3 c = record { fits = omega (arith, small _ _ (2 * c .before .before .before .before .before .before .before .args .screen .d) (c .before .before .before .before .before .before .before .pre .1 .within) (c .before .before .before .before .before .before .before .pre .1 .whole .rows) (omega (arith, c .before .before .before .before .before .before .before .pre .1 .whole .d))) }
+mul-push-plain-3 : tie.Need-mul-push-plain-3
+mul-push-plain-3 c = record { fits = omega (arith, small _ _ (2 * c .before .before .before .before .before .before .before .args .screen .d) (c .before .before .before .before .before .before .before .pre .1 .within) (c .before .before .before .before .before .before .before .pre .1 .whole .rows) (omega (arith, c .before .before .before .before .before .before .before .pre .1 .whole .d))) }
 
-sub-push-fill-3 : tie.Need-sub-push-fill-3
-sub-push-fill-3 c = search needs
+sub-push-plain-3 : tie.Need-sub-push-plain-3
+sub-push-plain-3 c = search needs
 
-part-push-fill-start-3 : tie.Need-part-push-fill-start-3
-part-push-fill-start-3 c = search needs
+part-push-plain-start-3 : tie.Need-part-push-plain-start-3
+part-push-plain-start-3 c = search needs
 
-part-push-fill-end-3 : tie.Need-part-push-fill-end-3
-part-push-fill-end-3 c = omega (arith, within _ _ (2 * c .before .before .before .before .before .before .before .args .screen .d) (c .before .before .before .before .before .before .before .pre .1 .within), c .before .before .before .before .before .before .before .pre .1 .whole .long .fills)
+part-push-plain-end-3 : tie.Need-part-push-plain-end-3
+part-push-plain-end-3 c = omega (arith, within _ _ (2 * c .before .before .before .before .before .before .before .args .screen .d) (c .before .before .before .before .before .before .before .pre .1 .within), c .before .before .before .before .before .before .before .pre .1 .whole .long .fills)
 
-push-fill-requires : tie.Need-push-fill-requires
-push-fill-requires c κs = (c .before .before .before .before .before .before .before .before .pre .0, c .before .before .before .before .before .before .before .before .pre .1 .layers, paint-room (tiles (c .before .before .before .before .before .before .before .before .args .span)) _ (c .before .before .before .before .before .before .before .before .pre .1))
+push-plain-requires : tie.Need-push-plain-requires
+push-plain-requires c κs = (c .before .before .before .before .before .before .before .before .pre .0, c .before .before .before .before .before .before .before .before .pre .1 .layers, paint-room (tiles (c .before .before .before .before .before .before .before .before .args .span)) _ (c .before .before .before .before .before .before .before .before .pre .1))
 
 same-length : tie.Need-same-length
 same-length c = search needs
@@ -87,7 +87,7 @@ same-length-3 : tie.Need-same-length-3
 same-length-3 c = search needs
 
 returns : tie.Need-returns
-returns c = paint-back (tiles (c .before .before .before .before .before .before .before .before .before .before .before .before .before .before .before .args .span)) _ (c .before .before .before .before .before .before .before .before .before .before .before .before .before .before .before .pre .1) _ _ _ (c .before .before .before .before .before .before .push-fill .ensures)
+returns c = paint-back (tiles (c .before .before .before .before .before .before .before .before .before .before .before .before .before .before .before .args .span)) _ (c .before .before .before .before .before .before .before .before .before .before .before .before .before .before .before .pre .1) _ _ _ (c .before .before .before .before .before .before .push-plain .ensures)
 
 pub paint-row-spec : {M : Type 1} → statement M
 paint-row-spec =
@@ -100,22 +100,22 @@ paint-row-spec =
     mul-x
     mul-y
     mul-z
-    add-push-fill
-    mul-push-fill
-    sub-push-fill
-    part-push-fill-start
-    part-push-fill-end
-    add-push-fill-2
-    mul-push-fill-2
-    sub-push-fill-2
-    part-push-fill-start-2
-    part-push-fill-end-2
-    add-push-fill-3
-    mul-push-fill-3
-    sub-push-fill-3
-    part-push-fill-start-3
-    part-push-fill-end-3
-    push-fill-requires
+    add-push-plain
+    mul-push-plain
+    sub-push-plain
+    part-push-plain-start
+    part-push-plain-end
+    add-push-plain-2
+    mul-push-plain-2
+    sub-push-plain-2
+    part-push-plain-start-2
+    part-push-plain-end-2
+    add-push-plain-3
+    mul-push-plain-3
+    sub-push-plain-3
+    part-push-plain-start-3
+    part-push-plain-end-3
+    push-plain-requires
     same-length
     same-length-2
     same-length-3

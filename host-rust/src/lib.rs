@@ -631,48 +631,26 @@ impl CommandBucketer {
 
     /// The pieces of the next stored command of a row, or `None` where none is left.
     pub fn paint_step(&mut self, row: usize) -> Result<Option<&[Piece]>, Answer> {
-        let t = &mut self.tables;
-        let mut result = [0; 2];
-        let (list, list_len) = words_mut(&mut self.pieces);
-        Answer::check(unsafe {
-            sys::coarse_paint_step(
-                self.state.as_ptr(),
-                STATE,
-                row,
-                t.rows.as_ptr(),
-                t.rows.len(),
-                t.render.as_ptr(),
-                t.render.len(),
-                t.fills.as_ptr(),
-                t.fills.len(),
-                t.depth.as_mut_ptr(),
-                t.depth.len(),
-                t.painting.as_mut_ptr(),
-                t.painting.len(),
-                t.paint_attrs.as_ptr(),
-                t.paint_attrs.len(),
-                t.layer_attrs.as_ptr(),
-                t.layer_attrs.len(),
-                list,
-                list_len,
-                result.as_mut_ptr(),
-                result.len(),
-            )
-        })?;
-        Ok(if result[0] == 1 {
+        let (finished, count) = self.paint_on(sys::coarse_paint_step, row, 0)?;
+        Ok(if finished {
             None
         } else {
-            self.pieces.get(..result[1])
+            self.pieces.get(..count)
         })
     }
 
-    /// A row's steps into the list from piece `at` on: whether the row has come to its end, and how many pieces.
-    fn paint_on(&mut self, row: usize, at: usize) -> Result<(bool, usize), Answer> {
+    /// A row's step or steps into the list from piece `at` on: whether the row has come to its end, and how many pieces.
+    fn paint_on(
+        &mut self,
+        call: sys::Paint,
+        row: usize,
+        at: usize,
+    ) -> Result<(bool, usize), Answer> {
         let t = &mut self.tables;
         let mut result = [0; 2];
         let (list, list_len) = words_mut(self.pieces.get_mut(at..).unwrap_or_default());
         Answer::check(unsafe {
-            sys::coarse_paint_row(
+            call(
                 self.state.as_ptr(),
                 STATE,
                 row,
@@ -708,7 +686,7 @@ impl CommandBucketer {
             if self.pieces.len() < count + step {
                 self.pieces.resize(2 * (count + step), Piece::default());
             }
-            let (finished, pieces) = self.paint_on(row, count)?;
+            let (finished, pieces) = self.paint_on(sys::coarse_paint_row, row, count)?;
             count += pieces;
             if finished {
                 return Ok(self.pieces.get(..count).unwrap_or_default());

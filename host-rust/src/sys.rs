@@ -1,5 +1,30 @@
 //! The calls of `include/coarse.h`. A slice crosses as a pointer and a length.
 
+/// A call that paints a row: `coarse_paint_step`, `coarse_paint_row`.
+pub type Paint = unsafe extern "C" fn(
+    *const u32,
+    usize,
+    usize,
+    *const u32,
+    usize,
+    *const u32,
+    usize,
+    *const u32,
+    usize,
+    *mut u32,
+    usize,
+    *mut u32,
+    usize,
+    *const u32,
+    usize,
+    *const u32,
+    usize,
+    *mut u32,
+    usize,
+    *mut usize,
+    usize,
+) -> u32;
+
 extern "C" {
     pub fn coarse_sizes(
         x0: u32,

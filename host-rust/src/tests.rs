@@ -365,14 +365,17 @@ fn a_row_with_little_room() {
     let pieces = painted(&mut by_steps, 0);
     // A list of two pieces holds the first steps alone.
     by_rows.pieces.truncate(2);
-    let (finished, n) = by_rows.paint_on(0, 0).unwrap();
+    let (finished, n) = by_rows.paint_on(sys::coarse_paint_row, 0, 0).unwrap();
     assert!(!finished && n <= 2);
     assert_eq!(by_rows.pieces[..n], pieces[..n]);
     assert_eq!(by_rows.paint_row(0).unwrap(), &pieces[n..]);
     // Without room the first step that has pieces is refused; the list grows as the row asks.
     let mut by_rows = nested();
     by_rows.pieces.clear();
-    assert_eq!(by_rows.paint_on(0, 0), Err(Answer::NoRoom));
+    assert_eq!(
+        by_rows.paint_on(sys::coarse_paint_row, 0, 0),
+        Err(Answer::NoRoom)
+    );
     assert_eq!(by_rows.paint_row(0).unwrap(), pieces);
     assert!(pieces.len() > by_rows.buckets() + 1);
 }

@@ -20,8 +20,13 @@ pub(crate) struct Piece {
 /// The pieces of a row in painting order: depth fills from newest to oldest, then commands from oldest to newest.
 /// With `skip` a command for which `can_skip_depth` says yes is not searched.
 pub(crate) fn pieces(bucketer: &CommandBucketer, row: &RowState, skip: bool) -> Vec<Piece> {
-    let mut depth = DepthBuffer::new(bucketer.width());
     let mut pieces = Vec::new();
+    paint(bucketer, row, skip, &mut DepthBuffer::new(bucketer.width()), &mut pieces);
+    pieces
+}
+
+/// The same over a depth buffer that is clear, after what the list holds.
+pub(crate) fn paint(bucketer: &CommandBucketer, row: &RowState, skip: bool, depth: &mut DepthBuffer, pieces: &mut Vec<Piece>) {
     for fill in row.depth_cmds.iter().rev() {
         let id = bucketer.paint_fill_attrs[fill.attrs_idx as usize].draw_id;
         depth.for_each_unset_run_and_write(fill.bucket_range(), id, |run: BucketRange| {
@@ -60,5 +65,4 @@ pub(crate) fn pieces(bucketer: &CommandBucketer, row: &RowState, skip: bool) -> 
             depth.for_each_visible_run(span, id, give);
         }
     }
-    pieces
 }

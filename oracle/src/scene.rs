@@ -1,5 +1,6 @@
 //! A good recording as the values that the Rust takes.
 
+use crate::coarse::cmd::PaintFillAttrs;
 use crate::file::Recording;
 use crate::filter::context::FilterContext;
 use crate::kurbo::{Affine, Vec2};
@@ -24,6 +25,20 @@ pub(crate) struct Scene {
     pub(crate) layers: Vec<RecordedLayer>,
     pub(crate) filters: FilterContext,
     pub(crate) root: Vec<Node>,
+}
+
+impl Scene {
+    /// A draw's attributes, as the walk of a node makes them.
+    pub(crate) fn attrs(&self, draw: &RecordedFill, draw_id: u32) -> PaintFillAttrs {
+        PaintFillAttrs {
+            paint: draw.paint.clone(),
+            blend_mode: draw.blend_mode,
+            mask: draw.mask.clone(),
+            draw_id,
+            thread_idx: draw.thread_idx,
+            origin: (self.viewport.x0, self.viewport.y0),
+        }
+    }
 }
 
 pub(crate) fn scene(r: &Recording) -> Scene {

@@ -1,6 +1,5 @@
 //! A recording walked step by step by the Rust's own calls, with document 01's limits looked at after each step.
 
-use crate::coarse::cmd::PaintFillAttrs;
 use crate::coarse::{CommandBucketer, probe};
 use crate::file;
 use crate::limits::{ROOM, within};
@@ -83,14 +82,7 @@ fn needs_buffer(layer: &RecordedLayer) -> bool {
 }
 
 fn fill(bucketer: &mut CommandBucketer, scene: &Scene, draw: &RecordedFill) -> Result<(), u32> {
-    let attrs = PaintFillAttrs {
-        paint: draw.paint.clone(),
-        blend_mode: draw.blend_mode,
-        mask: draw.mask.clone(),
-        draw_id: probe::take_id(bucketer),
-        thread_idx: draw.thread_idx,
-        origin: (scene.viewport.x0, scene.viewport.y0),
-    };
+    let attrs = scene.attrs(draw, probe::take_id(bucketer));
     bucketer.generate_fill(&scene.strips[draw.strip_range.clone()], &attrs, &scene.paints);
     limits(bucketer)
 }

@@ -1,7 +1,8 @@
 /* The coarse stage of a renderer, proved. Link target/staticlib/libhost.a (x86-64).
  *
- * Every slice is a pointer and a length in elements. Slices of one call must not overlap; a pointer is never null. Nothing is
- * allocated, and no call keeps a pointer. Every call takes any numbers, words and lengths, and ends.
+ * Every slice is a pointer and a length in elements: that many elements stand there, aligned, and no slice of a call overlaps one
+ * that the call writes. With length 0 the pointer may be null. Nothing is allocated, and no call keeps a pointer. Every call takes
+ * any numbers, words and lengths, and ends. coarse_bucketer.h owns the tables and hands them over: with it these duties are kept.
  *
  * Each call returns one of the answers below. A refused call changes no word; only coarse_bucket_recording, refused for its
  * records or its steps, leaves a freshly reset screen. */
@@ -32,6 +33,28 @@ enum coarse_answer {
     COARSE_OPEN = 13,        /* painting with a layer open, or a step with painting not begun */
     COARSE_NO_ROOM = 14      /* the list is shorter than the result */
 };
+
+/* An answer's name and what it says. */
+static inline const char *coarse_answer_text(uint32_t answer) {
+    switch (answer) {
+    case COARSE_DONE: return "Done: the call was carried out";
+    case COARSE_BAD_ARENA: return "BadArena: the render, depth fill or depth table has another length than the screen needs, or C or D is not from 1 to 1,024";
+    case COARSE_BAD_VIEWPORT: return "BadViewport: the viewport is not made of multiples of 4 in order up to 32,768, or is wider than 4,096 or higher than 2,048";
+    case COARSE_BAD_FORM: return "BadForm: the recording is not exactly its counted sections, or a count is out of range";
+    case COARSE_BAD_RECORD: return "BadRecord: a field, a range or a table that the call reads is out of bounds";
+    case COARSE_BAD_ORDER: return "BadOrder: a segment list is not in order, or its segments overlap";
+    case COARSE_DEEP: return "Deep: 16 layers are open already";
+    case COARSE_NO_LAYER: return "NoLayer: no layer is open";
+    case COARSE_IDS: return "Ids: every draw id has been taken since the reset";
+    case COARSE_FULL_ATTRS: return "FullAttrs: no room is left for an attribute or a filter paint";
+    case COARSE_FULL_ROW: return "FullRow: a row would have more than C render commands";
+    case COARSE_FULL_DEPTH: return "FullDepth: a row would have more than D depth fills";
+    case COARSE_BAD_RUN: return "BadRun: no such row, or a range out of order or past its limit, or id 0 where an id is written";
+    case COARSE_OPEN: return "Open: a layer is still open, or painting has not begun";
+    case COARSE_NO_ROOM: return "NoRoom: the result list is shorter than the result";
+    default: return "an answer that no call of this library gives";
+    }
+}
 
 /* The screen's own numbers: viewport x0 y0 x1 y1, clip box x0 y0 x1 y1, C, D, next draw id, the numbers of paint attributes, layer
  * attributes, filter paints and open layers, and 1 if painting has begun, else 0. A host starts with zeros and lends them to every

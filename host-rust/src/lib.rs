@@ -8,53 +8,87 @@ use std::mem::size_of_val;
 
 /// Why a call was refused: document 01's numbers.
 #[derive(Debug, Clone, Copy, PartialEq, Eq)]
-#[repr(u32)]
 pub enum Answer {
-    BadArena = 1,
-    BadViewport = 2,
-    BadForm = 3,
-    BadRecord = 4,
-    BadOrder = 5,
-    Deep = 6,
-    NoLayer = 7,
-    Ids = 8,
-    FullAttrs = 9,
-    FullRow = 10,
-    FullDepth = 11,
-    BadRun = 12,
-    Open = 13,
-    NoRoom = 14,
+    BadArena,
+    BadViewport,
+    BadForm,
+    BadRecord,
+    BadOrder,
+    Deep,
+    NoLayer,
+    Ids,
+    FullAttrs,
+    FullRow,
+    FullDepth,
+    BadRun,
+    Open,
+    NoRoom,
+    /// A number that no call of the library gives: the archive is not the one that this wrapper was written for.
+    Unknown(u32),
 }
 
 impl Answer {
+    /// The refusals by their numbers, from 1 on.
+    const REFUSALS: [Answer; 14] = [
+        Answer::BadArena,
+        Answer::BadViewport,
+        Answer::BadForm,
+        Answer::BadRecord,
+        Answer::BadOrder,
+        Answer::Deep,
+        Answer::NoLayer,
+        Answer::Ids,
+        Answer::FullAttrs,
+        Answer::FullRow,
+        Answer::FullDepth,
+        Answer::BadRun,
+        Answer::Open,
+        Answer::NoRoom,
+    ];
+
     pub fn number(self) -> u32 {
-        self as u32
+        match self {
+            Answer::Unknown(number) => number,
+            known => (1..)
+                .zip(Self::REFUSALS)
+                .find_map(|(number, refusal)| (refusal == known).then_some(number))
+                .unwrap_or(0),
+        }
     }
 
     fn check(number: u32) -> Result<(), Answer> {
-        Err(match number {
-            0 => return Ok(()),
-            1 => Answer::BadArena,
-            2 => Answer::BadViewport,
-            3 => Answer::BadForm,
-            4 => Answer::BadRecord,
-            5 => Answer::BadOrder,
-            6 => Answer::Deep,
-            7 => Answer::NoLayer,
-            8 => Answer::Ids,
-            9 => Answer::FullAttrs,
-            10 => Answer::FullRow,
-            11 => Answer::FullDepth,
-            12 => Answer::BadRun,
-            13 => Answer::Open,
-            _ => Answer::NoRoom,
-        })
+        let Some(place) = number.checked_sub(1) else {
+            return Ok(());
+        };
+        let known = Self::REFUSALS.get(place as usize);
+        Err(known.copied().unwrap_or(Answer::Unknown(number)))
+    }
+
+    /// The answer's name and what it says, as `coarse_answer_text` of `include/coarse.h` has it.
+    pub fn text(self) -> &'static str {
+        match self {
+            Answer::BadArena => "BadArena: the render, depth fill or depth table has another length than the screen needs, or C or D is not from 1 to 1,024",
+            Answer::BadViewport => "BadViewport: the viewport is not made of multiples of 4 in order up to 32,768, or is wider than 4,096 or higher than 2,048",
+            Answer::BadForm => "BadForm: the recording is not exactly its counted sections, or a count is out of range",
+            Answer::BadRecord => "BadRecord: a field, a range or a table that the call reads is out of bounds",
+            Answer::BadOrder => "BadOrder: a segment list is not in order, or its segments overlap",
+            Answer::Deep => "Deep: 16 layers are open already",
+            Answer::NoLayer => "NoLayer: no layer is open",
+            Answer::Ids => "Ids: every draw id has been taken since the reset",
+            Answer::FullAttrs => "FullAttrs: no room is left for an attribute or a filter paint",
+            Answer::FullRow => "FullRow: a row would have more than C render commands",
+            Answer::FullDepth => "FullDepth: a row would have more than D depth fills",
+            Answer::BadRun => "BadRun: no such row, or a range out of order or past its limit, or id 0 where an id is written",
+            Answer::Open => "Open: a layer is still open, or painting has not begun",
+            Answer::NoRoom => "NoRoom: the result list is shorter than the result",
+            Answer::Unknown(_) => "an answer that no call of this library gives",
+        }
     }
 }
 
 impl fmt::Display for Answer {
     fn fmt(&self, f: &mut fmt::Formatter<'_>) -> fmt::Result {
-        write!(f, "refused {}", self.number())
+        write!(f, "refused {}, {}", self.number(), self.text())
     }
 }
 

@@ -47,6 +47,39 @@ fn known_points_of_the_split() {
     assert_eq!(split_opaque_span(0, 8193), Err(Answer::BadRun));
 }
 
+/// Every number is its own answer, one past the last too.
+#[test]
+fn answers_by_number() {
+    assert_eq!(Answer::check(0), Ok(()));
+    for number in 1..=14 {
+        let answer = Answer::check(number).unwrap_err();
+        assert_eq!(answer.number(), number);
+        assert!(!matches!(answer, Answer::Unknown(_)));
+        assert!(answer.text().starts_with(&format!("{answer:?}: ")));
+    }
+    for number in [15, 16, u32::MAX] {
+        assert_eq!(Answer::check(number), Err(Answer::Unknown(number)));
+    }
+    assert_eq!(
+        Answer::Deep.to_string(),
+        "refused 6, Deep: 16 layers are open already"
+    );
+}
+
+/// The header says the same of each answer.
+#[test]
+fn answers_in_words() {
+    let header = include_str!("../../include/coarse.h");
+    for number in 1..=15 {
+        let text = Answer::check(number).unwrap_err().text();
+        assert_eq!(
+            header.matches(&format!("return \"{text}\";")).count(),
+            1,
+            "{text}"
+        );
+    }
+}
+
 fn words(bytes: &[u8]) -> Vec<u32> {
     bytes
         .chunks_exact(4)

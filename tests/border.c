@@ -1,0 +1,115 @@
+/* The border as C meets it: null pointers with length 0, the order of answers, and the bucketer that owns its tables.
+ * Prints each thing that does not hold; the status is how many. */
+#include "../include/coarse_bucketer.h"
+#include <stdio.h>
+
+static int wrong;
+
+static void expect(const char *what, uint32_t want, uint32_t got) {
+    if (want != got) {
+        printf("%s: expected %u, got %u\n", what, want, got);
+        wrong++;
+    }
+}
+
+static const coarse_paint paints[] = {{1, 1, 5, -5}, {0, 2, 0, 0}};
+static const coarse_segment segments[] = {{0, 0, 0, 64, 0}, {1, 0, 64, 70, 32}};
+static const coarse_draw both = {.start = 0, .end = 2, .paint = 0, .blend = COARSE_DEFAULT_BLEND};
+
+/* A viewport of height 0 has no rows: every arena is empty, and may be null. */
+static void null_pointers(void) {
+    uint32_t state[COARSE_STATE] = {0};
+    uint32_t *layers = calloc(COARSE_LAYERS, 4), *paint_attrs = calloc(COARSE_PAINT_ATTRS, 4);
+    uint32_t *layer_attrs = calloc(COARSE_LAYER_ATTRS, 4);
+    float *opacities = calloc(COARSE_OPACITIES, 4);
+    int32_t *filter_paints = calloc(COARSE_FILTER_PAINTS, 4);
+    size_t count[1] = {7};
+    expect("reset to no rows", COARSE_DONE,
+           coarse_reset(state, COARSE_STATE, 0, 0, 128, 0, 1, 1, NULL, 0, NULL, 0, NULL, 0, NULL, 0, NULL, 0, layers, COARSE_LAYERS,
+                        opacities, COARSE_OPACITIES, paint_attrs, COARSE_PAINT_ATTRS, layer_attrs, COARSE_LAYER_ATTRS,
+                        filter_paints, COARSE_FILTER_PAINTS));
+    expect("a pop with none open", COARSE_NO_LAYER,
+           coarse_pop_layer(state, COARSE_STATE, NULL, 0, NULL, 0, NULL, 0, layers, COARSE_LAYERS, opacities, COARSE_OPACITIES,
+                            layer_attrs, COARSE_LAYER_ATTRS, NULL, 0));
+    expect("a fill without a paint", COARSE_BAD_RECORD,
+           coarse_fill(state, COARSE_STATE, NULL, 0, NULL, 0, NULL, 0, paint_attrs, COARSE_PAINT_ATTRS, NULL, 0, NULL, 0, 0, 0, 0, 0,
+                       0, 3, 0));
+    expect("painting no rows", COARSE_DONE, coarse_begin_painting(state, COARSE_STATE, NULL, 0, NULL, 0));
+    expect("a run of no row", COARSE_BAD_RUN, coarse_unset_runs(state, COARSE_STATE, 0, NULL, 0, 0, 4, NULL, 0, count, 1));
+    expect("its count stays", 7, (uint32_t)count[0]);
+    expect("no state", COARSE_BAD_RECORD, coarse_begin_painting(NULL, 0, NULL, 0, NULL, 0));
+    expect("a recording of no words", COARSE_BAD_FORM,
+           coarse_bucket_recording(state, COARSE_STATE, NULL, 0, 1, 1, NULL, 0, NULL, 0, NULL, 0, NULL, 0, NULL, 0, layers,
+                                   COARSE_LAYERS, opacities, COARSE_OPACITIES, paint_attrs, COARSE_PAINT_ATTRS, layer_attrs,
+                                   COARSE_LAYER_ATTRS, filter_paints, COARSE_FILTER_PAINTS));
+    free(layers), free(paint_attrs), free(layer_attrs), free(opacities), free(filter_paints);
+}
+
+static void owned_tables(void) {
+    coarse_bucketer b;
+    coarse_rect narrow = {0, 0, 256, 8}, wide = {0, 0, 4096, 2048}, bad = {0, 0, 2, 4};
+    const coarse_piece *pieces;
+    const coarse_run *runs;
+    size_t count = 0;
+    int finished = 0, yes = 0;
+    expect("a bad viewport", COARSE_BAD_VIEWPORT, coarse_bucketer_new(&b, bad, 8, 8));
+    expect("no room at all", COARSE_BAD_ARENA, coarse_bucketer_new(&b, narrow, 0, 8));
+    expect("a screen", COARSE_DONE, coarse_bucketer_new(&b, narrow, 8, 8));
+    expect("its rows", 2, (uint32_t)coarse_bucketer_rows(&b));
+    expect("its buckets", 2, (uint32_t)coarse_bucketer_buckets(&b));
+    expect("a larger one", COARSE_DONE, coarse_bucketer_reset(&b, wide));
+    expect("refused, it stays", COARSE_BAD_VIEWPORT, coarse_bucketer_reset(&b, bad));
+    expect("its rows stay", 512, (uint32_t)coarse_bucketer_rows(&b));
+    expect("and back", COARSE_DONE, coarse_bucketer_reset(&b, narrow));
+
+    coarse_clip clip = {{0, 0, 64, 4}, 0, 1, 3};
+    coarse_layer_props layer = {COARSE_DEFAULT_BLEND, 0.5f, 0, &clip}, plain = {COARSE_DEFAULT_BLEND, 1.0f, 0, NULL};
+    coarse_placement placement = {{0, 0, 8, 3}, 4, 0};
+    expect("a fill", COARSE_DONE, coarse_bucketer_generate_fill(&b, paints, 2, segments, 2, &both));
+    expect("a clipped layer", COARSE_DONE, coarse_bucketer_push_layer(&b, &layer));
+    expect("painting with it open", COARSE_OPEN, coarse_bucketer_begin_painting(&b));
+    expect("a fill in it", COARSE_DONE, coarse_bucketer_generate_fill(&b, paints, 2, segments, 2, &both));
+    expect("closed", COARSE_DONE, coarse_bucketer_pop_layer(&b, segments, 2));
+    expect("a plain layer", COARSE_DONE, coarse_bucketer_push_layer(&b, &plain));
+    expect("closed without a list", COARSE_DONE, coarse_bucketer_pop_layer(&b, NULL, 0));
+    expect("a filter fill", COARSE_DONE, coarse_bucketer_generate_filter_layer_fill(&b, 9, &placement, 2));
+    expect("a step too early", COARSE_OPEN, coarse_bucketer_paint_step(&b, 0, &finished, &pieces, &count));
+    expect("painting", COARSE_DONE, coarse_bucketer_begin_painting(&b));
+    expect("a step", COARSE_DONE, coarse_bucketer_paint_step(&b, 0, &finished, &pieces, &count));
+    expect("its piece", 1, (uint32_t)count);
+    expect("is the first fill's depth fill", 64, pieces[0].end);
+    expect("the rest", COARSE_DONE, coarse_bucketer_paint_row(&b, 0, &pieces, &count));
+    expect("no such row", COARSE_BAD_RUN, coarse_bucketer_paint_row(&b, 2, &pieces, &count));
+    expect("skips", COARSE_DONE, coarse_bucketer_can_skip(&b, 0, 0, 64, 1, &yes));
+    expect("yes for the newest id", 1, (uint32_t)yes);
+    expect("unset", COARSE_DONE, coarse_bucketer_unset_runs(&b, 1, 0, 64, &runs, &count));
+    expect("one run", 1, (uint32_t)count);
+    expect("visible", COARSE_DONE, coarse_bucketer_visible_runs(&b, 0, 0, 64, 0, &runs, &count));
+    expect("none below the depth fill", 0, (uint32_t)count);
+    expect("written", COARSE_DONE, coarse_bucketer_unset_runs_and_write(&b, 1, 0, 2, 5, &runs, &count));
+    expect("painting has ended", COARSE_OPEN, coarse_bucketer_paint_step(&b, 1, &finished, &pieces, &count));
+    expect("paint attributes", 3, (uint32_t)coarse_bucketer_paint_attr_count(&b));
+    expect("a filter fill's paint follows the list", 2, coarse_bucketer_paint_attrs(&b, 2).paint);
+    expect("layer attributes", 2, (uint32_t)coarse_bucketer_layer_attr_count(&b));
+    expect("a clip's thread", 3, coarse_bucketer_layer_attrs(&b, 0).thread);
+    expect("half opacity", 1, coarse_bucketer_layer_attrs(&b, 0).opacity == 0.5f);
+
+    /* A recording on a viewport of its own: one refused by 3 leaves the screen, one that is done brings its tables. */
+    const uint32_t file[] = {1, 0, 0, 512, 4, 1, 1, 1, 0, 0, 1, 0, 0, 0, 128, 0, 1, 0, 0, 1, 0, 0, 3, 0, 0, 1, 0, 1, 0, 1, 0, 1};
+    expect("a cut recording", COARSE_BAD_FORM, coarse_bucketer_bucket_commands(&b, file, 31));
+    expect("the screen stays", 2, (uint32_t)coarse_bucketer_buckets(&b));
+    expect("its fills stay", 3, (uint32_t)coarse_bucketer_paint_attr_count(&b));
+    expect("a recording", COARSE_DONE, coarse_bucketer_bucket_commands(&b, file, 32));
+    expect("brings its screen", 4, (uint32_t)coarse_bucketer_buckets(&b));
+    expect("and its fill", 1, (uint32_t)coarse_bucketer_paint_attr_count(&b));
+    expect("painted", COARSE_DONE, coarse_bucketer_begin_painting(&b));
+    expect("to its end", COARSE_DONE, coarse_bucketer_paint_row(&b, 0, &pieces, &count));
+    expect("in one piece", 1, (uint32_t)count);
+    coarse_bucketer_free(&b);
+}
+
+int main(void) {
+    null_pointers();
+    owned_tables();
+    return wrong;
+}

@@ -1,0 +1,4 @@
+pub mod Words
+pub mod Holds
+pub mod Border
+pub mod Recorded

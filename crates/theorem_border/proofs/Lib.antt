@@ -2,3 +2,4 @@ pub mod Words
 pub mod Holds
 pub mod Border
 pub mod Recorded
+pub mod Panel

@@ -123,7 +123,7 @@ border-picture f xs h z e cs r t there on fin =
     let v : begin-at h .value ≡ host-of (reached.begin-at l .value) = ap (λ (a : Answer Host). a .value) q in
     let m = reached.begin-at l .value in
     let w = runs cs m in
-    let g : finished r cs (host-of m) ≡ true = rw v at fin in
+    let g : finished r cs (host-of m) ≡ true = sym (ap (finished r cs) v) ∙ fin in
     let k : rows.row-finished r (w .calls) m ≡ true =
     or-either (said-finished r (rows.call-log (w .calls) m)) _ _ (rw (w .said r, w .words) at g) (finished-too (rows.called (w .calls) m) r) in
     ap (λ (x : Host). received t (from r (log cs x))) v ∙ ap (received t) (w .pieces r) ∙ rows-picture f xs l (y .reached) d (w .calls) r t there on k

@@ -1,6 +1,6 @@
 -- A done building call, whatever words it was lent, is the step that these words say; and every step of the rules is such a call. A list that
 -- is no number of whole records is refused, and the calls read no more of a list than what it says. Assumes nothing.
-use Prim.Native.Nat.{ℕ, zero, suc, _+_, _*_, _/_, _%_}
+use Prim.Native.Nat.{ℕ, zero, suc, _+_, _/_, _%_}
 use native.Mathlib.Omega.{arith}
 use mathlib.Core.Path.{_≡_, refl, sym, ap, _∙_}
 use mathlib.Core.Bool.{Bool, true, false, _&&_, not, cond}
@@ -9,7 +9,7 @@ use lib.Dec.{eqb}
 use lib.ListN.{length}
 use borrow.Author.Tests.{eqb-true, eqb-false}
 use Rattle.rules.specs.Lists.{join}
-use Rattle.rules.specs.Answers.{Answer, first-of, settle, Done, BadRecord}
+use Rattle.rules.specs.Answers.{first-of, Done, BadRecord}
 use Rattle.rules.specs.Recording.{paint-words, segment-words}
 use Rattle.rules.specs.Inputs.{Props}
 use Rattle.rules.specs.Plans.{Plan, a-fill, a-push}

@@ -1,12 +1,12 @@
 -- Properties whose NaN pattern belongs to their opacity are those of a step. Assumes nothing.
 use Prim.Native.Nat.{ℕ}
 use mathlib.Core.Path.{_≡_, refl, sym, ap, _∙_}
-use mathlib.Core.Bool.{Bool, true, false, not, cond}
+use mathlib.Core.Bool.{Bool, true, false, cond}
 use mathlib.Core.List.{List, [], _∷_, _++_}
 use lib.Dec.{T}
 use lib.Ieee.{Float, nan, inf, fin, binary32, ofBits, toBits, isNan, nanBits, fits}
 use lib.Ieee.Bits.{nanBits-is, ofBits-toBits}
-use Rattle.rules.specs.Answers.{Answer, Done}
+use Rattle.rules.specs.Answers.{Done}
 use Rattle.rules.specs.Plans.{Frame, Step, a-push}
 use Rattle.rules.proofs.All.{never}
 use Rattle.screen.specs.Tables.{Lent}

@@ -34,7 +34,7 @@ use Rattle.painted.proofs.Painted.{reset-whole, step-whole}
 use Rattle.painted.proofs.Runs.{write-whole, same-screen}
 use Rattle.tiles.proofs.Turns.{call-screen}
 use Rattle.tiles.proofs.Walked.{built-append}
-use Rattle.tiles.specs.Built.{Built, no-step, then}
+use Rattle.tiles.specs.Built.{no-step, then}
 use Rattle.picture.specs.Calls.{fill-at, push-at, pop-at, filter-at, fill-said, pop-said, filter-said}
 use Rattle.picture.specs.Reached.{Reached, by-reset, by-fill, by-push, by-pop, by-filter, by-begin, by-paint, by-write, begin-at, paint-at, write-at}
 use Rattle.picture.specs.Standing.{Stands}

@@ -1,33 +1,31 @@
 -- Demand 3, `can_skip` and recordings at the border, from the same about the calls at the words. A refused painting call gives nothing and
 -- alters nothing: it is left out of picture's schedule. Assumes nothing.
-use Prim.Native.Nat.{ℕ, _≤_, _<_}
+use Prim.Native.Nat.{ℕ}
 use native.Mathlib.Omega.{arith}
 use mathlib.Core.Path.{_≡_, refl, sym, ap, _∙_}
-use mathlib.Core.Bool.{Bool, true, false, _&&_, _||_, cond}
-use mathlib.Core.List.{List, [], _∷_, _++_}
+use mathlib.Core.Bool.{Bool, true, false, _&&_, _||_}
+use mathlib.Core.List.{List, [], _∷_}
 use lib.Dec.{eqb}
 use lib.ListN.{getD}
 use borrow.Author.Tests.{ne-eqb, eqb-true, eqb-false}
 use Rattle.rules.specs.Answers.{Answer, answer, Done}
-use Rattle.rules.specs.Spans.{Span}
 use Rattle.rules.specs.Plans.{Frame, Step}
 use Rattle.rules.specs.Painting.{received}
 use Rattle.rules.proofs.All.{both}
-use Rattle.screen.specs.declared.Screen.{Screen}
 use Rattle.screen.specs.Tables.{Lent}
 use Rattle.paint.specs.Painting as paint
 use Rattle.tiles.specs.Turns.{Gave, from, said-finished}
 use Rattle.tiles.proofs.Cases.{by}
 use Rattle.painter.specs.Rows.{skip-of-row}
-use Rattle.held.specs.State.{bit, screen-words}
-use Rattle.host.specs.Painting.{step-left, skip-left, skip-call}
+use Rattle.held.specs.State.{bit}
+use Rattle.host.specs.Painting.{step-left, skip-left}
 use Rattle.picture.specs.Turns as turns
 use Rattle.picture.specs.Reached as reached
 use Rattle.picture.specs.Rows as rows
 use Rattle.picture.proofs.Rows.{rows-picture}
 use Rattle.picture.proofs.Skip as picture
 use Rattle.picture.specs.Skip as lent
-use Rattle.theorem_border.specs.Hosted.{Host, Hosted, Call, one-step, whole-row, turn-in, begin-at, paint-out, paint-at}
+use Rattle.theorem_border.specs.Hosted.{Host, Hosted, Call, one-step, whole-row, turn-in, begin-at, paint-out}
 use Rattle.theorem_border.specs.Border.{gave-words, painted, log, finished-at, finished, Demand-3, Clear}
 use Rattle.theorem_border.proofs.Words.{host-of, hosted, begin-on, call-of, paint-on, paint-done, paint-kept, skip-on}
 use Rattle.theorem_border.proofs.Holds.{holds}

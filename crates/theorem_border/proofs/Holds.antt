@@ -1,23 +1,19 @@
 -- A host's words are those of a screen that the calls have reached, by the same steps. Assumes nothing.
 use Prim.Native.Nat.{ℕ}
 use mathlib.Core.Path.{_≡_, refl, sym, ap, _∙_}
-use mathlib.Core.Bool.{Bool, cond}
-use mathlib.Core.List.{List, [], _∷_, _++_}
+use mathlib.Core.List.{List, []}
 use mathlib.Core.Option.{Option, none, some}
 use lib.Dec.{eqb}
 use borrow.Author.Tests.{eqb-true, eqb-false}
 use Rattle.rules.specs.Answers.{Answer, Done}
 use Rattle.rules.specs.Spans.{Span}
-use Rattle.rules.specs.Inputs.{Clip}
 use Rattle.rules.specs.Plans.{Frame, Step}
-use Rattle.rules.specs.Recording.{shape, sections, recording}
+use Rattle.rules.specs.Recording.{recording}
 use Rattle.rules.specs.Walk.{frame-of}
 use Rattle.rect.specs.declared.Rect.{Rect}
 use Rattle.screen.specs.Screens.{frame}
-use Rattle.screen.specs.Tables.{Lent, lent, reset-to}
+use Rattle.screen.specs.Tables.{Lent, reset-to}
 use Rattle.walk.specs.Recorded.{recorded}
-use Rattle.filter.specs.declared.Placement.{Placement}
-use Rattle.fill.specs.declared.Draw.{Draw}
 use Rattle.host.specs.Building.{props}
 use Rattle.tiles.specs.Recorded.{history, Readable, said}
 use Rattle.tiles.proofs.Cases.{by}
@@ -29,7 +25,8 @@ use Rattle.picture.specs.Reached as reached
 use Rattle.picture.specs.Reached.{Reached}
 use Rattle.picture.proofs.Rows.{row-reached}
 use Rattle.picture.proofs.Recorded.{recorded-reached}
-use Rattle.theorem_border.specs.Hosted.{Host, Hosted, by-reset, by-recording, by-fill, by-push, by-pop, by-filter, by-begin, by-paint, by-write, Call, one-step, whole-row, turn-in, place, push-said, reset-at, recording-at, fill-at, push-at, pop-at, filter-at, begin-at, paint-out, paint-at, write-at, with-painting, host}
+use Rattle.theorem_border.specs.Hosted.{Host, Hosted, by-reset, by-recording, by-fill, by-push, by-pop, by-filter, by-begin, by-paint, by-write}
+use Rattle.theorem_border.specs.Hosted.{Call, one-step, whole-row, place, reset-at, recording-at, fill-at, push-at, pop-at, filter-at, begin-at, paint-out, paint-at, write-at}
 use Rattle.theorem_border.proofs.Words.{host-of, hosted, reset-on, recording-on, Known, nothing, these, known, reset-never, recording-never, fill-on, push-on, pop-on, filter-on, begin-on, call-of, paint-done, paint-kept, write-done, write-kept}
 
 pub record Holds (f : Frame) (xs : List Step) (h : Host) : Type 0 where

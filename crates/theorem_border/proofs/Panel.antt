@@ -8,14 +8,13 @@ use mathlib.Core.List.{List, [], _∷_}
 use mathlib.Core.Option.{none}
 use lib.ListN.{getD}
 use Rattle.rules.specs.Answers.{Done}
-use Rattle.rules.specs.Plans.{Frame, Step}
 use Rattle.rules.specs.Painting.{Entry, received}
 use Rattle.rules.specs.Plain.{plain}
 use Rattle.rules.specs.Computing.{computing}
 use Rattle.tiles.specs.Turns.{from}
 use Rattle.theorem_border.specs.Hosted.{Hosted, by-reset, by-fill, Call}
 use Rattle.theorem_border.specs.Border.{log, finished}
-use Rattle.theorem_border.specs.Panel.{screen, own-frame, blank, paints, segments, one, banner, panel, fresh, with-banner, with-panel, begun, by-steps, mixed, steps}
+use Rattle.theorem_border.specs.Panel.{screen, own-frame, blank, paints, segments, one, fresh, with-banner, with-panel, begun, by-steps, mixed, steps}
 use Rattle.theorem_border.specs.Computing.{on-words}
 use Rattle.theorem_border.proofs.Border.{border-picture}
 

@@ -1,19 +1,17 @@
 -- A done `coarse_` call on the words of a screen is the call itself, and leaves the words of what that leaves; a refused one leaves what it was
 -- given. Assumes nothing.
-use Prim.Native.Nat.{ℕ, _<_}
+use Prim.Native.Nat.{ℕ}
 use native.Mathlib.Omega.{arith}
 use mathlib.Core.Path.{_≡_, refl, sym, ap, _∙_}
-use mathlib.Core.Bool.{Bool, true, false, _&&_, cond}
-use mathlib.Core.List.{List, [], _∷_}
-use lib.Dec.{ltb, leb, eqb}
+use mathlib.Core.Bool.{Bool, true, false, cond}
+use mathlib.Core.List.{List, []}
+use lib.Dec.{leb, eqb}
 use lib.Ieee.{Float}
 use lib.IntN.{ℤ}
 use lib.ListN.{length}
-use borrow.Author.Tests.{ltb-true}
-use Rattle.rules.specs.Answers.{Answer, answer, Done, BadRecord}
+use Rattle.rules.specs.Answers.{Answer, answer, Done}
 use Rattle.rules.specs.Spans.{Span}
 use Rattle.rules.specs.Inputs.{Clip}
-use Rattle.rules.proofs.All.{both}
 use Rattle.rect.specs.declared.Rect.{Rect}
 use Rattle.row.specs.Words.{Words}
 use Rattle.screen.specs.declared.Screen.{Screen}
@@ -28,17 +26,16 @@ use Rattle.pop.specs.Pop.{popped}
 use Rattle.filter.specs.declared.Placement.{Placement}
 use Rattle.filter.specs.Filter as filter
 use Rattle.filter.specs.Filter.{given, filtered}
-use Rattle.paint.specs.Painting as paint
 use Rattle.painter.specs.Beginning.{canvas, beginning}
-use Rattle.painter.specs.Rows.{write-of, skip-of-row}
+use Rattle.painter.specs.Rows.{skip-of-row}
 use Rattle.walk.specs.Recorded.{recorded}
-use Rattle.steps.specs.Steps.{rows-words, fill-part, push-part, pop-part, filter-part}
+use Rattle.steps.specs.Steps.{rows-words, pop-part}
 use Rattle.held.specs.declared.Held.{Held}
 use Rattle.held.specs.declared.Held.the-variants as held
-use Rattle.held.specs.State.{screen-words, screen-at, screen-of, on}
+use Rattle.held.specs.State.{screen-words, screen-of, on}
 use Rattle.held.proofs.Words.{read-back, written-back}
 use Rattle.host.specs.Building.{tables-left, reset-call, recording-call, fill-left, fill-call, props, push-left, push-call, pop-left, pop-call, filter-left, filter-call}
-use Rattle.host.specs.Painting.{begin-left, begin-call, step-left, step-call, row-call, write-left, write-call, skip-left, skip-call}
+use Rattle.host.specs.Painting.{begin-left, begin-call, step-left, step-call, row-call, write-call, skip-left, skip-call}
 use Rattle.host.proofs.Kept.{step-refused, row-refused, write-refused}
 use Rattle.picture.specs.Calls as calls
 use Rattle.picture.specs.Reached as reached

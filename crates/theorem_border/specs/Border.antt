@@ -9,7 +9,7 @@ use Rattle.rules.specs.Answers.{Answer, answer, Done, BadForm}
 use Rattle.rules.specs.Boxes.{width, rows-of}
 use Rattle.rules.specs.Spans.{Span}
 use Rattle.rules.specs.Plans.{Frame, Step}
-use Rattle.rules.specs.Painting.{Piece, received}
+use Rattle.rules.specs.Painting.{received}
 use Rattle.rules.specs.Plain.{plain}
 use Rattle.rules.specs.Walk.{frame-of}
 use Rattle.screen.specs.Screens.{rect-of}

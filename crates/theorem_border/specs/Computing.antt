@@ -25,6 +25,16 @@ use Rattle.picture.specs.Turns.{pieces-in}
 use Rattle.theorem_border.specs.Hosted.{reset-at, fill-at, begin-at, paint-out}
 use Rattle.theorem_border.specs.Border.{painted, log}
 
+-- reset and fill
+unfoldable pub on-fills : Unit {0}
+unfolding seg-at segs screens.judged judged-reset good-clip good-screen state-of screen-after zeros reset-to cut lay hull-word include-span put-command put-depth building.step-number good-row good-rows paints first-number fill-number fill-done reset-call fill-call reset-at fill-at
+on-fills = tt
+
+-- painting
+unfoldable pub on-painting : Unit {0}
+unfolding shown-runs attrs-at given fill-shown command-shown depth-step command-step next-step settled painted-row runs-at painter.judged begin-number painter.step-number beginning row-step stepped one-more run row-painted begin-call step-call row-call
+on-painting = tt
+
 unfoldable pub on-words : Unit {0}
-unfolding seg-at segs screens.judged judged-reset good-clip good-screen state-of screen-after zeros reset-to cut lay hull-word include-span put-command put-depth building.step-number good-row good-rows paints first-number fill-number fill-done shown-runs attrs-at given fill-shown command-shown depth-step command-step next-step settled painted-row runs-at painter.judged begin-number painter.step-number beginning row-step stepped one-more run row-painted screen-of reset-call fill-call begin-call step-call row-call from said-finished pieces-in reset-at fill-at begin-at paint-out painted log
+unfolding screen-of from said-finished pieces-in begin-at paint-out painted log on-fills on-painting
 on-words = tt

@@ -7,7 +7,7 @@ use Rattle.rules.specs.Answers.{Answer}
 use Rattle.rules.specs.Plans.{Frame, Step}
 use Rattle.rect.specs.declared.Rect.{Rect}
 use Rattle.screen.specs.Screens.{frame}
-use Rattle.screen.specs.Tables.{Tables, tables, float-0}
+use Rattle.screen.specs.Tables.{tables, float-0}
 use Rattle.fill.specs.declared.Draw.{Draw}
 use Rattle.picture.specs.Calls.{fill-said}
 use Rattle.held.specs.State.{rect}

@@ -35,7 +35,7 @@ bit-read : (b : Bool) → eqb (bit b) 1 ≡ b
 bit-read true = refl
 bit-read false = refl
 
-left-read : (r : ℕ) (res : List ℕ) (o : paint.Out) → o .answer .number ≡ Done → gave-words r (step-left res o) ≡ turns.gave-out r o
+pub left-read : (r : ℕ) (res : List ℕ) (o : paint.Out) → o .answer .number ≡ Done → gave-words r (step-left res o) ≡ turns.gave-out r o
 left-read r res o e = rw (e, bit-read (o .answer .finished))
 
 same-row : (c : Call) → turn-in c .row ≡ rows.turn-in (call-of c) .row

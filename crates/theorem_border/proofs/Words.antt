@@ -40,7 +40,7 @@ use Rattle.host.proofs.Kept.{step-refused, row-refused, write-refused}
 use Rattle.picture.specs.Calls as calls
 use Rattle.picture.specs.Reached as reached
 use Rattle.picture.specs.Rows as rows
-use Rattle.theorem_border.specs.Hosted.{Host, host, with-rows, with-painting, reset-at, recording-at, fill-at, push-at, pop-at, filter-at, begin-at, Call, one-step, whole-row, turn-in, paint-out, paint-at, write-at}
+use Rattle.theorem_border.specs.Hosted.{Host, host, with-rows, with-painting, reset-at, recording-at, fill-at, push-at, pop-at, filter-at, begin-at, Turn, Call, one-step, whole-row, turn-in, paint-out, paint-at, write-at}
 
 -- the words of a screen and its tables
 abbrev pub host-of : Lent → Host
@@ -164,6 +164,11 @@ pub paint-on : (c : Call) (l : Lent) → paint-out c (host-of l) .number ≡ Don
 unfolding paint-out step-call row-call reached.paint-out rows.row-out
 paint-on (one-step t) l e = on-done {T = Painted} _ _ (eqb (length (t .result)) 2) (l .screen) e
 paint-on (whole-row t) l e = on-done {T = Painted} _ _ (eqb (length (t .result)) 2) (l .screen) e
+
+-- .. and a step whose result words are two, also where it is refused
+pub paint-lent : (t : Turn) (l : Lent) → eqb (length (t .result)) 2 ≡ true → paint-out (one-step t) (host-of l) ≡ step-left (t .result) (reached.paint-out (t .row) (t .list) l)
+unfolding paint-out step-call reached.paint-out
+paint-lent t l e = rw e (on-screen {T = Painted} _ _ (l .screen))
 
 -- the words after it
 pub paint-done : (c : Call) (l : Lent) → paint-out c (host-of l) .number ≡ Done → paint-at c (host-of l) ≡ host-of (rows.after-call (call-of c) l)

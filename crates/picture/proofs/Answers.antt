@@ -1,24 +1,31 @@
 -- At words that hold a canvas of the rules every call has the rules' answer. Assumes nothing.
 use mathlib.Core.Path.{_≡_, sym, ap, _∙_}
 use mathlib.Core.List.{List}
-use Prim.Native.Nat.{ℕ, _/_}
+use Prim.Native.Nat.{ℕ, _/_, _%_}
 use lib.ListN.{length}
 use borrow.Author.Tests.{ne-eqb}
 use Rattle.rules.specs.Answers.{Answer, answer, Done}
 use Rattle.rules.specs.Spans.{Span}
 use Rattle.rules.specs.Rows.{Row, row-ops}
-use Rattle.rules.specs.Plans.{Frame, Step}
+use Rattle.rules.specs.Inputs.{Props}
+use Rattle.rules.specs.Plans.{Frame, Step, a-push}
 use Rattle.rules.specs.Steps.{call}
 use Rattle.rules.specs.Calls.{Canvas, step-call, begin-call, paint-call, unset-call, visible-call, write-call, can-skip-call}
 use Rattle.screen.specs.Tables.{Lent}
+use Rattle.layers.specs.declared.LayerProps.{LayerProps}
+use Rattle.fill.specs.declared.Draw.{Draw}
+use Rattle.filter.specs.declared.Placement.{Placement}
+use Rattle.reading.specs.Reading.{props-in}
 use Rattle.steps.specs.Steps.{call-at}
 use Rattle.refine.specs.Lent.{lent-of}
 use Rattle.refine.proofs.Alike.{settle-kept}
 use Rattle.painter.specs.Rows.{unset-of, visible-of, skip-of-row}
 use Rattle.painted.specs.Canvases.{given-out, listed-of, wrote-of}
 use Rattle.painted.proofs.Runs.{unset-by, visible-by, skip-by}
+use Rattle.picture.specs.Calls.{fill-at, push-at, pop-at, filter-at, fill-said, pop-said, filter-said}
 use Rattle.picture.specs.Reached.{begin-at, paint-out, write-out}
 use Rattle.picture.specs.Standing.{canvas-words, Stands}
+use Rattle.picture.proofs.Calls.{fill-whole, push-steps, pop-whole, filter-steps}
 use Rattle.picture.proofs.Words.{step-words, begin-words, paint-gives, write-gives}
 
 module _ {f : Frame} {xs : List Step} {l : Lent} (h : Stands f xs l) where
@@ -28,6 +35,22 @@ module _ {f : Frame} {xs : List Step} {l : Lent} (h : Stands f xs l) where
   -- building steps, beginning, painting steps: the number, and what stands afterwards
   pub step-answer : (x : Step) → call-at x l ≡ answer (step-call 32 x k .number) (canvas-words (step-call 32 x k .value))
   step-answer x = ap (call-at x) (h .same) ∙ step-words k (h .whole) x
+
+  -- the building calls, lent whole records, are these steps: refused or done
+  pub fill-answer : (ps ss : List ℕ) (d : Draw) → length ps % 4 ≡ 0 → length ss % 5 ≡ 0
+      → fill-at ps ss d l ≡ answer (step-call 32 (fill-said ps ss d) k .number) (canvas-words (step-call 32 (fill-said ps ss d) k .value))
+  fill-answer ps ss d p s = fill-whole ps ss d l p s ∙ step-answer (fill-said ps ss d)
+
+  pub push-answer : (p : LayerProps) (q : Props) → p ≡ props-in q → push-at p l ≡ answer (step-call 32 (a-push q) k .number) (canvas-words (step-call 32 (a-push q) k .value))
+  push-answer p q e = push-steps p q e l ∙ step-answer (a-push q)
+
+  pub pop-answer : (ss : List ℕ) → length ss % 5 ≡ 0
+      → pop-at ss l ≡ answer (step-call 32 (pop-said ss) k .number) (canvas-words (step-call 32 (pop-said ss) k .value))
+  pop-answer ss s = pop-whole ss l s ∙ step-answer (pop-said ss)
+
+  pub filter-answer : (p : Placement) (m n : ℕ)
+      → filter-at p m n l ≡ answer (step-call 32 (filter-said p m n) k .number) (canvas-words (step-call 32 (filter-said p m n) k .value))
+  filter-answer p m n = filter-steps p m n l ∙ step-answer (filter-said p m n)
 
   pub begin-answer : begin-at l ≡ answer (begin-call 32 k .number) (canvas-words (begin-call 32 k .value))
   begin-answer = ap begin-at (h .same) ∙ begin-words k (h .whole)

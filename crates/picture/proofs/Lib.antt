@@ -1,3 +1,5 @@
+pub mod Calls
+pub mod Props
 pub mod Pieces
 pub mod Words
 pub mod Reached

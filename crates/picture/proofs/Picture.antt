@@ -57,4 +57,4 @@ picture f xs l h e ts r t there on fin =
     let w = begin-whole k (s .whole) in
     let row = begun-there 32 k r d (built-on 32 (omega arith) f xs (k .screen) (s .built) r there .1) in
     rw (v, log-words ts (begin-call 32 k .value) w)
-    (tiles.picture 32 (omega arith) f xs k (s .built) d (map turn-of ts) r t there on (finished-rules ts (begin-call 32 k .value) w r row (rw v at fin)))
+    (tiles.picture 32 (omega arith) f xs k (s .built) d (map turn-of ts) r t there on (finished-rules ts (begin-call 32 k .value) w r row (sym (ap (finished r ts) v) ∙ fin)))

@@ -1,17 +1,19 @@
 -- All reached words hold a whole canvas of the rules, built by the same steps. Assumes nothing.
-use mathlib.Core.Path.{_≡_, sym, ap, _∙_}
+use mathlib.Core.Path.{_≡_, refl, sym, ap, _∙_}
 use mathlib.Core.Bool.{_&&_, false}
 use mathlib.Core.List.{List, [], _∷_, _++_}
 use Prim.Native.Nat.{ℕ, _*_, _/_}
 use lib.Dec.{eqb}
 use lib.ListN.{length, replicate}
 use borrow.Author.Tests.{eqb-true}
+use Rattle.rules.specs.Lists.{join}
 use Rattle.rules.specs.Answers.{Answer, Done}
 use Rattle.rules.specs.Spans.{Span}
 use Rattle.rules.specs.Boxes.{rows-of, buckets-of}
 use Rattle.rules.specs.Rows.{Row, fresh-row, row-ops}
-use Rattle.rules.specs.Plans.{Frame, Step}
+use Rattle.rules.specs.Plans.{Frame, Step, a-fill, a-push, a-pop, a-filter}
 use Rattle.rules.specs.Steps.{Screen, reset, call}
+use Rattle.rules.specs.Recording as recording
 use Rattle.rules.specs.Walk.{good-room}
 use Rattle.rules.specs.Calls.{Canvas, fresh-canvas, step-call, begin-call, paint-call, write-call, blank}
 use Rattle.rules.proofs.All.{both}
@@ -20,7 +22,9 @@ use Rattle.rect.specs.Rects.{box-of}
 use Rattle.screen.specs.Screens.{frame}
 use Rattle.screen.specs.Judging.{good-fixed, judged-reset}
 use Rattle.screen.specs.Tables.{zeros, lengths, Lent, reset-to}
-use Rattle.steps.specs.Steps.{call-at}
+use Rattle.reading.specs.Reading.{draw-in, props-in}
+use Rattle.steps.specs.Steps.{placement-in, call-at}
+use Rattle.steps.proofs.Lists.{paints-said, segments-said}
 use Rattle.refine.proofs.Alike.{settle-number}
 use Rattle.refine.proofs.Reset.{judged-facts, rooms, fresh-sound, fresh-words}
 use Rattle.painted.specs.Canvases.{depth-of, painting-of}
@@ -30,9 +34,11 @@ use Rattle.painted.proofs.Painted.{reset-whole, step-whole}
 use Rattle.painted.proofs.Runs.{write-whole, same-screen}
 use Rattle.tiles.proofs.Turns.{call-screen}
 use Rattle.tiles.proofs.Walked.{built-append}
-use Rattle.tiles.specs.Built.{Built, no-step, then}
-use Rattle.picture.specs.Reached.{Reached, by-reset, by-step, by-begin, by-paint, by-write, begin-at, paint-at, write-at}
+use Rattle.tiles.specs.Built.{no-step, then}
+use Rattle.picture.specs.Calls.{fill-at, push-at, pop-at, filter-at, fill-said, pop-said, filter-said}
+use Rattle.picture.specs.Reached.{Reached, by-reset, by-fill, by-push, by-pop, by-filter, by-begin, by-paint, by-write, begin-at, paint-at, write-at}
 use Rattle.picture.specs.Standing.{Stands}
+use Rattle.picture.proofs.Calls.{fill-steps, push-steps, pop-steps, filter-steps}
 use Rattle.picture.proofs.Words.{step-words, begin-words, paint-words, write-words, begin-screen}
 
 -- a done reset
@@ -102,6 +108,10 @@ module _ {f : Frame} {xs : List Step} {l : Lent} (h : Stands f xs l) where
         same = ap (λ (a : Answer Lent). a .value) q;
       }
 
+  -- a done building call that is this step
+  called-stands : (x : Step) (a : Answer Lent) → a ≡ call-at x l → a .number ≡ Done → Stands f (xs ++ (x ∷ [])) (a .value)
+  called-stands x a q e = rw q (step-stands x (sym (ap (λ (b : Answer Lent). b .number) q) ∙ e))
+
   begin-stands : Stands f xs (begin-at l .value)
   begin-stands =
       record {
@@ -134,7 +144,20 @@ module _ {f : Frame} {xs : List Step} {l : Lent} (h : Stands f xs l) where
 pub reached : {f : Frame} {xs : List Step} {l : Lent} → Reached f xs l → Stands f xs l
 unfolding reset-to
 reached (by-reset v c d l e) = reset-stands v c d l (sym (settle-number (judged-reset v c d (lengths (l .tables))) l _) ∙ e)
-reached (by-step x r e) = step-stands (reached r) x e
+reached (by-fill ps ss d r e) = called-stands (reached r) (fill-said ps ss d) _ (fill-steps ps ss d _ e) e
+reached (by-push p q s r e) = called-stands (reached r) (a-push q) _ (push-steps p q s _) e
+reached (by-pop ss r e) = called-stands (reached r) (pop-said ss) _ (pop-steps ss _ e) e
+reached (by-filter p m n r e) = called-stands (reached r) (filter-said p m n) _ (filter-steps p m n _) e
 reached (by-begin r) = begin-stands (reached r)
 reached (by-paint i list r) = paint-stands (reached r) i list
 reached (by-write i id t list r) = write-stands (reached r) i id t list
+
+-- Every step of the rules is a call: its paints and segments lent as the words that say them.
+pub step-reached : {f : Frame} {xs : List Step} {l : Lent} (x : Step) → Reached f xs l → call-at x l .number ≡ Done → Reached f (xs ++ (x ∷ [])) (call-at x l .value)
+unfolding call-at fill-at push-at pop-at filter-at
+step-reached (a-fill ps ss d) r e =
+    let h = by-fill (join recording.paint-words ps) (join recording.segment-words ss) (draw-in d) r e in
+    rw (paints-said ps, segments-said ss) at h
+step-reached (a-push p) r e = by-push (props-in p) p refl r e
+step-reached (a-pop ss) r e = let h = by-pop (join recording.segment-words ss) r e in rw (segments-said ss) at h
+step-reached (a-filter n f) r e = by-filter (placement-in f) (f .pixmap) n r e

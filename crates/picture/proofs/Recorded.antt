@@ -13,7 +13,7 @@ use Rattle.rules.specs.Answers.{Answer, answer, first-of, Done, BadRecord, BadO
 use Rattle.rules.specs.Rows.{Row, fresh-row, row-ops}
 use Rattle.rules.specs.Plans.{Frame, Step, Layer}
 use Rattle.rules.specs.Steps.{Screen, reset}
-use Rattle.rules.specs.Recording.{Recording, shape, sections, recording, good-records, good-order}
+use Rattle.rules.specs.Recording.{Recording, shape, sections, good-records, good-order}
 use Rattle.rules.specs.Walk.{Place, frame-of, go-on, _then_, walk-all, Logged, logged-call, walk-logged}
 use Rattle.rules.specs.Calls.{begin-call}
 use Rattle.rect.specs.declared.Rect.{Rect}
@@ -30,11 +30,11 @@ use Rattle.refine.proofs.Walks.{Both, Follow, walk-follows}
 use Rattle.played.specs.Played.{place}
 use Rattle.tiles.specs.Recorded.{Readable, said}
 use Rattle.tiles.proofs.Walked.{Late, all-walks}
-use Rattle.picture.specs.Reached.{Reached, by-reset, by-step, begin-at}
+use Rattle.picture.specs.Reached.{Reached, by-reset, begin-at}
 use Rattle.picture.specs.Standing.{Stands}
 use Rattle.picture.specs.Recorded.{Accepted, Refused, kept, emptied}
 use Rattle.picture.proofs.Answers.{begin-answer}
-use Rattle.picture.proofs.Reached.{reached}
+use Rattle.picture.proofs.Reached.{reached, step-reached}
 
 -- words that hold a logged screen, and are reached by its log
 record Logs (f : Frame) (s : Logged Row) (l : Lent) : Type 0 where
@@ -46,7 +46,7 @@ step-logs : (f : Frame) (x : Step) → Follow (Logs f) (logged-call Row row-ops 
 unfolding logged-call
 step-logs f x s l h =
     let a = step-refines x (s .screen) l (h .refines) in
-    record { number = a .number; value = λ e. record { refines = a .value; reached = by-step x (h .reached) (a .number ∙ e) } }
+    record { number = a .number; value = λ e. record { refines = a .value; reached = step-reached x (h .reached) (a .number ∙ e) } }
 
 -- painting can begin where no layer is open
 open-none : (s : Screen Row) (l : Lent) → Refines s l → s .state .layers ≡ [] → l .screen .layers ≡ 0
@@ -110,7 +110,7 @@ module _ (ws : List ℕ) (r : Readable ws) (c d : ℕ) (l : Lent) where
 
   -- by the answer
   abbrev Result : Answer Lent → Type 0
-  Result a = (a .number ≡ Done → Accepted p ws (a .value)) × ((a .number ≡ Done → ⊥) → Refused p ws l a)
+  Result a = (a .number ≡ Done → Accepted p ws (a .value)) × ((a .number ≡ Done → ⊥) → Refused c d ws l a)
 
   reset-refused : eqb (fresh .number) Done ≡ false → fresh .value ≡ l
   unfolding reset-to
@@ -127,11 +127,11 @@ module _ (ws : List ℕ) (r : Readable ws) (c d : ℕ) (l : Lent) where
 
       walks : fresh .number ≡ Done → (b : Bool) → eqb (walk .number) Done ≡ b → Result (cond b walk (answer (walk .number) (fresh .value)))
       walks e true q = ((λ z. done e (sym (walked e .number) ∙ z)), λ z. absurd (z (eqb-true _ _ q)))
-      walks e false q = ((λ z. absurd (eqb-false _ _ q z)), λ z. emptied r (rw (walked e .number) (walked-rules .1 (rw (walked e .number) at q))) (by-reset v c d l e))
+      walks e false q = ((λ z. absurd (eqb-false _ _ q z)), λ z. emptied r (rw (walked e .number) (walked-rules .1 (rw (walked e .number) at q))) e refl)
 
       plays : fresh .number ≡ Done → (b : Bool) → eqb (judged (said r)) Done ≡ b → Result (or-fresh (fresh .value) (go-on b (answer (judged (said r)) (fresh .value)) (walk-all Lent call-at (said r))))
       plays e true q = walks e (eqb (walk .number) Done) refl
-      plays e false q = rw q ((λ z. absurd (eqb-false _ _ q z)), λ z. emptied r (judged-late (said r) q) (by-reset v c d l e))
+      plays e false q = rw q ((λ z. absurd (eqb-false _ _ q z)), λ z. emptied r (judged-late (said r) q) e refl)
 
       go : (b : Bool) → eqb (fresh .number) Done ≡ b → Result (go-on b fresh (played (said r)))
       go true e = plays (eqb-true _ _ e) (eqb (judged (said r)) Done) refl
@@ -148,11 +148,11 @@ module _ (ws : List ℕ) (c d : ℕ) (l : Lent) where
       go (some ss) e z = result ws (record { parts = ss; formed = e }) c d l .0 z
 
   -- A refused one leaves the words as they were, or those of the file's reset.
-  pub recorded-refused : (recorded ws c d l .number ≡ Done → ⊥) → Refused (place c d l) ws l (recorded ws c d l)
+  pub recorded-refused : (recorded ws c d l .number ≡ Done → ⊥) → Refused c d ws l (recorded ws c d l)
   unfolding recorded
   recorded-refused = go (sections shape ws) refl
     where
-      go : (o : Option (List (List (List ℕ)))) → sections shape ws ≡ o → (of-sections o c d l .number ≡ Done → ⊥) → Refused (place c d l) ws l (of-sections o c d l)
+      go : (o : Option (List (List (List ℕ)))) → sections shape ws ≡ o → (of-sections o c d l .number ≡ Done → ⊥) → Refused c d ws l (of-sections o c d l)
       go none e z = kept refl
       go (some ss) e z = result ws (record { parts = ss; formed = e }) c d l .1 z
 
@@ -160,6 +160,6 @@ module _ (ws : List ℕ) (c d : ℕ) (l : Lent) where
   pub recorded-early : 0 < recorded ws c d l .number → recorded ws c d l .number ≤ 3 → recorded ws c d l .value ≡ l
   recorded-early lo hi = go (recorded-refused (λ e. omega arith))
     where
-      go : Refused (place c d l) ws l (recorded ws c d l) → recorded ws c d l .value ≡ l
+      go : Refused c d ws l (recorded ws c d l) → recorded ws c d l .value ≡ l
       go (kept e) = e
-      go (emptied r n h) = absurd (omega arith)
+      go (emptied r n h q) = absurd (omega arith)

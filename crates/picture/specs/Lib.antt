@@ -1,3 +1,4 @@
+pub mod Calls
 pub mod Reached
 pub mod Standing
 pub mod Turns

@@ -3,3 +3,4 @@ pub mod Building
 pub mod Painting
 pub mod Recording
 pub mod Texts
+pub mod Host

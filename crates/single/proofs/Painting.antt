@@ -33,8 +33,10 @@ use Rattle.painter.specs.Beginning.{canvas, beginning}
 use Rattle.painter.specs.Stepping.{Attributes, attributes, painted-of, stepped}
 use Rattle.painter.specs.Rows.{unset-of, visible-of, wrote, write-of, skip-of-row}
 use Rattle.painter.proofs.Laws.{begin-once, step-once, write-once}
+use Rattle.rowpaint.specs.Running.{row-painted}
 use Rattle.painter.proofs.begin.begin_painting as begin-call
 use Rattle.painter.proofs.step.paint_step as step-call
+use Rattle.rowpaint.proofs.paint_row as row-call
 use Rattle.painter.proofs.rows.unset_runs as unset-call
 use Rattle.painter.proofs.rows.visible_runs as visible-call
 use Rattle.painter.proofs.rows.unset_runs_and_write as write-call
@@ -55,6 +57,14 @@ module _ (screen : Screen) (row : ℕ) (attrs : Attributes) (given : Lent) where
 
   pub one-step : (r q : Stepped) (d e p o l m : List ℕ) → Steps r d p l → Steps q e o m → (r ≡ q) × (d ≡ e) × (p ≡ o) × (l ≡ m)
   one-step r q d e p o l m h k = step-once r q d e p o l m (h ∙ sym k)
+
+-- `paint_row`: the same of a row's next steps in one call
+module _ (screen : Screen) (row : ℕ) (attrs : Attributes) (given : Lent) where
+  abbrev pub PaintsRow : Stepped → List ℕ → List ℕ → List ℕ → Type 0
+  PaintsRow r d p l = out (painted-of r) d p l ≡ row-painted screen row attrs given
+
+  pub one-row : (r q : Stepped) (d e p o l m : List ℕ) → PaintsRow r d p l → PaintsRow q e o m → (r ≡ q) × (d ≡ e) × (p ≡ o) × (l ≡ m)
+  one-row r q d e p o l m h k = step-once r q d e p o l m (h ∙ sym k)
 
 -- `unset_runs`: the list
 module _ (screen : Screen) (row : ℕ) (depth-words : List ℕ) (span : TileSpan) (list : List ℕ) where
@@ -99,6 +109,15 @@ module _ {M : Type 1} (𝓤 : URA M) (H : Heap 𝓤) (A : Atoms 𝓤) (mem : Mem
       → (step-call.clauses 𝓤 H A mem run κs a .requires tt ≡ emp 𝓤)
       × (step-call.clauses 𝓤 H A mem run κs a .ensures tt r e ≡ fact 𝓤 (Steps (a .0) (a .1 .0) (attributes (now (a .1 .1 .1 .1 .1 .1 .1 .0)) (now (a .1 .1 .1 .1 .1 .1 .1 .1 .0))) (lent (now (a .1 .1 .0)) (now (a .1 .1 .1 .0)) (now (a .1 .1 .1 .1 .0)) (now (a .1 .1 .1 .1 .1 .0)) (now (a .1 .1 .1 .1 .1 .1 .0)) (now (a .1 .1 .1 .1 .1 .1 .1 .1 .1 .0))) r (now (e .1 .1 .1 .1 .1 .0)) (now (e .1 .1 .1 .1 .1 .1 .0)) (now (e .1 .1 .1 .1 .1 .1 .1 .1 .1 .0))))
   step-source κs a r e = (refl, refl)
+
+  row-source : (κs : Lfts (row-call.signature .lifetimes)) (a : Args row-call.signature κs) (r : Stepped) (e : AtExit row-call.ended κs)
+      → let rest = a .1 .1 .1 .1 .1 in
+      let after = e .1 .1 .1 .1 .1 in
+      (row-call.clauses 𝓤 H A mem run κs a .requires tt ≡ emp 𝓤)
+      × (row-call.clauses 𝓤 H A mem run κs a .ensures tt r e ≡ fact 𝓤 (PaintsRow (a .0) (a .1 .0) (attributes (now (rest .1 .1 .0)) (now (rest .1 .1 .1 .0)))
+      (lent (now (a .1 .1 .0)) (now (a .1 .1 .1 .0)) (now (a .1 .1 .1 .1 .0)) (now (rest .0)) (now (rest .1 .0)) (now (rest .1 .1 .1 .1 .0)))
+      r (now (after .0)) (now (after .1 .0)) (now (after .1 .1 .1 .1 .0))))
+  row-source κs a r e = (refl, refl)
 
   unset-source : (κs : Lfts (unset-call.signature .lifetimes)) (a : Args unset-call.signature κs) (r : Runs) (e : AtExit unset-call.ended κs)
       → (unset-call.clauses 𝓤 H A mem run κs a .requires tt ≡ emp 𝓤)

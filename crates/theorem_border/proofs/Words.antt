@@ -1,0 +1,198 @@
+-- A done `coarse_` call on the words of a screen is the call itself, and leaves the words of what that leaves; a refused one leaves what it was
+-- given. Assumes nothing.
+use Prim.Native.Nat.{ℕ}
+use native.Mathlib.Omega.{arith}
+use mathlib.Core.Path.{_≡_, refl, sym, ap, _∙_}
+use mathlib.Core.Bool.{Bool, true, false, cond}
+use mathlib.Core.List.{List, []}
+use lib.Dec.{leb, eqb}
+use lib.Ieee.{Float}
+use lib.IntN.{ℤ}
+use lib.ListN.{length}
+use Rattle.rules.specs.Answers.{Answer, answer, Done}
+use Rattle.rules.specs.Spans.{Span}
+use Rattle.rules.specs.Inputs.{Clip}
+use Rattle.rect.specs.declared.Rect.{Rect}
+use Rattle.row.specs.Words.{Words}
+use Rattle.screen.specs.declared.Screen.{Screen}
+use Rattle.screen.specs.Tables.{Tables, Lent, lent, reset-to}
+use Rattle.fill.specs.declared.Draw.{Draw}
+use Rattle.fill.specs.Fills as fills
+use Rattle.fill.specs.Fills.{filled}
+use Rattle.push.specs.Push as push
+use Rattle.push.specs.Push.{pushed}
+use Rattle.pop.specs.Pop as pop
+use Rattle.pop.specs.Pop.{popped}
+use Rattle.filter.specs.declared.Placement.{Placement}
+use Rattle.filter.specs.Filter as filter
+use Rattle.filter.specs.Filter.{given, filtered}
+use Rattle.painter.specs.Beginning.{canvas, beginning}
+use Rattle.painter.specs.Rows.{skip-of-row}
+use Rattle.walk.specs.Recorded.{recorded}
+use Rattle.steps.specs.Steps.{rows-words, pop-part}
+use Rattle.held.specs.declared.Held.{Held}
+use Rattle.held.specs.declared.Held.the-variants as held
+use Rattle.held.specs.State.{screen-words, screen-of, on}
+use Rattle.held.proofs.Words.{read-back, written-back}
+use Rattle.host.specs.Building.{tables-left, reset-call, recording-call, fill-left, fill-call, props, push-left, push-call, pop-left, pop-call, filter-left, filter-call}
+use Rattle.host.specs.Painting.{begin-left, begin-call, step-left, step-call, row-call, write-call, skip-left, skip-call}
+use Rattle.host.proofs.Kept.{step-refused, row-refused, write-refused}
+use Rattle.picture.specs.Calls as calls
+use Rattle.picture.specs.Reached as reached
+use Rattle.picture.specs.Rows as rows
+use Rattle.theorem_border.specs.Hosted.{Host, host, with-rows, with-painting, reset-at, recording-at, fill-at, push-at, pop-at, filter-at, begin-at, Turn, Call, one-step, whole-row, turn-in, paint-out, paint-at, write-at}
+
+-- the words of a screen and its tables
+abbrev pub host-of : Lent → Host
+host-of l = host (screen-words (l .screen)) (l .tables)
+
+abbrev pub hosted : Answer Lent → Answer Host
+hosted a = answer (a .number) (host-of (a .value))
+
+module _ {T : Type 0} (t : T) (f : Screen → Answer T) where
+  on-screen : (s : Screen) → on (screen-of (screen-words s)) t f ≡ f s
+  on-screen s = ap (λ (h : Held). on h t f) (read-back s)
+
+  on-done : (good : Bool) (s : Screen) → on (screen-of (screen-words s)) t (λ (s : Screen). cond good (f s) (answer 4 t)) .number ≡ Done → on (screen-of (screen-words s)) t (λ (s : Screen). cond good (f s) (answer 4 t)) ≡ f s
+  on-done true s e = on-screen s
+  on-done false s e = let q = ap (λ (h : Held). on h t (λ (s : Screen). answer 4 t)) (read-back s) in absurd (go (sym (ap (λ (a : Answer T). a .number) q) ∙ e))
+    where
+      go : _≡_ {A = ℕ} 4 0 → ⊥
+      go e = omega arith
+
+-- `coarse_can_skip`
+pub skip-on : (l : Lent) (r : ℕ) (t : Span) (id : ℕ) (old : List ℕ) → skip-call r t id (screen-words (l .screen)) (l .tables .rows) old .number ≡ Done
+    → skip-call r t id (screen-words (l .screen)) (l .tables .rows) old ≡ skip-left old (skip-of-row (l .screen) r (l .tables .rows) t id)
+unfolding skip-call
+skip-on l r t id old e = on-done {T = List ℕ} _ _ (eqb (length old) 1) (l .screen) e
+
+-- a reset and a recording, on a screen's words
+module _ (c d : ℕ) (l : Lent) where
+  pub reset-on : (v : Rect) → reset-at v c d (host-of l) ≡ hosted (reset-to v c d l)
+  unfolding reset-at reset-call
+  reset-on v =
+      ap (λ (a : Answer (List ℕ × Tables)). answer (a .number) (host (a .value .0) (a .value .1)))
+      (on-screen (screen-words (l .screen), l .tables) (λ (s : Screen). tables-left (reset-to v c d (lent s (l .tables)))) (l .screen))
+
+  pub recording-on : (file : List ℕ) → recording-at file c d (host-of l) ≡ hosted (recorded file c d l)
+  unfolding recording-at recording-call
+  recording-on file =
+      ap (λ (a : Answer (List ℕ × Tables)). answer (a .number) (host (a .value .0) (a .value .1)))
+      (on-screen (screen-words (l .screen), l .tables) (λ (s : Screen). tables-left (recorded file c d (lent s (l .tables)))) (l .screen))
+
+-- words that are a screen's, or no call on them is done
+pub data Known (h : Host) : Type 0 where
+  nothing : held.Nothing ≡ screen-of (h .state) → Known h
+  these : (l : Lent) → h ≡ host-of l → Known h
+
+pub known : (h : Host) → Known h
+known h = go (screen-of (h .state)) refl
+  where
+    go : (k : Held) → k ≡ screen-of (h .state) → Known h
+    go held.Nothing q = nothing q
+    go (held.Good s) q = these (lent s (h .tables)) (ap (λ (st : List ℕ). host st (h .tables)) (sym (written-back (h .state) s q)))
+
+no4 : _≡_ {A = ℕ} 4 0 → ⊥
+no4 e = omega arith
+
+module _ (h : Host) (q : held.Nothing ≡ screen-of (h .state)) where
+  pub reset-never : (v : Rect) (c d : ℕ) → reset-at v c d h .number ≡ Done → ⊥
+  unfolding reset-at reset-call
+  reset-never v c d e = no4 (rw (← q) at e)
+
+  pub recording-never : (file : List ℕ) (c d : ℕ) → recording-at file c d h .number ≡ Done → ⊥
+  unfolding recording-at recording-call
+  recording-never file c d e = no4 (rw (← q) at e)
+
+  pub recording-left : (file : List ℕ) (c d : ℕ) → recording-at file c d h .value ≡ h
+  unfolding recording-at recording-call
+  recording-left file c d = rw (← q)
+
+-- the building calls on a screen's words
+module _ (l : Lent) where
+  abbrev t : Tables
+  t = l .tables
+
+  pub fill-on : (ps ss : List ℕ) (d : Draw) → fill-at ps ss d (host-of l) ≡ hosted (calls.fill-at ps ss d l)
+  unfolding fill-at fill-call calls.fill-at
+  fill-on ps ss d =
+      ap (λ (a : Answer (List ℕ × Words × List ℕ)). answer (a .number)
+      (host (a .value .0) (with-rows t (a .value .1) (t .layers) (t .opacities) (a .value .2) (t .layer-attrs) (t .filter-paints))))
+      (on-screen (screen-words (l .screen), rows-words t, t .paint-attrs) (λ (s : Screen). fill-left (filled (fills.lent s (rows-words t) (t .paint-attrs)) ps ss d)) (l .screen))
+
+  pub push-on : (mix compose opacity mask flag : ℕ) (clip : Clip) → push-at mix compose opacity mask flag clip (host-of l) .number ≡ Done
+      → push-at mix compose opacity mask flag clip (host-of l) ≡ hosted (calls.push-at (props mix compose opacity mask flag clip) l)
+  unfolding push-at push-call calls.push-at
+  push-on mix compose opacity mask flag clip e =
+      let p = props mix compose opacity mask flag clip in
+      ap (λ (a : Answer (List ℕ × Words × List ℕ × List Float)). answer (a .number)
+      (host (a .value .0) (with-rows t (a .value .1) (a .value .2) (a .value .3) (t .paint-attrs) (t .layer-attrs) (t .filter-paints))))
+      (on-done (screen-words (l .screen), rows-words t, t .layers, t .opacities)
+      (λ (s : Screen). push-left (pushed p (push.lent s (rows-words t) (t .layers) (t .opacities)))) (leb flag 1) (l .screen) e)
+
+  pub pop-on : (ss : List ℕ) → pop-at ss (host-of l) ≡ hosted (calls.pop-at ss l)
+  unfolding pop-at pop-call calls.pop-at
+  pop-on ss =
+      ap (λ (a : Answer (List ℕ × pop.Lent)). answer (a .number)
+      (host (a .value .0)
+      (with-rows t (a .value .1 .words) (a .value .1 .layers) (a .value .1 .opacities) (t .paint-attrs) (a .value .1 .attrs) (t .filter-paints))))
+      (on-screen (screen-words (l .screen), pop-part l) (λ (s : Screen). pop-left (popped s (pop-part l) ss)) (l .screen))
+
+  pub filter-on : (p : Placement) (m n : ℕ) → filter-at p m n (host-of l) ≡ hosted (calls.filter-at p m n l)
+  unfolding filter-at filter-call calls.filter-at
+  filter-on p m n =
+      ap (λ (a : Answer (List ℕ × Words × List ℕ × List ℤ)). answer (a .number)
+      (host (a .value .0) (with-rows t (a .value .1) (t .layers) (t .opacities) (a .value .2) (t .layer-attrs) (a .value .3))))
+      (on-screen (screen-words (l .screen), rows-words t, t .paint-attrs, t .filter-paints)
+      (λ (s : Screen). filter-left (filtered (given p m n) (filter.lent s (rows-words t) (t .paint-attrs) (t .filter-paints)))) (l .screen))
+
+  pub begin-on : begin-at (host-of l) ≡ hosted (reached.begin-at l)
+  unfolding begin-at begin-call reached.begin-at
+  begin-on =
+      ap (λ (a : Answer (List ℕ × List ℕ × List ℕ)). answer (a .number) (host (a .value .0) (with-painting t (a .value .1) (a .value .2))))
+      (on-screen (screen-words (l .screen), t .depth, t .painting) (λ (s : Screen). begin-left (beginning (canvas s (t .depth) (t .painting)))) (l .screen))
+
+-- a painting call among picture's
+abbrev pub call-of : Call → rows.Call
+call-of (one-step t) = rows.one-step (record { row = t .row; list = t .list })
+call-of (whole-row t) = rows.whole-row (record { row = t .row; list = t .list })
+
+abbrev Painted : Type 0
+Painted = List ℕ × List ℕ × List ℕ × List ℕ
+
+pub paint-on : (c : Call) (l : Lent) → paint-out c (host-of l) .number ≡ Done → paint-out c (host-of l) ≡ step-left (turn-in c .result) (rows.call-out (call-of c) l)
+unfolding paint-out step-call row-call reached.paint-out rows.row-out
+paint-on (one-step t) l e = on-done {T = Painted} _ _ (eqb (length (t .result)) 2) (l .screen) e
+paint-on (whole-row t) l e = on-done {T = Painted} _ _ (eqb (length (t .result)) 2) (l .screen) e
+
+-- .. and a step whose result words are two, also where it is refused
+pub paint-lent : (t : Turn) (l : Lent) → eqb (length (t .result)) 2 ≡ true → paint-out (one-step t) (host-of l) ≡ step-left (t .result) (reached.paint-out (t .row) (t .list) l)
+unfolding paint-out step-call reached.paint-out
+paint-lent t l e = rw e (on-screen {T = Painted} _ _ (l .screen))
+
+-- the words after it
+pub paint-done : (c : Call) (l : Lent) → paint-out c (host-of l) .number ≡ Done → paint-at c (host-of l) ≡ host-of (rows.after-call (call-of c) l)
+paint-done c l e = ap (λ (a : Answer Painted). host (screen-words (l .screen)) (with-painting (l .tables) (a .value .0) (a .value .1))) (paint-on c l e)
+
+pub paint-kept : (c : Call) (h : Host) → (paint-out c h .number ≡ Done → ⊥) → paint-at c h ≡ h
+unfolding paint-out
+paint-kept (one-step t) h q =
+    ap (λ (o : Painted). host (h .state) (with-painting (h .tables) (o .0) (o .1))) (step-refused (t .row) _ (h .state) _ (t .result) q)
+paint-kept (whole-row t) h q =
+    ap (λ (o : Painted). host (h .state) (with-painting (h .tables) (o .0) (o .1))) (row-refused (t .row) _ (h .state) _ (t .result) q)
+
+-- a writing run, done or refused
+module _ (i id : ℕ) (b : Span) (list count : List ℕ) (l : Lent) where
+  abbrev a : Answer Painted
+  a = write-call i b id (screen-words (l .screen)) (l .tables .depth) list count
+
+  abbrev put : Answer Painted → Host
+  put x = host (x .value .0) (with-painting (l .tables) (x .value .1) (l .tables .painting))
+
+  pub write-done : a .number ≡ Done → write-at i id b list count (host-of l) ≡ host-of (reached.write-at i id b list l)
+  unfolding write-at write-call reached.write-out
+  write-done e = ap put (on-done {T = Painted} _ _ (eqb (length count) 1) (l .screen) e)
+
+  pub write-kept : (a .number ≡ Done → ⊥) → write-at i id b list count (host-of l) ≡ host-of l
+  unfolding write-at
+  write-kept q = ap (λ (o : Painted). put (answer 0 o)) (write-refused i b id (screen-words (l .screen)) (l .tables .depth) list count q)

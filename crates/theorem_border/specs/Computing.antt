@@ -1,0 +1,40 @@
+-- All that has to unfold to compute with a host's calls of reset, fill and painting: a theorem by computation says `unfolding on-words computing`.
+use Rattle.segments.specs.Segs.{seg-at, segs}
+use Rattle.screen.specs.Judging as screens
+use Rattle.screen.specs.Judging.{judged-reset}
+use Rattle.screen.specs.Screens.{good-clip, good-screen, state-of, screen-after}
+use Rattle.screen.specs.Tables.{zeros, reset-to}
+use Rattle.arena.specs.Arena.{cut, lay}
+use Rattle.row.specs.Words.{hull-word, include-span, put-command, put-depth}
+use Rattle.building.specs.Building as building
+use Rattle.building.specs.Building.{good-row, good-rows}
+use Rattle.fill.specs.Fills.{paints, first-number, fill-number, fill-done}
+use Rattle.shown.specs.Summaries.{shown-runs}
+use Rattle.paint.specs.Painting.{attrs-at, given, fill-shown, command-shown, depth-step, command-step, next-step, settled, painted-row}
+use Rattle.paint.specs.Pieces.{runs-at}
+use Rattle.painter.specs.Judging as painter
+use Rattle.painter.specs.Judging.{begin-number}
+use Rattle.painter.specs.Beginning.{beginning}
+use Rattle.painter.specs.Stepping.{row-step, stepped}
+use Rattle.rowpaint.specs.Running.{one-more, run, row-painted}
+use Rattle.held.specs.State.{screen-of}
+use Rattle.host.specs.Building.{reset-call, fill-call}
+use Rattle.host.specs.Painting.{begin-call, step-call, row-call}
+use Rattle.tiles.specs.Turns.{from, said-finished}
+use Rattle.picture.specs.Turns.{pieces-in}
+use Rattle.theorem_border.specs.Hosted.{reset-at, fill-at, begin-at, paint-out}
+use Rattle.theorem_border.specs.Border.{painted, log}
+
+-- reset and fill
+unfoldable pub on-fills : Unit {0}
+unfolding seg-at segs screens.judged judged-reset good-clip good-screen state-of screen-after zeros reset-to cut lay hull-word include-span put-command put-depth building.step-number good-row good-rows paints first-number fill-number fill-done reset-call fill-call reset-at fill-at
+on-fills = tt
+
+-- painting
+unfoldable pub on-painting : Unit {0}
+unfolding shown-runs attrs-at given fill-shown command-shown depth-step command-step next-step settled painted-row runs-at painter.judged begin-number painter.step-number beginning row-step stepped one-more run row-painted begin-call step-call row-call
+on-painting = tt
+
+unfoldable pub on-words : Unit {0}
+unfolding screen-of from said-finished pieces-in begin-at paint-out painted log on-fills on-painting
+on-words = tt

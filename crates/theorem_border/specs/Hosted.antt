@@ -1,0 +1,154 @@
+-- What a host holds from call to call, and the `coarse_` calls on it: each by the definition that its contract cites.
+use Prim.Native.Nat.{ℕ}
+use mathlib.Core.Path.{_≡_}
+use mathlib.Core.Bool.{cond}
+use mathlib.Core.List.{List, [], _∷_, _++_}
+use mathlib.Core.Option.{none, some}
+use lib.Dec.{eqb}
+use lib.Ieee.{Float}
+use lib.IntN.{ℤ}
+use Rattle.rules.specs.Answers.{Answer, answer, Done}
+use Rattle.rules.specs.Spans.{Span}
+use Rattle.rules.specs.Inputs.{Clip}
+use Rattle.rules.specs.Plans.{Frame, Step, a-push}
+use Rattle.rules.specs.Walk.{Place, frame-of}
+use Rattle.rect.specs.declared.Rect.{Rect}
+use Rattle.row.specs.Words.{Words}
+use Rattle.screen.specs.Screens.{frame}
+use Rattle.screen.specs.Judging.{arenas}
+use Rattle.screen.specs.Tables.{Tables, tables, lengths}
+use Rattle.fill.specs.declared.Draw.{Draw}
+use Rattle.pop.specs.Pop as pop
+use Rattle.filter.specs.declared.Placement.{Placement}
+use Rattle.paint.specs.Painting as paint
+use Rattle.painter.specs.Stepping.{Attributes, attributes}
+use Rattle.steps.specs.Steps.{rows-words}
+use Rattle.tiles.specs.Recorded.{history, Readable, said}
+use Rattle.picture.specs.Calls.{fill-said, pop-said, filter-said}
+use Rattle.host.specs.Building.{reset-call, recording-call, fill-call, props, push-call, pop-call, filter-call}
+use Rattle.host.specs.Painting.{begin-call, step-call, row-call, write-call}
+
+-- the state's words and the ten tables
+pub record Host : Type 0 where
+  pub state : List ℕ
+  pub tables : Tables
+
+abbrev pub host : List ℕ → Tables → Host
+host st t = record { state = st; tables = t }
+
+-- the tables with other rows, layers, opacities and attributes
+abbrev pub with-rows : Tables → Words → List ℕ → List Float → List ℕ → List ℕ → List ℤ → Tables
+with-rows t w ls os pas las fps = tables (w .render) (w .fills) (t .depth) (w .state) (t .painting) ls os pas las fps
+
+-- .. with other depth and painting words
+abbrev pub with-painting : Tables → List ℕ → List ℕ → Tables
+with-painting t depth painting =
+    tables (t .render) (t .fills) depth (t .rows) painting (t .layers) (t .opacities) (t .paint-attrs) (t .layer-attrs) (t .filter-paints)
+
+-- `coarse_reset`
+unfoldable pub reset-at : Rect → ℕ → ℕ → Host → Answer Host
+reset-at v c d h = let a = reset-call v c d (h .state) (h .tables) in answer (a .number) (host (a .value .0) (a .value .1))
+
+-- `coarse_bucket_recording`
+unfoldable pub recording-at : List ℕ → ℕ → ℕ → Host → Answer Host
+recording-at file c d h = let a = recording-call file c d (h .state) (h .tables) in answer (a .number) (host (a .value .0) (a .value .1))
+
+-- `coarse_fill`: any words as paints and as segments
+unfoldable pub fill-at : List ℕ → List ℕ → Draw → Host → Answer Host
+fill-at ps ss d h =
+    let t = h .tables in
+    let a = fill-call ps ss d (h .state) (rows-words t) (t .paint-attrs) in
+    answer (a .number) (host (a .value .0) (with-rows t (a .value .1) (t .layers) (t .opacities) (a .value .2) (t .layer-attrs) (t .filter-paints)))
+
+-- `coarse_push_layer`: any numbers
+unfoldable pub push-at : ℕ → ℕ → ℕ → ℕ → ℕ → Clip → Host → Answer Host
+push-at mix compose opacity mask flag clip h =
+    let t = h .tables in
+    let a = push-call flag (props mix compose opacity mask flag clip) (h .state) (rows-words t) (t .layers) (t .opacities) in
+    answer (a .number) (host (a .value .0) (with-rows t (a .value .1) (a .value .2) (a .value .3) (t .paint-attrs) (t .layer-attrs) (t .filter-paints)))
+
+abbrev pub push-said : ℕ → ℕ → ℕ → ℕ → ℕ → Clip → Step
+push-said mix compose opacity mask flag clip =
+    a-push
+    (record { blend = record { mix = mix; compose = compose }; opacity = opacity; mask = mask; clip = cond (eqb flag 1) (some clip) none })
+
+-- `coarse_pop_layer`: any words as segments
+unfoldable pub pop-at : List ℕ → Host → Answer Host
+pop-at ss h =
+    let t = h .tables in
+    let a = pop-call ss (h .state) (pop.lent (rows-words t) (t .layers) (t .opacities) (t .layer-attrs)) in
+    let l = a .value .1 in
+    answer (a .number) (host (a .value .0) (with-rows t (l .words) (l .layers) (l .opacities) (t .paint-attrs) (l .attrs) (t .filter-paints)))
+
+-- `coarse_filter_fill`: any placement and pixmap, beside a list of n paints
+unfoldable pub filter-at : Placement → ℕ → ℕ → Host → Answer Host
+filter-at p m n h =
+    let t = h .tables in
+    let a = filter-call p m n (h .state) (rows-words t) (t .paint-attrs) (t .filter-paints) in
+    answer (a .number) (host (a .value .0) (with-rows t (a .value .1) (t .layers) (t .opacities) (a .value .2) (t .layer-attrs) (a .value .3)))
+
+-- `coarse_begin_painting`
+unfoldable pub begin-at : Host → Answer Host
+begin-at h =
+    let a = begin-call (h .state) (h .tables .depth) (h .tables .painting) in
+    answer (a .number) (host (a .value .0) (with-painting (h .tables) (a .value .1) (a .value .2)))
+
+-- one call of `coarse_paint_step` or of `coarse_paint_row`: any row, there or not, the words of any list, any result words
+pub record Turn : Type 0 where
+  pub row : ℕ
+  pub list : List ℕ
+  pub result : List ℕ
+
+pub data Call : Type 0 where
+  one-step : Turn → Call
+  whole-row : Turn → Call
+
+abbrev pub turn-in : Call → Turn
+turn-in (one-step t) = t
+turn-in (whole-row t) = t
+
+abbrev pub own-attributes : Host → Attributes
+own-attributes h = attributes (h .tables .paint-attrs) (h .tables .layer-attrs)
+
+abbrev pub own-words : List ℕ → Host → paint.Lent
+own-words list h = let t = h .tables in paint.lent (t .rows) (t .render) (t .fills) (t .depth) (t .painting) list
+
+-- its number; the depth and painting words, the list and the result afterwards
+unfoldable pub paint-out : Call → Host → Answer (List ℕ × List ℕ × List ℕ × List ℕ)
+paint-out (one-step t) h = step-call (t .row) (own-attributes h) (h .state) (own-words (t .list) h) (t .result)
+paint-out (whole-row t) h = row-call (t .row) (own-attributes h) (h .state) (own-words (t .list) h) (t .result)
+
+abbrev pub paint-at : Call → Host → Host
+paint-at c h = let o = paint-out c h .value in host (h .state) (with-painting (h .tables) (o .0) (o .1))
+
+-- `coarse_unset_runs_and_write` over the buckets t of row i with an id
+unfoldable pub write-at : ℕ → ℕ → Span → List ℕ → List ℕ → Host → Host
+write-at i id t list count h =
+    let a = write-call i t id (h .state) (h .tables .depth) list count in
+    host (a .value .0) (with-painting (h .tables) (a .value .1) (h .tables .painting))
+
+-- where a recording is played: C and D, and how much is lent of the arenas
+abbrev pub place : ℕ → ℕ → Host → Place
+place c d h = record { limit = 512; c = c; d = d; arenas = arenas (lengths (h .tables)) }
+
+-- A host's words after a done `coarse_reset` to the frame f, or a done recording, on any words whatever, and then `coarse_` calls, each given
+-- what the last one left; xs are the steps that the done building calls say, in order. Painting calls and writing runs may come between, done or
+-- refused. The other calls write nothing but their results; a refused building call leaves every word as it was, and a refused recording too, or
+-- it is a reset (`recording-refused`): they need no case.
+pub data Hosted : Frame → List Step → Host → Type 0 where
+  by-reset : (v : Rect) (c d : ℕ) (h : Host) → reset-at v c d h .number ≡ Done → Hosted (frame v c d) [] (reset-at v c d h .value)
+  by-recording : (file : List ℕ) (c d : ℕ) (h : Host) (w : Readable file) → recording-at file c d h .number ≡ Done
+      → Hosted (frame-of (place c d h) (said w)) (history 32 (place c d h) (said w)) (recording-at file c d h .value)
+  by-fill : {f : Frame} {xs : List Step} {h : Host} (ps ss : List ℕ) (d : Draw) → Hosted f xs h → fill-at ps ss d h .number ≡ Done
+      → Hosted f (xs ++ (fill-said ps ss d ∷ [])) (fill-at ps ss d h .value)
+  by-push : {f : Frame} {xs : List Step} {h : Host} (mix compose opacity mask flag : ℕ) (clip : Clip) → Hosted f xs h
+      → push-at mix compose opacity mask flag clip h .number ≡ Done
+      → Hosted f (xs ++ (push-said mix compose opacity mask flag clip ∷ [])) (push-at mix compose opacity mask flag clip h .value)
+  by-pop : {f : Frame} {xs : List Step} {h : Host} (ss : List ℕ) → Hosted f xs h → pop-at ss h .number ≡ Done
+      → Hosted f (xs ++ (pop-said ss ∷ [])) (pop-at ss h .value)
+  by-filter : {f : Frame} {xs : List Step} {h : Host} (p : Placement) (m n : ℕ) → Hosted f xs h → filter-at p m n h .number ≡ Done
+      → Hosted f (xs ++ (filter-said p m n ∷ [])) (filter-at p m n h .value)
+  by-begin : {f : Frame} {xs : List Step} {h : Host} → Hosted f xs h → Hosted f xs (begin-at h .value)
+  by-paint : {f : Frame} {xs : List Step} {h : Host} (c : Call) → Hosted f xs h → Hosted f xs (paint-at c h)
+  by-write : {f : Frame} {xs : List Step} {h : Host} (i id : ℕ) (t : Span) (list count : List ℕ) → Hosted f xs h
+      → Hosted f xs (write-at i id t list count h)

@@ -1,0 +1,4 @@
+pub mod Hosted
+pub mod Border
+pub mod Panel
+pub mod Computing

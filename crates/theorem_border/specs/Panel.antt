@@ -1,0 +1,72 @@
+-- The panel over the banner, call for call as `examples/panel.c` makes them, on the words that it lends.
+use Prim.Native.Nat.{ℕ, _+_, _*_}
+use mathlib.Core.List.{List, [], _∷_}
+use lib.ListN.{replicate}
+use lib.IntN.{pos}
+use Rattle.rules.specs.Answers.{Answer}
+use Rattle.rules.specs.Plans.{Frame, Step}
+use Rattle.rect.specs.declared.Rect.{Rect}
+use Rattle.screen.specs.Screens.{frame}
+use Rattle.screen.specs.Tables.{tables, float-0}
+use Rattle.fill.specs.declared.Draw.{Draw}
+use Rattle.picture.specs.Calls.{fill-said}
+use Rattle.held.specs.State.{rect}
+use Rattle.host.specs.Building.{draw}
+use Rattle.theorem_border.specs.Hosted.{Host, host, reset-at, fill-at, begin-at, Call, one-step, whole-row}
+
+-- 512 x 4 pixels, one row of 128 tiles in 4 buckets, with room for 64 commands and 64 depth fills
+abbrev pub screen : Rect
+screen = rect 0 0 512 4
+
+abbrev pub own-frame : Frame
+own-frame = frame screen 64 64
+
+-- 16 words of state and the ten tables, all of them 0
+abbrev pub blank : Host
+blank =
+    host (replicate 16 0)
+    (tables (replicate 256 0) (replicate 128 0) (replicate 4 0) (replicate 54 0) (replicate 2 0) (replicate 256 0) (replicate 1040 float-0)
+    (replicate 8192 0) (replicate 6144 0) (replicate 1024 (pos 0)))
+
+-- both opaque; the banner has the whole row, the panel tiles 20 to 70: all of bucket 1, and a part of 0 and of 2
+abbrev pub paints : List ℕ
+paints = 1 ∷ 1 ∷ 0 ∷ 0 ∷ 1 ∷ 2 ∷ 0 ∷ 0 ∷ []
+
+abbrev pub segments : List ℕ
+segments = 0 ∷ 0 ∷ 0 ∷ 128 ∷ 0 ∷ 0 ∷ 0 ∷ 20 ∷ 70 ∷ 0 ∷ []
+
+-- segment i with paint i
+abbrev pub one : ℕ → Draw
+one i = draw 0 i (i + 1) i 0 3 0
+
+abbrev pub banner : Step
+banner = fill-said paints segments (one 0)
+
+abbrev pub panel : Step
+panel = fill-said paints segments (one 1)
+
+abbrev pub steps : List Step
+steps = banner ∷ panel ∷ []
+
+abbrev pub fresh : Answer Host
+fresh = reset-at screen 64 64 blank
+
+abbrev pub with-banner : Answer Host
+with-banner = fill-at paints segments (one 0) (fresh .value)
+
+abbrev pub with-panel : Answer Host
+with-panel = fill-at paints segments (one 1) (with-banner .value)
+
+abbrev pub begun : Answer Host
+begun = begin-at (with-panel .value)
+
+-- The row is painted by steps into what is left of room for 64 pieces.
+abbrev pub step-with : ℕ → Call
+step-with room = one-step (record { row = 0; list = replicate (6 * room) 0; result = 0 ∷ 0 ∷ [] })
+
+abbrev pub by-steps : List Call
+by-steps = step-with 64 ∷ step-with 63 ∷ step-with 61 ∷ step-with 60 ∷ step-with 59 ∷ []
+
+-- .. or in a mixture: one step, then the rest of the row by one call
+abbrev pub mixed : List Call
+mixed = step-with 64 ∷ whole-row (record { row = 0; list = replicate (6 * 63) 0; result = 0 ∷ 0 ∷ [] }) ∷ []

@@ -1,3 +1,12 @@
+-- Tests by computation: tables and cases.
+pub mod Computing
+pub mod Samples
+pub mod Picture
+pub mod KnownPoints
+pub mod WorkedExample
+pub mod Cases
+pub mod Refusals
+-- Laws that other crates cite.
 pub mod All
 pub mod Changes
 pub mod Maps

@@ -11,9 +11,9 @@ use Rattle.rules.specs.Blends.{default-blend}
 use Rattle.rules.specs.Recording.{Recording, file}
 use Rattle.rules.specs.Lines.{Line, header, row, D, P, L, B, E, refused, rowlist-words}
 use Rattle.rules.specs.Details.{Detail, paint-attributes, A, layer-attributes, Y, filter-paints, F, painted, p, l, rowdump-words}
-use Rattle.rules.specs.Picture.{same-picture}
-use Rattle.rules.specs.Computing.{computing}
-use Rattle.rules.specs.Samples.{solid, alpha, opaque-paint, draw, full, a-nan, layer, composed, clipped, filtered, filter, node, rec, minus}
+use Rattle.rules.proofs.Picture.{same-picture}
+use Rattle.rules.proofs.Computing.{computing}
+use Rattle.rules.proofs.Samples.{solid, alpha, opaque-paint, draw, full, a-nan, layer, composed, clipped, filtered, filter, node, rec, minus}
 
 -- An alpha segment cut at the left: the screen begins at tile 4, so its index moves by 4 x 16.
 abbrev pub left-cut : Recording

@@ -9,7 +9,7 @@ use Rattle.rules.specs.Spans.{Span, span}
 use Rattle.rules.specs.Split.{Part, regular, buckets, split}
 use Rattle.rules.specs.Depth.{unset-runs, visible-runs}
 use Rattle.rules.specs.Blends.{destructive}
-use Rattle.rules.specs.Computing.{computing}
+use Rattle.rules.proofs.Computing.{computing}
 
 abbrev pub same-span : Span → Span → Bool
 same-span a b = eqb (a .first) (b .first) && eqb (a .end) (b .end)

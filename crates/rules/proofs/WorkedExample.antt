@@ -9,8 +9,8 @@ use Rattle.rules.specs.Spans.{span}
 use Rattle.rules.specs.Recording.{Recording, shape, sections, recording, file}
 use Rattle.rules.specs.Lines.{Line, header, row, D, P, L, B, E, rowlist-words, rowlist, line-bytes}
 use Rattle.rules.specs.Details.{Detail, paint-attributes, A, layer-attributes, Y, filter-paints, painted, p, l, rowdump-words}
-use Rattle.rules.specs.Picture.{same-picture}
-use Rattle.rules.specs.Computing.{computing}
+use Rattle.rules.proofs.Picture.{same-picture}
+use Rattle.rules.proofs.Computing.{computing}
 
 -- The file's words, section by section: viewport 0,0,256,8; one opaque paint; a solid segment on row 0, tiles 10 to 64, and one on
 -- row 1, tiles 0 to 8; two draws; a layer, opacity 0.5, no clip; two nodes; root.

@@ -20,8 +20,8 @@ use Rattle.rules.specs.Plans.{Frame, Layer, State, Step, a-fill, a-push,
 use Rattle.rules.specs.Steps.{Screen}
 use Rattle.rules.specs.Walk.{Arenas, needed}
 use Rattle.rules.specs.Calls.{Canvas, Given, fresh-canvas, reset-call, step-call, begin-call, paint-call, unset-call, visible-call, write-call, can-skip-call}
-use Rattle.rules.specs.Samples.{solid, alpha, opaque-paint, full, filter, minus}
-use Rattle.rules.specs.Computing.{computing}
+use Rattle.rules.proofs.Samples.{solid, alpha, opaque-paint, full, filter, minus}
+use Rattle.rules.proofs.Computing.{computing}
 
 -- a screen of one row and two buckets, with room for one command and one depth fill
 abbrev frame : Frame

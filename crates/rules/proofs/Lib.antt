@@ -6,6 +6,8 @@ pub mod KnownPoints
 pub mod WorkedExample
 pub mod Cases
 pub mod Refusals
+pub mod Edges
+pub mod Judged
 -- Laws that other crates cite.
 pub mod All
 pub mod Changes

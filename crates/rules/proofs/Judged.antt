@@ -13,7 +13,7 @@ use Rattle.rules.specs.Segments.{Segment}
 use Rattle.rules.specs.Inputs.{Paint, Draw, Clip, Filter}
 use Rattle.rules.specs.Rows.{Row, fresh-row, row-ops}
 use Rattle.rules.specs.Plans.{Frame}
-use Rattle.rules.specs.Steps.{Screen, reset}
+use Rattle.rules.specs.Steps.{Screen, reset, call}
 use Rattle.rules.specs.Recording.{Recording, LayerRec, Node, file}
 use Rattle.rules.specs.Walk.{Arenas, Place, needed, play}
 use Rattle.rules.specs.Lines.{rowlist-words, refused}
@@ -30,7 +30,7 @@ abbrev old : Screen Row
 old = reset fresh-row (record { viewport = box 4 8 12 16; c = 7; d = 9 })
 
 abbrev plays : Place → List ℕ → Answer (Screen Row)
-plays p ws = play Row row-ops 32 fresh-row p old ws
+plays p ws = play (Screen Row) (call Row row-ops 32) (reset fresh-row) 32 p old ws
 
 abbrev judged : List ℕ → ℕ
 judged ws = plays (lent 0 0 0) ws .number

@@ -7,7 +7,7 @@ use mathlib.Core.Option.{none, some}
 use lib.ListN.{replicate}
 use lib.Dec.{eqb}
 use Rattle.rules.specs.Lists.{every}
-use Rattle.rules.specs.Answers.{Answer, Done, BadArena, BadViewport, BadRecord, BadOrder, Deep, NoLayer, Ids, FullAttrs, FullRow, FullDepth, BadRun, Open, NoRoom}
+use Rattle.rules.specs.Answers.{Answer, answer, Done, BadArena, BadViewport, BadForm, BadRecord, BadOrder, Deep, NoLayer, Ids, FullAttrs, FullRow, FullDepth, BadRun, Open, NoRoom}
 use Rattle.rules.specs.Boxes.{Box, box}
 use Rattle.rules.specs.Spans.{Span, span}
 use Rattle.rules.specs.Split.{split-answer}
@@ -18,9 +18,10 @@ use Rattle.rules.specs.Attributes.{PaintAttr, LayerAttr, FilterPaint, At
 use Rattle.rules.specs.Rows.{fresh-row}
 use Rattle.rules.specs.Plans.{Frame, Layer, State, Step, a-fill, a-push, a-pop, a-filter}
 use Rattle.rules.specs.Steps.{Screen}
+use Rattle.rules.specs.Recording.{file}
 use Rattle.rules.specs.Walk.{Arenas, needed}
-use Rattle.rules.specs.Calls.{Canvas, Given, fresh-canvas, reset-call, step-call, begin-call, paint-call, unset-call, visible-call, write-call, can-skip-call}
-use Rattle.rules.proofs.Samples.{solid, alpha, opaque-paint, full, filter, minus}
+use Rattle.rules.specs.Calls.{Canvas, Given, fresh-canvas, reset-call, step-call, record-call, begin-call, paint-call, unset-call, visible-call, write-call, can-skip-call}
+use Rattle.rules.proofs.Samples.{solid, alpha, opaque-paint, draw, full, filter, node, rec, minus}
 use Rattle.rules.proofs.Computing.{computing}
 
 -- a screen of one row and two buckets, with room for one command and one depth fill
@@ -88,6 +89,13 @@ painting = begun (after (fills (solid 0 0 64 ∷ []) 1) start)
 abbrev nine : Canvas
 nine = write-call 32 9 0 2 (span 0 1) start .canvas
 
+-- a recording of one row and two buckets at C = D = 1, and its words
+abbrev recorded : List ℕ → Canvas → Answer Canvas
+recorded ws k = record-call 32 1 1 (record { render = 4; fills = 2; depth = 2 }) ws k
+
+abbrev a-file : List ℕ
+a-file = file (rec (box 0 0 256 4) (solid 0 0 64 ∷ []) (draw 0 1 ∷ []) [] (node 0 1 0 ∷ []) 0 1)
+
 -- what a call answered, and what it has to answer
 pub record Told : Type 0 where
   pub got : ℕ
@@ -99,8 +107,14 @@ _is_ a b = record { got = a; due = b }
 
 abbrev pub answers : List Told
 answers =
+    -- 3, before all
+    recorded a-file start .number is Done
+    ∷ recorded (a-file ++ (0 ∷ [])) start .number is BadForm
+    ∷ recorded [] start .number is BadForm
+    ∷ recorded (file (rec (box 2 0 256 4) [] [] [] [] 1 0) ++ (0 ∷ [])) start .number is BadForm
+    ∷ recorded (file (rec (box 2 0 256 4) [] [] [] [] 1 0)) start .number is BadViewport
     -- 2, then 1
-    resets (box 0 0 4096 2048) 1 1024 0 is Done
+    ∷ resets (box 0 0 4096 2048) 1 1024 0 is Done
     ∷ resets (box 0 0 4100 2048) 1 1 0 is BadViewport
     ∷ resets (box 0 0 4096 2052) 1 1 0 is BadViewport
     ∷ resets (box 2 0 4 4) 1 1 0 is BadViewport
@@ -151,6 +165,10 @@ answers =
     ∷ paint-call 32 0 9 (after (fills [] 0) painting) .number is Open
     ∷ paint-call 32 0 9 (write-call 32 1 0 9 (span 0 1) painting .canvas) .number is Open
     ∷ paint-call 32 0 9 (unset-call 32 0 9 (span 0 1) painting .canvas) .number is Done
+    -- .. a done recording and one refused for its records end painting, one refused for its form does not
+    ∷ paint-call 32 0 9 (recorded a-file painting .value) .number is Open
+    ∷ paint-call 32 0 9 (recorded (file (rec (box 0 0 256 4) [] [] [] [] 1 0)) painting .value) .number is Open
+    ∷ paint-call 32 0 9 (recorded [] painting .value) .number is Done
     -- 12, then 14
     ∷ paint-call 32 1 0 start .number is BadRun
     ∷ paint-call 32 0 0 painting .number is NoRoom
@@ -178,3 +196,8 @@ answers =
 pub all-due : every (λ (t : Told). eqb (t .got) (t .due)) answers ≡ true
 unfolding computing
 all-due = refl
+
+-- A done recording leaves the canvas that its steps make of a fresh one: the depth words of what stood there before are cleared.
+pub recorded-clears : recorded a-file nine ≡ answer Done (after (fills (solid 0 0 64 ∷ []) 1) start)
+unfolding computing
+recorded-clears = refl

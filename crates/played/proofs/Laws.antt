@@ -11,7 +11,7 @@ use Rattle.rules.specs.Boxes.{Box, good-viewport, rows-of}
 use Rattle.rules.specs.Rows.{Row, fresh-row, row-ops}
 use Rattle.rules.specs.Steps.{Screen, reset, call}
 use Rattle.rules.specs.Recording.{Recording, shape, sections, recording, good-records, good-order}
-use Rattle.rules.specs.Walk.{_then_, good-arenas, frame-of, judge-records, or-reset, walk-all, play-records, play}
+use Rattle.rules.specs.Walk.{_then_, good-arenas, frame-of, judge-records, walk-all, play-records, play}
 use Rattle.rules.proofs.All.{never}
 use Rattle.screen.specs.Screens.{frame, rect-of}
 use Rattle.screen.specs.Judging.{good-tables, arenas, judged-reset}
@@ -36,7 +36,7 @@ module _ (r : Recording) (c d : ℕ) (l : Lent) (old : Screen Row) (t : good-tab
 
   -- the rules' play, by its first number
   abbrev theirs : Answer (Screen Row)
-  theirs = play-records Row row-ops 32 fresh-row (place c d l) old r
+  theirs = play-records (Screen Row) (call Row row-ops 32) (reset fresh-row) 32 (place c d l) old r
 
   abbrev judge : ℕ
   judge = judge-records 32 (place c d l) r
@@ -47,21 +47,21 @@ module _ (r : Recording) (c d : ℕ) (l : Lent) (old : Screen Row) (t : good-tab
     where
       go : (x : Bool) → x ≡ false
           → elim x [
-            | true ↦ or-reset Row row-ops 32 fresh-row start rules-walk
+            | true ↦ settle (rules-walk .number) start (rules-walk .value)
             | false ↦ answer judge (cond (leb judge BadForm) old start)
           ] ≡ answer n (cond (leb n BadForm) old start)
       go true q = never q
       go false q = rw e
 
-  done-play : judge ≡ Done → theirs ≡ or-reset Row row-ops 32 fresh-row start rules-walk
+  done-play : judge ≡ Done → theirs ≡ settle (rules-walk .number) start (rules-walk .value)
   unfolding play-records
   done-play e = go (eqb judge Done) (ap (λ (m : ℕ). eqb m Done) e)
     where
       go : (x : Bool) → x ≡ true
           → elim x [
-            | true ↦ or-reset Row row-ops 32 fresh-row start rules-walk
+            | true ↦ settle (rules-walk .number) start (rules-walk .value)
             | false ↦ answer judge (cond (leb judge BadForm) old start)
-          ] ≡ or-reset Row row-ops 32 fresh-row start rules-walk
+          ] ≡ settle (rules-walk .number) start (rules-walk .value)
       go true q = refl
       go false q = never (sym q)
 
@@ -154,7 +154,7 @@ module _ (r : Recording) (c d : ℕ) (l : Lent) (old : Screen Row) (t : good-tab
 -- tables beside the arenas are as long as the file's viewport asks.
 pub file-plays : (ws : List ℕ) (c d : ℕ) (l : Lent) (old : Screen Row)
     → ((ss : List (List (List ℕ))) → sections shape ws ≡ some ss → good-tables (rows-of (recording ss .viewport)) (lengths (l .tables)) ≡ true)
-    → Plays old l (play Row row-ops 32 fresh-row (place c d l) old ws) (recorded ws c d l)
+    → Plays old l (play (Screen Row) (call Row row-ops 32) (reset fresh-row) 32 (place c d l) old ws) (recorded ws c d l)
 unfolding play recorded
 file-plays ws c d l old h = go (sections shape ws) refl
   where
@@ -162,7 +162,7 @@ file-plays ws c d l old h = go (sections shape ws) refl
         → Plays old l
         (elim o [
           | none ↦ answer BadForm old
-          | some ss ↦ play-records Row row-ops 32 fresh-row (place c d l) old (recording ss)
+          | some ss ↦ play-records (Screen Row) (call Row row-ops 32) (reset fresh-row) 32 (place c d l) old (recording ss)
         ])
         (of-sections o c d l)
     go none e = record { number = refl; value = unaltered refl refl refl }

@@ -1,16 +1,16 @@
 -- Tests: directed cases. A recording, the lines that `rowlist` prints of it, its attributes and its painted pieces, by computation.
-use Prim.Native.Nat.{ℕ}
 use mathlib.Core.Path.{_≡_, refl}
-use mathlib.Core.Bool.{Bool, true, _&&_}
-use mathlib.Core.List.{List, [], _∷_}
+use mathlib.Core.Bool.{true}
+use mathlib.Core.List.{[], _∷_}
 use mathlib.Core.Option.{none, some}
 use lib.IntN.{pos}
-use Rattle.rules.specs.Lists.{every, slice}
+use Rattle.rules.specs.Lists.{every}
 use Rattle.rules.specs.Spans.{span}
 use Rattle.rules.specs.Boxes.{box}
 use Rattle.rules.specs.Blends.{default-blend}
-use Rattle.rules.specs.Recording.{Recording, file}
-use Rattle.rules.specs.Lines.{Line, header, row, D, P, L, B, E, refused, rowlist-words}
+use Rattle.rules.specs.Recording.{Recording}
+use Rattle.rules.proofs.Words.{file}
+use Rattle.rules.specs.Lines.{header, row, D, P, L, B, E, refused, rowlist-words}
 use Rattle.rules.proofs.Picture.{same-picture}
 use Rattle.rules.proofs.Computing.{computing}
 use Rattle.rules.proofs.Samples.{solid, alpha, opaque-paint, draw, blend, clip, no-filter, full, a-nan, layer, composed, clipped, filtered, filter, node, rec, minus, attrs, paint-attr, layer-attr, filter-paint, paint-piece, layer-piece, attributes, pieces}

@@ -1,7 +1,7 @@
 -- Tests: a recording's file judged. Each answer from 1 to 5, on both sides of its edge and in its order, and what a refused recording leaves.
 use Prim.Native.Nat.{ℕ, _+_, _-_}
 use mathlib.Core.Path.{_≡_, refl}
-use mathlib.Core.Bool.{Bool, true}
+use mathlib.Core.Bool.{true}
 use mathlib.Core.List.{List, [], _∷_, _++_}
 use lib.ListN.{length, take}
 use lib.Dec.{eqb}
@@ -14,8 +14,9 @@ use Rattle.rules.specs.Inputs.{Paint, Draw, Clip, Filter}
 use Rattle.rules.specs.Rows.{Row, fresh-row, row-ops}
 use Rattle.rules.specs.Plans.{Frame}
 use Rattle.rules.specs.Steps.{Screen, reset, call}
-use Rattle.rules.specs.Recording.{Recording, LayerRec, Node, file}
-use Rattle.rules.specs.Walk.{Arenas, Place, needed, play}
+use Rattle.rules.specs.Recording.{LayerRec, Node}
+use Rattle.rules.proofs.Words.{file}
+use Rattle.rules.specs.Walk.{Place, needed, play}
 use Rattle.rules.specs.Lines.{rowlist-words, refused}
 use Rattle.rules.proofs.Samples.{solid, opaque-paint, draw, no-clip, no-filter, full, blend, clip, layer, filter, node, rec}
 use Rattle.rules.proofs.WorkedExample.{worked-words}

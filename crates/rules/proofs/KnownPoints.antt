@@ -4,7 +4,8 @@ use mathlib.Core.Path.{_≡_, refl}
 use mathlib.Core.Bool.{Bool, true, false, _&&_, not}
 use mathlib.Core.List.{List, [], _∷_}
 use lib.Dec.{eqb}
-use Rattle.rules.specs.Lists.{every, same-list}
+use Rattle.rules.specs.Lists.{every}
+use Rattle.rules.proofs.Same.{same-list}
 use Rattle.rules.specs.Spans.{Span, span}
 use Rattle.rules.specs.Split.{Part, regular, buckets, split}
 use Rattle.rules.specs.Depth.{unset-runs, visible-runs}

@@ -1,26 +1,25 @@
 -- Each answer number, from calls at the rules' own rows, on both sides of its edge: one table with one computed test.
 use Prim.Native.Nat.{ℕ, _+_}
 use mathlib.Core.Path.{_≡_, refl}
-use mathlib.Core.Bool.{Bool, true, false}
+use mathlib.Core.Bool.{true, false}
 use mathlib.Core.List.{List, [], _∷_, _++_}
-use mathlib.Core.Option.{none, some}
+use mathlib.Core.Option.{none}
 use lib.ListN.{replicate}
 use lib.Dec.{eqb}
 use Rattle.rules.specs.Lists.{every}
 use Rattle.rules.specs.Answers.{Answer, answer, Done, BadArena, BadViewport, BadForm, BadRecord, BadOrder, Deep, NoLayer, Ids, FullAttrs, FullRow, FullDepth, BadRun, Open, NoRoom}
 use Rattle.rules.specs.Boxes.{Box, box}
-use Rattle.rules.specs.Spans.{Span, span}
+use Rattle.rules.specs.Spans.{span}
 use Rattle.rules.specs.Split.{split-answer}
 use Rattle.rules.specs.Blends.{default-blend}
 use Rattle.rules.specs.Segments.{Segment}
-use Rattle.rules.specs.Inputs.{Paint, Draw, Props, Clip, Filter}
+use Rattle.rules.specs.Inputs.{Props}
 use Rattle.rules.specs.Attributes.{PaintAttr, LayerAttr, FilterPaint, Attrs, no-attrs}
 use Rattle.rules.specs.Rows.{fresh-row}
-use Rattle.rules.specs.Plans.{Frame, Layer, State, Step, a-fill, a-push, a-pop, a-filter}
-use Rattle.rules.specs.Steps.{Screen}
-use Rattle.rules.specs.Recording.{file}
-use Rattle.rules.specs.Walk.{Arenas, needed}
-use Rattle.rules.specs.Calls.{Canvas, Given, fresh-canvas, reset-call, step-call, record-call, begin-call, paint-call, unset-call, visible-call, write-call, can-skip-call}
+use Rattle.rules.specs.Plans.{Frame, Layer, Step, a-fill, a-push, a-pop, a-filter}
+use Rattle.rules.proofs.Words.{file}
+use Rattle.rules.specs.Walk.{needed}
+use Rattle.rules.specs.Calls.{Canvas, fresh-canvas, reset-call, step-call, record-call, begin-call, paint-call, unset-call, visible-call, write-call, can-skip-call}
 use Rattle.rules.proofs.Samples.{solid, alpha, opaque-paint, draw, full, filter, node, rec, minus}
 use Rattle.rules.proofs.Computing.{computing}
 

@@ -13,7 +13,8 @@ use Rattle.rules.specs.Attributes.{PaintAttr, LayerAttr, FilterPaint, At
 use Rattle.rules.specs.Rows.{Row}
 use Rattle.rules.specs.Steps.{Screen}
 use Rattle.rules.specs.Painting.{Piece, paint-row}
-use Rattle.rules.specs.Recording.{LayerRec, Node, Recording, file}
+use Rattle.rules.specs.Recording.{LayerRec, Node, Recording}
+use Rattle.rules.proofs.Words.{file}
 use Rattle.rules.specs.Lines.{rowlist-screen}
 
 -- segments of a row, from a first tile to an end tile

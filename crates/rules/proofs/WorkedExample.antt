@@ -6,7 +6,8 @@ use mathlib.Core.List.{List, [], _∷_, _++_}
 use mathlib.Core.Option.{Option·getD, none, some}
 use Rattle.rules.specs.Lists.{join}
 use Rattle.rules.specs.Spans.{span}
-use Rattle.rules.specs.Recording.{Recording, shape, sections, recording, file}
+use Rattle.rules.specs.Recording.{Recording, shape, sections, recording}
+use Rattle.rules.proofs.Words.{file}
 use Rattle.rules.specs.Lines.{Line, header, row, D, P, L, B, E, rowlist-words, rowlist, line-bytes}
 use Rattle.rules.proofs.Picture.{same-picture}
 use Rattle.rules.proofs.Computing.{computing}

@@ -16,6 +16,5 @@ pub mod Painting
 pub mod Recording
 pub mod Walk
 pub mod Lines
-pub mod Details
 pub mod Plain
 pub mod Calls

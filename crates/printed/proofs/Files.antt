@@ -9,7 +9,7 @@ use lib.Dec.{ltb, leb, eqb}
 use lib.ListN.{length, getD, drop}
 use lib.Seq.{length-take-le, getD-drop}
 use borrow.Author.Tests.{le-ltb, lt-ltb, leb-true, leb-false, eq-eqb, eqb-true}
-use Rattle.rules.specs.Answers.{Answer, answer, Done, BadForm, BadRecord}
+use Rattle.rules.specs.Answers.{Answer, answer, settle, Done, BadForm, BadRecord}
 use Rattle.rules.specs.Boxes.{Box, box, good-viewport, rows-of, buckets-of}
 use Rattle.rules.specs.Rows.{Row, fresh-row, row-ops}
 use Rattle.rules.specs.Plans.{Frame}
@@ -105,7 +105,7 @@ module _ (p : Place) (old : Screen Row) (r : Recording) where
   unfolding play-records
   play-kept f h = go (eqb judge Done) refl
     where
-      walked : (u : Bool) → Kept f (cond u walk (answer (walk .number) start) .value)
+      walked : (u : Bool) → Kept f (cond u (answer Done (walk .value)) (answer (walk .number) start) .value)
       walked true = walk-keeps r .kept start h
       walked false = h
 
@@ -130,7 +130,7 @@ same-play : (a b c d : ℕ) (x y : Arenas) (old : Screen Row) (r : Recording)
 unfolding play-records
 same-play a b c d x y old r e =
     ap (λ (n : ℕ). elim (eqb n Done) [
-      | true ↦ or-reset Row row-ops 32 fresh-row (start (record { limit = a; c = c; d = d; arenas = x }) old r) (walk (record { limit = a; c = c; d = d; arenas = x }) old r)
+      | true ↦ settle (walk (record { limit = a; c = c; d = d; arenas = x }) old r .number) (start (record { limit = a; c = c; d = d; arenas = x }) old r) (walk (record { limit = a; c = c; d = d; arenas = x }) old r .value)
       | false ↦ answer n (cond (leb n BadForm) old (start (record { limit = a; c = c; d = d; arenas = x }) old r))
     ])
     e
@@ -249,7 +249,7 @@ module _ (ws : List ℕ) (t : Tables) (roomy : Roomy t) (fixed : good-fixed (len
           e
           ∙ sym (same-play 32 512 64 64 (needed 32 (record { viewport = box-at ws 1; c = 64; d = 64 })) (arenas (lengths cut)) old r (judge-at (box-at ws 1) place-view))
 
-      plays : Plays old given theirs (recorded ws 64 64 given)
+      plays : Plays Refines old given theirs (recorded ws 64 64 given)
       plays =
           rw (← at-words-play)
           (file-plays ws 64 64 given old (λ qs q. let k : qs ≡ ss = some-same (sym q ∙ e) in rw k tables-good))
@@ -257,7 +257,7 @@ module _ (ws : List ℕ) (t : Tables) (roomy : Roomy t) (fixed : good-fixed (len
       done-with : theirs .number ≡ 0 → Done-with theirs (recorded ws 64 64 given) v
       done-with z = go (plays .value)
         where
-          go : Outcome (theirs .number) old given (theirs .value) (recorded ws 64 64 given .value) → Done-with theirs (recorded ws 64 64 given) v
+          go : Outcome Refines (theirs .number) old given (theirs .value) (recorded ws 64 64 given .value) → Done-with theirs (recorded ws 64 64 given) v
           go (unaltered q x y) = never (sym (eq-eqb _ _ z) ∙ q)
           go (made x) = record { refines = x; kept = play-kept (rowlist-place ws) old r first start-kept z }
 

@@ -11,6 +11,7 @@ pub mod Cases
 pub mod Edges
 pub mod Judged
 pub mod Refusals
+pub mod Shapes
 -- What other crates cite.
 pub mod All
 pub mod laws

@@ -2,23 +2,25 @@
 use Prim.Native.Nat.{ℕ, _+_, _-_}
 use mathlib.Core.Path.{_≡_, refl}
 use mathlib.Core.Bool.{true}
-use mathlib.Core.List.{List, [], _∷_, _++_}
-use lib.ListN.{length, take}
+use mathlib.Core.List.{List, [], _∷_, _++_, map}
+use mathlib.Core.Option.{none, some}
+use lib.ListN.{length, take, replicate}
 use lib.Dec.{eqb}
-use Rattle.rules.specs.Lists.{every}
+use Rattle.rules.specs.Lists.{every, join, range}
 use Rattle.rules.specs.Answers.{Answer, answer, Done, BadArena, BadViewport, BadForm, BadRecord, BadOrder, Deep}
 use Rattle.rules.specs.Boxes.{Box, box}
+use Rattle.rules.specs.Spans.{span}
 use Rattle.rules.specs.Blends.{Blend, default-blend}
 use Rattle.rules.specs.Segments.{Segment}
 use Rattle.rules.specs.Inputs.{Paint, Draw, Clip, Filter}
 use Rattle.rules.specs.Rows.{Row, fresh-row, row-ops}
 use Rattle.rules.specs.Plans.{Frame}
 use Rattle.rules.specs.Steps.{Screen, reset, call}
-use Rattle.rules.specs.Recording.{LayerRec, Node}
+use Rattle.rules.specs.Recording.{Recording, LayerRec, Node}
 use Rattle.rules.proofs.Words.{file}
 use Rattle.rules.specs.Walk.{Place, needed, play}
-use Rattle.rules.specs.Lines.{rowlist-words, refused}
-use Rattle.rules.proofs.Samples.{solid, opaque-paint, draw, no-clip, no-filter, full, blend, clip, layer, filter, node, rec}
+use Rattle.rules.specs.Lines.{rowlist-words, header, row, P, L, B, E, refused}
+use Rattle.rules.proofs.Samples.{solid, opaque-paint, draw, no-clip, no-filter, full, blend, clip, layer, filtered, filter, node, rec}
 use Rattle.rules.proofs.WorkedExample.{worked-words}
 use Rattle.rules.proofs.Computing.{computing}
 
@@ -208,3 +210,24 @@ rows-32 = refl
 pub rows-33 : rowlist-words (file (rec (box 0 0 4 132) [] [] [] [] 1 0)) ≡ refused 2 ∷ []
 unfolding computing
 rows-33 = refl
+
+-- 16 layers, one in the other, and a filter layer in the last.
+abbrev deep : LayerRec → Recording
+deep l =
+    rec (box 0 0 64 4) [] []
+    (map (λ (i : ℕ). layer (i + 1) (i + 2)) (range 0 16) ++ (l ∷ []))
+    (map (λ (i : ℕ). node 0 0 (i + 1)) (range 0 17))
+    0
+    1
+
+-- One that needs no buffer is done with 16 open, and its fill touches the row for each; one that needs a buffer is the 17th: 6.
+pub filter-16-deep : rowlist-words (file (deep (filtered full 0 (filter 5 (box 0 0 32 4) 0 0)))) ≡
+    header 1 1 17
+    ∷ row 0 0 49
+    ∷ (replicate 15 (B (some (span 0 16))) ++ (B (some (span 0 16)) ∷ P 0 8 none 0 ∷ join (λ (i : ℕ). L 0 16 none i ∷ E ∷ []) (range 0 16)))
+unfolding computing
+filter-16-deep = refl
+
+pub buffer-17-deep : rowlist-words (file (deep (filtered full 2 (filter 5 (box 0 0 32 4) 0 0)))) ≡ refused 6 ∷ []
+unfolding computing
+buffer-17-deep = refl

@@ -1,4 +1,4 @@
--- Short names for the records of a recording, for the cases.
+-- For the tests: short names for the records of a recording, for attributes and pieces.
 use Prim.Native.Nat.{ℕ}
 use mathlib.Core.Bool.{true, false}
 use mathlib.Core.List.{List, [], _∷_, map}

@@ -1,4 +1,4 @@
--- Document 01's worked example, by computation: from the file to the lines, and to their bytes.
+-- Tests: document 01's worked example, by computation: from the file to the lines, and to their bytes.
 use Prim.Native.Nat.{ℕ}
 use mathlib.Core.Path.{_≡_, refl}
 use mathlib.Core.Bool.{true}

@@ -401,6 +401,45 @@ pub clipped-filter-lines :
 unfolding computing
 clipped-filter-lines = refl
 
+-- An empty draw takes an id and no attribute; two layers one after the other, with a draw between, have attributes of their own. Both hold the
+-- same node.
+abbrev pub in-turn : Recording
+in-turn =
+    rec (box 0 0 256 4)
+    (solid 0 0 8 ∷ solid 0 10 20 ∷ [])
+    (draw 0 0 ∷ draw 0 1 ∷ draw 1 2 ∷ [])
+    (layer 2 3 ∷ layer 2 3 ∷ [])
+    (node 0 2 1 ∷ node 1 2 2 ∷ node 2 3 0 ∷ [])
+    0
+    2
+
+pub in-turn-lines :
+    rowlist-words (file in-turn) ≡
+    header 1 2 7
+    ∷ row 0 0 10
+    ∷ P 0 8 none 0
+    ∷ B (some (span 0 64))
+    ∷ P 10 20 none 1
+    ∷ L 0 64 none 0
+    ∷ E
+    ∷ P 0 8 none 2
+    ∷ B (some (span 0 64))
+    ∷ P 10 20 none 3
+    ∷ L 0 64 none 1
+    ∷ E
+    ∷ []
+unfolding computing
+in-turn-lines = refl
+
+pub in-turn-attributes :
+    attributes in-turn ≡
+    attrs
+    (paint-attr 0 0 3 0 2 0 0 0 ∷ paint-attr 0 0 3 0 3 0 0 0 ∷ paint-attr 0 0 3 0 5 0 0 0 ∷ paint-attr 0 0 3 0 6 0 0 0 ∷ [])
+    (layer-attr 0 3 full 0 4 0 ∷ layer-attr 0 3 full 0 7 0 ∷ [])
+    []
+unfolding computing
+in-turn-attributes = refl
+
 -- Painting gives each tile of each accepted case what plain draw order gives it: one test.
 pub same-pictures :
     every (same-picture 32)
@@ -420,6 +459,7 @@ pub same-pictures :
     ∷ placed
     ∷ empty-push
     ∷ clipped-filter
+    ∷ in-turn
     ∷ []) ≡ true
 unfolding computing
 same-pictures = refl

@@ -158,6 +158,7 @@ answers =
     ∷ steps (fills (solid 9 0 1 ∷ []) 1) (with-state 1 (attrs 1023 0 0) []) is Done
     ∷ steps (fills (solid 9 0 1 ∷ []) 1) (with-state 1 (attrs 1024 0 0) []) is FullAttrs
     ∷ steps (fills [] 0) (with-state 1 (attrs 1024 0 0) []) is Done
+    ∷ steps (a-pop []) (with-state 1 (attrs 0 1023 0) (open-layer ∷ [])) is Done
     ∷ steps (a-pop []) (with-state 1 (attrs 0 1024 0) (open-layer ∷ [])) is FullAttrs
     ∷ steps (a-filter 0 (filter 1 (box 0 0 4 4) 0 0)) (with-state 1 (attrs 0 0 256) []) is FullAttrs
     ∷ steps (a-filter 0 (filter 1 (box 0 0 4 4) 0 0)) (with-state 1 (attrs 0 0 255) []) is Done

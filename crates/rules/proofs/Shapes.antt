@@ -1,4 +1,4 @@
--- Tests: boxes, spans, segments and runs by their numbers, each axis and each end apart from the others.
+-- Tests: boxes, spans, segments, runs, words and text by their numbers, each axis and each end apart from the others.
 use mathlib.Core.Path.{_≡_, refl}
 use mathlib.Core.List.{[], _∷_, map}
 use mathlib.Core.Option.{none, some}
@@ -8,6 +8,8 @@ use Rattle.rules.specs.Split.{regular, buckets, split}
 use Rattle.rules.specs.Segments.{cuts}
 use Rattle.rules.specs.Depth.{unset-runs, visible-runs, write-runs, written, write-after}
 use Rattle.rules.specs.Commands.{paint-fill, layer-fill, push-buf, pop-buf, command-words, depth-words}
+use Rattle.rules.specs.Lines.{P, B, refused, words-of, line-bytes}
+use Rattle.rules.specs.Lists.{join}
 use Rattle.rules.proofs.Samples.{solid, alpha}
 use Rattle.rules.proofs.Computing.{computing}
 
@@ -126,3 +128,18 @@ words = refl
 pub fill-words : depth-words (record { buckets = span 1 2; attribute = 9 }) ≡ 65538 ∷ 9 ∷ []
 unfolding computing
 fill-words = refl
+
+-- A file's bytes: four make a word, the first the least; what is left over makes none.
+pub little-endian : words-of (1 ∷ 2 ∷ 3 ∷ 4 ∷ 255 ∷ 0 ∷ 0 ∷ 0 ∷ []) ≡ some (67305985 ∷ 255 ∷ [])
+little-endian = refl
+
+pub bytes-left : words-of (1 ∷ []) ∷ words-of (1 ∷ 2 ∷ []) ∷ words-of (1 ∷ 2 ∷ 3 ∷ []) ∷ words-of (1 ∷ 2 ∷ 3 ∷ 4 ∷ 5 ∷ []) ∷ [] ≡ none ∷ none ∷ none ∷ none ∷ []
+bytes-left = refl
+
+-- "refused 14", "B - -" and "P 0 1 4294967279 1023", each with its line feed
+pub lines-text :
+    join line-bytes (refused 14 ∷ B none ∷ P 0 1 (some 4294967279) 1023 ∷ []) ≡
+    114 ∷ 101 ∷ 102 ∷ 117 ∷ 115 ∷ 101 ∷ 100 ∷ 32 ∷ 49 ∷ 52 ∷ 10 ∷ 66 ∷ 32 ∷ 45 ∷ 32 ∷ 45 ∷ 10
+    ∷ 80 ∷ 32 ∷ 48 ∷ 32 ∷ 49 ∷ 32 ∷ 52 ∷ 50 ∷ 57 ∷ 52 ∷ 57 ∷ 54 ∷ 55 ∷ 50 ∷ 55 ∷ 57 ∷ 32 ∷ 49 ∷ 48 ∷ 50 ∷ 51 ∷ 10 ∷ []
+unfolding computing
+lines-text = refl

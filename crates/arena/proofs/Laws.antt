@@ -9,7 +9,7 @@ use lib.Seq.{length-take-le, drop-drop, take-add, take-at, drop-at}
 use borrow.Rule.Slice.PartMut.{putMid, same-len-mid}
 use Rattle.rules.specs.Lists.{change}
 use Rattle.rules.proofs.All.{All, nil, cons}
-use Rattle.rules.proofs.Changes.{change-set}
+use Rattle.rules.proofs.laws.Changes.{change-set}
 use Rattle.row.specs.Words.{Words, words, Grown}
 use Rattle.arena.specs.Arena.{nowhere, Sizes, Sized, head-of, tail-of, cut, lay, row-at, with-row, Long}
 

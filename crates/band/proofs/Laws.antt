@@ -14,7 +14,7 @@ use Rattle.rules.specs.Boxes.{rows-of}
 use Rattle.rules.specs.Spans.{Span}
 use Rattle.rules.specs.Plans.{Act, paint, touch, on}
 use Rattle.rules.specs.Steps.{do-act, do-puts}
-use Rattle.rules.proofs.Changes.{change-length, change-same, change-else}
+use Rattle.rules.proofs.laws.Changes.{change-length, change-same, change-else}
 use Rattle.row.specs.Words.{Words, words, word-ops, Room}
 use Rattle.arena.specs.Arena.{nowhere, sizes, cut, lay, Long}
 use Rattle.arena.proofs.Laws.{lay-cut, lent, back}

@@ -7,7 +7,7 @@ use lib.Dec.{leb, ltb, eqb}
 use Rattle.rules.specs.Lists.{every}
 use Rattle.rules.specs.Answers.{Done, BadRecord}
 use Rattle.rules.specs.Boxes.{rows-of}
-use Rattle.rules.specs.Commands.{good-span-word}
+use Rattle.cmd.specs.Reading.{good-span-word}
 use Rattle.rules.specs.Plans.{Frame, State, Put, Plan}
 use Rattle.rules.specs.Steps.{Screen, done, refusal}
 use Rattle.row.specs.Words.{Words, word-ops}

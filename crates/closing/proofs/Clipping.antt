@@ -14,7 +14,7 @@ use Rattle.rules.specs.Commands.{layer-fill}
 use Rattle.rules.specs.Plans.{Frame, Act, close, Put, on, close-puts}
 use Rattle.rules.specs.Steps.{do-act, do-puts}
 use Rattle.rules.proofs.All.{All, nil, cons, head, never}
-use Rattle.rules.proofs.Changes.{change-same, puts-append}
+use Rattle.rules.proofs.laws.Changes.{change-same, puts-append}
 use Rattle.row.specs.Words.{Words, words, word, word-ops, put-command, Room}
 use Rattle.row.specs.Cmds.{Short}
 use Rattle.arena.specs.Arena.{nowhere}

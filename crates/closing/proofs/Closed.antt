@@ -15,7 +15,7 @@ use Rattle.rules.specs.Segments.{Cut}
 use Rattle.rules.specs.Plans.{Act, close, pop, Put, on, close-puts}
 use Rattle.rules.specs.Steps.{do-act, do-puts, row-passes, passes}
 use Rattle.rules.proofs.All.{All, nil, cons, all-map, never}
-use Rattle.rules.proofs.Changes.{change-length, change-same, change-else, puts-append}
+use Rattle.rules.proofs.laws.Changes.{change-length, change-same, change-else, puts-append}
 use Rattle.row.specs.Words.{Words, word, put-command, ended, end-buf, word-ops, Ends}
 use Rattle.row.proofs.Laws.{cmd-renders, cmd-depths, cmd-levels, cmd-ends, cmd-grown, ended-renders, ended-depths, ended-level, end-grown}
 use Rattle.arena.specs.Arena.{nowhere}

@@ -10,7 +10,7 @@ use Rattle.rules.specs.Lists.{keep, change, count-from, range}
 use Rattle.rules.specs.Plans.{Act, Put, on}
 use Rattle.rules.specs.Steps.{do-act, do-puts}
 use Rattle.rules.proofs.All.{All, nil, cons, head, tail, all-map}
-use Rattle.rules.proofs.Changes.{change-else}
+use Rattle.rules.proofs.laws.Changes.{change-else}
 use Rattle.row.specs.Words.{Words, word, word-ops}
 use Rattle.arena.specs.Arena.{nowhere}
 use Rattle.act.specs.Acts.{acted}

@@ -14,7 +14,7 @@ use Rattle.rules.specs.Boxes.{rows-of}
 use Rattle.rules.specs.Plans.{Frame, Put}
 use Rattle.rules.specs.Steps.{do-puts}
 use Rattle.rules.proofs.All.{All, nil, cons, all-map, all-first, all-rest}
-use Rattle.rules.proofs.Changes.{change-at, puts-append}
+use Rattle.rules.proofs.laws.Changes.{change-at, puts-append}
 use Rattle.row.specs.Words.{Words, words, word, word-ops, Room}
 use Rattle.row.proofs.Laws.{grown-refl, room-first}
 use Rattle.act.specs.Acts.{acted}

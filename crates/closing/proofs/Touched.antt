@@ -10,7 +10,7 @@ use lib.ListN.{length, getD}
 use borrow.Author.Tests.{eq-eqb, ne-eqb, eqb-true, eqb-false, leb-true, leb-false}
 use Rattle.rules.specs.Lists.{some-of, keep, change, count-from, range}
 use Rattle.rules.proofs.All.{All, nil, cons}
-use Rattle.rules.proofs.Changes.{change-else}
+use Rattle.rules.proofs.laws.Changes.{change-else}
 use Rattle.row.specs.Words.{Words, word}
 use Rattle.arena.specs.Arena.{nowhere}
 use Rattle.closing.specs.Closing.{row-of, touched-in}

@@ -9,7 +9,8 @@ use lib.Dec.{leb, eqb}
 use lib.ListN.{getD}
 use borrow.Author.Tests.{leb-true, ltb-true, eqb-true, le-leb, lt-ltb}
 use Rattle.rules.specs.Spans.{Span}
-use Rattle.rules.specs.Commands.{Command, paint-fill, layer-fill, push-buf, pop-buf, DepthFill, span-word, word-span, good-span-word, good-alpha, only-if, by-tag, command-words, command-of, depth-words, depth-fill-of}
+use Rattle.rules.specs.Commands.{Command, paint-fill, layer-fill, push-buf, pop-buf, DepthFill, span-word, command-words, depth-words}
+use Rattle.cmd.specs.Reading.{word-span, good-span-word, good-alpha, only-if, by-tag, command-of, depth-fill-of}
 use Rattle.cmd.specs.Good.{GoodSpan, GoodCommand, GoodDepthFill}
 use Rattle.cmd.proofs.Tests.{and-left, and-right, both}
 use Rattle.cmd.proofs.Commands.{tag-1, tag-2, tag-3, tag-4, tag-5, tag-6, tag-7}

@@ -6,7 +6,8 @@ use Prim.Native.Nat.{ℕ, _≤_, _-_, _*_, _/_, _%_}
 use native.Mathlib.Omega.{arith}
 use lib.Dec.{leb, eqb}
 use borrow.Author.Tests.{leb-true, ne-eqb}
-use Rattle.rules.specs.Commands.{paint-fill, layer-fill, push-buf, pop-buf, word-span, good-span-word, good-alpha, only-if, command-of}
+use Rattle.rules.specs.Commands.{paint-fill, layer-fill, push-buf, pop-buf}
+use Rattle.cmd.specs.Reading.{word-span, good-span-word, good-alpha, only-if, command-of}
 use Rattle.cmd.proofs.Tests.{and-left, and-right, sum-test}
 
 -- a good word's numbers are in order, and end at the limit at the latest

@@ -3,7 +3,8 @@ use mathlib.Core.List.{List, [], _∷_}
 use mathlib.Core.Option.{Option, none, some}
 use Prim.Native.Nat.{ℕ, _/_, _%_, _<_}
 use Rattle.rules.specs.Spans.{Span, span}
-use Rattle.rules.specs.Commands.{Command, paint-fill, layer-fill, push-buf, pop-buf, command-of}
+use Rattle.rules.specs.Commands.{Command, paint-fill, layer-fill, push-buf, pop-buf}
+use Rattle.cmd.specs.Reading.{command-of}
 use Rattle.span.specs.declared.Alpha.{Alpha}
 use Rattle.span.specs.Spans.{tiles, alpha}
 use Rattle.cmd.specs.declared.command.Recorded.{Recorded}

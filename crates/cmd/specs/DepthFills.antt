@@ -3,7 +3,7 @@ use mathlib.Core.List.{List, [], _∷_}
 use mathlib.Core.Option.{Option, none, some}
 use Prim.Native.Nat.{ℕ}
 use Rattle.rules.specs.Commands as rule
-use Rattle.rules.specs.Commands.{depth-fill-of}
+use Rattle.cmd.specs.Reading.{depth-fill-of}
 use Rattle.span.specs.Spans.{buckets}
 use Rattle.cmd.specs.declared.«depth_fill».DepthFill.{DepthFill}
 use Rattle.cmd.specs.declared.«depth_fill».DepthWords.{DepthWords}

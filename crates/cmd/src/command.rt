@@ -6,7 +6,8 @@ ghost use mathlib.Core.Bool.{_&&_};
 ghost use Prim.Native.Nat.{_<_, _≤_};
 ghost use lib.Dec.{eqb};
 ghost use Rattle.rules.specs.Spans.{span};
-ghost use Rattle.rules.specs.Commands.{span-word, fill-words, push-words, command-words, word-span, good-span-word, good-alpha};
+ghost use Rattle.rules.specs.Commands.{span-word, fill-words, push-words, command-words};
+ghost use Rattle.cmd.specs.Reading.{word-span, good-span-word, good-alpha};
 ghost use Rattle.span.specs.Spans.{tiles, alpha};
 ghost use Rattle.cmd.specs.Commands.{recorded-of, command, words-of, read-of, read-words, fill-of, Narrow, NarrowPush, NarrowCmd};
 

@@ -12,7 +12,7 @@ use Rattle.rules.specs.Commands.{Command, paint-fill, layer-fill, DepthFill}
 use Rattle.rules.specs.Plans.{Act, paint, opaque, touch, close, pop, Put, Plan, Step}
 use Rattle.rules.specs.Steps.{Screen, do-puts, perform, call}
 use Rattle.rules.proofs.All.{All, all-any}
-use Rattle.rules.proofs.Maps.{PartOk, of-tiles, of-buckets, ActOk, paints, splits, touches, closes, pops, PutOk, Follows, screen-by, follows-puts, follows-perform, follows-call}
+use Rattle.rules.proofs.laws.Maps.{PartOk, of-tiles, of-buckets, ActOk, paints, splits, touches, closes, pops, PutOk, Follows, screen-by, follows-puts, follows-perform, follows-call}
 use Rattle.row.specs.Words.{Words, word, put-command, ended, end-buf, put-depth, word-ops}
 use Rattle.row.proofs.Laws.{cmd-renders, cmd-depths, cmd-levels, cmd-grown, buf-renders, buf-depths, buf-levels, buf-grown, fill-renders, fill-depths, fill-levels, fill-grown, end-grown, end-levels, ended-renders, ended-depths, ended-level}
 use Rattle.counts.specs.Counts.{Counts, counts, count, count-ops}

@@ -16,7 +16,7 @@ use lib.IntN.{ℤ, natAbs}
 use lib.Signed.{mag}
 use mir.Syntax.{w32}
 use mir.Val.{hbits, toZ, ofZ}
-use Rattle.rules.specs.Details.{paint-attributes, layer-attributes, filter-paints, paint-attr-line, layer-attr-line}
+use Rattle.details.specs.Details.{paint-attributes, layer-attributes, filter-paints, paint-attr-line, layer-attr-line}
 use Rattle.list.specs.Places.{joined}
 use Rattle.list.proofs.Joins.{first-then}
 use Rattle.details.specs.Bytes.{paint-text, layer-text, filter-text, detail-bytes, details-text}

@@ -3,7 +3,7 @@ use Prim.Native.Nat.{ℕ}
 use mathlib.Core.List.{List, [], _∷_, _++_}
 use Rattle.rules.specs.Lists.{join}
 use Rattle.rules.specs.Lines.{number, alpha-bytes}
-use Rattle.rules.specs.Details.{Detail, paint-attributes, A, layer-attributes, Y, filter-paints, F, painted, p, l}
+use Rattle.details.specs.Details.{Detail, paint-attributes, A, layer-attributes, Y, filter-paints, F, painted, p, l}
 use Rattle.text.specs.Texts.{signed}
 
 -- the words "paint attributes", "layer attributes", "filter paints", "painted", " pieces"

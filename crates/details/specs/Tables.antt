@@ -6,7 +6,7 @@ use lib.ListN.{getD}
 use lib.IntN.{ℤ, pos, natAbs}
 use lib.Ieee.{Float, ne, toBits, binary32, nan}
 use Rattle.rules.specs.Attributes.{PaintAttr, LayerAttr}
-use Rattle.rules.specs.Details.{Detail, paint-attributes, layer-attributes, filter-paints, F, paint-attr-line, layer-attr-line}
+use Rattle.details.specs.Details.{Detail, paint-attributes, layer-attributes, filter-paints, F, paint-attr-line, layer-attr-line}
 use Rattle.list.specs.Places.{joined}
 
 -- word i, 0 past the end

@@ -10,7 +10,7 @@ ghost use mathlib.Core.List.{[], _∷_, _++_};
 ghost use Prim.Native.Nat.{_+_, _*_, _≤_};
 ghost use lib.ListN.{length};
 ghost use Rattle.rules.specs.Lines.{number};
-ghost use Rattle.rules.specs.Details.{paint-attr-line, layer-attr-line};
+ghost use Rattle.details.specs.Details.{paint-attr-line, layer-attr-line};
 ghost use Rattle.text.specs.Texts.{text, Wrote};
 ghost use Rattle.details.specs.Bytes.{detail-bytes, details-text};
 ghost use Rattle.details.specs.Tables.{paint-attr-at, opacity-bits, layer-attr-at, filter-at, paint-lines, layer-lines, filter-lines};

@@ -7,7 +7,7 @@ use Prim.Native.Nat.{ℕ, _+_, _*_}
 use native.Mathlib.Omega.{arith}
 use lib.Dec.{leb}
 use Rattle.rules.specs.Lines.{alpha-bytes}
-use Rattle.rules.specs.Details.{painted}
+use Rattle.details.specs.Details.{painted}
 use Rattle.text.specs.Texts.{Text, Wrote}
 use Rattle.text.proofs.Laws.{then, within}
 use Rattle.list.specs.Places.{joined}

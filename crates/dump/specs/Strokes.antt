@@ -6,7 +6,7 @@ use mathlib.Core.Option.{Option, none, some}
 use lib.ListN.{getD, take, drop}
 use lib.Dec.{leb, eqb}
 use Rattle.rules.specs.Answers.{Done}
-use Rattle.rules.specs.Details.{Detail, painted, p, l}
+use Rattle.details.specs.Details.{Detail, painted, p, l}
 use Rattle.screen.specs.declared.Screen.{Screen}
 use Rattle.paint.specs.Painting.{Out, lent}
 use Rattle.painter.specs.Stepping.{Attributes, stepped}

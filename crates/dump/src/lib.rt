@@ -14,7 +14,7 @@ ghost use mathlib.Core.Path.{_≡_};
 ghost use Prim.Native.Nat.{_+_, _*_, _≤_};
 ghost use lib.ListN.{length};
 ghost use Rattle.rules.specs.Lines.{alpha-bytes};
-ghost use Rattle.rules.specs.Details.{painted};
+ghost use Rattle.details.specs.Details.{painted};
 ghost use Rattle.span.specs.Spans.{alpha};
 ghost use Rattle.text.specs.Texts.{text, Wrote};
 ghost use Rattle.details.specs.Bytes.{detail-bytes, details-text, piece-bytes};

@@ -20,8 +20,8 @@ use Rattle.rules.specs.Boxes.{rows-of, good-viewport}
 use Rattle.rules.specs.Plans.{Put, Step, Frame}
 use Rattle.rules.specs.Steps.{Screen, reset, do-puts, touched, call}
 use Rattle.rules.proofs.All.{All, nil, cons, head, tail, all-keep, all-replicate}
-use Rattle.rules.proofs.Bounds.{BoundedSpan, Framed, plan-ok, call-framed, reset-framed}
-use Rattle.rules.proofs.Maps.{Follows, PartOk, of-tiles, of-buckets, PutOk, screen-by, answer-by, follows-puts, follows-call}
+use Rattle.rules.proofs.laws.Bounds.{BoundedSpan, Framed, plan-ok, call-framed, reset-framed}
+use Rattle.rules.proofs.laws.Maps.{Follows, PartOk, of-tiles, of-buckets, PutOk, screen-by, answer-by, follows-puts, follows-call}
 use Rattle.row.specs.Words.{Words, words, word-ops}
 use Rattle.encode.specs.Encode.{padded, stack, end-of, placed, encode, Fine}
 use Rattle.encode.proofs.Laws.{puts, pushes, pops, fills}

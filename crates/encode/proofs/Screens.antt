@@ -11,7 +11,7 @@ use Rattle.rules.specs.Steps.{reset}
 use Rattle.rules.specs.Commands.{command-words, depth-words}
 use Rattle.rules.specs.Lists.{join}
 use Rattle.rules.proofs.All.{All, all-mapped}
-use Rattle.rules.proofs.Maps.{screen-by}
+use Rattle.rules.proofs.laws.Maps.{screen-by}
 use Rattle.row.specs.Words.{Words, words, Ends}
 use Rattle.arena.specs.Arena.{sizes, Sized, Long, cut, lay}
 use Rattle.arena.proofs.Laws.{cut-lay, lay-long}

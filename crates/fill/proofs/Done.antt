@@ -13,7 +13,8 @@ use Rattle.rules.specs.Answers.{answer, Done, BadRecord, first-of}
 use Rattle.rules.specs.Boxes.{good-viewport, rows-of}
 use Rattle.rules.specs.Segments.{Segment, good-segment, ordered, judge-segments}
 use Rattle.rules.specs.Inputs.{good-draw, draw-segments}
-use Rattle.rules.specs.Attributes.{attrs-full, paint-attr-words}
+use Rattle.rules.specs.Attributes.{attrs-full}
+use Rattle.screen.specs.Attributes.{paint-attr-words}
 use Rattle.rules.specs.Plans.{Plan, draw-puts, plan-fill}
 use Rattle.rules.proofs.All.{never}
 use Rattle.rules.specs.Steps as steps

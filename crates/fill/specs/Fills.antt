@@ -10,7 +10,7 @@ use Rattle.rules.specs.Answers.{Answer, settle, Done, BadRecord}
 use Rattle.rules.specs.Boxes.{Box, good-viewport}
 use Rattle.rules.specs.Inputs.{Paint, draw-paint}
 use Rattle.rules.specs.Inputs as rule
-use Rattle.rules.specs.Attributes.{paint-attr-words}
+use Rattle.screen.specs.Attributes.{paint-attr-words}
 use Rattle.rules.specs.Plans.{Plan, eligible, plan-fill}
 use Rattle.rules.specs.Steps.{done}
 use Rattle.cmd.specs.Blends.{blend-of}

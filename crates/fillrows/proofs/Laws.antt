@@ -10,7 +10,7 @@ use Rattle.rules.specs.Lists.{join, change}
 use Rattle.rules.specs.Segments.{Segment, Cut, good-segment, cut-in}
 use Rattle.rules.specs.Plans.{Put, on, draw-act, draw-puts}
 use Rattle.rules.specs.Steps.{do-puts}
-use Rattle.rules.proofs.Changes.{change-same, change-at, puts-append}
+use Rattle.rules.proofs.laws.Changes.{change-same, change-at, puts-append}
 use Rattle.rules.specs.Spans.{Span}
 use Rattle.rules.specs.Commands.{paint-fill}
 use Rattle.rules.proofs.All.{never}

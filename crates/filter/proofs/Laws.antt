@@ -15,12 +15,13 @@ use Rattle.rules.specs.Lists.{range, join}
 use Rattle.rules.specs.Answers.{answer}
 use Rattle.rules.specs.Boxes.{Box, width, height, rows-of, empty-box, span-of, good-dest, good-viewport}
 use Rattle.rules.specs.Spans.{Span}
-use Rattle.rules.specs.Attributes.{attrs-full, paint-attr-words}
+use Rattle.rules.specs.Attributes.{attrs-full}
+use Rattle.screen.specs.Attributes.{paint-attr-words}
 use Rattle.rules.specs.Plans as plans
 use Rattle.rules.specs.Plans.{Act, paint, on, Plan, still, plan-filter, plan-filter-in, filter-puts, draws-nothing}
 use Rattle.rules.specs.Steps.{do-puts, done, refusal}
 use Rattle.rules.proofs.All.{both, neither}
-use Rattle.rules.proofs.Bounds.{dest-facts}
+use Rattle.rules.proofs.laws.Bounds.{dest-facts}
 use Rattle.cmd.specs.Attrs.{words-at, put-paint, put-filter}
 use Rattle.row.specs.Words.{Words, words, word-ops}
 use Rattle.row.specs.Cmds.{Short}

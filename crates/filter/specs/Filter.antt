@@ -10,7 +10,8 @@ use Rattle.rules.specs.Lists.{join}
 use Rattle.rules.specs.Answers.{Answer, Done, BadRecord, settle}
 use Rattle.rules.specs.Boxes.{Box}
 use Rattle.rules.specs.Inputs.{Filter, good-filter}
-use Rattle.rules.specs.Attributes.{FilterPaint, paint-attr-words}
+use Rattle.rules.specs.Attributes.{FilterPaint}
+use Rattle.screen.specs.Attributes.{paint-attr-words}
 use Rattle.rules.specs.Plans.{Plan, plan-filter, filter-box, draws-nothing}
 use Rattle.rules.specs.Steps.{done}
 use Rattle.cmd.specs.Attrs.{words-at}

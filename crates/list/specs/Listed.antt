@@ -9,7 +9,8 @@ use lib.Dec.{leb, ltb, eqb}
 use Rattle.rules.specs.Lists.{join}
 use Rattle.rules.specs.Answers.{Done, BadRecord, NoRoom, first-of}
 use Rattle.rules.specs.Boxes.{rows-of, buckets-of}
-use Rattle.rules.specs.Commands.{Command, DepthFill, command-of, depth-fill-of}
+use Rattle.rules.specs.Commands.{Command, DepthFill}
+use Rattle.cmd.specs.Reading.{command-of, depth-fill-of}
 use Rattle.rules.specs.Lines.{Line, header, row, refused, depth-line, command-line, line-bytes}
 use Rattle.rect.specs.Rects.{box-of}
 use Rattle.row.specs.Words.{Words, word}

@@ -10,7 +10,8 @@ use Rattle.rules.specs.Blends.{default-blend}
 use Rattle.rules.specs.Spans.{span}
 use Rattle.rules.specs.Rows.{Row}
 use Rattle.rules.specs.Attributes.{Attrs}
-use Rattle.rules.specs.Commands.{paint-fill, pop-buf, command-of, depth-fill-of}
+use Rattle.rules.specs.Commands.{paint-fill, pop-buf}
+use Rattle.cmd.specs.Reading.{command-of, depth-fill-of}
 use Rattle.rules.specs.Depth.{no-depth, can-skip, bucket-runs, runs-in, runs, visible-runs, write-runs, written}
 use Rattle.rules.specs.Painting.{no-fill, paint-depth, paint-command}
 use Rattle.paint.specs.declared.Painted.{Painted}

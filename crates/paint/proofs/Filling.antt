@@ -15,7 +15,7 @@ use Rattle.rules.specs.Spans.{Span, bad-range}
 use Rattle.rules.specs.Depth as rule
 use Rattle.rules.specs.Depth.{Summary, write-runs, write-answer, write-after, written}
 use Rattle.rules.specs.Painting as rules
-use Rattle.rules.specs.Painting.{Piece, fill-piece, depth-piece, painted}
+use Rattle.rules.specs.Painting.{Piece, fill-piece, depth-piece, gives}
 use Rattle.span.specs.declared.TileSpan.{TileSpan}
 use Rattle.span.specs.declared.BucketRange.{BucketRange}
 use Rattle.span.specs.declared.Alpha.{Alpha}
@@ -126,7 +126,7 @@ module _ (D P l ys D′ : List ℕ) (id i : ℕ) (b : BucketRange) (h : b .first
 
   -- the depth fill's step
   abbrev pub marked : rules.Painted
-  marked = painted (map (depth-piece 32 no-attrs i) (write-runs D (buckets b))) (written D id (buckets b)) (word P 0 + 1) (word P 1)
+  marked = gives (map (depth-piece 32 no-attrs i) (write-runs D (buckets b))) (written D id (buckets b)) (word P 0 + 1) (word P 1)
 
   pub depth-refused : (x : Answer) (n : ℕ) (p : Painted) → r ≡ answer.Refused x → n ≡ number-of x → p ≡ refused n
       → out p D′ P (back l ys) ≡ settled (some marked) D P l

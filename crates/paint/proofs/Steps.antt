@@ -11,10 +11,10 @@ use borrow.Author.Tests.{lt-ltb, le-ltb, ltb-true}
 use Rattle.rules.specs.Attributes.{Attrs, no-attrs}
 use Rattle.rules.specs.Spans.{Span}
 use Rattle.rules.specs.Commands as rule
-use Rattle.rules.specs.Commands.{depth-fill-of}
+use Rattle.cmd.specs.Reading.{depth-fill-of}
 use Rattle.rules.specs.Depth.{Summary, write-runs, written}
 use Rattle.rules.specs.Painting as rules
-use Rattle.rules.specs.Painting.{painted, depth-piece, paint-depth, paint-command}
+use Rattle.rules.specs.Painting.{gives, depth-piece, paint-depth, paint-command}
 use Rattle.span.specs.declared.Alpha.{Alpha}
 use Rattle.span.specs.declared.Alpha.the-variants.{Solid, At}
 use Rattle.span.specs.Spans.{tiles, buckets, alpha, Moves}
@@ -82,7 +82,7 @@ module _ (ps : List ℕ) (paints : ℕ) (ls : List ℕ) (layers : ℕ) (D P l : 
           → x
           ≡ settled
           (some
-          (painted (map (depth-piece 32 no-attrs (f .«attrs_idx»)) (write-runs D (buckets (f .buckets)))) (written D id (buckets (f .buckets))) (word P 0 + 1) (word P 1)))
+          (gives (map (depth-piece 32 no-attrs (f .«attrs_idx»)) (write-runs D (buckets (f .buckets)))) (written D id (buckets (f .buckets))) (word P 0 + 1) (word P 1)))
           D P l
           → x ≡ settled (depth-step attrs (painter-at D P) o) D P l
       unfolding depth-step paint-depth

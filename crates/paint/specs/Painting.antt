@@ -10,10 +10,11 @@ use Rattle.rules.specs.Blends.{default-blend}
 use Rattle.rules.specs.Answers.{Done, BadRecord, NoRoom}
 use Rattle.rules.specs.Spans.{Span}
 use Rattle.rules.specs.Depth.{Summary}
-use Rattle.rules.specs.Commands.{Command, paint-fill, layer-fill, push-buf, pop-buf, DepthFill, command-of, depth-fill-of, only-if}
+use Rattle.rules.specs.Commands.{Command, paint-fill, layer-fill, push-buf, pop-buf, DepthFill}
+use Rattle.cmd.specs.Reading.{command-of, depth-fill-of, only-if}
 use Rattle.rules.specs.Attributes.{PaintAttr, LayerAttr, Attrs}
 use Rattle.rules.specs.Painting as rules
-use Rattle.rules.specs.Painting.{Painter, paint-id, layer-id, painted, fill-piece, paint-depth, paint-command}
+use Rattle.rules.specs.Painting.{Painter, paint-id, layer-id, gives, fill-piece, paint-depth, paint-command}
 use Rattle.paint.specs.declared.Painted.{Painted}
 use Rattle.paint.specs.Pieces.{laid}
 use Rattle.shown.specs.Summaries.{good-summary, summary-at, shown-runs}
@@ -85,7 +86,7 @@ module _ (attrs : Attrs) where
   -- a fill gives the runs that are shown, for its attribute's id
   unfoldable pub fill-shown : Summary → Bool → ℕ → ℕ → Span → Option ℕ → Painter → rules.Painted
   fill-shown u l id i s a p =
-      painted (map (fill-piece 32 attrs l i s a (p .nesting)) (shown-runs u (p .buckets) id s))
+      gives (map (fill-piece 32 attrs l i s a (p .nesting)) (shown-runs u (p .buckets) id s))
       (p .buckets)
       (p .steps + 1)
       (p .nesting)

@@ -18,7 +18,7 @@ ghost use Prim.Native.Nat.{_+_, _-_, _≤_, _<_};
 ghost use lib.ListN.{length};
 ghost use Rattle.rules.specs.Attributes.{no-attrs};
 ghost use Rattle.rules.specs.Depth.{write-runs, written};
-ghost use Rattle.rules.specs.Painting.{painted, depth-piece};
+ghost use Rattle.rules.specs.Painting.{gives, depth-piece};
 ghost use Rattle.span.specs.Spans.{tiles, buckets, alpha, Moves};
 ghost use Rattle.depth.specs.Answers.{summary};
 ghost use Rattle.paint.specs.Painting.{word, out, painter-at, settled, fill-shown};
@@ -36,7 +36,7 @@ pub fn paint_depth(
 ) -> Painted
     requires { ⌜ (fill .buckets .first ≤ fill .buckets .«end») × (fill .buckets .«end» ≤ length (now depth)) × (fill .buckets .«end» ≤ 65535) × (0 < id) ⌝ }
     requires { ⌜ (length (now painting) ≡ 2) × (word (now painting) 0 < 4294967295) ⌝ }
-    ensures { λ r. ⌜ out r (now (depth .exit)) (now (painting .exit)) (now (list .exit)) ≡ settled (some (painted (map (depth-piece 32 no-attrs (fill .«attrs_idx»)) (write-runs (now (depth .entry)) (buckets (fill .buckets)))) (written (now (depth .entry)) id (buckets (fill .buckets))) (word (now (painting .entry)) 0 + 1) (word (now (painting .entry)) 1))) (now (depth .entry)) (now (painting .entry)) (now (list .entry)) ⌝ }
+    ensures { λ r. ⌜ out r (now (depth .exit)) (now (painting .exit)) (now (list .exit)) ≡ settled (some (gives (map (depth-piece 32 no-attrs (fill .«attrs_idx»)) (write-runs (now (depth .entry)) (buckets (fill .buckets)))) (written (now (depth .entry)) id (buckets (fill .buckets))) (word (now (painting .entry)) 0 + 1) (word (now (painting .entry)) 1))) (now (depth .entry)) (now (painting .entry)) (now (list .entry)) ⌝ }
 {
     let room = list.len() / 6;
     let range = fill.buckets;

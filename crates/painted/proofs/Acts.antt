@@ -19,9 +19,9 @@ use Rattle.rules.specs.Plans.{Act, paint, opaque, touch, close, pop, Put}
 use Rattle.rules.specs.Steps.{ensure, put-part, do-act, do-puts}
 use Rattle.rules.specs.Painting.{paint-id}
 use Rattle.rules.proofs.All.{All, nil, cons, head, tail, all-keep, all-append, all-map}
-use Rattle.rules.proofs.Changes.{change-at}
-use Rattle.rules.proofs.Maps.{PutOk, follows-act}
-use Rattle.rules.proofs.Bounds.{BoundedSpan}
+use Rattle.rules.proofs.laws.Changes.{change-at}
+use Rattle.rules.proofs.laws.Maps.{PutOk, follows-act}
+use Rattle.rules.proofs.laws.Bounds.{BoundedSpan}
 use Rattle.cmd.specs.Good.{GoodSpan, GoodPush}
 use Rattle.shown.proofs.Skips.{includes-new, includes-still}
 use Rattle.paint.specs.Painting.{good-paint}

@@ -14,8 +14,8 @@ use Rattle.rules.specs.Rows.{Row, fresh-row, row-ops}
 use Rattle.rules.specs.Plans.{Frame, Step}
 use Rattle.rules.specs.Steps.{Screen, reset, done, refusal, perform, touched, call}
 use Rattle.rules.proofs.All.{All, nil, cons}
-use Rattle.rules.proofs.Bounds.{plan-ok}
-use Rattle.rules.proofs.Maps.{planned}
+use Rattle.rules.proofs.laws.Bounds.{plan-ok}
+use Rattle.rules.proofs.laws.Maps.{planned}
 use Rattle.row.specs.Words.{Words}
 use Rattle.arena.specs.Arena.{sizes, row-at}
 use Rattle.arena.proofs.Laws.{cut-at}

@@ -16,7 +16,7 @@ use Rattle.rules.specs.Walk.{good-room}
 use Rattle.rules.specs.Painting.{begin}
 use Rattle.rules.specs.Calls.{Canvas, fresh-canvas, step-call, begin-call, paint-call}
 use Rattle.rules.proofs.All.{never, all-replicate}
-use Rattle.rules.proofs.Maps.{planned}
+use Rattle.rules.proofs.laws.Maps.{planned}
 use Rattle.screen.specs.Tables.{Lent}
 use Rattle.refine.specs.Lent.{lent-of}
 use Rattle.refine.proofs.Kept.{call-sound, reset-sound}

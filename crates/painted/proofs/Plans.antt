@@ -19,7 +19,7 @@ use Rattle.rules.specs.Attributes.{FilterPaint, Attrs}
 use Rattle.rules.specs.Painting.{paint-id}
 use Rattle.rules.specs.Plans.{Layer, State, Step, a-fill, a-push, a-pop, a-filter, paint, touch, close, pop, on, Put, still, clip-box, box-of, with-paint, with-layer, eligible, draw-act, draw-puts, plan-fill, layer-box, touches-all, plan-push, clip-segments, clip-fits, close-puts, closing, clip-thread, plan-pop, filter-box, filter-paint, draws-nothing, filter-puts, plan-filter-in, plan-filter, plan}
 use Rattle.rules.proofs.All.{All, nil, cons, head, both, neither, all-if, all-append, all-mapped, all-join}
-use Rattle.rules.proofs.Bounds.{Framed, Inside, judged-facts, good-facts, dest-facts, box-inside}
+use Rattle.rules.proofs.laws.Bounds.{Framed, Inside, judged-facts, good-facts, dest-facts, box-inside}
 use Rattle.cmd.specs.Good.{GoodSpan, GoodAlpha}
 use Rattle.paint.specs.Painting.{good-paint, good-layer}
 use Rattle.painted.proofs.Acts.{FairPut}

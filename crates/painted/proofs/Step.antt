@@ -13,7 +13,7 @@ use Rattle.rules.specs.Lists.{join}
 use Rattle.rules.specs.Answers.{Done, BadRun, Open, NoRoom}
 use Rattle.rules.specs.Boxes.{buckets-of}
 use Rattle.rules.specs.Boxes as boxes
-use Rattle.rules.specs.Attributes.{paint-attr-words}
+use Rattle.screen.specs.Attributes.{paint-attr-words}
 use Rattle.rules.specs.Rows.{Row, fresh-row}
 use Rattle.rules.specs.Steps as rule
 use Rattle.rules.specs.Painting.{Painter, Painted, begin, paint-step}

@@ -9,7 +9,7 @@ use Rattle.rules.specs.Answers.{answer}
 use Rattle.rules.specs.Boxes.{buckets-of}
 use Rattle.rules.specs.Spans.{Span}
 use Rattle.rules.specs.Rows.{Row, fresh-row}
-use Rattle.rules.specs.Attributes.{paint-attr-words}
+use Rattle.screen.specs.Attributes.{paint-attr-words}
 use Rattle.rules.specs.Steps.{Screen}
 use Rattle.rules.specs.Painting.{Painter, Painted, begin}
 use Rattle.rules.specs.Calls as rule

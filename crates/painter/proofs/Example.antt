@@ -5,7 +5,7 @@ use mathlib.Core.List.{List, [], _∷_, _++_}
 use Prim.Native.Nat.{ℕ, _*_}
 use lib.ListN.{replicate, take}
 use Rattle.rules.specs.Boxes.{good-viewport}
-use Rattle.rules.specs.Commands.{command-of, depth-fill-of}
+use Rattle.cmd.specs.Reading.{command-of, depth-fill-of}
 use Rattle.rules.specs.Depth.{can-skip, bucket-runs, runs-in, runs, visible-runs, write-runs, written}
 use Rattle.rules.specs.Painting.{paint-depth, paint-command}
 use Rattle.rect.specs.declared.Rect.{Rect}

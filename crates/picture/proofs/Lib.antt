@@ -11,3 +11,4 @@ pub mod Skip
 pub mod Recorded
 pub mod Rows
 pub mod RowEnds
+pub mod Canvases

@@ -27,17 +27,17 @@ use Rattle.steps.specs.Steps.{placement-in, call-at}
 use Rattle.steps.proofs.Lists.{paints-said, segments-said}
 use Rattle.refine.proofs.Alike.{settle-number}
 use Rattle.refine.proofs.Reset.{judged-facts, rooms, fresh-sound, fresh-words}
-use Rattle.painted.specs.Canvases.{depth-of, painting-of}
+use Rattle.painted.specs.Canvases.{depth-of, painting-of, Whole}
 use Rattle.painted.proofs.Begin.{blank-depth, blank-painting}
 use Rattle.painted.proofs.Whole.{begin-whole, paint-whole}
 use Rattle.painted.proofs.Painted.{reset-whole, step-whole}
 use Rattle.painted.proofs.Runs.{write-whole, same-screen}
 use Rattle.tiles.proofs.Turns.{call-screen}
 use Rattle.tiles.proofs.Walked.{built-append}
-use Rattle.tiles.specs.Built.{no-step, then}
+use Rattle.tiles.specs.Built.{Built, no-step, then}
 use Rattle.picture.specs.Calls.{fill-at, push-at, pop-at, filter-at, fill-said, pop-said, filter-said}
 use Rattle.picture.specs.Reached.{Reached, by-reset, by-fill, by-push, by-pop, by-filter, by-begin, by-paint, by-write, begin-at, paint-at, write-at}
-use Rattle.picture.specs.Standing.{Stands}
+use Rattle.picture.specs.Standing.{canvas-words, Stands}
 use Rattle.picture.proofs.Calls.{fill-steps, push-steps, pop-steps, filter-steps}
 use Rattle.picture.proofs.Words.{step-words, begin-words, paint-words, write-words, begin-screen}
 
@@ -76,14 +76,14 @@ module _ (v : Rect) (c d : ℕ) (l : Lent) (z : judged-reset v c d (lengths (l .
   unfolding zeros reset
   zero-painting = ap (λ (n : ℕ). replicate n 0) (painting-long ∙ ap (λ (m : ℕ). m * 2) (sym count)) ∙ sym (blank-painting buckets (length (fresh .rows)))
 
+  pub fresh-whole : Whole (fresh-canvas 32 (frame v c d))
+  fresh-whole = reset-whole (frame v c d) (judged-facts v c d l z .0) (rooms v c d l z .0) (rooms v c d l z .1)
+
+  pub reset-words : reset-to v c d l .value ≡ canvas-words (fresh-canvas 32 (frame v c d))
+  reset-words = ap (λ (a : Answer Lent). a .value) (fresh-words v c d l z) ∙ rw (zero-depth, zero-painting)
+
   reset-stands : Stands (frame v c d) [] (reset-to v c d l .value)
-  reset-stands =
-      record {
-        canvas = fresh-canvas 32 (frame v c d);
-        whole = reset-whole (frame v c d) (judged-facts v c d l z .0) (rooms v c d l z .0) (rooms v c d l z .1);
-        built = no-step;
-        same = ap (λ (a : Answer Lent). a .value) (fresh-words v c d l z) ∙ rw (zero-depth, zero-painting);
-      }
+  reset-stands = record { canvas = fresh-canvas 32 (frame v c d); whole = fresh-whole; built = no-step; same = reset-words }
 
 -- a done step of the rules
 step-done : (x : Step) (k : Canvas) → step-call 32 x k .number ≡ Done

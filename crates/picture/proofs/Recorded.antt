@@ -13,8 +13,9 @@ use Rattle.rules.specs.Answers.{Answer, answer, first-of, Done, BadRecord, BadO
 use Rattle.rules.specs.Rows.{Row, fresh-row, row-ops}
 use Rattle.rules.specs.Plans.{Frame, Step, Layer}
 use Rattle.rules.specs.Steps.{Screen, reset}
-use Rattle.rules.specs.Recording.{Recording, shape, sections, good-records, good-order}
-use Rattle.rules.specs.Walk.{Place, frame-of, go-on, _then_, walk-all, Logged, logged-call, walk-logged}
+use Rattle.rules.specs.Recording.{Recording, shape, sections, recording, good-records, good-order}
+use Rattle.rules.specs.Walk.{Place, frame-of, go-on, _then_, walk-all}
+use Rattle.rules.proofs.Logged.{Logged, logged-call, walk-logged}
 use Rattle.rules.specs.Calls.{begin-call}
 use Rattle.rect.specs.declared.Rect.{Rect}
 use Rattle.screen.specs.Screens.{rect-of}

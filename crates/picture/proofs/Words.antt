@@ -13,7 +13,7 @@ use Rattle.rules.specs.Rows.{Row, row-ops}
 use Rattle.rules.specs.Plans.{Step}
 use Rattle.rules.specs.Steps.{Screen, done, refusal, perform, call}
 use Rattle.rules.specs.Calls.{Canvas, Given, step-call, begin-call, paint-call, write-call, blank}
-use Rattle.rules.proofs.Maps.{planned}
+use Rattle.rules.proofs.laws.Maps.{planned}
 use Rattle.steps.specs.Steps.{call-at}
 use Rattle.refine.specs.Lent.{screen-of, lent-of}
 use Rattle.refine.proofs.Alike.{settle-kept}

@@ -1,26 +1,24 @@
--- A recording at the words beside the rules' play of it.
+-- A recording at the words beside the rules' play of it, over any state S of the rules that words can stand for.
 use Prim.Native.Nat.{ℕ}
 use mathlib.Core.Path.{_≡_}
 use mathlib.Core.Bool.{false}
 use lib.Dec.{eqb}
 use Rattle.rules.specs.Answers.{Answer, Done}
-use Rattle.rules.specs.Rows.{Row}
-use Rattle.rules.specs.Steps.{Screen}
 use Rattle.rules.specs.Walk.{Place}
 use Rattle.screen.specs.Judging.{arenas}
 use Rattle.screen.specs.Tables.{lengths, Lent}
-use Rattle.refine.proofs.Refined.{Refines}
 
 -- what is lent as the rules' place: no screen has more than 512 rows
 abbrev pub place : ℕ → ℕ → Lent → Place
 place c d l = record { limit = 512; c = c; d = d; arenas = arenas (lengths (l .tables)) }
 
--- what stands afterwards at the number n, from the screen s and the words l: refused, both are left as they were, or the words are those of the rules' screen
-pub data Outcome (n : ℕ) (s : Screen Row) (l : Lent) (s′ : Screen Row) (l′ : Lent) : Type 0 where
-  unaltered : eqb n Done ≡ false → s′ ≡ s → l′ ≡ l → Outcome n s l s′ l′
-  made : Refines s′ l′ → Outcome n s l s′ l′
+module _ {S : Type 0} (R : S → Lent → Type 0) where
+  -- what stands afterwards at the number n, from the state s and the words l: refused, both are left as they were, or the words are related to the rules' state
+  pub data Outcome (n : ℕ) (s : S) (l : Lent) (s′ : S) (l′ : Lent) : Type 0 where
+    unaltered : eqb n Done ≡ false → s′ ≡ s → l′ ≡ l → Outcome n s l s′ l′
+    made : R s′ l′ → Outcome n s l s′ l′
 
--- the call at the words beside the rules' play
-pub record Plays (s : Screen Row) (l : Lent) (a : Answer (Screen Row)) (w : Answer Lent) : Type 0 where
-  pub number : w .number ≡ a .number
-  pub value : Outcome (a .number) s l (a .value) (w .value)
+  -- the call at the words beside the rules' play
+  pub record Plays (s : S) (l : Lent) (a : Answer S) (w : Answer Lent) : Type 0 where
+    pub number : w .number ≡ a .number
+    pub value : Outcome (a .number) s l (a .value) (w .value)

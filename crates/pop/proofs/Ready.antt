@@ -16,7 +16,7 @@ use Rattle.rules.specs.Segments.{Segment, Cut, ordered}
 use Rattle.rules.specs.Plans.{Frame, Act, close, pop, Put, on, close-puts}
 use Rattle.rules.specs.Steps.{do-puts, passes}
 use Rattle.rules.proofs.All.{All, nil, cons, all-map, all-both, every-all, none-of, both}
-use Rattle.rules.proofs.Changes.{puts-append, puts-length}
+use Rattle.rules.proofs.laws.Changes.{puts-append, puts-length}
 use Rattle.row.specs.Words.{Words, word, put-command, ended, end-buf, word-ops, Room, Ends}
 use Rattle.row.proofs.Laws.{cmd-renders, cmd-depths, end-renders, ended-depths}
 use Rattle.arena.specs.Arena.{nowhere, sizes, lay}

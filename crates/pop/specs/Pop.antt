@@ -10,7 +10,7 @@ use lib.Ieee.{Float, nan}
 use Rattle.rules.specs.Lists.{join}
 use Rattle.rules.specs.Answers.{first-of, Done, BadRecord, Ids, FullAttrs, FullRow}
 use Rattle.rules.specs.Boxes.{Box, rows-in}
-use Rattle.rules.specs.Attributes.{layer-attr-words}
+use Rattle.screen.specs.Attributes.{layer-attr-words}
 use Rattle.rules.specs.Plans.{Layer, State, Put, Plan, clip-box, closing, plan-pop}
 use Rattle.rules.specs.Steps.{done}
 use Rattle.row.specs.Words.{Words, word-ops}

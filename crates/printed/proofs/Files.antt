@@ -9,13 +9,13 @@ use lib.Dec.{ltb, leb, eqb}
 use lib.ListN.{length, getD, drop}
 use lib.Seq.{length-take-le, getD-drop}
 use borrow.Author.Tests.{le-ltb, lt-ltb, leb-true, leb-false, eq-eqb, eqb-true}
-use Rattle.rules.specs.Answers.{Answer, answer, Done, BadForm, BadRecord}
+use Rattle.rules.specs.Answers.{Answer, answer, settle, Done, BadForm, BadRecord}
 use Rattle.rules.specs.Boxes.{Box, box, good-viewport, rows-of, buckets-of}
 use Rattle.rules.specs.Rows.{Row, fresh-row, row-ops}
 use Rattle.rules.specs.Plans.{Frame}
 use Rattle.rules.specs.Steps.{Screen, reset, call}
 use Rattle.rules.specs.Recording.{Recording, shape, sections, recording, box-at}
-use Rattle.rules.specs.Walk.{Place, Arenas, needed, good-arenas, frame-of, judge-records, or-reset, walk-all, play-records, play}
+use Rattle.rules.specs.Walk.{Place, Arenas, needed, good-arenas, frame-of, judge-records, walk-all, play-records, play}
 use Rattle.rules.specs.Lines as rules
 use Rattle.rules.specs.Lines.{refused, answer-lines, rowlist-place, rowlist-words, words-of, rowlist, line-bytes}
 use Rattle.rules.proofs.All.{never}
@@ -96,16 +96,16 @@ module _ (p : Place) (old : Screen Row) (r : Recording) where
 
   abbrev by-judge : Bool → Answer (Screen Row)
   by-judge t = elim t [
-    | true ↦ or-reset Row row-ops 32 fresh-row start walk
+    | true ↦ settle (walk .number) start (walk .value)
     | false ↦ answer judge (cond (leb judge BadForm) old start)
   ]
 
   -- a done play of the rules leaves what a reset and a walk keep
-  play-kept : (f : Frame) → Kept f start → play-records Row row-ops 32 fresh-row p old r .number ≡ 0 → Kept f (play-records Row row-ops 32 fresh-row p old r .value)
+  play-kept : (f : Frame) → Kept f start → play-records (Screen Row) (call Row row-ops 32) (reset fresh-row) 32 p old r .number ≡ 0 → Kept f (play-records (Screen Row) (call Row row-ops 32) (reset fresh-row) 32 p old r .value)
   unfolding play-records
   play-kept f h = go (eqb judge Done) refl
     where
-      walked : (u : Bool) → Kept f (cond u walk (answer (walk .number) start) .value)
+      walked : (u : Bool) → Kept f (cond u (answer Done (walk .value)) (answer (walk .number) start) .value)
       walked true = walk-keeps r .kept start h
       walked false = h
 
@@ -114,7 +114,7 @@ module _ (p : Place) (old : Screen Row) (r : Recording) where
       go false e z = never (sym (eq-eqb judge 0 z) ∙ e)
 
   -- where the viewport is refused
-  refused-view : judge ≡ 2 → play-records Row row-ops 32 fresh-row p old r .number ≡ 2
+  refused-view : judge ≡ 2 → play-records (Screen Row) (call Row row-ops 32) (reset fresh-row) 32 p old r .number ≡ 2
   unfolding play-records
   refused-view e = go (eqb judge Done) (ap (λ (n : ℕ). eqb n Done) e)
     where
@@ -125,12 +125,12 @@ module _ (p : Place) (old : Screen Row) (r : Recording) where
 -- a play depends on the rows allowed and on the arenas by what is judged of them
 same-play : (a b c d : ℕ) (x y : Arenas) (old : Screen Row) (r : Recording)
     → judge-records 32 (record { limit = a; c = c; d = d; arenas = x }) r ≡ judge-records 32 (record { limit = b; c = c; d = d; arenas = y }) r
-    → play-records Row row-ops 32 fresh-row (record { limit = a; c = c; d = d; arenas = x }) old r
-    ≡ play-records Row row-ops 32 fresh-row (record { limit = b; c = c; d = d; arenas = y }) old r
+    → play-records (Screen Row) (call Row row-ops 32) (reset fresh-row) 32 (record { limit = a; c = c; d = d; arenas = x }) old r
+    ≡ play-records (Screen Row) (call Row row-ops 32) (reset fresh-row) 32 (record { limit = b; c = c; d = d; arenas = y }) old r
 unfolding play-records
 same-play a b c d x y old r e =
     ap (λ (n : ℕ). elim (eqb n Done) [
-      | true ↦ or-reset Row row-ops 32 fresh-row (start (record { limit = a; c = c; d = d; arenas = x }) old r) (walk (record { limit = a; c = c; d = d; arenas = x }) old r)
+      | true ↦ settle (walk (record { limit = a; c = c; d = d; arenas = x }) old r .number) (start (record { limit = a; c = c; d = d; arenas = x }) old r) (walk (record { limit = a; c = c; d = d; arenas = x }) old r .value)
       | false ↦ answer n (cond (leb n BadForm) old (start (record { limit = a; c = c; d = d; arenas = x }) old r))
     ])
     e
@@ -173,10 +173,10 @@ module _ (ws : List ℕ) (t : Tables) (roomy : Roomy t) (fixed : good-fixed (len
     place-view : box-at ws 1 ≡ v
     place-view = rw (getD-drop 1 ws 0 0, getD-drop 1 ws 1 0, getD-drop 1 ws 2 0, getD-drop 1 ws 3 0) (sym at-words)
 
-    refused-there : (good-viewport v && leb (rows-of v) 32) ≡ false → answer-lines 32 (play-records Row row-ops 32 fresh-row (rowlist-place ws) old r) ≡ refused 2 ∷ []
+    refused-there : (good-viewport v && leb (rows-of v) 32) ≡ false → answer-lines 32 (play-records (Screen Row) (call Row row-ops 32) (reset fresh-row) 32 (rowlist-place ws) old r) ≡ refused 2 ∷ []
     unfolding judge-records
     refused-there h =
-        refused-lines (play-records Row row-ops 32 fresh-row (rowlist-place ws) old r) 2
+        refused-lines (play-records (Screen Row) (call Row row-ops 32) (reset fresh-row) 32 (rowlist-place ws) old r) 2
         (refused-view (rowlist-place ws) old r (rw (not-shown (good-viewport v) (rows-of v) h))) refl
 
     module _ (g : good-viewport v ≡ true) (few : rows-of v ≤ 32) where
@@ -221,7 +221,7 @@ module _ (ws : List ℕ) (t : Tables) (roomy : Roomy t) (fixed : good-fixed (len
 
       -- the rules' answer in `rowlist`
       abbrev theirs : Answer (Screen Row)
-      theirs = play-records Row row-ops 32 fresh-row (rowlist-place ws) old r
+      theirs = play-records (Screen Row) (call Row row-ops 32) (reset fresh-row) 32 (rowlist-place ws) old r
 
       judge-at : (b : Box) → b ≡ v
           → judge-records 32 (record { limit = 32; c = 64; d = 64; arenas = needed 32 (record { viewport = b; c = 64; d = 64 }) }) r ≡ judge-records 32 (place 64 64 given) r
@@ -239,17 +239,17 @@ module _ (ws : List ℕ) (t : Tables) (roomy : Roomy t) (fixed : good-fixed (len
             eq-eqb (n * buckets-of 32 v) (n * buckets-of 32 v) refl,
           )
 
-      at-words-play : play Row row-ops 32 fresh-row (place 64 64 given) old ws ≡ theirs
+      at-words-play : play (Screen Row) (call Row row-ops 32) (reset fresh-row) 32 (place 64 64 given) old ws ≡ theirs
       unfolding play
       at-words-play =
           ap (λ (o : Option (List (List (List ℕ)))). elim o [
             | none ↦ answer BadForm old
-            | some qs ↦ play-records Row row-ops 32 fresh-row (place 64 64 given) old (recording qs)
+            | some qs ↦ play-records (Screen Row) (call Row row-ops 32) (reset fresh-row) 32 (place 64 64 given) old (recording qs)
           ])
           e
           ∙ sym (same-play 32 512 64 64 (needed 32 (record { viewport = box-at ws 1; c = 64; d = 64 })) (arenas (lengths cut)) old r (judge-at (box-at ws 1) place-view))
 
-      plays : Plays old given theirs (recorded ws 64 64 given)
+      plays : Plays Refines old given theirs (recorded ws 64 64 given)
       plays =
           rw (← at-words-play)
           (file-plays ws 64 64 given old (λ qs q. let k : qs ≡ ss = some-same (sym q ∙ e) in rw k tables-good))
@@ -257,7 +257,7 @@ module _ (ws : List ℕ) (t : Tables) (roomy : Roomy t) (fixed : good-fixed (len
       done-with : theirs .number ≡ 0 → Done-with theirs (recorded ws 64 64 given) v
       done-with z = go (plays .value)
         where
-          go : Outcome (theirs .number) old given (theirs .value) (recorded ws 64 64 given .value) → Done-with theirs (recorded ws 64 64 given) v
+          go : Outcome Refines (theirs .number) old given (theirs .value) (recorded ws 64 64 given .value) → Done-with theirs (recorded ws 64 64 given) v
           go (unaltered q x y) = never (sym (eq-eqb _ _ z) ∙ q)
           go (made x) = record { refines = x; kept = play-kept (rowlist-place ws) old r first start-kept z }
 
@@ -266,7 +266,7 @@ module _ (ws : List ℕ) (t : Tables) (roomy : Roomy t) (fixed : good-fixed (len
       shown-there = answer-shows bs room theirs (recorded ws 64 64 given) v few (plays .number) done-with
 
     by-size : (x : Bool) → (good-viewport v && leb (rows-of v) 32) ≡ x
-        → shows (text-in (sized-if x v) ws t bs .showed) ≡ text-first (text-of (answer-lines 32 (play-records Row row-ops 32 fresh-row (rowlist-place ws) old r))) bs
+        → shows (text-in (sized-if x v) ws t bs .showed) ≡ text-first (text-of (answer-lines 32 (play-records (Screen Row) (call Row row-ops 32) (reset fresh-row) 32 (rowlist-place ws) old r))) bs
     by-size false h = rw (refused-there h) (refusing-shows bs room 2 nothing)
     by-size true h = shown-there (and-left (good-viewport v) (leb (rows-of v) 32) h) (leb-true _ _ (and-right (good-viewport v) (leb (rows-of v) 32) h))
 
@@ -282,7 +282,7 @@ module _ (ws : List ℕ) (t : Tables) (roomy : Roomy t) (fixed : good-fixed (len
           (answer-lines 32
           (elim o [
             | none ↦ answer BadForm old
-            | some qs ↦ play-records Row row-ops 32 fresh-row (rowlist-place ws) old (recording qs)
+            | some qs ↦ play-records (Screen Row) (call Row row-ops 32) (reset fresh-row) 32 (rowlist-place ws) old (recording qs)
           ])))
           bs
       go none e = refusing-shows bs room 3 nothing

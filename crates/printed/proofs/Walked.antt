@@ -13,7 +13,7 @@ use Rattle.rules.specs.Plans.{Frame, Step, a-fill, a-push, a-pop, a-filter}
 use Rattle.rules.specs.Steps.{Screen, refusal, done, perform, call}
 use Rattle.rules.specs.Recording.{Recording, LayerRec, Node}
 use Rattle.rules.specs.Walk.{go-on, _then_, when, each, props-of, no-layer, walk-filter, walk-node, walk-nodes, walk-layer, walk-all}
-use Rattle.rules.proofs.Maps.{planned}
+use Rattle.rules.proofs.laws.Maps.{planned}
 use Rattle.refine.specs.Sound.{Sound}
 use Rattle.refine.proofs.Kept.{call-sound}
 use Rattle.painted.specs.Fair.{FairRows}

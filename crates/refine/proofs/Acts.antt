@@ -17,8 +17,8 @@ use Rattle.rules.specs.Rows.{Row, Level, fresh-row, row-ops, adds, include, put
 use Rattle.rules.specs.Plans.{Act, paint, opaque, touch, close, pop, Put}
 use Rattle.rules.specs.Steps.{ensure, put-part, do-act, do-puts}
 use Rattle.rules.proofs.All.{All, nil, cons, head, tail, all-keep}
-use Rattle.rules.proofs.Changes.{change-at}
-use Rattle.rules.proofs.Maps.{ActOk, paints, splits, touches, closes, pops}
+use Rattle.rules.proofs.laws.Changes.{change-at}
+use Rattle.rules.proofs.laws.Maps.{ActOk, paints, splits, touches, closes, pops}
 use Rattle.refine.specs.Sound.{Ordered, OrderedUnion, Sane}
 
 -- the id that an act gives its row

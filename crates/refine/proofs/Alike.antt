@@ -15,8 +15,8 @@ use Rattle.rules.specs.Plans.{Layer, State, Plan, clip-box, box-of}
 use Rattle.rules.specs.Steps as rule
 use Rattle.rules.specs.Steps.{done, refusal, perform}
 use Rattle.rules.proofs.All.{All, never}
-use Rattle.rules.proofs.Bounds.{BoundedSpan}
-use Rattle.rules.proofs.Maps.{PutOk, screen-by, answer-by, follows-perform}
+use Rattle.rules.proofs.laws.Bounds.{BoundedSpan}
+use Rattle.rules.proofs.laws.Maps.{PutOk, screen-by, answer-by, follows-perform}
 use Rattle.row.specs.Words.{Words, word-ops}
 use Rattle.arena.specs.Arena.{lay}
 use Rattle.building.specs.Building.{rows-at, screen-at, good-rows, step-number}

@@ -21,9 +21,9 @@ use Rattle.rules.specs.Plans.{Frame, Layer, State, Step, a-fill, a-push, a-pop,
 use Rattle.rules.specs.Steps.{Screen, reset, do-puts, done, row-passes, passes, refusal, perform, touched, call}
 use Rattle.rules.specs.Walk.{good-room}
 use Rattle.rules.proofs.All.{All, nil, cons, head, tail, both, neither, never, all-if, all-append, all-mapped, all-join}
-use Rattle.rules.proofs.Changes.{puts-on, puts-length, untouched}
-use Rattle.rules.proofs.Maps.{paints, splits, touches, closes, pops, planned}
-use Rattle.rules.proofs.Bounds.{Framed, Inside, judged-facts, good-facts, bounded-facts, clip-facts, dest-facts, box-inside}
+use Rattle.rules.proofs.laws.Changes.{puts-on, puts-length, untouched}
+use Rattle.rules.proofs.laws.Maps.{paints, splits, touches, closes, pops, planned}
+use Rattle.rules.proofs.laws.Bounds.{Framed, Inside, judged-facts, good-facts, bounded-facts, clip-facts, dest-facts, box-inside}
 use Rattle.screen.proofs.Laws as screens
 use Rattle.encode.proofs.Refines.{Built, called, reset-built}
 use Rattle.touched.specs.Touched.{Reaching}

@@ -13,15 +13,16 @@ use Rattle.rules.specs.Lists.{join}
 use Rattle.rules.specs.Answers.{answer, settle, Done, NoLayer}
 use Rattle.rules.specs.Boxes.{rows-in}
 use Rattle.rules.specs.Segments.{Segment}
-use Rattle.rules.specs.Attributes.{LayerAttr, Attrs, attrs-full, layer-attr-words}
-use Rattle.rules.specs.Recording.{segment-words}
+use Rattle.rules.specs.Attributes.{LayerAttr, Attrs, attrs-full}
+use Rattle.screen.specs.Attributes.{layer-attr-words}
+use Rattle.rules.proofs.Words.{segment-words}
 use Rattle.rules.specs.Rows.{Row, row-ops}
 use Rattle.rules.specs.Plans.{Frame, Layer, State, a-pop, Plan, clip-thread, plan-pop, plan}
 use Rattle.rules.specs.Steps as rule
 use Rattle.rules.specs.Steps.{done, refusal, perform, touched, call}
 use Rattle.rules.proofs.All.{All, neither}
-use Rattle.rules.proofs.Bounds.{BoundedSpan, plan-ok}
-use Rattle.rules.proofs.Maps.{PutOk, follows-touched}
+use Rattle.rules.proofs.laws.Bounds.{BoundedSpan, plan-ok}
+use Rattle.rules.proofs.laws.Maps.{PutOk, follows-touched}
 use Rattle.cmd.specs.Attrs.{words-at}
 use Rattle.building.specs.Building.{rows-at}
 use Rattle.closing.specs.Closing.{touched-in, good-pops}

@@ -12,7 +12,7 @@ use borrow.Author.Tests.{eqb-true}
 use Rattle.rules.specs.Answers.{answer, first-of, BadArena, BadViewport, BadRecord}
 use Rattle.rules.specs.Boxes.{good-viewport, rows-of}
 use Rattle.rules.specs.Lists.{join}
-use Rattle.rules.specs.Attributes.{paint-attr-words}
+use Rattle.screen.specs.Attributes.{paint-attr-words}
 use Rattle.rules.specs.Rows.{Row, fresh-row}
 use Rattle.rules.specs.Steps.{Screen, reset}
 use Rattle.rules.specs.Walk.{good-room, good-arenas}

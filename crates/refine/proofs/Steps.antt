@@ -15,15 +15,15 @@ use Rattle.rules.specs.Lists.{join, is-empty}
 use Rattle.rules.specs.Answers.{answer, settle, Done, BadRecord}
 use Rattle.rules.specs.Segments.{Segment}
 use Rattle.rules.specs.Inputs.{Paint, Draw, draw-segments, Clip, Props, Filter, good-filter}
-use Rattle.rules.specs.Attributes.{paint-attr-words}
-use Rattle.rules.specs.Recording.{paint-words, segment-words}
+use Rattle.screen.specs.Attributes.{paint-attr-words}
+use Rattle.rules.proofs.Words.{paint-words, segment-words}
 use Rattle.rules.specs.Rows.{Row, row-ops}
 use Rattle.rules.specs.Plans.{Layer, State, a-fill, a-push, a-filter, Plan, still, box-of, with-paint, plan-fill, layer-box, plan-push, filter-box, draws-nothing, plan-filter-in, plan-filter, plan}
 use Rattle.rules.specs.Steps as rule
 use Rattle.rules.specs.Steps.{done, refusal, perform, call}
 use Rattle.rules.proofs.All.{All, neither}
-use Rattle.rules.proofs.Bounds.{BoundedSpan, plan-ok}
-use Rattle.rules.proofs.Maps.{PutOk}
+use Rattle.rules.proofs.laws.Bounds.{BoundedSpan, plan-ok}
+use Rattle.rules.proofs.laws.Maps.{PutOk}
 use Rattle.cmd.specs.Attrs.{words-at}
 use Rattle.screen.specs.Screens.{state-of}
 use Rattle.screen.specs.Tables.{Lent, float-0}

@@ -10,7 +10,8 @@ use lib.IntN.{pos}
 use lib.Ieee.{Float, binary32, ofBits}
 use Rattle.rules.specs.Lists.{join}
 use Rattle.rules.specs.Answers.{Answer, answer, Done}
-use Rattle.rules.specs.Attributes.{LayerAttr, paint-attr-words, layer-attr-words}
+use Rattle.rules.specs.Attributes.{LayerAttr}
+use Rattle.screen.specs.Attributes.{paint-attr-words, layer-attr-words}
 use Rattle.rules.specs.Rows.{Row}
 use Rattle.rules.specs.Plans.{Layer, State, box-of}
 use Rattle.rules.specs.Steps as rule

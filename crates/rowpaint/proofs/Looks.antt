@@ -10,7 +10,7 @@ use lib.Dec.{leb, ltb, eqb}
 use borrow.Author.Tests.{lt-ltb, le-leb, lt-leb, eq-eqb, ne-eqb}
 use Rattle.rules.specs.Spans.{Span, span}
 use Rattle.rules.specs.Depth.{Summary, can-skip, is-visible, runs-in, runs, visible-runs}
-use Rattle.rules.specs.Commands.{word-span}
+use Rattle.cmd.specs.Reading.{word-span}
 use Rattle.cmd.proofs.Tests.{sum-test}
 use Rattle.depth.proofs.Searching.{runs-end, runs-closed, Reached, reach-first, reach-end}
 use Rattle.shown.specs.Summaries.{shown-runs}

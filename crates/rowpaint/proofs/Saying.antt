@@ -11,7 +11,8 @@ use lib.Dec.{leb, ltb, eqb}
 use borrow.Author.Tests.{lt-ltb, le-ltb, le-leb, eqb-true, eq-eqb, ltb-true}
 use Rattle.rules.specs.Spans.{Span, span, moved}
 use Rattle.rules.specs.Depth.{Summary}
-use Rattle.rules.specs.Commands.{Command, paint-fill, layer-fill, push-buf, pop-buf, word-span, good-span-word, good-alpha, command-of}
+use Rattle.rules.specs.Commands.{Command, paint-fill, layer-fill, push-buf, pop-buf}
+use Rattle.cmd.specs.Reading.{word-span, good-span-word, good-alpha, command-of}
 use Rattle.rules.specs.Attributes.{Attrs}
 use Rattle.rules.specs.Painting as rules
 use Rattle.rules.specs.Painting.{Painter, paint-id, layer-id, paint-command}

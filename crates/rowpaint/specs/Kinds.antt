@@ -8,7 +8,7 @@ use lib.ListN.{length, getD}
 use lib.Dec.{leb, ltb, eqb}
 use Rattle.rules.specs.Spans.{Span, span}
 use Rattle.rules.specs.Depth.{Summary}
-use Rattle.rules.specs.Commands.{word-span, command-of}
+use Rattle.cmd.specs.Reading.{word-span, command-of}
 use Rattle.rules.specs.Attributes.{Attrs}
 use Rattle.depth.specs.Listing.{over}
 use Rattle.shown.specs.Summaries.{good-summary, shown-runs}

@@ -1,4 +1,17 @@
+-- Tests by computation: tables and cases.
+pub mod Computing
+pub mod Same
+pub mod Words
+pub mod Logged
+pub mod Samples
+pub mod Picture
+pub mod KnownPoints
+pub mod WorkedExample
+pub mod Cases
+pub mod Edges
+pub mod Judged
+pub mod Refusals
+pub mod Shapes
+-- What other crates cite.
 pub mod All
-pub mod Changes
-pub mod Maps
-pub mod Bounds
+pub mod laws

@@ -1,7 +1,7 @@
--- What the steps leave beside the rows: paint attributes, layer attributes, filter paints; their limits (answer 9) and their words.
+-- What the steps leave beside the rows: paint attributes, layer attributes, filter paints; their limits (answer 9).
 use Prim.Native.Nat.{ℕ}
 use mathlib.Core.Bool.{Bool, _||_}
-use mathlib.Core.List.{List, [], _∷_}
+use mathlib.Core.List.{List, []}
 use lib.ListN.{length}
 use lib.Dec.{ltb}
 use lib.IntN.{ℤ}
@@ -42,11 +42,3 @@ no-attrs = record { paints = []; layers = []; filters = [] }
 -- answer 9
 abbrev pub attrs-full : Attrs → Bool
 attrs-full a = ltb 1024 (length (a .paints)) || ltb 1024 (length (a .layers)) || ltb 256 (length (a .filters))
-
--- eight words of a paint attribute, five of a layer attribute, whose opacity stands apart
-abbrev pub paint-attr-words : PaintAttr → List ℕ
-paint-attr-words a =
-    a .paint ∷ a .blend .mix ∷ a .blend .compose ∷ a .mask ∷ a .id ∷ a .thread ∷ a .origin-x ∷ a .origin-y ∷ []
-
-abbrev pub layer-attr-words : LayerAttr → List ℕ
-layer-attr-words a = a .blend .mix ∷ a .blend .compose ∷ a .mask ∷ a .id ∷ a .thread ∷ []

@@ -16,13 +16,5 @@ pub mod Painting
 pub mod Recording
 pub mod Walk
 pub mod Lines
-pub mod Details
 pub mod Plain
-pub mod Picture
 pub mod Calls
-pub mod Computing
-pub mod KnownPoints
-pub mod WorkedExample
-pub mod Samples
-pub mod Cases
-pub mod Refusals

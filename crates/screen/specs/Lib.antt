@@ -1,3 +1,4 @@
 pub mod Screens
 pub mod Judging
 pub mod Tables
+pub mod Attributes

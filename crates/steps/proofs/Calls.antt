@@ -9,7 +9,8 @@ use Rattle.rules.specs.Lists.{join}
 use Rattle.rules.specs.Answers.{Answer, answer}
 use Rattle.rules.specs.Inputs as rule
 use Rattle.rules.specs.Segments.{Segment}
-use Rattle.rules.specs.Recording.{Recording, paint-words, segment-words}
+use Rattle.rules.specs.Recording.{Recording}
+use Rattle.rules.proofs.Words.{paint-words, segment-words}
 use Rattle.rules.specs.Plans.{a-push, a-pop, a-filter}
 use Rattle.row.specs.Words.{Words}
 use Rattle.segments.specs.Segs.{segs-of}

@@ -8,7 +8,7 @@ use Rattle.rules.specs.Lists.{join, slice}
 use Rattle.rules.specs.Answers.{answer}
 use Rattle.rules.specs.Blends.{default-blend}
 use Rattle.rules.specs.Inputs as rule
-use Rattle.rules.specs.Recording.{paint-words, segment-words}
+use Rattle.rules.proofs.Words.{paint-words, segment-words}
 use Rattle.rules.specs.Walk.{each}
 use Rattle.screen.specs.Tables.{Tables}
 use Rattle.form.specs.declared.Layout.{Layout}

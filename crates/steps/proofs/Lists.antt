@@ -9,7 +9,8 @@ use lib.Seq.{getD-drop}
 use Rattle.rules.specs.Lists.{join}
 use Rattle.rules.specs.Inputs.{Paint, Draw}
 use Rattle.rules.specs.Segments.{Segment}
-use Rattle.rules.specs.Recording.{paint-words, segment-words, recording}
+use Rattle.rules.specs.Recording.{recording}
+use Rattle.rules.proofs.Words.{paint-words, segment-words}
 use Rattle.segments.specs.Segs.{seg-at, segs, segs-of}
 use Rattle.form.specs.declared.Layout.{Layout}
 use Rattle.form.specs.Each.{each}

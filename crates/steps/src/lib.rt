@@ -5,7 +5,7 @@ ghost use Prim.Native.Nat.{_+_, _*_, _≤_, _<_};
 ghost use lib.ListN.{length};
 ghost use Rattle.rules.specs.Answers.{answer};
 ghost use Rattle.rules.specs.Lists.{join, slice};
-ghost use Rattle.rules.specs.Recording.{paint-words, segment-words};
+ghost use Rattle.rules.proofs.Words.{paint-words, segment-words};
 ghost use Rattle.rules.specs.Walk.{each, walk-filter};
 ghost use Rattle.cmd.specs.Answers.{number-of};
 ghost use Rattle.row.specs.Words.{words};

@@ -14,8 +14,8 @@ use Rattle.rules.specs.Segments.{Segment, good-segment, Cut, cut-in}
 use Rattle.rules.specs.Plans.{Frame, Put, on, draw-act, draw-puts}
 use Rattle.rules.specs.Steps.{passes}
 use Rattle.rules.proofs.All.{All, nil, cons, both, all-map, all-join, every-all, none-of}
-use Rattle.rules.proofs.Maps.{ActOk, paints, splits, follows-act}
-use Rattle.rules.proofs.Changes.{change-length, change-same, change-else}
+use Rattle.rules.proofs.laws.Maps.{ActOk, paints, splits, follows-act}
+use Rattle.rules.proofs.laws.Changes.{change-length, change-same, change-else}
 use Rattle.row.specs.Words.{Words, word, word-ops, Room}
 use Rattle.arena.specs.Arena.{nowhere, sizes, Long}
 use Rattle.arena.proofs.Laws.{cut-length, cut-at, at-state, at-render, at-fills}

@@ -11,7 +11,7 @@ use Rattle.rules.specs.Lists.{some-of, change}
 use Rattle.rules.specs.Plans.{Put}
 use Rattle.rules.specs.Steps.{do-puts, row-passes, passes}
 use Rattle.rules.proofs.All.{All, cons, never, neither, all-map}
-use Rattle.rules.proofs.Changes.{change-at, puts-on, untouched}
+use Rattle.rules.proofs.laws.Changes.{change-at, puts-on, untouched}
 use Rattle.row.specs.Words.{Words, word-ops, Grown}
 use Rattle.act.specs.Acts.{acted}
 use Rattle.act.proofs.Laws.{acted-sound}

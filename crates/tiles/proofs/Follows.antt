@@ -22,8 +22,8 @@ use Rattle.rules.specs.Plans.{Layer, State, Act, Put, Plan, on, touch, eligible
 use Rattle.rules.specs.Steps.{Screen, do-puts, done}
 use Rattle.rules.specs.Plain.{Told, OpenLayer, Story, touch-all, box-now, here, tell, tell-fill, tell-push, in-rows}
 use Rattle.rules.proofs.All.{never}
-use Rattle.rules.proofs.Changes.{puts-length}
-use Rattle.rules.proofs.Bounds.{judged-facts}
+use Rattle.rules.proofs.laws.Changes.{puts-length}
+use Rattle.rules.proofs.laws.Bounds.{judged-facts}
 use Rattle.tiles.proofs.Cases.{by, and-left}
 use Rattle.tiles.proofs.Acts.{acts-at, do-acts, row-by-row}
 use Rattle.tiles.proofs.Acted.{adds-none}
@@ -61,9 +61,9 @@ module _ (w : ℕ) (attrs : Attrs) (t : ℕ) (v : Box) (row : ℕ) where
     pub first : 0 < o .next
     pub paints : length (s .state .attrs .paints) ≡ o .paints
     pub layers : length (s .state .attrs .layers) ≡ o .layers
-    pub opened : s .state .layers ≡ map layer-in (o .depth)
+    pub opened : s .state .layers ≡ map layer-in (o .open-layers)
     pub there : row < length (s .rows)
-    pub grown : Grown w attrs t v row (o .told) (o .next) (o .depth) (getD (s .rows) row fresh-row)
+    pub grown : Grown w attrs t v row (o .told) (o .next) (o .open-layers) (getD (s .rows) row fresh-row)
 
   -- the id of an attribute that a step adds
   pub new-paint : (ps : List PaintAttr) (x : PaintAttr) (more : List PaintAttr) → attrs .paints ≡ (ps ++ (x ∷ [])) ++ more → paint-id attrs (length ps) ≡ x .id
@@ -75,26 +75,26 @@ module _ (w : ℕ) (attrs : Attrs) (t : ℕ) (v : Box) (row : ℕ) where
   fill-row : 0 < w → (ps : List Paint) (ss : List Segment) (d : Draw) (o : Story) (s : Screen Row) → Follows o s
       → judge-segments (not (good-draw ps ss d)) (draw-segments ss d) ≡ Done
       → paint-id attrs (o .paints) ≡ o .next
-      → Grown w attrs t v row (tell-fill w v row t ps ss d o .told) (o .next + 1) (tell-fill w v row t ps ss d o .depth)
+      → Grown w attrs t v row (tell-fill w v row t ps ss d o .told) (o .next + 1) (tell-fill w v row t ps ss d o .open-layers)
       (getD (done Row row-ops w (plan-fill ps ss d (s .state)) s .rows) row fresh-row)
   unfolding done plan-fill
   fill-row pos ps ss d o s f j q =
       let own = draw-segments ss d in
-      let e = eligible (is-empty (o .depth)) (draw-paint ps d) d in
-      let ks = here w v row t (o .depth) own in
+      let e = eligible (is-empty (o .open-layers)) (draw-paint ps d) d in
+      let ks = here w v row t (o .open-layers) own in
       let (_, good, ord) = judged-facts (not (good-draw ps ss d)) own j in
       let g = draw-grows w attrs t v row pos (f .grown) (f .first) e (o .paints) q
-      (λ y. empty-length (o .depth) (and-left _ _ (and-left _ _ (and-left _ _ y)))) ks (single v (box-now v (o .depth)) row t own good ord) in
-      let same : do-acts Row row-ops w (length (o .depth)) (map (cut-act e (o .paints) (o .next)) ks) (getD (s .rows) row fresh-row)
+      (λ y. empty-length (o .open-layers) (and-left _ _ (and-left _ _ (and-left _ _ y)))) ks (single v (box-now v (o .open-layers)) row t own good ord) in
+      let same : do-acts Row row-ops w (length (o .open-layers)) (map (cut-act e (o .paints) (o .next)) ks) (getD (s .rows) row fresh-row)
       ≡ getD (do-puts Row row-ops w (length (s .state .layers)) (draw-puts (eligible (is-empty (s .state .layers)) (draw-paint ps d) d) (length (s .state .attrs .paints)) (s .state .next) (cuts (s .state .frame .viewport) (box-of (s .state)) own)) (s .rows)) row fresh-row =
-      rw (f .view, f .next, f .paints, f .opened, length-map, map-empty (o .depth))
-      (sym (row-by-row Row row-ops w (length (o .depth)) row fresh-row (draw-puts e (o .paints) (o .next) (cuts v (box-now v (o .depth)) own)) (s .rows) (f .there)
-      ∙ ap (λ (xs : List Act). do-acts Row row-ops w (length (o .depth)) xs (getD (s .rows) row fresh-row)) (draw-acts e (o .paints) (o .next) row (cuts v (box-now v (o .depth)) own)))) in
+      rw (f .view, f .next, f .paints, f .opened, length-map, map-empty (o .open-layers))
+      (sym (row-by-row Row row-ops w (length (o .open-layers)) row fresh-row (draw-puts e (o .paints) (o .next) (cuts v (box-now v (o .open-layers)) own)) (s .rows) (f .there)
+      ∙ ap (λ (xs : List Act). do-acts Row row-ops w (length (o .open-layers)) xs (getD (s .rows) row fresh-row)) (draw-acts e (o .paints) (o .next) row (cuts v (box-now v (o .open-layers)) own)))) in
       rw same at g
 
   -- .. and of one that has none
   fill-none : (ps : List Paint) (ss : List Segment) (d : Draw) (o : Story) (s : Screen Row) → Follows o s → draw-segments ss d ≡ []
-      → Grown w attrs t v row (tell-fill w v row t ps ss d o .told) (o .next + 1) (tell-fill w v row t ps ss d o .depth)
+      → Grown w attrs t v row (tell-fill w v row t ps ss d o .told) (o .next + 1) (tell-fill w v row t ps ss d o .open-layers)
       (getD (done Row row-ops w (plan-fill ps ss d (s .state)) s .rows) row fresh-row)
   unfolding done plan-fill cuts draw-puts do-puts
   fill-none ps ss d o s f e =
@@ -116,12 +116,12 @@ module _ (w : ℕ) (attrs : Attrs) (t : ℕ) (v : Box) (row : ℕ) where
   unfolding done plan-fill
   fill-follows pos ps ss d o s f j l =
       let own = draw-segments ss d in
-      let ks = here w v row t (o .depth) own in
+      let ks = here w v row t (o .open-layers) own in
       let st = s .state in
       let puts = draw-puts (eligible (is-empty (st .layers)) (draw-paint ps d) d) (length (st .attrs .paints)) (st .next) (cuts (st .frame .viewport) (box-of st) own) in
       let rest : (length (cond (is-empty own) (st .attrs) (with-paint st (d .paint) (d .blend) (d .mask) (d .thread) []) .paints) ≡ cond (is-empty own) (o .paints) (o .paints + 1))
       × (length (cond (is-empty own) (st .attrs) (with-paint st (d .paint) (d .blend) (d .mask) (d .thread) []) .layers) ≡ o .layers)
-      × Grown w attrs t v row (tell-fill w v row t ps ss d o .told) (o .next + 1) (tell-fill w v row t ps ss d o .depth)
+      × Grown w attrs t v row (tell-fill w v row t ps ss d o .told) (o .next + 1) (tell-fill w v row t ps ss d o .open-layers)
       (getD (done Row row-ops w (plan-fill ps ss d (s .state)) s .rows) row fresh-row) =
       by (is-empty own)
       (λ y. (rw y (f .paints), rw y (f .layers), fill-none ps ss d o s f (empty-list own y)))
@@ -138,7 +138,7 @@ module _ (w : ℕ) (attrs : Attrs) (t : ℕ) (v : Box) (row : ℕ) where
         first = omega arith;
         paints = rest .0;
         layers = rest .1;
-        opened = f .opened ∙ sym (touched-layers (not (is-empty ks)) (o .depth));
+        opened = f .opened ∙ sym (touched-layers (not (is-empty ks)) (o .open-layers));
         there = rw (puts-length Row row-ops w (length (st .layers)) puts (s .rows)) (f .there);
         grown = rest .2;
       }

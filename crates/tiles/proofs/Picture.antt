@@ -12,7 +12,7 @@ use Rattle.rules.specs.Rows.{Row, row-ops, fresh-row}
 use Rattle.rules.specs.Painting.{received, paint-row}
 use Rattle.rules.specs.Plans.{Frame, Step, plan}
 use Rattle.rules.specs.Steps.{Screen, reset, done, touched, call}
-use Rattle.rules.specs.Plain.{Told, shown, Story, begun, tell-step, tell-steps, plain}
+use Rattle.rules.specs.Plain.{Told, shown, Story, untold, tell-step, tell-steps, plain}
 use Rattle.rules.proofs.All.{neither}
 use Rattle.tiles.specs.Built.{Built, no-step, then}
 use Rattle.tiles.specs.Turns.{Demand-3}
@@ -48,7 +48,7 @@ module _ (w t : ℕ) (v : Box) (row : ℕ) where
       built-follows pos b (tell-step w v row t x o) (rw q g)
 
 -- a reset screen and the beginning of the story
-reset-follows : (w : ℕ) (attrs : Attrs) (t row : ℕ) (f : Frame) → row < rows-of (f .viewport) → Follows w attrs t (f .viewport) row begun (reset fresh-row f)
+reset-follows : (w : ℕ) (attrs : Attrs) (t row : ℕ) (f : Frame) → row < rows-of (f .viewport) → Follows w attrs t (f .viewport) row untold (reset fresh-row f)
 unfolding reset
 reset-follows w attrs t row f h =
     let e : getD (replicate (rows-of (f .viewport)) fresh-row) row fresh-row ≡ fresh-row = getD-replicate (rows-of (f .viewport)) row fresh-row fresh-row h in
@@ -72,7 +72,7 @@ pub row-picture : (w : ℕ) → 0 < w → (f : Frame) (xs : List Step) (u : Scre
     → received t (paint-row w (u .state .attrs) n (getD (u .rows) row fresh-row)) ≡ plain w (f .viewport) row t xs
 unfolding plain
 row-picture w pos f xs u b row t n h on =
-    let o = built-follows w t (f .viewport) row pos b begun (reset-follows w (u .state .attrs) t row f h) in
+    let o = built-follows w t (f .viewport) row pos b untold (reset-follows w (u .state .attrs) t row f h) in
     holds-picture w (u .state .attrs) t pos n on _ _ (getD (u .rows) row fresh-row) (o .grown .holds)
 
 -- .. for the tiles of the screen, over the buckets that painting has
@@ -86,14 +86,14 @@ screen-picture w pos f xs u b row t h on =
 pub built-on : (w : ℕ) → 0 < w → (f : Frame) (xs : List Step) (u : Screen Row) → Built w xs (reset fresh-row f) u
     → (row : ℕ) → row < rows-of (f .viewport) → (u .state .frame .viewport ≡ f .viewport) × (row < length (u .rows))
 built-on w pos f xs u b row h =
-    let o = built-follows w 0 (f .viewport) row pos b begun (reset-follows w (u .state .attrs) 0 row f h) in
+    let o = built-follows w 0 (f .viewport) row pos b untold (reset-follows w (u .state .attrs) 0 row f h) in
     (o .view, o .there)
 
 -- and each row's summary includes the row's depth fills
 pub built-summed : (w : ℕ) → 0 < w → (f : Frame) (xs : List Step) (u : Screen Row) → Built w xs (reset fresh-row f) u
     → (row : ℕ) → row < rows-of (f .viewport) → Summed w (u .state .attrs) (getD (u .rows) row fresh-row)
 built-summed w pos f xs u b row h =
-    built-follows w 0 (f .viewport) row pos b begun (reset-follows w (u .state .attrs) 0 row f h) .grown .holds .summed
+    built-follows w 0 (f .viewport) row pos b untold (reset-follows w (u .state .attrs) 0 row f h) .grown .holds .summed
 
 -- Demand 3 about the rules, for rows painted by turns.
 pub picture : (w : ℕ) → 0 < w → Demand-3 w

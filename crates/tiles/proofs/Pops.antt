@@ -23,8 +23,8 @@ use Rattle.rules.specs.Rows.{Row, fresh-row, row-ops}
 use Rattle.rules.specs.Plans.{Act, Put, on, close, pop, clip-segments, clip-fits, with-layer, plan-pop, close-puts, closing, clip-box}
 use Rattle.rules.specs.Steps.{Screen, do-puts, done, touched}
 use Rattle.rules.specs.Plain.{Told, Story, OpenLayer, closers, here, box-now, tell, tell-pop}
-use Rattle.rules.proofs.Changes.{puts-length}
-use Rattle.rules.proofs.Bounds.{judged-facts}
+use Rattle.rules.proofs.laws.Changes.{puts-length}
+use Rattle.rules.proofs.laws.Bounds.{judged-facts}
 use Rattle.tiles.proofs.Cases.{by}
 use Rattle.tiles.proofs.Acts.{acts-at, do-acts, row-by-row}
 use Rattle.tiles.proofs.Listed.{Rows, no-rows, row-then, acts-once, in-row}
@@ -115,7 +115,7 @@ module _ (w : ℕ) (attrs : Attrs) (t : ℕ) (v : Box) (row : ℕ) where
   pop-grows {ts} l ls g num n i q ks s false e = rw (append-nil ts) (leave-grows w attrs t v row g e)
 
   -- a done pop of the innermost layer l
-  pub pop-follows : (ss : List Segment) (o : Story) (l : OpenLayer) (ls : List OpenLayer) (s : Screen Row) → Follows w attrs t v row o s → o .depth ≡ (l ∷ ls)
+  pub pop-follows : (ss : List Segment) (o : Story) (l : OpenLayer) (ls : List OpenLayer) (s : Screen Row) → Follows w attrs t v row o s → o .open-layers ≡ (l ∷ ls)
       → judge-segments (not (clip-fits (l .layer .props .clip) ss)) (clip-segments (l .layer .props .clip) ss) ≡ Done
       → Leads w attrs t v row (with-layer (s .state) (l .layer .props))
       → Follows w attrs t v row (tell-pop w v row t (l ∷ ls) ss o)
@@ -141,7 +141,7 @@ module _ (w : ℕ) (attrs : Attrs) (t : ℕ) (v : Box) (row : ℕ) where
       let same : do-acts Row row-ops w n (cond (l .touched) (map (close-act w attrs t v row (o .layers)) ks) [] ++ keep (l .touched) pop []) r
       ≡ getD (do-puts Row row-ops w n puts (s .rows)) row fresh-row =
       ap (λ (xs : List Act). do-acts Row row-ops w n xs r) (sym acts) ∙ sym (row-by-row Row row-ops w n row fresh-row puts (s .rows) (f .there)) in
-      let deep : length (o .depth) ≡ suc (length ls) = ap (λ (xs : List OpenLayer). length xs) e in
+      let deep : length (o .open-layers) ≡ suc (length ls) = ap (λ (xs : List OpenLayer). length xs) e in
       record {
         view = f .view;
         next = ap (λ m. m + 1) (f .next);

@@ -20,7 +20,7 @@ use Rattle.rules.specs.Plans.{Layer, State, Act, Put, on, touch, paint, box-of,
 use Rattle.rules.specs.Steps.{Screen, do-puts, done}
 use Rattle.rules.specs.Plain.{Told, OpenLayer, Story, touch-all, box-now, tell, tell-push, tell-filter, in-rows}
 use Rattle.rules.proofs.All.{never}
-use Rattle.rules.proofs.Changes.{puts-length}
+use Rattle.rules.proofs.laws.Changes.{puts-length}
 use Rattle.tiles.proofs.Cases.{by}
 use Rattle.tiles.proofs.Acts.{acts-at, do-acts, row-by-row}
 use Rattle.tiles.proofs.Shape.{touched-layers}
@@ -42,22 +42,22 @@ module _ (w : ℕ) (attrs : Attrs) (t : ℕ) (v : Box) (row : ℕ) where
       → Follows w attrs t v row (tell-push w v row t p o) (done Row row-ops w (plan-push p (s .state)) s)
   unfolding done plan-push
   push-follows p o s f =
-      let b = layer-box v (box-now v (o .depth)) (p .clip) in
+      let b = layer-box v (box-now v (o .open-layers)) (p .clip) in
       let l : OpenLayer = record { layer = record { props = p; bounds = b }; touched = false } in
       let c = touches-all p b && in-rows w v row t b in
       let g = push-grows w attrs t v row (f .grown) l refl c in
       let puts : List Put = cond (touches-all p b) (map (on touch) (rows-in b)) [] in
-      let same : do-acts Row row-ops w (suc (length (o .depth))) (keep c touch []) (getD (s .rows) row fresh-row)
-      ≡ getD (do-puts Row row-ops w (suc (length (o .depth))) puts (s .rows)) row fresh-row =
-      sym (row-by-row Row row-ops w (suc (length (o .depth))) row fresh-row puts (s .rows) (f .there)
-      ∙ ap (λ (xs : List Act). do-acts Row row-ops w (suc (length (o .depth))) xs (getD (s .rows) row fresh-row)) (push-acts (touches-all p b) b)) in
+      let same : do-acts Row row-ops w (suc (length (o .open-layers))) (keep c touch []) (getD (s .rows) row fresh-row)
+      ≡ getD (do-puts Row row-ops w (suc (length (o .open-layers))) puts (s .rows)) row fresh-row =
+      sym (row-by-row Row row-ops w (suc (length (o .open-layers))) row fresh-row puts (s .rows) (f .there)
+      ∙ ap (λ (xs : List Act). do-acts Row row-ops w (suc (length (o .open-layers))) xs (getD (s .rows) row fresh-row)) (push-acts (touches-all p b) b)) in
       record {
         view = f .view;
         next = f .next;
         first = f .first;
         paints = f .paints;
         layers = f .layers;
-        opened = rw (f .view, f .opened) (sym (touched-layers c (l ∷ o .depth)));
+        opened = rw (f .view, f .opened) (sym (touched-layers c (l ∷ o .open-layers)));
         there = rw (puts-length) (f .there);
         grown = rw (f .view, f .opened, length-map) (rw same at g);
       }
@@ -83,8 +83,8 @@ module _ (w : ℕ) (attrs : Attrs) (t : ℕ) (v : Box) (row : ℕ) where
         next = o .next + 1;
         paints = o .paints + 1;
         layers = o .layers;
-        depth = touch-all (in-rows w v row t b) (o .depth);
-        told = o .told ++ tell w v row t false (o .paints) (length (o .depth)) (o .next) false (cond (in-rows w v row t b) (record { row = row; tiles = span-of b; alpha = none } ∷ []) []);
+        open-layers = touch-all (in-rows w v row t b) (o .open-layers);
+        told = o .told ++ tell w v row t false (o .paints) (length (o .open-layers)) (o .next) false (cond (in-rows w v row t b) (record { row = row; tiles = span-of b; alpha = none } ∷ []) []);
       })
       (done Row row-ops w (plan-filter-in b n q (s .state)) s)
   unfolding done plan-filter-in filter-puts
@@ -96,17 +96,17 @@ module _ (w : ℕ) (attrs : Attrs) (t : ℕ) (v : Box) (row : ℕ) where
       let g = draw-grows w attrs t v row pos (f .grown) (f .first) false (o .paints) id (λ y. never (sym y)) ks (cut-single b c) in
       let puts = map (on (paint (span-of b) none (o .paints))) (rows-in b) in
       let r = getD (s .rows) row fresh-row in
-      let same : do-acts Row row-ops w (length (o .depth)) (map (cut-act false (o .paints) (o .next)) ks) r
-      ≡ getD (do-puts Row row-ops w (length (o .depth)) puts (s .rows)) row fresh-row =
-      ap (λ (xs : List Act). do-acts Row row-ops w (length (o .depth)) xs r) (cut-acts b (o .paints) (o .next) c ∙ sym (box-acts (paint (span-of b) none (o .paints)) b))
-      ∙ sym (row-by-row Row row-ops w (length (o .depth)) row fresh-row puts (s .rows) (f .there)) in
+      let same : do-acts Row row-ops w (length (o .open-layers)) (map (cut-act false (o .paints) (o .next)) ks) r
+      ≡ getD (do-puts Row row-ops w (length (o .open-layers)) puts (s .rows)) row fresh-row =
+      ap (λ (xs : List Act). do-acts Row row-ops w (length (o .open-layers)) xs r) (cut-acts b (o .paints) (o .next) c ∙ sym (box-acts (paint (span-of b) none (o .paints)) b))
+      ∙ sym (row-by-row Row row-ops w (length (o .open-layers)) row fresh-row puts (s .rows) (f .there)) in
       record {
         view = f .view;
         next = ap (λ m. m + 1) (f .next);
         first = omega arith;
         paints = rw length-append (ap (λ m. m + 1) (f .paints));
         layers = f .layers;
-        opened = f .opened ∙ sym (touched-layers c (o .depth));
+        opened = f .opened ∙ sym (touched-layers c (o .open-layers));
         there = rw puts-length (f .there);
         grown = rw (f .paints, f .opened, length-map) (rw (cut-some b c, same) at g);
       }

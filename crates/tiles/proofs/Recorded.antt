@@ -7,12 +7,13 @@ use mathlib.Core.Option.{Option, none, some}
 use mathlib.Core.List.{List, []}
 use lib.Dec.{leb, eqb}
 use borrow.Author.Tests.{eqb-true, le-leb, lt-leb}
-use Rattle.rules.specs.Answers.{Answer, answer, Done, BadForm}
+use Rattle.rules.specs.Answers.{Answer, answer, settle, Done, BadForm}
 use Rattle.rules.specs.Boxes.{width, rows-of}
 use Rattle.rules.specs.Rows.{Row, row-ops, fresh-row}
 use Rattle.rules.specs.Steps.{Screen, reset, call}
 use Rattle.rules.specs.Recording.{Recording, shape, sections, recording}
-use Rattle.rules.specs.Walk.{Place, frame-of, judge-records, or-reset, play-records, play, walk-all, walk-logged}
+use Rattle.rules.specs.Walk.{Place, frame-of, judge-records, play-records, play, walk-all}
+use Rattle.rules.proofs.Logged.{walk-logged}
 use Rattle.rules.specs.Painting.{received}
 use Rattle.rules.specs.Plain.{plain}
 use Rattle.rules.specs.Calls.{Canvas, begin-call}
@@ -33,24 +34,24 @@ module _ (w : ℕ) (p : Place) (old : Screen Row) where
   walked r = all-walks w r .at (record { screen = reset fresh-row (frame-of p r); log = [] }) (unfold reset in refl)
 
   -- a recording by what its judgement and its walk answer
-  play-walked : (r : Recording) → eqb (judge-records w p r) Done ≡ true → play-records Row row-ops w fresh-row p old r ≡ or-reset Row row-ops w fresh-row (reset fresh-row (frame-of p r)) (walk r)
+  play-walked : (r : Recording) → eqb (judge-records w p r) Done ≡ true → play-records (Screen Row) (call Row row-ops w) (reset fresh-row) w p old r ≡ settle (walk r .number) (reset fresh-row (frame-of p r)) (walk r .value)
   unfolding play-records
   play-walked r y = rw (y, play-records)
 
   play-judged : (r : Recording) → eqb (judge-records w p r) Done ≡ false
-      → play-records Row row-ops w fresh-row p old r ≡ answer (judge-records w p r) (cond (leb (judge-records w p r) BadForm) old (reset fresh-row (frame-of p r)))
+      → play-records (Screen Row) (call Row row-ops w) (reset fresh-row) w p old r ≡ answer (judge-records w p r) (cond (leb (judge-records w p r) BadForm) old (reset fresh-row (frame-of p r)))
   unfolding play-records
   play-judged r n = rw (n, play-records)
 
-  play-done : (r : Recording) → eqb (judge-records w p r) Done ≡ true → eqb (walk r .number) Done ≡ true → play-records Row row-ops w fresh-row p old r ≡ walk r
-  play-done r y z = play-walked r y ∙ rw z
+  play-done : (r : Recording) → eqb (judge-records w p r) Done ≡ true → eqb (walk r .number) Done ≡ true → play-records (Screen Row) (call Row row-ops w) (reset fresh-row) w p old r ≡ walk r
+  play-done r y z = play-walked r y ∙ rw z (ap (λ (n : ℕ). answer n (walk r .value)) (sym (eqb-true (walk r .number) Done z)))
 
   play-stopped : (r : Recording) → eqb (judge-records w p r) Done ≡ true → eqb (walk r .number) Done ≡ false
-      → play-records Row row-ops w fresh-row p old r ≡ answer (walk r .number) (reset fresh-row (frame-of p r))
+      → play-records (Screen Row) (call Row row-ops w) (reset fresh-row) w p old r ≡ answer (walk r .number) (reset fresh-row (frame-of p r))
   play-stopped r y z = play-walked r y ∙ rw z
 
-  records-done : (r : Recording) → play-records Row row-ops w fresh-row p old r .number ≡ Done
-      → Built w (history w p r) (reset fresh-row (frame-of p r)) (play-records Row row-ops w fresh-row p old r .value) × (play-records Row row-ops w fresh-row p old r .value .state .layers ≡ [])
+  records-done : (r : Recording) → play-records (Screen Row) (call Row row-ops w) (reset fresh-row) w p old r .number ≡ Done
+      → Built w (history w p r) (reset fresh-row (frame-of p r)) (play-records (Screen Row) (call Row row-ops w) (reset fresh-row) w p old r .value) × (play-records (Screen Row) (call Row row-ops w) (reset fresh-row) w p old r .value .state .layers ≡ [])
   records-done r e = by (eqb (judge-records w p r) Done)
       (λ y. by (eqb (walk r .number) Done)
       (λ z.
@@ -64,8 +65,8 @@ module _ (w : ℕ) (p : Place) (old : Screen Row) where
   walk-late : (r : Recording) → eqb (walk r .number) Done ≡ false → 3 < walk r .number
   walk-late r z = let k = walked r in rw (k .number) at (k .late (rw (k .number) z))
 
-  records-early : (r : Recording) → 0 < play-records Row row-ops w fresh-row p old r .number → play-records Row row-ops w fresh-row p old r .number ≤ 3
-      → play-records Row row-ops w fresh-row p old r .value ≡ old
+  records-early : (r : Recording) → 0 < play-records (Screen Row) (call Row row-ops w) (reset fresh-row) w p old r .number → play-records (Screen Row) (call Row row-ops w) (reset fresh-row) w p old r .number ≤ 3
+      → play-records (Screen Row) (call Row row-ops w) (reset fresh-row) w p old r .value ≡ old
   records-early r a b = by (eqb (judge-records w p r) Done)
       (λ y. by (eqb (walk r .number) Done)
       (λ z.
@@ -81,8 +82,8 @@ module _ (w : ℕ) (p : Place) (old : Screen Row) where
       let l : leb (judge-records w p r) BadForm ≡ true = le-leb (judge-records w p r) BadForm (omega arith) in
       ap (λ (x : Answer (Screen Row)). x .value) (play-judged r n) ∙ rw l)
 
-  records-reset : (r : Recording) → 3 < play-records Row row-ops w fresh-row p old r .number
-      → play-records Row row-ops w fresh-row p old r .value ≡ reset fresh-row (frame-of p r)
+  records-reset : (r : Recording) → 3 < play-records (Screen Row) (call Row row-ops w) (reset fresh-row) w p old r .number
+      → play-records (Screen Row) (call Row row-ops w) (reset fresh-row) w p old r .value ≡ reset fresh-row (frame-of p r)
   records-reset r a = by (eqb (judge-records w p r) Done)
       (λ y. by (eqb (walk r .number) Done)
       (λ z.
@@ -100,7 +101,7 @@ module _ (w : ℕ) (p : Place) (old : Screen Row) where
   unfolding play
   play-none ws e = rw (e, play)
 
-  play-some : (ws : List ℕ) (ss : List (List (List ℕ))) → sections shape ws ≡ some ss → played w p old ws ≡ play-records Row row-ops w fresh-row p old (recording ss)
+  play-some : (ws : List ℕ) (ss : List (List (List ℕ))) → sections shape ws ≡ some ss → played w p old ws ≡ play-records (Screen Row) (call Row row-ops w) (reset fresh-row) w p old (recording ss)
   unfolding play
   play-some ws ss e = rw (e, play)
 

@@ -57,7 +57,7 @@ module _ (w : ℕ) (attrs : Attrs) (t : ℕ) (v : Box) (row : ℕ) where
       → plan-filter n q (s .state) .refused ≡ Done → Leads w attrs t v row (plan-filter n q (s .state) .attrs)
       → Follows w attrs t v row (tell-filter w v row t q o) (done Row row-ops w (plan-filter n q (s .state)) s)
   filter-follows pos n q o s f j l =
-      let b = filter-box v (box-now v (o .depth)) q in
+      let b = filter-box v (box-now v (o .open-layers)) q in
       let e : filter-box (s .state .frame .viewport) (box-of (s .state)) q ≡ b = rw (f .view, f .opened) in
       let d : draws-nothing q (filter-box (s .state .frame .viewport) (box-of (s .state)) q) ≡ draws-nothing q b = ap (draws-nothing q) e in
       by (good-filter q && leb n 4096)
@@ -68,7 +68,7 @@ module _ (w : ℕ) (attrs : Attrs) (t : ℕ) (v : Box) (row : ℕ) where
       rw (z, p) (filter-in w attrs t v row pos n q b o s f (rw p at l))))
       (λ z. let k : _≡_ {A = ℕ} BadRecord Done = sym (filter-bad n q (s .state) z) ∙ j in absurd (omega arith))
 
-  pop-any : (ss : List Segment) (o : Story) (ds : List OpenLayer) (s : Screen Row) → Follows w attrs t v row o s → o .depth ≡ ds → (ms : List Layer) → ms ≡ map layer-in ds
+  pop-any : (ss : List Segment) (o : Story) (ds : List OpenLayer) (s : Screen Row) → Follows w attrs t v row o s → o .open-layers ≡ ds → (ms : List Layer) → ms ≡ map layer-in ds
       → plan-pop ms ss (touched Row row-ops w (length ms) 0 (s .rows)) (s .state) .refused ≡ Done
       → Leads w attrs t v row (plan-pop ms ss (touched Row row-ops w (length ms) 0 (s .rows)) (s .state) .attrs)
       → Follows w attrs t v row (tell-pop w v row t ds ss o) (done Row row-ops w (plan-pop ms ss (touched Row row-ops w (length ms) 0 (s .rows)) (s .state)) s)
@@ -84,7 +84,7 @@ module _ (w : ℕ) (attrs : Attrs) (t : ℕ) (v : Box) (row : ℕ) where
   unfolding plan tell-step
   step-follows pos (a-fill ps ss d) o s f j l = fill-follows w attrs t v row pos ps ss d o s f j l
   step-follows pos (a-push p) o s f j l = push-follows w attrs t v row p o s f
-  step-follows pos (a-pop ss) o s f j l = pop-any ss o (o .depth) s f refl (s .state .layers) (f .opened) j l
+  step-follows pos (a-pop ss) o s f j l = pop-any ss o (o .open-layers) s f refl (s .state .layers) (f .opened) j l
   step-follows pos (a-filter n q) o s f j l = filter-follows pos n q o s f j l
 
   -- attributes are only added

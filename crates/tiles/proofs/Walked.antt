@@ -17,7 +17,8 @@ use Rattle.rules.specs.Rows.{Row, row-ops}
 use Rattle.rules.specs.Plans.{Layer, State, Step, a-fill, a-push, a-pop, a-filter, Plan, still, box-of, filter-box, draws-nothing, plan-fill, plan-push, plan-pop, plan-filter-in, plan-filter, plan}
 use Rattle.rules.specs.Steps.{Screen, done, passes, refusal, perform, touched, call}
 use Rattle.rules.specs.Recording.{Recording, LayerRec, Node}
-use Rattle.rules.specs.Walk.{_then_, when, each, props-of, no-layer, walk-filter, walk-node, walk-nodes, walk-layer, walk-all, Logged, logged-call}
+use Rattle.rules.specs.Walk.{_then_, when, each, props-of, no-layer, walk-filter, walk-node, walk-nodes, walk-layer, walk-all}
+use Rattle.rules.proofs.Logged.{Logged, logged-call}
 use Rattle.rules.proofs.All.{All, nil, cons, never}
 use Rattle.tiles.specs.Built.{Built, no-step, then}
 use Rattle.tiles.proofs.Cases.{by}

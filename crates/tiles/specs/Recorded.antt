@@ -6,14 +6,15 @@ use mathlib.Core.Option.{some}
 use Rattle.rules.specs.Answers.{Answer}
 use Rattle.rules.specs.Rows.{Row, row-ops, fresh-row}
 use Rattle.rules.specs.Plans.{Step}
-use Rattle.rules.specs.Steps.{Screen, reset}
+use Rattle.rules.specs.Steps.{Screen, reset, call}
 use Rattle.rules.specs.Recording.{Recording, shape, sections, recording}
-use Rattle.rules.specs.Walk.{Place, frame-of, play, walk-logged}
+use Rattle.rules.specs.Walk.{Place, frame-of, play}
+use Rattle.rules.proofs.Logged.{walk-logged}
 use Rattle.tiles.specs.Built.{Built}
 
 -- the file's words ws played, where the screen was `old`
 abbrev pub played : ℕ → Place → Screen Row → List ℕ → Answer (Screen Row)
-played w p old ws = play Row row-ops w fresh-row p old ws
+played w p old ws = play (Screen Row) (call Row row-ops w) (reset fresh-row) w p old ws
 
 -- the steps of a recording's walk from the reset, each that was called
 abbrev pub history : ℕ → Place → Recording → List Step

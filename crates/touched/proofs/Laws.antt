@@ -18,8 +18,8 @@ use Rattle.rules.specs.Rows.{Row, fresh-row, row-ops}
 use Rattle.rules.specs.Plans.{Frame, Layer, State, Step, a-fill, a-push, a-pop, a-filter, Act, paint, opaque, touch, close, pop, Put, on, Plan, still, clip-box, box-of, draw-act, draw-puts, plan-fill, layer-box, touches-all, plan-push, clip-segments, close-puts, closing, plan-pop, filter-box, draws-nothing, filter-puts, plan-filter-in, plan-filter, plan}
 use Rattle.rules.specs.Steps.{Screen, reset, do-act, do-puts, done, refusal, perform, touched, call}
 use Rattle.rules.proofs.All.{All, nil, cons, both, never, all-if, all-mapped, all-over, all-join, all-any, all-map}
-use Rattle.rules.proofs.Changes.{change-else, puts-append}
-use Rattle.rules.proofs.Maps.{planned}
+use Rattle.rules.proofs.laws.Changes.{change-else, puts-append}
+use Rattle.rules.proofs.laws.Maps.{planned}
 use Rattle.touched.specs.Touched.{In, Under, Nested, Boxed, levels-at, Reached, Reaching}
 use Rattle.touched.proofs.Levels.{levels, levels-after, act-levels, changed-at, past-levels}
 

@@ -7,7 +7,7 @@ use Rattle.text.specs.Texts.{text, Wrote}
 use Rattle.list.specs.Places.{joined}
 use Rattle.list.proofs.Joins.{one-of, places-none, places-more, places-all}
 use Rattle.details.specs.Bytes.{detail-bytes, details-text}
-use Rattle.rules.specs.Details.{layer-attr-line}
+use Rattle.details.specs.Details.{layer-attr-line}
 use Rattle.details.specs.Tables.{layer-attr-at}
 use Rattle.details.proofs.put_layer_attrs.Statement.{statement}
 use Rattle.details.proofs.put_layer_attrs.Tie as tie

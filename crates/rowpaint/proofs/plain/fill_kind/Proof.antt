@@ -2,7 +2,7 @@ use Prim.Native.Nat.{_/_, _%_}
 use mathlib.Core.Path.{sym, _∙_}
 use native.Mathlib.Omega.{arith}
 use borrow.Author.Tests.{not-false}
-use Rattle.rules.specs.Commands.{word-span}
+use Rattle.cmd.specs.Reading.{word-span}
 use Rattle.rowpaint.specs.Kinds.{summary-by}
 use Rattle.rowpaint.proofs.Looks.{one-seen, one-hidden, met-seen, met-hidden, clear-whole, searched, none-said, whole-said, hidden-said}
 use borrow.Author.Needs.{needs}

@@ -1,6 +1,6 @@
 use mathlib.Core.Path.{sym, _∙_}
 use borrow.Author.Needs.{needs}
-use Rattle.rules.specs.Commands.{depth-fill-of}
+use Rattle.cmd.specs.Reading.{depth-fill-of}
 use Rattle.cmd.proofs.depth_fill.DepthWords.read.Statement.{statement}
 use Rattle.cmd.proofs.depth_fill.DepthWords.read.Tie as tie
 

@@ -1,27 +1,27 @@
--- Each answer number, from calls at the rules' own rows, on both sides of its edge: one table with one computed test.
+-- Tests: each answer number, from calls at the rules' own rows, on both sides of its edge: one table with one computed test.
 use Prim.Native.Nat.{ℕ, _+_}
 use mathlib.Core.Path.{_≡_, refl}
-use mathlib.Core.Bool.{Bool, true, false}
+use mathlib.Core.Bool.{true, false}
 use mathlib.Core.List.{List, [], _∷_, _++_}
 use mathlib.Core.Option.{none, some}
 use lib.ListN.{replicate}
 use lib.Dec.{eqb}
 use Rattle.rules.specs.Lists.{every}
-use Rattle.rules.specs.Answers.{Answer, Done, BadArena, BadViewport, BadRecord, BadOrder, Deep, NoLayer, Ids, FullAttrs, FullRow, FullDepth, BadRun, Open, NoRoom}
+use Rattle.rules.specs.Answers.{Answer, answer, Done, BadArena, BadViewport, BadForm, BadRecord, BadOrder, Deep, NoLayer, Ids, FullAttrs, FullRow, FullDepth, BadRun, Open, NoRoom}
 use Rattle.rules.specs.Boxes.{Box, box}
-use Rattle.rules.specs.Spans.{Span, span}
+use Rattle.rules.specs.Spans.{span}
 use Rattle.rules.specs.Split.{split-answer}
 use Rattle.rules.specs.Blends.{default-blend}
 use Rattle.rules.specs.Segments.{Segment}
-use Rattle.rules.specs.Inputs.{Paint, Draw, Props, Clip, Filter}
+use Rattle.rules.specs.Inputs.{Props}
 use Rattle.rules.specs.Attributes.{PaintAttr, LayerAttr, FilterPaint, Attrs, no-attrs}
 use Rattle.rules.specs.Rows.{fresh-row}
-use Rattle.rules.specs.Plans.{Frame, Layer, State, Step, a-fill, a-push, a-pop, a-filter}
-use Rattle.rules.specs.Steps.{Screen}
-use Rattle.rules.specs.Walk.{Arenas, needed}
-use Rattle.rules.specs.Calls.{Canvas, Given, fresh-canvas, reset-call, step-call, begin-call, paint-call, unset-call, visible-call, write-call, can-skip-call}
-use Rattle.rules.specs.Samples.{solid, alpha, opaque-paint, full, filter, minus}
-use Rattle.rules.specs.Computing.{computing}
+use Rattle.rules.specs.Plans.{Frame, Layer, Step, a-fill, a-push, a-pop, a-filter}
+use Rattle.rules.proofs.Words.{file}
+use Rattle.rules.specs.Walk.{needed}
+use Rattle.rules.specs.Calls.{Canvas, fresh-canvas, reset-call, step-call, record-call, begin-call, paint-call, unset-call, visible-call, write-call, can-skip-call}
+use Rattle.rules.proofs.Samples.{solid, alpha, opaque-paint, draw, blend, clip, full, filter, node, rec, minus}
+use Rattle.rules.proofs.Computing.{computing}
 
 -- a screen of one row and two buckets, with room for one command and one depth fill
 abbrev frame : Frame
@@ -37,6 +37,12 @@ with-state n a ls =
       begun = false;
       painters = start .painters;
     }
+
+-- a layer open whose clip has segments a to b
+abbrev clip-open : ℕ → ℕ → Canvas
+clip-open a b =
+    with-state 1 no-attrs
+    (record { props = record { blend = default-blend; opacity = full; mask = 0; clip = some (clip (box 0 0 256 4) a b 0) }; bounds = box 0 0 256 4 } ∷ [])
 
 abbrev next-id : ℕ → Canvas
 next-id n = with-state n no-attrs []
@@ -77,30 +83,44 @@ attrs a b c = record { paints = replicate a attr; layers = replicate b layer-att
 abbrev after : Step → Canvas → Canvas
 after x k = step-call 32 x k .value
 
-abbrev begun : Canvas → Canvas
-begun k = begin-call 32 k .value
+abbrev begins : Canvas → Canvas
+begins k = begin-call 32 k .value
 
 -- one depth fill on the row, painting begun
 abbrev painting : Canvas
-painting = begun (after (fills (solid 0 0 64 ∷ []) 1) start)
+painting = begins (after (fills (solid 0 0 64 ∷ []) 1) start)
 
 -- bucket 0 holds id 9 after a direct writing run
 abbrev nine : Canvas
 nine = write-call 32 9 0 2 (span 0 1) start .canvas
 
+-- a recording of one row and two buckets at C = D = 1, and its words
+abbrev recorded : List ℕ → Canvas → Answer Canvas
+recorded ws k = record-call 32 1 1 (record { render = 4; fills = 2; depth = 2 }) ws k
+
+abbrev a-file : List ℕ
+a-file = file (rec (box 0 0 256 4) (solid 0 0 64 ∷ []) (draw 0 1 ∷ []) [] (node 0 1 0 ∷ []) 0 1)
+
 -- what a call answered, and what it has to answer
-pub record Told : Type 0 where
+pub record Answered : Type 0 where
   pub got : ℕ
   pub due : ℕ
 
 infixl 70 _is_
-abbrev _is_ : ℕ → ℕ → Told
+abbrev _is_ : ℕ → ℕ → Answered
 _is_ a b = record { got = a; due = b }
 
-abbrev pub answers : List Told
+abbrev pub answers : List Answered
 answers =
+    -- 3, before all
+    recorded a-file start .number is Done
+    ∷ recorded (a-file ++ (0 ∷ [])) start .number is BadForm
+    ∷ recorded [] start .number is BadForm
+    ∷ record-call 32 1 1 (record { render = 2048; fills = 1024; depth = 0 }) (file (rec (box 0 0 0 2048) [] [] [] [] 0 0)) start .number is Done
+    ∷ recorded (file (rec (box 2 0 256 4) [] [] [] [] 1 0) ++ (0 ∷ [])) start .number is BadForm
+    ∷ recorded (file (rec (box 2 0 256 4) [] [] [] [] 1 0)) start .number is BadViewport
     -- 2, then 1
-    resets (box 0 0 4096 2048) 1 1024 0 is Done
+    ∷ resets (box 0 0 4096 2048) 1 1024 0 is Done
     ∷ resets (box 0 0 4100 2048) 1 1 0 is BadViewport
     ∷ resets (box 0 0 4096 2052) 1 1 0 is BadViewport
     ∷ resets (box 2 0 4 4) 1 1 0 is BadViewport
@@ -116,6 +136,11 @@ answers =
     ∷ steps (fills (alpha 0 0 1 4294967280 ∷ []) 1) start is BadRecord
     ∷ steps (fills (solid 0 5 6 ∷ solid 0 5 7 ∷ []) 2) start is BadOrder
     ∷ steps (fills (solid 0 5 6 ∷ solid 0 5 7 ∷ []) 1) start is Done
+    ∷ steps (a-push (record { blend = blend 0 14; opacity = full; mask = 0; clip = none })) start is BadRecord
+    ∷ steps (a-pop (solid 0 5 6 ∷ [])) (clip-open 0 1) is Done
+    ∷ steps (a-pop (solid 0 5 6 ∷ [])) (clip-open 0 2) is BadRecord
+    ∷ steps (a-pop (solid 0 5 5 ∷ [])) (clip-open 0 1) is BadRecord
+    ∷ steps (a-pop (solid 0 5 6 ∷ solid 0 5 7 ∷ [])) (clip-open 0 2) is BadOrder
     ∷ steps (a-filter 4096 (filter 1 (box 0 0 4 4) 0 0)) start is Done
     ∷ steps (a-filter 4097 (filter 1 (box 0 0 4 4) 0 0)) start is BadRecord
     ∷ steps (a-filter 0 (filter 0 (box 2 0 4 4) 0 0)) start is BadRecord
@@ -133,6 +158,7 @@ answers =
     ∷ steps (fills (solid 9 0 1 ∷ []) 1) (with-state 1 (attrs 1023 0 0) []) is Done
     ∷ steps (fills (solid 9 0 1 ∷ []) 1) (with-state 1 (attrs 1024 0 0) []) is FullAttrs
     ∷ steps (fills [] 0) (with-state 1 (attrs 1024 0 0) []) is Done
+    ∷ steps (a-pop []) (with-state 1 (attrs 0 1023 0) (open-layer ∷ [])) is Done
     ∷ steps (a-pop []) (with-state 1 (attrs 0 1024 0) (open-layer ∷ [])) is FullAttrs
     ∷ steps (a-filter 0 (filter 1 (box 0 0 4 4) 0 0)) (with-state 1 (attrs 0 0 256) []) is FullAttrs
     ∷ steps (a-filter 0 (filter 1 (box 0 0 4 4) 0 0)) (with-state 1 (attrs 0 0 255) []) is Done
@@ -151,6 +177,10 @@ answers =
     ∷ paint-call 32 0 9 (after (fills [] 0) painting) .number is Open
     ∷ paint-call 32 0 9 (write-call 32 1 0 9 (span 0 1) painting .canvas) .number is Open
     ∷ paint-call 32 0 9 (unset-call 32 0 9 (span 0 1) painting .canvas) .number is Done
+    -- .. a done recording and one refused for its records end painting, one refused for its form does not
+    ∷ paint-call 32 0 9 (recorded a-file painting .value) .number is Open
+    ∷ paint-call 32 0 9 (recorded (file (rec (box 0 0 256 4) [] [] [] [] 1 0)) painting .value) .number is Open
+    ∷ paint-call 32 0 9 (recorded [] painting .value) .number is Done
     -- 12, then 14
     ∷ paint-call 32 1 0 start .number is BadRun
     ∷ paint-call 32 0 0 painting .number is NoRoom
@@ -175,6 +205,11 @@ answers =
     ∷ split-answer 32 (span 6 5) .number is BadRun
     ∷ []
 
-pub all-due : every (λ (t : Told). eqb (t .got) (t .due)) answers ≡ true
+pub all-due : every (λ (t : Answered). eqb (t .got) (t .due)) answers ≡ true
 unfolding computing
 all-due = refl
+
+-- A done recording leaves the canvas that its steps make of a fresh one: the depth words of what stood there before are cleared.
+pub recorded-clears : recorded a-file nine ≡ answer Done (after (fills (solid 0 0 64 ∷ []) 1) start)
+unfolding computing
+recorded-clears = refl

@@ -19,7 +19,7 @@ use Rattle.rules.specs.Rows.{RowOps}
 use Rattle.rules.specs.Plans.{Frame, Layer, State, Step, a-fill, a-push, a-pop, a-filter, paint, touch, close, pop, on, Plan, still, clip-box, box-of, draw-act, draw-puts, plan-fill, layer-box, touches-all, plan-push, clip-segments, clip-fits, close-puts, closing, plan-pop, filter-box, draws-nothing, filter-puts, plan-filter-in, plan-filter, plan}
 use Rattle.rules.specs.Steps.{Screen, reset, done, refusal, perform, touched, call}
 use Rattle.rules.proofs.All.{All, nil, cons, head, tail, both, all-if, all-append, all-mapped, all-join, every-all}
-use Rattle.rules.proofs.Maps.{ActOk, paints, splits, touches, closes, pops, PutOk, planned}
+use Rattle.rules.proofs.laws.Maps.{ActOk, paints, splits, touches, closes, pops, PutOk, planned}
 
 -- both ends at tile 8,192 at the latest
 pub record BoundedSpan (s : Span) : Type 0 where

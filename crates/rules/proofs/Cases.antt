@@ -1,19 +1,19 @@
--- Directed cases: a recording, and what `rowlist` and `rowdump` print of it, by computation.
-use Prim.Native.Nat.{ℕ}
+-- Tests: directed cases. A recording, the lines that `rowlist` prints of it, its attributes and its painted pieces, by computation.
 use mathlib.Core.Path.{_≡_, refl}
-use mathlib.Core.Bool.{Bool, true, _&&_}
-use mathlib.Core.List.{List, [], _∷_}
+use mathlib.Core.Bool.{true}
+use mathlib.Core.List.{[], _∷_}
 use mathlib.Core.Option.{none, some}
-use Rattle.rules.specs.Lists.{every, slice}
+use lib.IntN.{pos}
+use Rattle.rules.specs.Lists.{every}
 use Rattle.rules.specs.Spans.{span}
 use Rattle.rules.specs.Boxes.{box}
 use Rattle.rules.specs.Blends.{default-blend}
-use Rattle.rules.specs.Recording.{Recording, file}
-use Rattle.rules.specs.Lines.{Line, header, row, D, P, L, B, E, refused, rowlist-words}
-use Rattle.rules.specs.Details.{Detail, paint-attributes, A, layer-attributes, Y, filter-paints, F, painted, p, l, rowdump-words}
-use Rattle.rules.specs.Picture.{same-picture}
-use Rattle.rules.specs.Computing.{computing}
-use Rattle.rules.specs.Samples.{solid, alpha, opaque-paint, draw, full, a-nan, layer, composed, clipped, filtered, filter, node, rec, minus}
+use Rattle.rules.specs.Recording.{Recording}
+use Rattle.rules.proofs.Words.{file}
+use Rattle.rules.specs.Lines.{header, row, D, P, L, B, E, refused, rowlist-words}
+use Rattle.rules.proofs.Picture.{same-picture}
+use Rattle.rules.proofs.Computing.{computing}
+use Rattle.rules.proofs.Samples.{solid, alpha, opaque-paint, draw, blend, clip, no-filter, full, a-nan, layer, composed, clipped, filtered, filter, node, rec, minus, attrs, paint-attr, layer-attr, filter-paint, paint-piece, layer-piece, attributes, pieces}
 
 -- An alpha segment cut at the left: the screen begins at tile 4, so its index moves by 4 x 16.
 abbrev pub left-cut : Recording
@@ -121,22 +121,13 @@ pub shifted-lines :
 unfolding computing
 shifted-lines = refl
 
-pub shifted-details :
-    rowdump-words (file shifted) ≡
-    paint-attributes 1
-    ∷ A 1 0 3 0 1 0 0 0
-    ∷ layer-attributes 0
-    ∷ filter-paints 1
-    ∷ F 0 5 (minus 19) (minus 4)
-    ∷ painted 0 0
-    ∷ painted 1 1
-    ∷ p 0 5 15 none 0
-    ∷ painted 2 1
-    ∷ p 0 5 15 none 0
-    ∷ painted 3 0
-    ∷ []
+pub shifted-attributes : attributes shifted ≡ attrs (paint-attr 1 0 3 0 1 0 0 0 ∷ []) [] (filter-paint 5 (minus 19) (minus 4) ∷ [])
 unfolding computing
-shifted-details = refl
+shifted-attributes = refl
+
+pub shifted-pieces : pieces shifted ≡ [] ∷ (paint-piece 0 5 15 none 0 ∷ []) ∷ (paint-piece 0 5 15 none 0 ∷ []) ∷ [] ∷ []
+unfolding computing
+shifted-pieces = refl
 
 -- A filter with NaN opacity needs a buffer, and the pattern is kept.
 abbrev pub nan-filter : Recording
@@ -148,20 +139,13 @@ pub nan-lines :
 unfolding computing
 nan-lines = refl
 
-pub nan-details :
-    rowdump-words (file nan-filter) ≡
-    paint-attributes 1
-    ∷ A 1 0 3 0 1 0 0 0
-    ∷ layer-attributes 1
-    ∷ Y 0 3 a-nan 0 2 0
-    ∷ filter-paints 1
-    ∷ F 0 5 (minus 0) (minus 0)
-    ∷ painted 0 2
-    ∷ p 0 0 8 none 1
-    ∷ l 0 0 16 none 1
-    ∷ []
+pub nan-attributes : attributes nan-filter ≡ attrs (paint-attr 1 0 3 0 1 0 0 0 ∷ []) (layer-attr 0 3 a-nan 0 2 0 ∷ []) (filter-paint 5 (minus 0) (minus 0) ∷ [])
 unfolding computing
-nan-details = refl
+nan-attributes = refl
+
+pub nan-pieces : pieces nan-filter ≡ (paint-piece 0 0 8 none 1 ∷ layer-piece 0 0 16 none 1 ∷ []) ∷ []
+unfolding computing
+nan-pieces = refl
 
 -- A filter with pixmap 0 draws nothing; with a mask it is still pushed and popped, which takes an id.
 abbrev pub no-pixmap : Recording
@@ -212,20 +196,13 @@ pub last-bucket-lines :
 unfolding computing
 last-bucket-lines = refl
 
-pub last-bucket-details :
-    rowdump-words (file last-bucket) ≡
-    paint-attributes 2
-    ∷ A 0 0 3 0 1 0 0 0
-    ∷ A 0 0 3 0 2 0 0 0
-    ∷ layer-attributes 0
-    ∷ filter-paints 0
-    ∷ painted 0 3
-    ∷ p 1 0 32 none 0
-    ∷ p 0 32 50 (some 224) 0
-    ∷ p 1 32 50 none 0
-    ∷ []
+pub last-bucket-attributes : attributes last-bucket ≡ attrs (paint-attr 0 0 3 0 1 0 0 0 ∷ paint-attr 0 0 3 0 2 0 0 0 ∷ []) [] []
 unfolding computing
-last-bucket-details = refl
+last-bucket-attributes = refl
+
+pub last-bucket-pieces : pieces last-bucket ≡ (paint-piece 1 0 32 none 0 ∷ paint-piece 0 32 50 (some 224) 0 ∷ paint-piece 1 32 50 none 0 ∷ []) ∷ []
+unfolding computing
+last-bucket-pieces = refl
 
 -- A viewport that begins at 128, 64: rows and tiles count from there, the clip box stops at its edge, and attributes name its origin.
 abbrev pub away : Recording
@@ -252,6 +229,15 @@ pub away-lines :
 unfolding computing
 away-lines = refl
 
+pub away-attributes :
+    attributes away ≡
+    attrs
+    (paint-attr 0 0 3 0 1 0 128 64 ∷ paint-attr 0 0 3 0 2 0 128 64 ∷ paint-attr 0 0 3 0 3 0 128 64 ∷ [])
+    (layer-attr 0 3 full 0 4 3 ∷ [])
+    []
+unfolding computing
+away-attributes = refl
+
 -- A panel over a banner: the newer depth fill is painted first, and hides the alpha fill that came before it in its bucket.
 abbrev pub panel : Recording
 panel =
@@ -269,24 +255,13 @@ pub panel-lines :
 unfolding computing
 panel-lines = refl
 
-pub panel-details :
-    rowdump-words (file panel) ≡
-    paint-attributes 3
-    ∷ A 0 0 3 0 1 0 0 0
-    ∷ A 0 0 3 0 2 0 0 0
-    ∷ A 0 0 3 0 3 0 0 0
-    ∷ layer-attributes 0
-    ∷ filter-paints 0
-    ∷ painted 0 6
-    ∷ p 2 64 96 none 0
-    ∷ p 0 0 64 none 0
-    ∷ p 0 96 128 none 0
-    ∷ p 1 20 64 (some 320) 0
-    ∷ p 2 40 64 none 0
-    ∷ p 2 96 100 none 0
-    ∷ []
+pub panel-attributes : attributes panel ≡ attrs (paint-attr 0 0 3 0 1 0 0 0 ∷ paint-attr 0 0 3 0 2 0 0 0 ∷ paint-attr 0 0 3 0 3 0 0 0 ∷ []) [] []
 unfolding computing
-panel-details = refl
+panel-attributes = refl
+
+pub panel-pieces : pieces panel ≡ (paint-piece 2 64 96 none 0 ∷ paint-piece 0 0 64 none 0 ∷ paint-piece 0 96 128 none 0 ∷ paint-piece 1 20 64 (some 320) 0 ∷ paint-piece 2 40 64 none 0 ∷ paint-piece 2 96 100 none 0 ∷ []) ∷ []
+unfolding computing
+panel-pieces = refl
 
 -- Rule 6: of four draws over the same buckets only the first is eligible. The second has a mask, the third a blend, the fourth a paint that
 -- is not opaque.
@@ -314,6 +289,157 @@ pub ineligible-lines :
 unfolding computing
 ineligible-lines = refl
 
+-- What a draw and a layer are given stands in their attributes: paint, blend, mask, thread, opacity, the clip's thread; the viewport's
+-- origin beside a paint's. The clip box begins inside the viewport on the x axis.
+abbrev pub kept : Recording
+kept =
+    record {
+      viewport = box 128 64 384 72;
+      paints = opaque-paint ∷ record { opaque = 0; handle = 8 } ∷ [];
+      segments = solid 16 40 60 ∷ solid 16 40 50 ∷ [];
+      draws = record { thread = 5; start = 0; end = 1; paint = 1; blend = blend 2 4; mask = 9 } ∷ [];
+      layers =
+          record {
+            kind = 0;
+            start = 1;
+            end = 2;
+            blend = blend 1 2;
+            opacity = 1056964608;
+            mask = 4;
+            flag = 1;
+            clip = clip (box 160 64 256 68) 1 2 3;
+            filter = no-filter;
+          }
+          ∷ [];
+      nodes = node 0 0 1 ∷ node 0 1 0 ∷ [];
+      start = 0;
+      end = 1;
+    }
+
+pub kept-lines :
+    rowlist-words (file kept) ≡
+    header 2 2 2 ∷ row 0 0 4 ∷ B (some (span 8 28)) ∷ P 8 28 none 0 ∷ L 8 18 none 0 ∷ E ∷ row 1 0 0 ∷ []
+unfolding computing
+kept-lines = refl
+
+pub kept-attributes : attributes kept ≡ attrs (paint-attr 1 2 4 9 1 5 128 64 ∷ []) (layer-attr 1 2 1056964608 4 2 3 ∷ []) []
+unfolding computing
+kept-attributes = refl
+
+-- Two filter fills away from the origin: the first begins before the viewport, which stops its box but not its shift; the second inside it.
+-- Their paints are counted after the paint list's.
+abbrev pub placed : Recording
+placed =
+    rec (box 128 64 384 72) [] []
+    (filtered full 0 (filter 5 (box 120 65 200 67) 7 90) ∷ filtered full 0 (filter 6 (box 160 68 200 70) 170 60) ∷ [])
+    (node 0 0 1 ∷ node 0 0 2 ∷ [])
+    0
+    2
+
+pub placed-lines : rowlist-words (file placed) ≡ header 2 2 2 ∷ row 0 0 1 ∷ P 0 18 none 0 ∷ row 1 0 1 ∷ P 8 18 none 1 ∷ []
+unfolding computing
+placed-lines = refl
+
+pub placed-attributes :
+    attributes placed ≡
+    attrs
+    (paint-attr 1 0 3 0 1 0 128 64 ∷ paint-attr 2 0 3 0 2 0 128 64 ∷ [])
+    []
+    (filter-paint 5 (minus 113) (pos 25) ∷ filter-paint 6 (pos 10) (minus 8) ∷ [])
+unfolding computing
+placed-attributes = refl
+
+-- A destructive push of a box that is empty on the x axis touches nothing; its pop takes an id.
+abbrev pub empty-push : Recording
+empty-push =
+    rec (box 0 0 64 8) [] []
+    (record {
+      kind = 0;
+      start = 0;
+      end = 0;
+      blend = blend 0 5;
+      opacity = full;
+      mask = 0;
+      flag = 1;
+      clip = clip (box 8 0 8 4) 0 0 0;
+      filter = no-filter;
+    }
+    ∷ [])
+    (node 0 0 1 ∷ [])
+    0
+    1
+
+pub empty-push-lines : rowlist-words (file empty-push) ≡ header 2 1 1 ∷ row 0 0 0 ∷ row 1 0 0 ∷ []
+unfolding computing
+empty-push-lines = refl
+
+-- A filter layer with a clip needs a buffer: the clip's box cuts the fill, the parent's box the closing clip.
+abbrev pub clipped-filter : Recording
+clipped-filter =
+    rec (box 0 0 64 4)
+    (solid 0 0 9 ∷ [])
+    []
+    (record {
+      kind = 1;
+      start = 0;
+      end = 0;
+      blend = default-blend;
+      opacity = full;
+      mask = 0;
+      flag = 1;
+      clip = clip (box 0 0 16 4) 0 1 2;
+      filter = filter 5 (box 0 0 32 4) 0 0;
+    }
+    ∷ [])
+    (node 0 0 1 ∷ [])
+    0
+    1
+
+pub clipped-filter-lines :
+    rowlist-words (file clipped-filter) ≡
+    header 1 1 2 ∷ row 0 0 4 ∷ B (some (span 0 9)) ∷ P 0 4 none 0 ∷ L 0 9 none 0 ∷ E ∷ []
+unfolding computing
+clipped-filter-lines = refl
+
+-- An empty draw takes an id and no attribute; two layers one after the other, with a draw between, have attributes of their own. Both hold the
+-- same node.
+abbrev pub in-turn : Recording
+in-turn =
+    rec (box 0 0 256 4)
+    (solid 0 0 8 ∷ solid 0 10 20 ∷ [])
+    (draw 0 0 ∷ draw 0 1 ∷ draw 1 2 ∷ [])
+    (layer 2 3 ∷ layer 2 3 ∷ [])
+    (node 0 2 1 ∷ node 1 2 2 ∷ node 2 3 0 ∷ [])
+    0
+    2
+
+pub in-turn-lines :
+    rowlist-words (file in-turn) ≡
+    header 1 2 7
+    ∷ row 0 0 10
+    ∷ P 0 8 none 0
+    ∷ B (some (span 0 64))
+    ∷ P 10 20 none 1
+    ∷ L 0 64 none 0
+    ∷ E
+    ∷ P 0 8 none 2
+    ∷ B (some (span 0 64))
+    ∷ P 10 20 none 3
+    ∷ L 0 64 none 1
+    ∷ E
+    ∷ []
+unfolding computing
+in-turn-lines = refl
+
+pub in-turn-attributes :
+    attributes in-turn ≡
+    attrs
+    (paint-attr 0 0 3 0 2 0 0 0 ∷ paint-attr 0 0 3 0 3 0 0 0 ∷ paint-attr 0 0 3 0 5 0 0 0 ∷ paint-attr 0 0 3 0 6 0 0 0 ∷ [])
+    (layer-attr 0 3 full 0 4 0 ∷ layer-attr 0 3 full 0 7 0 ∷ [])
+    []
+unfolding computing
+in-turn-attributes = refl
+
 -- Painting gives each tile of each accepted case what plain draw order gives it: one test.
 pub same-pictures :
     every (same-picture 32)
@@ -329,6 +455,11 @@ pub same-pictures :
     ∷ away
     ∷ panel
     ∷ ineligible
+    ∷ kept
+    ∷ placed
+    ∷ empty-push
+    ∷ clipped-filter
+    ∷ in-turn
     ∷ []) ≡ true
 unfolding computing
 same-pictures = refl

@@ -1,18 +1,18 @@
 -- What `rowdump` prints after the lines of `rowlist`: attributes, filter paints, and each row's pieces in painting order.
 use Prim.Native.Nat.{ℕ, suc}
-use mathlib.Core.Bool.{true, false, cond}
+use mathlib.Core.Bool.{cond}
 use mathlib.Core.List.{List, [], _∷_, _++_, map}
 use mathlib.Core.Option.{Option}
 use lib.ListN.{length}
 use lib.Dec.{eqb}
 use lib.IntN.{ℤ}
-use Rattle.rules.specs.Answers.{Answer, Done}
+use Rattle.rules.specs.Answers.{Done}
 use Rattle.rules.specs.Boxes.{buckets-of}
 use Rattle.rules.specs.Rows.{Row}
 use Rattle.rules.specs.Attributes.{PaintAttr, LayerAttr, FilterPaint, Attrs}
 use Rattle.rules.specs.Steps.{Screen}
 use Rattle.rules.specs.Painting.{Piece, paint-row}
 use Rattle.rules.specs.Lines.{rowlist-screen}
 
 -- A: paint mix compose mask id thread x y. Y: mix compose opacity-bits mask id thread. F: flag pixmap dx dy.
 -- p, l: attribute, first tile, end, alpha or none, nesting

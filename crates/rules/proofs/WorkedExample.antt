@@ -1,4 +1,4 @@
--- Document 01's worked example, by computation: from the file to the lines, and to their bytes.
+-- Tests: document 01's worked example, by computation: from the file to the lines, and to their bytes.
 use Prim.Native.Nat.{ℕ}
 use mathlib.Core.Path.{_≡_, refl}
 use mathlib.Core.Bool.{true}
@@ -6,11 +6,12 @@ use mathlib.Core.List.{List, [], _∷_, _++_}
 use mathlib.Core.Option.{Option·getD, none, some}
 use Rattle.rules.specs.Lists.{join}
 use Rattle.rules.specs.Spans.{span}
-use Rattle.rules.specs.Recording.{Recording, shape, sections, recording, file}
+use Rattle.rules.specs.Recording.{Recording, shape, sections, recording}
+use Rattle.rules.proofs.Words.{file}
 use Rattle.rules.specs.Lines.{Line, header, row, D, P, L, B, E, rowlist-words, rowlist, line-bytes}
-use Rattle.rules.specs.Details.{Detail, paint-attributes, A, layer-attributes, Y, filter-paints, painted, p, l, rowdump-words}
-use Rattle.rules.specs.Picture.{same-picture}
-use Rattle.rules.specs.Computing.{computing}
+use Rattle.rules.proofs.Picture.{same-picture}
+use Rattle.rules.proofs.Computing.{computing}
+use Rattle.rules.proofs.Samples.{attrs, paint-attr, layer-attr, paint-piece, layer-piece, attributes, pieces}
 
 -- The file's words, section by section: viewport 0,0,256,8; one opaque paint; a solid segment on row 0, tiles 10 to 64, and one on
 -- row 1, tiles 0 to 8; two draws; a layer, opacity 0.5, no clip; two nodes; root.
@@ -84,27 +85,17 @@ pub worked-text :
 unfolding computing
 worked-text = refl
 
--- Attributes and painted pieces.
-pub worked-details :
-    rowdump-words worked-words ≡
-    paint-attributes 2
-    ∷ A 0 0 3 0 1 0 0 0
-    ∷ A 0 0 3 0 2 0 0 0
-    ∷ layer-attributes 1
-    ∷ Y 0 3 1056964608 0 3 0
-    ∷ filter-paints 0
-    ∷ painted 0 2
-    ∷ p 0 32 64 none 0
-    ∷ p 0 10 32 none 0
-    ∷ painted 1 2
-    ∷ p 1 0 8 none 1
-    ∷ l 0 0 64 none 1
-    ∷ []
-unfolding computing
-worked-details = refl
-
 abbrev pub worked-recording : Recording
 worked-recording = recording (Option·getD (sections shape worked-words) [])
+
+-- Attributes and painted pieces.
+pub worked-attributes : attributes worked-recording ≡ attrs (paint-attr 0 0 3 0 1 0 0 0 ∷ paint-attr 0 0 3 0 2 0 0 0 ∷ []) (layer-attr 0 3 1056964608 0 3 0 ∷ []) []
+unfolding computing
+worked-attributes = refl
+
+pub worked-pieces : pieces worked-recording ≡ (paint-piece 0 32 64 none 0 ∷ paint-piece 0 10 32 none 0 ∷ []) ∷ (paint-piece 1 0 8 none 1 ∷ layer-piece 0 0 64 none 1 ∷ []) ∷ []
+unfolding computing
+worked-pieces = refl
 
 -- What says the recording again, a paint's shifts being 0 here, is the same file.
 pub worked-again : file worked-recording ≡ worked-words

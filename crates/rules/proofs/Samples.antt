@@ -1,12 +1,21 @@
--- Short names for the records of a recording, for the cases.
+-- For the tests: short names for the records of a recording, for attributes and pieces.
 use Prim.Native.Nat.{ℕ}
-use mathlib.Core.List.{List, [], _∷_}
+use mathlib.Core.Bool.{true, false}
+use mathlib.Core.List.{List, [], _∷_, map}
+use mathlib.Core.Option.{Option}
 use lib.IntN.{ℤ, pos, negℤ}
-use Rattle.rules.specs.Boxes.{Box, box}
+use Rattle.rules.specs.Spans.{span}
+use Rattle.rules.specs.Boxes.{Box, box, buckets-of}
 use Rattle.rules.specs.Blends.{Blend, default-blend}
 use Rattle.rules.specs.Segments.{Segment}
 use Rattle.rules.specs.Inputs.{Paint, Draw, Clip, Filter}
+use Rattle.rules.specs.Attributes.{PaintAttr, LayerAttr, FilterPaint, Attrs}
+use Rattle.rules.specs.Rows.{Row}
+use Rattle.rules.specs.Steps.{Screen}
+use Rattle.rules.specs.Painting.{Piece, paint-row}
 use Rattle.rules.specs.Recording.{LayerRec, Node, Recording}
+use Rattle.rules.proofs.Words.{file}
+use Rattle.rules.specs.Lines.{rowlist-screen}
 
 -- segments of a row, from a first tile to an end tile
 abbrev pub solid : ℕ → ℕ → ℕ → Segment
@@ -27,6 +36,13 @@ no-clip = record { bounds = box 0 0 0 0; start = 0; end = 0; thread = 0 }
 
 abbrev pub no-filter : Filter
 no-filter = record { pixmap = 0; dest = box 0 0 0 0; source-x = 0; source-y = 0 }
+
+abbrev pub blend : ℕ → ℕ → Blend
+blend m c = record { mix = m; compose = c }
+
+-- a box, segments a to b, and a thread
+abbrev pub clip : Box → ℕ → ℕ → ℕ → Clip
+clip q a b th = record { bounds = q; start = a; end = b; thread = th }
 
 -- the bits of opacity 1.0, and of a NaN
 abbrev pub full : ℕ
@@ -87,3 +103,35 @@ rec v ss ds ls ns a b =
 
 abbrev pub minus : ℕ → ℤ
 minus n = negℤ (pos n)
+
+-- a paint attribute: paint, mix, compose, mask, id, thread, origin
+abbrev pub paint-attr : ℕ → ℕ → ℕ → ℕ → ℕ → ℕ → ℕ → ℕ → PaintAttr
+paint-attr p m c k id th x y =
+    record { paint = p; blend = blend m c; mask = k; id = id; thread = th; origin-x = x; origin-y = y }
+
+-- a layer attribute: mix, compose, opacity's bits, mask, id, thread
+abbrev pub layer-attr : ℕ → ℕ → ℕ → ℕ → ℕ → ℕ → LayerAttr
+layer-attr m c o k id th = record { blend = blend m c; opacity = o; mask = k; id = id; thread = th }
+
+abbrev pub filter-paint : ℕ → ℤ → ℤ → FilterPaint
+filter-paint h x y = record { pixmap = h; shift-x = x; shift-y = y }
+
+abbrev pub attrs : List PaintAttr → List LayerAttr → List FilterPaint → Attrs
+attrs ps ls fs = record { paints = ps; layers = ls; filters = fs }
+
+-- a piece: attribute, first tile, end, alpha or none, nesting
+abbrev pub paint-piece : ℕ → ℕ → ℕ → Option ℕ → ℕ → Piece
+paint-piece i a b x n = record { layer = false; attribute = i; tiles = span a b; alpha = x; nesting = n }
+
+abbrev pub layer-piece : ℕ → ℕ → ℕ → Option ℕ → ℕ → Piece
+layer-piece i a b x n = record { layer = true; attribute = i; tiles = span a b; alpha = x; nesting = n }
+
+-- what `rowlist` makes of a recording's file: the screen, its attributes, and each row's pieces, painted to its end
+abbrev pub screen-of : Recording → Screen Row
+screen-of r = rowlist-screen (file r) .value
+
+abbrev pub attributes : Recording → Attrs
+attributes r = screen-of r .state .attrs
+
+abbrev pub pieces : Recording → List (List Piece)
+pieces r = map (paint-row 32 (attributes r) (buckets-of 32 (r .viewport))) (screen-of r .rows)

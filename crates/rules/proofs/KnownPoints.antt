@@ -1,15 +1,16 @@
--- The known points of document 01 (those marked there), as one table with one computed test.
+-- Tests: the known points of document 01 (those marked there), as one table with one computed test.
 use Prim.Native.Nat.{ℕ}
 use mathlib.Core.Path.{_≡_, refl}
 use mathlib.Core.Bool.{Bool, true, false, _&&_, not}
 use mathlib.Core.List.{List, [], _∷_}
 use lib.Dec.{eqb}
-use Rattle.rules.specs.Lists.{every, same-list}
+use Rattle.rules.specs.Lists.{every}
+use Rattle.rules.proofs.Same.{same-list}
 use Rattle.rules.specs.Spans.{Span, span}
 use Rattle.rules.specs.Split.{Part, regular, buckets, split}
 use Rattle.rules.specs.Depth.{unset-runs, visible-runs}
 use Rattle.rules.specs.Blends.{destructive}
-use Rattle.rules.specs.Computing.{computing}
+use Rattle.rules.proofs.Computing.{computing}
 
 abbrev pub same-span : Span → Span → Bool
 same-span a b = eqb (a .first) (b .first) && eqb (a .end) (b .end)

@@ -1,0 +1,4 @@
+-- Laws of the rules that other crates cite.
+pub mod Changes
+pub mod Maps
+pub mod Bounds

@@ -16,7 +16,7 @@ use Rattle.screen.specs.Screens.{good-screen}
 use Rattle.screen.specs.Tables.{zeros}
 use Rattle.screen.proofs.Numbers.{and-left, and-right}
 use Rattle.screen.proofs.Laws.{Room, room, few-rows, few-buckets}
-use Rattle.painter.specs.Judging.{count, wide, depth-long, rows-long, painting-long, judged, of-row, begin-number, step-number, runs-number, skip-number}
+use Rattle.painter.specs.Judging.{count, wide, depth-long, rows-long, painting-long, judged, of-row, begin-number, paints-on, step-number, runs-number, skip-number}
 use Rattle.painter.specs.Beginning.{Canvas, canvas, begun, beginning}
 
 -- Every number is one of document 01's.
@@ -58,7 +58,7 @@ module _ (s : Screen) where
   pub small-step : (r : ℕ) (a t : Bool) → step-number s r a t ≤ 13
   unfolding step-number
   small-step r a t =
-      let n = of-row (judged s a t) s r in one-of n 13 (eqb n 0) (s .painting) (small-row _ r (small a t)) (omega arith)
+      let n = of-row (judged s a t) s r in one-of n 13 (eqb n 0) (paints-on s) (small-row _ r (small a t)) (omega arith)
 
   pub small-runs : (r depth : ℕ) → runs-number s r depth ≤ 13
   unfolding runs-number
@@ -93,13 +93,17 @@ module _ (s : Screen) (r : ℕ) (a t x y : Bool) (k n : ℕ) (e : x ≡ a) (f : 
   unfolding step-number
   step-refused i = rw (← step-first, ne-eqb n 0 i)
 
-  pub step-open : n ≡ 0 → s .painting ≡ false → 13 ≡ step-number s r a t
+  pub step-layers : n ≡ 0 → (s .layers ≡ 0 → ⊥) → 13 ≡ step-number s r a t
   unfolding step-number
-  step-open i j = rw (← step-first, eq-eqb n 0 i, j)
+  step-layers i j = rw (← step-first, eq-eqb n 0 i, ne-eqb (s .layers) 0 j)
 
-  pub step-good : n ≡ 0 → s .painting ≡ true → 0 ≡ step-number s r a t
+  pub step-idle : n ≡ 0 → s .layers ≡ 0 → s .painting ≡ false → 13 ≡ step-number s r a t
   unfolding step-number
-  step-good i j = rw (← step-first, eq-eqb n 0 i, j)
+  step-idle i j p = rw (← step-first, eq-eqb n 0 i, eq-eqb (s .layers) 0 j, p)
+
+  pub step-good : n ≡ 0 → s .layers ≡ 0 → s .painting ≡ true → 0 ≡ step-number s r a t
+  unfolding step-number
+  step-good i j p = rw (← step-first, eq-eqb n 0 i, eq-eqb (s .layers) 0 j, p)
 
 module _ (s : Screen) (r k n : ℕ) (h : n ≡ of-row k s r) where
   pub runs-are : (depth : ℕ) (x : Bool) → x ≡ depth-long s depth → k ≡ judged s x true → n ≡ runs-number s r depth
@@ -173,7 +177,7 @@ there-by s r a t h = let p = past-row (judged s a t) s r h in record { there = p
 module _ (s : Screen) (r : ℕ) where
   pub step-there : (a t : Bool) → step-number s r a t ≡ 0 → There s r a t
   unfolding step-number
-  step-there a t h = there-by s r a t (past-begun _ (s .painting) h)
+  step-there a t h = there-by s r a t (past-begun _ (paints-on s) h)
 
   pub runs-there : (depth : ℕ) → runs-number s r depth ≡ 0 → There s r (depth-long s depth) true
   unfolding runs-number

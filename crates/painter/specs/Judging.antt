@@ -55,10 +55,14 @@ begin-number s depth painting =
     let n = judged s (depth-long s depth) (painting-long s painting) in
     cond (eqb n Done) (cond (eqb (s .layers) 0) Done Open) n
 
--- a painting step: 13 where painting has not begun
+-- no layer is open, and painting has begun
+abbrev pub paints-on : Screen → Bool
+paints-on s = eqb (s .layers) 0 && s .painting
+
+-- a painting step: 13 with a layer open, or where painting has not begun
 unfoldable pub step-number : Screen → ℕ → Bool → Bool → ℕ
 step-number s r arenas tables =
-    let n = of-row (judged s arenas tables) s r in cond (eqb n Done) (cond (s .painting) Done Open) n
+    let n = of-row (judged s arenas tables) s r in cond (eqb n Done) (cond (paints-on s) Done Open) n
 
 -- runs are lent the depth words, `can_skip` the rows' records
 unfoldable pub runs-number : Screen → ℕ → ℕ → ℕ

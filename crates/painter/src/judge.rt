@@ -126,6 +126,9 @@ pub fn judge_step(
     if n != 0 {
         return n;
     }
+    if screen.layers != 0 {
+        return 13;
+    }
     if !screen.painting {
         return 13;
     }

@@ -2,7 +2,7 @@
 use Prim.Native.Nat.{ℕ, zero, suc, _+_, _≤_, _<_}
 use native.Mathlib.Nat.{le-refl}
 use native.Mathlib.Omega.{arith}
-use mathlib.Core.Path.{_≡_, refl, _∙_, ap}
+use mathlib.Core.Path.{_≡_, refl, _∙_, ap, subst}
 use mathlib.Core.Bool.{true}
 use mathlib.Core.List.{List, [], _∷_, _++_}
 use lib.ListN.{length, getD, length-replicate}
@@ -12,10 +12,10 @@ use Rattle.rules.specs.Answers.{Done}
 use Rattle.rules.specs.Boxes.{buckets-of}
 use Rattle.rules.specs.Rows.{fresh-row}
 use Rattle.rules.specs.Painting.{Painter, Painted, begin}
-use Rattle.rules.specs.Calls.{Canvas, blank, begin-call, painter-of, paint-call}
+use Rattle.rules.specs.Calls.{paints-on, Canvas, blank, begin-call, painter-of, paint-call}
 use Rattle.tiles.specs.Turns.{Turn, turns, steps-of, next-step, has-finished, painted}
 use Rattle.tiles.proofs.Cases.{by}
-use Rattle.tiles.proofs.Turns.{ends, call-screen, call-begun, turns-screen, turns-begun, turns-count, by-turns, next-at, stays-finished, begun-is}
+use Rattle.tiles.proofs.Turns.{ends, call-screen, call-paints, turns-screen, turns-paints, turns-count, by-turns, next-at, stays-finished, begun-is, begun-paints}
 
 -- the depth fills and commands of row r
 abbrev pub work : Canvas → ℕ → ℕ
@@ -44,27 +44,27 @@ module _ (w : ℕ) where
   in-order zero k = []
   in-order (suc n) k = in-order n k ++ solo n (work k n) (turns w (in-order n k) k .canvas)
 
-  next-done : (k : Canvas) (r : ℕ) → r < length (k .screen .rows) → k .begun ≡ true → paint-call w r (length (next-step w k r .pieces)) k .number ≡ Done
+  next-done : (k : Canvas) (r : ℕ) → r < length (k .screen .rows) → paints-on k ≡ true → paint-call w r (length (next-step w k r .pieces)) k .number ≡ Done
   unfolding paint-call
   next-done k r h b =
       let m = length (next-step w k r .pieces) in
       rw (lt-leb (length (k .screen .rows)) r h, b, le-ltb m m (le-refl m))
 
-  solo-steps : (n r : ℕ) (k : Canvas) → r < length (k .screen .rows) → k .begun ≡ true → steps-of r (turns w (solo r n k) k .log) ≡ n
+  solo-steps : (n r : ℕ) (k : Canvas) → r < length (k .screen .rows) → paints-on k ≡ true → steps-of r (turns w (solo r n k) k .log) ≡ n
   unfolding solo turns steps-of
   solo-steps zero r k h b = refl
   solo-steps (suc n) r k h b =
       let m = length (next-step w k r .pieces) in
       let c = paint-call w r m k .canvas in
       let there : r < length (c .screen .rows) = rw (call-screen w r m k) h in
-      rw (eq-eqb r r refl, eq-eqb (paint-call w r m k .number) Done (next-done k r h b)) (ap suc (solo-steps n r c there (call-begun w r m k ∙ b)))
+      rw (eq-eqb r r refl, eq-eqb (paint-call w r m k .number) Done (next-done k r h b)) (ap suc (solo-steps n r c there (call-paints w r m k ∙ b)))
 
   pub turns-append : (ts us : List Turn) (k : Canvas) → turns w (ts ++ us) k .canvas ≡ turns w us (turns w ts k .canvas) .canvas
   unfolding turns
   turns-append [] us k = refl
   turns-append (t ∷ ts) us k = turns-append ts us (paint-call w (t .row) (t .room) k .canvas)
 
-  order-finishes : (n : ℕ) (k : Canvas) → n ≤ length (k .screen .rows) → length (k .painters) ≡ length (k .screen .rows) → k .begun ≡ true
+  order-finishes : (n : ℕ) (k : Canvas) → n ≤ length (k .screen .rows) → length (k .painters) ≡ length (k .screen .rows) → paints-on k ≡ true
       → (r : ℕ) → r < n → has-finished w (turns w (in-order n k) k .canvas) r ≡ true
   unfolding in-order
   order-finishes zero k m e b r h = absurd (omega arith)
@@ -77,7 +77,7 @@ module _ (w : ℕ) where
       (λ y.
       let q = eqb-true r n y in
       let on : n < length (c .screen .rows) = rw s (omega arith) in
-      let j = solo-steps (work k n) n c on (turns-begun w (in-order n k) k ∙ b) in
+      let j = solo-steps (work k n) n c on (turns-paints w (in-order n k) k ∙ b) in
       let g : work c n ≤ steps-of n (turns w (solo n (work k n) c) c .log) = rw (j, s) (le-refl (work k n)) in
       rw q (enough (solo n (work k n) c) c n (omega arith) g))
       (λ d.
@@ -91,4 +91,4 @@ module _ (w : ℕ) where
   pub finishes : (k : Canvas) → begin-call w k .number ≡ Done → (r : ℕ) → r < length (k .screen .rows)
       → has-finished w (painted w (in-order (length (k .screen .rows)) (begin-call w k .value)) k .canvas) r ≡ true
   finishes k e r h = rw (begun-is w k e) (order-finishes (length (k .screen .rows)) (record { screen = k .screen; begun = true; painters = blank w (k .screen) })
-      (le-refl (length (k .screen .rows))) (length-replicate {A = Painter} (length (k .screen .rows)) (begin (buckets-of w (k .screen .state .frame .viewport)))) refl r h)
+      (le-refl (length (k .screen .rows))) (length-replicate {A = Painter} (length (k .screen .rows)) (begin (buckets-of w (k .screen .state .frame .viewport)))) (subst (λ (c : Canvas). paints-on c ≡ true) (begun-is w k e) (begun-paints w k e)) r h)

@@ -17,7 +17,7 @@ use Rattle.rules.specs.Attributes.{Attrs}
 use Rattle.rules.specs.Rows.{Row, fresh-row}
 use Rattle.rules.specs.Steps.{Screen}
 use Rattle.rules.specs.Painting.{Piece, Painter, Painted, begin, paint-depth, paint-fill-runs, paint-command, paint-when, paint-step, paint-steps, paint-row}
-use Rattle.rules.specs.Calls.{Canvas, blank, begin-call, painter-of, with-painter, paint-call}
+use Rattle.rules.specs.Calls.{paints-on, Canvas, blank, begin-call, painter-of, with-painter, paint-call}
 use Rattle.rules.proofs.All.{never}
 use Rattle.tiles.specs.Turns.{Turn, Gave, Turned, gave, turns, from, steps-of, said-finished, next-step, has-finished}
 use Rattle.tiles.proofs.Cases.{by, and-left, and-right}
@@ -169,6 +169,14 @@ module _ (w : ℕ) where
   turns-screen [] k = refl
   turns-screen (t ∷ ts) k = turns-screen ts (paint-call w (t .row) (t .room) k .canvas) ∙ call-screen w (t .row) (t .room) k
 
+  pub call-paints : (i n : ℕ) (k : Canvas) → paints-on (paint-call w i n k .canvas) ≡ paints-on k
+  call-paints i n k = rw (call-screen w i n k, call-begun w i n k)
+
+  pub turns-paints : (ts : List Turn) (k : Canvas) → paints-on (turns w ts k .canvas) ≡ paints-on k
+  unfolding turns
+  turns-paints [] k = refl
+  turns-paints (t ∷ ts) k = turns-paints ts (paint-call w (t .row) (t .room) k .canvas) ∙ call-paints (t .row) (t .room) k
+
   pub turns-begun : (ts : List Turn) (k : Canvas) → turns w ts k .canvas .begun ≡ k .begun
   unfolding turns
   turns-begun [] k = refl
@@ -270,6 +278,13 @@ module _ (w : ℕ) where
   unfolding begin-call
   begun-is k e = by (is-empty (k .screen .state .layers))
       (λ y. rw y)
+      (λ n. let z : _≡_ {A = ℕ} Open Done = rw n at e in absurd (omega arith))
+
+  -- painting goes on after a done begin
+  pub begun-paints : (k : Canvas) → begin-call w k .number ≡ Done → paints-on (begin-call w k .value) ≡ true
+  unfolding begin-call
+  begun-paints k e = by (is-empty (k .screen .state .layers))
+      (λ y. rw (y, y))
       (λ n. let z : _≡_ {A = ℕ} Open Done = rw n at e in absurd (omega arith))
 
   -- painting leaves the screen as it is

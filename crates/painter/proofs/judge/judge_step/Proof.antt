@@ -1,5 +1,6 @@
+-- Three tests in the order of the numbers; each way out is one law of `Judged` about the tests before it.
 use borrow.Author.Tests.{not-true, not-false}
-use Rattle.painter.proofs.Judged.{step-refused, step-open, step-good}
+use Rattle.painter.proofs.Judged.{step-refused, step-layers, step-idle, step-good}
 use borrow.Author.Needs.{needs}
 use Rattle.painter.proofs.judge.judge_step.Statement.{statement}
 use Rattle.painter.proofs.judge.judge_step.Tie as tie
@@ -17,13 +18,24 @@ judge-row-requires : tie.Need-judge-row-requires
 judge-row-requires c κs = search needs
 
 returns : tie.Need-returns
-returns c = step-refused _ _ _ _ _ _ _ _ (c .before .before .before .before .is-arenas .ensures) (c .before .before .before .is-tables .ensures) (c .before .before .judge .ensures) (c .before .judge-row .ensures) (c .if1 .taken)
+returns c = let at = c .before in
+    step-refused _ _ _ _ _ _ _ _ (at .before .before .before .is-arenas .ensures) (at .before .before .is-tables .ensures) (at .before .judge .ensures)
+    (at .judge-row .ensures) (c .if1 .taken)
 
 returns-2 : tie.Need-returns-2
-returns-2 c = step-open _ _ _ _ _ _ _ _ (c .before .before .before .before .before .before .is-arenas .ensures) (c .before .before .before .before .before .is-tables .ensures) (c .before .before .before .before .judge .ensures) (c .before .before .before .judge-row .ensures) (c .before .before .if1 .left) (not-true _ (c .if2 .taken))
+returns-2 c = let at = c .before .before .before in
+    step-layers _ _ _ _ _ _ _ _ (at .before .before .before .is-arenas .ensures) (at .before .before .is-tables .ensures) (at .before .judge .ensures)
+    (at .judge-row .ensures) (c .before .before .if1 .left) (c .if2 .taken)
 
 returns-3 : tie.Need-returns-3
-returns-3 c = step-good _ _ _ _ _ _ _ _ (c .before .before .before .before .before .before .is-arenas .ensures) (c .before .before .before .before .before .is-tables .ensures) (c .before .before .before .before .judge .ensures) (c .before .before .before .judge-row .ensures) (c .before .before .if1 .left) (not-false _ (c .if2 .left))
+returns-3 c = let at = c .before .before .before .before .before in
+    step-idle _ _ _ _ _ _ _ _ (at .before .before .before .is-arenas .ensures) (at .before .before .is-tables .ensures) (at .before .judge .ensures)
+    (at .judge-row .ensures) (c .before .before .before .before .if1 .left) (c .before .before .if2 .left) (not-true _ (c .if3 .taken))
+
+returns-4 : tie.Need-returns-4
+returns-4 c = let at = c .before .before .before .before .before in
+    step-good _ _ _ _ _ _ _ _ (at .before .before .before .is-arenas .ensures) (at .before .before .is-tables .ensures) (at .before .judge .ensures)
+    (at .judge-row .ensures) (c .before .before .before .before .if1 .left) (c .before .before .if2 .left) (not-false _ (c .if3 .left))
 
 pub judge-step-spec : {M : Type 1} → statement M
 judge-step-spec =
@@ -35,4 +47,5 @@ judge-step-spec =
     judge-row-requires
     returns
     returns-2
-    returns-3)
+    returns-3
+    returns-4)

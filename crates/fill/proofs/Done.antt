@@ -12,7 +12,7 @@ use Rattle.rules.specs.Lists.{join, every}
 use Rattle.rules.specs.Answers.{answer, Done, BadRecord, first-of}
 use Rattle.rules.specs.Boxes.{good-viewport, rows-of}
 use Rattle.rules.specs.Segments.{Segment, good-segment, ordered, judge-segments}
-use Rattle.rules.specs.Inputs.{good-draw, draw-segments}
+use Rattle.rules.specs.Inputs.{good-fill, draw-segments}
 use Rattle.rules.specs.Attributes.{attrs-full}
 use Rattle.screen.specs.Attributes.{paint-attr-words}
 use Rattle.rules.specs.Plans.{Plan, draw-puts, plan-fill}
@@ -89,7 +89,7 @@ module _ (l : Lent) (ps ss : List ℕ) (d : Draw) where
 
   own-small : fill-plan (l .screen) ps ss d .refused ≤ 14
   unfolding plan-fill
-  own-small = segments-small (not (good-draw (paints-of ps) (segs-of ss) (draw-of d))) (draw-segments (segs-of ss) (draw-of d))
+  own-small = segments-small (not (good-fill (paints-of ps) (segs-of ss) (draw-of d))) (draw-segments (segs-of ss) (draw-of d))
 
   pub is-answer : {n : ℕ} → n ≡ fill-number l ps ss d → n ≤ 14
   unfolding fill-number step-number
@@ -146,7 +146,7 @@ tests p t h =
 -- what the number 0 says
 pub record Zero (l : Lent) (ps ss : List ℕ) (d : Draw) : Type 0 where
   pub first : first-of-lent l ps ss ≡ 0
-  pub draw : good-draw (paints-of ps) (segs-of ss) (draw-of d) ≡ true
+  pub draw : good-fill (paints-of ps) (segs-of ss) (draw-of d) ≡ true
   pub list : judge-segments false (segs.segs ss (d .start) (d .end - d .start)) ≡ 0
   pub ids : l .screen .«next_draw_id» ≤ 1048576
   pub attrs : attrs-full (fill-plan (l .screen) ps ss d .attrs) ≡ false
@@ -167,10 +167,10 @@ module _ (l : Lent) (ps ss : List ℕ) (d : Draw) where
   done-frame = state-frame (l .screen)
 
   -- a refused draw is not done
-  good-own : fill-plan (l .screen) ps ss d .refused ≡ 0 → good-draw (paints-of ps) (segs-of ss) (draw-of d) ≡ true
-  good-own e = go (good-draw (paints-of ps) (segs-of ss) (draw-of d)) refl
+  good-own : fill-plan (l .screen) ps ss d .refused ≡ 0 → good-fill (paints-of ps) (segs-of ss) (draw-of d) ≡ true
+  good-own e = go (good-fill (paints-of ps) (segs-of ss) (draw-of d)) refl
     where
-      go : (b : Bool) → good-draw (paints-of ps) (segs-of ss) (draw-of d) ≡ b → good-draw (paints-of ps) (segs-of ss) (draw-of d) ≡ true
+      go : (b : Bool) → good-fill (paints-of ps) (segs-of ss) (draw-of d) ≡ b → good-fill (paints-of ps) (segs-of ss) (draw-of d) ≡ true
       go true h = h
       go false h = let z : _≡_ {A = ℕ} 4 0 = sym (refused-bad (l .screen) ps ss d h) ∙ e in absurd (omega arith)
 

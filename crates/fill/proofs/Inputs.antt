@@ -9,7 +9,7 @@ use lib.ListN.{length, getD}
 use borrow.Author.Tests.{leb-true, leb-false, ltb-true, lt-ltb, le-ltb}
 use Rattle.rules.specs.Boxes.{Box, scene-tiles}
 use Rattle.rules.specs.Blends.{good-blend}
-use Rattle.rules.specs.Inputs.{Paint, good-paint, good-handle, good-draw, draw-paint}
+use Rattle.rules.specs.Inputs.{Paint, good-paint, good-handle, few-paints, good-fill, draw-paint}
 use Rattle.rules.proofs.All.{both}
 use Rattle.rect.specs.Rects.{box-of, Small}
 use Rattle.rect.proofs.Boxes.{small-viewport, view}
@@ -45,7 +45,7 @@ pub record GoodDraw (ps ss : List ℕ) (d : Draw) : Type 0 where
   pub ends : d .end ≤ length ss / 5
   pub paint : d .paint < length ps / 4
 
-pub draw-facts : (ps ss : List ℕ) (d : Draw) → good-draw (paints-of ps) (segs-of ss) (draw-of d) ≡ true → GoodDraw ps ss d
+pub draw-facts : (ps ss : List ℕ) (d : Draw) → good-fill (paints-of ps) (segs-of ss) (draw-of d) ≡ true → GoodDraw ps ss d
 draw-facts ps ss d g =
     let t = ltb (d .thread) 256 in
     let a = leb (d .start) (d .end) in
@@ -53,7 +53,9 @@ draw-facts ps ss d g =
     let p = ltb (d .paint) (length (paints-of ps)) in
     let q = good-paint (draw-paint (paints-of ps) (draw-of d)) in
     let r = good-blend (draw-of d .blend) in
-    let h5 = both (t && (a && b) && p && q && r) (good-handle (d .mask)) g in
+    let m = good-handle (d .mask) in
+    let h6 = both (few-paints (length (paints-of ps))) (t && (a && b) && p && q && r && m) g in
+    let h5 = both (t && (a && b) && p && q && r) m (h6 .1) in
     let h4 = both (t && (a && b) && p && q) r (h5 .0) in
     let h3 = both (t && (a && b) && p) q (h4 .0) in
     let h2 = both (t && (a && b)) p (h3 .0) in

@@ -12,7 +12,7 @@ use Rattle.rules.specs.Lists.{every}
 use Rattle.rules.specs.Answers.{Done, BadRecord}
 use Rattle.rules.specs.Boxes.{rows-of}
 use Rattle.rules.specs.Segments.{Segment, good-segment, ordered, judge-segments}
-use Rattle.rules.specs.Inputs.{good-draw}
+use Rattle.rules.specs.Inputs.{good-fill}
 use Rattle.rules.specs.Attributes.{attrs-full}
 use Rattle.rules.specs.Steps.{done, passes, refusal}
 use Rattle.rules.proofs.All.{both}
@@ -154,7 +154,7 @@ module _ (l : Lent) (ps ss : List ℕ) (d : Draw) where
     own-four : fill-plan (l .screen) ps ss d .refused ≡ 4 → 4 ≡ fill-number l ps ss d
     own-four e = either-way good-records (own-number (λ h. omega arith) ∙ e) ∙ sym after-first
 
-    pub bad-draw : good-draw (paints-of ps) (segs-of ss) (draw-of d) ≡ false → 4 ≡ fill-number l ps ss d
+    pub bad-draw : good-fill (paints-of ps) (segs-of ss) (draw-of d) ≡ false → 4 ≡ fill-number l ps ss d
     bad-draw h = own-four (refused-bad (l .screen) ps ss d h)
 
     pub passing : Passing (l .screen)
@@ -178,7 +178,7 @@ module _ (l : Lent) (ps ss : List ℕ) (d : Draw) where
           few = few-rows (box-of (l .screen .viewport)) (o .view);
         }
 
-    module _ (q : good-draw (paints-of ps) (segs-of ss) (draw-of d) ≡ true) where
+    module _ (q : good-fill (paints-of ps) (segs-of ss) (draw-of d) ≡ true) where
       pub drawn : GoodDraw ps ss d
       drawn = draw-facts ps ss d q
 

@@ -11,7 +11,7 @@ use Rattle.rules.specs.Lists.{join, every, is-empty}
 use Rattle.rules.specs.Answers.{Done, BadRecord, BadOrder}
 use Rattle.rules.specs.Boxes.{rows-of}
 use Rattle.rules.specs.Segments.{Segment, good-segment, ordered, judge-segments, cut-in, cuts}
-use Rattle.rules.specs.Inputs.{good-draw, draw-segments}
+use Rattle.rules.specs.Inputs.{good-fill, draw-segments}
 use Rattle.rules.specs.Attributes.{attrs-full}
 use Rattle.rules.specs.Plans.{with-paint, draw-puts, plan-fill}
 use Rattle.rules.specs.Steps.{done}
@@ -64,7 +64,7 @@ module _ (s : Screen) (ps ss : List ℕ) (d : Draw) where
   unfolding plan-fill state-of
   plan-next = refl
 
-  pub refused-bad : good-draw (paints-of ps) (segs-of ss) (draw-of d) ≡ false → fill-plan s ps ss d .refused ≡ 4
+  pub refused-bad : good-fill (paints-of ps) (segs-of ss) (draw-of d) ≡ false → fill-plan s ps ss d .refused ≡ 4
   unfolding plan-fill judge-segments
   refused-bad h = rw h
 
@@ -72,7 +72,7 @@ module _ (s : Screen) (ps ss : List ℕ) (d : Draw) where
     pub own-are : draw-segments (segs-of ss) (draw-of d) ≡ segs.segs ss (d .start) (d .end - d .start)
     own-are = sym (segs-slice ss (d .start) (d .end) (g .range) (g .ends))
 
-    pub refused-are : good-draw (paints-of ps) (segs-of ss) (draw-of d) ≡ true → fill-plan s ps ss d .refused ≡ judge-segments false (segs.segs ss (d .start) (d .end - d .start))
+    pub refused-are : good-fill (paints-of ps) (segs-of ss) (draw-of d) ≡ true → fill-plan s ps ss d .refused ≡ judge-segments false (segs.segs ss (d .start) (d .end - d .start))
     unfolding plan-fill
     refused-are h = rw (h, own-are)
 

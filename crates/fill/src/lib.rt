@@ -16,7 +16,7 @@ ghost use Prim.Native.Nat.{_+_, _/_, _≤_, _<_};
 ghost use lib.Dec.{eqb};
 ghost use lib.ListN.{length};
 ghost use Rattle.rules.specs.Answers.{answer};
-ghost use Rattle.rules.specs.Inputs.{good-draw, draw-paint};
+ghost use Rattle.rules.specs.Inputs.{good-draw, good-fill, draw-paint};
 ghost use Rattle.rules.specs.Plans.{eligible};
 ghost use Rattle.cmd.specs.Answers.{number-of};
 ghost use Rattle.row.specs.Words.{words};
@@ -62,6 +62,16 @@ fn is_good_draw(paints: &[u32], segments: &[u32], draw: Draw) -> bool
         return false;
     }
     draw.mask <= 2147483647
+}
+
+// The same, and how many paints are lent.
+fn is_good_fill(paints: &[u32], segments: &[u32], draw: Draw) -> bool
+    ensures { λ r. ⌜ r ≡ good-fill (paints-of (now (paints .entry))) (segs-of (now (segments .entry))) (draw-of draw) ⌝ }
+{
+    if 4096 < paints.len() / 4 {
+        return false;
+    }
+    is_good_draw(paints, segments, draw)
 }
 
 // Rule 6, for the solid segments of a draw.
@@ -154,7 +164,7 @@ fn judge_fill(
     if first != 0 {
         return first;
     }
-    if !is_good_draw(paints, segments, draw) {
+    if !is_good_fill(paints, segments, draw) {
         return 4;
     }
     let start = draw.start;

@@ -13,7 +13,7 @@ use Rattle.rules.specs.Answers.{Done, BadRecord}
 use Rattle.rules.specs.Boxes.{Box, width, height, by-4, good-box, bounded, good-viewport, empty-box, rows-in, span-of, scene-tiles, buckets-of}
 use Rattle.rules.specs.Spans.{Span, span, Stretch, common, moved, meeting, cut-at, cut-when, cut-to}
 use Rattle.rules.specs.Segments.{Segment, good-segment, alpha-of, stretch-of, Cut, localised, cut-in, cuts}
-use Rattle.rules.specs.Inputs.{Paint, Draw, Clip, Props, Filter, good-filter, draw-segments, draw-paint, good-draw}
+use Rattle.rules.specs.Inputs.{Paint, Draw, Clip, Props, Filter, good-filter, draw-segments, draw-paint, good-fill}
 use Rattle.rules.specs.Blends.{Blend, default-blend}
 use Rattle.rules.specs.Attributes.{FilterPaint, Attrs}
 use Rattle.rules.specs.Painting.{paint-id}
@@ -151,7 +151,7 @@ module _ (s : State) (f : Framed s) (g : good-viewport (s .frame .viewport) ≡ 
 
   fill-fair : (ps : List Paint) (ss : List Segment) (d : Draw) → plan-fill ps ss d s .refused ≡ Done → plan-fill ps ss d s .next ≤ 1048577 → FairPuts (plan-fill ps ss d s .attrs) (plan-fill ps ss d s .puts)
   unfolding plan-fill cuts draw-puts
-  fill-fair ps ss d e n = go (draw-segments ss d) (judged-facts (not (good-draw ps ss d)) (draw-segments ss d) e .1)
+  fill-fair ps ss d e n = go (draw-segments ss d) (judged-facts (not (good-fill ps ss d)) (draw-segments ss d) e .1)
     where
       go : (own : List Segment) → All (λ (x : Segment). good-segment x ≡ true) own
           → FairPuts (cond (is-empty own) (s .attrs) (with-paint s (d .paint) (d .blend) (d .mask) (d .thread) []))

@@ -14,7 +14,7 @@ use Rattle.rules.specs.Boxes.{Box, width, height, by-4, good-box, bounded, good
 use Rattle.rules.specs.Spans.{Span, span, Stretch, common, meeting, cut-at, cut-when, cut-to}
 use Rattle.rules.specs.Segments.{Segment, good-segment, stretch-of, Cut, localised, cut-in, cuts}
 use Rattle.rules.specs.Blends.{good-blend}
-use Rattle.rules.specs.Inputs.{Paint, Draw, Clip, Props, good-handle, all-good, good-props, Filter, good-filter, draw-segments, good-draw}
+use Rattle.rules.specs.Inputs.{Paint, Draw, Clip, Props, good-handle, all-good, good-props, Filter, good-filter, draw-segments, good-fill}
 use Rattle.rules.specs.Attributes.{attrs-full}
 use Rattle.rules.specs.Rows.{Row, fresh-row, row-ops}
 use Rattle.rules.specs.Plans.{Frame, Layer, State, Step, a-fill, a-push, a-pop, a-filter, paint, touch, close, pop, on, Put, Plan, still, clip-box, box-of, draw-act, draw-puts, plan-fill, layer-box, touches-all, plan-push, clip-segments, clip-fits, close-puts, closing, plan-pop, filter-box, draws-nothing, filter-puts, plan-filter-in, plan-filter, plan}
@@ -109,7 +109,7 @@ module _ (s : State) (f : Framed s) where
   unfolding plan-fill
   fill-fine ps ss d e n =
       draws-fine _ (length (s .attrs .paints)) (s .next) (omega arith)
-      (cuts-fine (s .frame .viewport) (box-of s) (judged-facts (not (good-draw ps ss d)) (draw-segments ss d) e .1))
+      (cuts-fine (s .frame .viewport) (box-of s) (judged-facts (not (good-fill ps ss d)) (draw-segments ss d) e .1))
 
   push-fine : (p : Props) → All PutFine (plan-push p s .puts)
   unfolding plan-push

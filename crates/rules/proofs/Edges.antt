@@ -9,7 +9,7 @@ use Rattle.rules.specs.Boxes.{box, good-box, good-dest, good-viewport, e
 use Rattle.rules.specs.Spans.{span, covers, bad-range}
 use Rattle.rules.specs.Blends.{Blend, default-blend, good-blend, is-default, destructive}
 use Rattle.rules.specs.Segments.{good-segment, follows, ordered}
-use Rattle.rules.specs.Inputs.{Clip, Props, good-handle, good-thread, good-range, good-paint, good-draw, good-clip, good-props, needs-buffer, good-filter}
+use Rattle.rules.specs.Inputs.{Clip, Props, good-handle, good-thread, good-range, good-paint, few-paints, good-draw, good-clip, good-props, needs-buffer, good-filter}
 use Rattle.rules.specs.Depth.{Summary, no-depth, included, can-skip, is-visible}
 use Rattle.rules.specs.Recording.{good-count}
 use Rattle.rules.specs.Walk.{good-room}
@@ -64,6 +64,9 @@ edges =
     ∷ empty-box (box 4 0 4 4) is true
     ∷ empty-box (box 0 4 4 4) is true
     ∷ empty-box (box 8 0 4 4) is true
+    -- how many paints are lent
+    ∷ few-paints 4096 is true
+    ∷ few-paints 4097 is false
     -- blends
     ∷ good-blend (blend 15 13) is true
     ∷ good-blend (blend 16 13) is false

@@ -61,6 +61,10 @@ steps x k = step-call 32 x k .number
 abbrev fills : List Segment → ℕ → Step
 fills ss n = a-fill (opaque-paint ∷ []) ss (record { thread = 0; start = 0; end = n; paint = 0; blend = default-blend; mask = 0 })
 
+-- a fill beside n paints
+abbrev with-paints : ℕ → Step
+with-paints n = a-fill (replicate n opaque-paint) [] (record { thread = 0; start = 0; end = 0; paint = 0; blend = default-blend; mask = 0 })
+
 abbrev plain-props : Props
 plain-props = record { blend = default-blend; opacity = full; mask = 0; clip = none }
 
@@ -131,6 +135,8 @@ answers =
     ∷ resets (box 2 0 4 4) 0 1 1 is BadViewport
     -- 4, then 5
     ∷ steps (fills (solid 0 5 5 ∷ []) 1) start is BadRecord
+    ∷ steps (with-paints 4096) start is Done
+    ∷ steps (with-paints 4097) start is BadRecord
     ∷ steps (fills (solid 0 5 6 ∷ []) 2) start is BadRecord
     ∷ steps (fills (alpha 0 0 1 4294967279 ∷ []) 1) start is Done
     ∷ steps (fills (alpha 0 0 1 4294967280 ∷ []) 1) start is BadRecord
@@ -174,6 +180,7 @@ answers =
     ∷ begin-call 32 start .number is Done
     ∷ paint-call 32 0 9 start .number is Open
     ∷ paint-call 32 0 9 painting .number is Done
+    ∷ paint-call 32 0 9 (record { screen = clip-open 0 0 .screen; begun = true; painters = painting .painters }) .number is Open
     ∷ paint-call 32 0 9 (after (fills [] 0) painting) .number is Open
     ∷ paint-call 32 0 9 (write-call 32 1 0 9 (span 0 1) painting .canvas) .number is Open
     ∷ paint-call 32 0 9 (unset-call 32 0 9 (span 0 1) painting .canvas) .number is Done

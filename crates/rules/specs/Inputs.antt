@@ -53,6 +53,14 @@ good-draw ps ss d =
     && good-blend (d .blend)
     && good-handle (d .mask)
 
+-- a paint list has at most 4,096 records, as a section has
+abbrev pub few-paints : ℕ → Bool
+few-paints n = leb n 4096
+
+-- what a fill is lent and told
+abbrev pub good-fill : List Paint → List Segment → Draw → Bool
+good-fill ps ss d = few-paints (length ps) && good-draw ps ss d
+
 -- a clip's segments are places start to end of the list lent to the pop
 pub record Clip : Type 0 where
   pub bounds : Box

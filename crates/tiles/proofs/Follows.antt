@@ -14,7 +14,7 @@ use Rattle.rules.specs.Boxes.{Box, rows-in}
 use Rattle.rules.specs.Spans.{covers}
 use Rattle.rules.specs.Segments.{Segment, judge-segments, Cut, cuts}
 use Rattle.rules.specs.Blends.{default-blend}
-use Rattle.rules.specs.Inputs.{Paint, Draw, draw-segments, draw-paint, good-draw, Props}
+use Rattle.rules.specs.Inputs.{Paint, Draw, draw-segments, draw-paint, good-fill, Props}
 use Rattle.rules.specs.Attributes.{PaintAttr, LayerAttr, Attrs}
 use Rattle.rules.specs.Rows.{Row, fresh-row, row-ops}
 use Rattle.rules.specs.Painting.{paint-id, layer-id}
@@ -73,7 +73,7 @@ module _ (w : ℕ) (attrs : Attrs) (t : ℕ) (v : Box) (row : ℕ) where
 
   -- the draw of a fill that has segments, on the row
   fill-row : 0 < w → (ps : List Paint) (ss : List Segment) (d : Draw) (o : Story) (s : Screen Row) → Follows o s
-      → judge-segments (not (good-draw ps ss d)) (draw-segments ss d) ≡ Done
+      → judge-segments (not (good-fill ps ss d)) (draw-segments ss d) ≡ Done
       → paint-id attrs (o .paints) ≡ o .next
       → Grown w attrs t v row (tell-fill w v row t ps ss d o .told) (o .next + 1) (tell-fill w v row t ps ss d o .open-layers)
       (getD (done Row row-ops w (plan-fill ps ss d (s .state)) s .rows) row fresh-row)
@@ -82,7 +82,7 @@ module _ (w : ℕ) (attrs : Attrs) (t : ℕ) (v : Box) (row : ℕ) where
       let own = draw-segments ss d in
       let e = eligible (is-empty (o .open-layers)) (draw-paint ps d) d in
       let ks = here w v row t (o .open-layers) own in
-      let (_, good, ord) = judged-facts (not (good-draw ps ss d)) own j in
+      let (_, good, ord) = judged-facts (not (good-fill ps ss d)) own j in
       let g = draw-grows w attrs t v row pos (f .grown) (f .first) e (o .paints) q
       (λ y. empty-length (o .open-layers) (and-left _ _ (and-left _ _ (and-left _ _ y)))) ks (single v (box-now v (o .open-layers)) row t own good ord) in
       let same : do-acts Row row-ops w (length (o .open-layers)) (map (cut-act e (o .paints) (o .next)) ks) (getD (s .rows) row fresh-row)

@@ -9,7 +9,7 @@ use Rattle.fill.proofs.judge_fill.Statement.{statement}
 use Rattle.fill.proofs.judge_fill.Tie as tie
 use Rattle.fill.proofs.judge_fill.Reads as reads
 use Rattle.fill.proofs.judge_fill.Lts as lts
-use Rattle.fill.proofs.is_good_draw.Reads as is-good-draw-reads
+use Rattle.fill.proofs.is_good_fill.Reads as is-good-fill-reads
 use Rattle.fill.proofs.job_of.Reads as job-of-reads
 use Rattle.fill.proofs.judge_lent.Reads as judge-lent-reads
 use Rattle.tally.proofs.judge_list.Reads as judge-list-reads
@@ -23,44 +23,44 @@ returns : tie.Need-returns
 returns c = by-first (lent (c .before .before .before .before .before .before .before .before .args .screen) (words (c .before .before .before .before .before .before .before .before .args .rows .now) (c .before .before .before .before .before .before .before .before .args .render .now) (c .before .before .before .before .before .before .before .before .args .fills .now)) (c .before .before .before .before .before .before .before .before .args .paint-attrs .now)) (c .before .before .before .before .before .before .before .before .args .paints .now) (c .before .before .before .before .before .before .before .before .args .segments .now) (c .before .before .before .before .before .before .before .before .args .draw) (c .before .judge-lent .ensures) (c .if1 .taken)
 
 -- src/lib.rt:157:9
-is-good-draw-requires : tie.Need-is-good-draw-requires
-is-good-draw-requires c κs = search needs
+is-good-fill-requires : tie.Need-is-good-fill-requires
+is-good-fill-requires c κs = search needs
 
 -- src/lib.rt:158:9
 returns-2 : tie.Need-returns-2
-returns-2 c = bad-draw (lent (c .before .before .before .before .before .before .before .before .before .before .args .screen) (words (c .before .before .before .before .before .before .before .before .before .before .args .rows .now) (c .before .before .before .before .before .before .before .before .before .before .args .render .now) (c .before .before .before .before .before .before .before .before .before .before .args .fills .now)) (c .before .before .before .before .before .before .before .before .before .before .args .paint-attrs .now)) (c .before .before .before .before .before .before .before .before .before .before .args .paints .now) (c .before .before .before .before .before .before .before .before .before .before .args .segments .now) (c .before .before .before .before .before .before .before .before .before .before .args .draw) (sym (c .before .before .before .judge-lent .ensures) ∙ c .before .before .if1 .left) (sym (c .before .is-good-draw .ensures) ∙ not-true (c .before .is-good-draw .result) (c .if2 .taken))
+returns-2 c = bad-draw (lent (c .before .before .before .before .before .before .before .before .before .before .args .screen) (words (c .before .before .before .before .before .before .before .before .before .before .args .rows .now) (c .before .before .before .before .before .before .before .before .before .before .args .render .now) (c .before .before .before .before .before .before .before .before .before .before .args .fills .now)) (c .before .before .before .before .before .before .before .before .before .before .args .paint-attrs .now)) (c .before .before .before .before .before .before .before .before .before .before .args .paints .now) (c .before .before .before .before .before .before .before .before .before .before .args .segments .now) (c .before .before .before .before .before .before .before .before .before .before .args .draw) (sym (c .before .before .before .judge-lent .ensures) ∙ c .before .before .if1 .left) (sym (c .before .is-good-fill .ensures) ∙ not-true (c .before .is-good-fill .result) (c .if2 .taken))
 
 -- src/lib.rt:162:9
 job-of-requires : tie.Need-job-of-requires
-job-of-requires c κs = (passing (lent (c .before .before .before .before .before .before .before .before .before .before .args .screen) (words (c .before .before .before .before .before .before .before .before .before .before .args .rows .now) (c .before .before .before .before .before .before .before .before .before .before .args .render .now) (c .before .before .before .before .before .before .before .before .before .before .args .fills .now)) (c .before .before .before .before .before .before .before .before .before .before .args .paint-attrs .now)) (c .before .before .before .before .before .before .before .before .before .before .args .paints .now) (c .before .before .before .before .before .before .before .before .before .before .args .segments .now) (c .before .before .before .before .before .before .before .before .before .before .args .draw) (sym (c .before .before .before .judge-lent .ensures) ∙ c .before .before .if1 .left), (draw-facts (c .before .before .before .before .before .before .before .before .before .before .args .paints .now) (c .before .before .before .before .before .before .before .before .before .before .args .segments .now) (c .before .before .before .before .before .before .before .before .before .before .args .draw) (sym (c .before .is-good-draw .ensures) ∙ not-false (c .before .is-good-draw .result) (c .if2 .left))) .paint)
+job-of-requires c κs = (passing (lent (c .before .before .before .before .before .before .before .before .before .before .args .screen) (words (c .before .before .before .before .before .before .before .before .before .before .args .rows .now) (c .before .before .before .before .before .before .before .before .before .before .args .render .now) (c .before .before .before .before .before .before .before .before .before .before .args .fills .now)) (c .before .before .before .before .before .before .before .before .before .before .args .paint-attrs .now)) (c .before .before .before .before .before .before .before .before .before .before .args .paints .now) (c .before .before .before .before .before .before .before .before .before .before .args .segments .now) (c .before .before .before .before .before .before .before .before .before .before .args .draw) (sym (c .before .before .before .judge-lent .ensures) ∙ c .before .before .if1 .left), (draw-facts (c .before .before .before .before .before .before .before .before .before .before .args .paints .now) (c .before .before .before .before .before .before .before .before .before .before .args .segments .now) (c .before .before .before .before .before .before .before .before .before .before .args .draw) (sym (c .before .is-good-fill .ensures) ∙ not-false (c .before .is-good-fill .result) (c .if2 .left))) .paint)
 
 -- src/lib.rt:163:9
 judge-list-requires : tie.Need-judge-list-requires
-judge-list-requires c κs = rw (c .job-of .ensures) (list-asked (lent (c .before .before .before .before .before .before .before .before .before .before .before .args .screen) (words (c .before .before .before .before .before .before .before .before .before .before .before .args .rows .now) (c .before .before .before .before .before .before .before .before .before .before .before .args .render .now) (c .before .before .before .before .before .before .before .before .before .before .before .args .fills .now)) (c .before .before .before .before .before .before .before .before .before .before .before .args .paint-attrs .now)) (c .before .before .before .before .before .before .before .before .before .before .before .args .paints .now) (c .before .before .before .before .before .before .before .before .before .before .before .args .segments .now) (c .before .before .before .before .before .before .before .before .before .before .before .args .draw) (sym (c .before .before .before .before .judge-lent .ensures) ∙ c .before .before .before .if1 .left) (sym (c .before .before .is-good-draw .ensures) ∙ not-false (c .before .before .is-good-draw .result) (c .before .if2 .left)))
+judge-list-requires c κs = rw (c .job-of .ensures) (list-asked (lent (c .before .before .before .before .before .before .before .before .before .before .before .args .screen) (words (c .before .before .before .before .before .before .before .before .before .before .before .args .rows .now) (c .before .before .before .before .before .before .before .before .before .before .before .args .render .now) (c .before .before .before .before .before .before .before .before .before .before .before .args .fills .now)) (c .before .before .before .before .before .before .before .before .before .before .before .args .paint-attrs .now)) (c .before .before .before .before .before .before .before .before .before .before .before .args .paints .now) (c .before .before .before .before .before .before .before .before .before .before .before .args .segments .now) (c .before .before .before .before .before .before .before .before .before .before .before .args .draw) (sym (c .before .before .before .before .judge-lent .ensures) ∙ c .before .before .before .if1 .left) (sym (c .before .before .is-good-fill .ensures) ∙ not-false (c .before .before .is-good-fill .result) (c .before .if2 .left)))
 
 -- src/lib.rt:165:9
 returns-3 : tie.Need-returns-3
-returns-3 c = list-four (lent (c .before .before .before .before .before .before .before .before .before .before .before .before .before .args .screen) (words (c .before .before .before .before .before .before .before .before .before .before .before .before .before .args .rows .now) (c .before .before .before .before .before .before .before .before .before .before .before .before .before .args .render .now) (c .before .before .before .before .before .before .before .before .before .before .before .before .before .args .fills .now)) (c .before .before .before .before .before .before .before .before .before .before .before .before .before .args .paint-attrs .now)) (c .before .before .before .before .before .before .before .before .before .before .before .before .before .args .paints .now) (c .before .before .before .before .before .before .before .before .before .before .before .before .before .args .segments .now) (c .before .before .before .before .before .before .before .before .before .before .before .before .before .args .draw) (sym (c .before .before .before .before .before .before .judge-lent .ensures) ∙ c .before .before .before .before .before .if1 .left) (sym (c .before .before .before .before .is-good-draw .ensures) ∙ not-false (c .before .before .before .before .is-good-draw .result) (c .before .before .before .if2 .left)) (rw (c .before .before .job-of .ensures) at (c .before .judge-list .ensures)) (c .if3 .taken)
+returns-3 c = list-four (lent (c .before .before .before .before .before .before .before .before .before .before .before .before .before .args .screen) (words (c .before .before .before .before .before .before .before .before .before .before .before .before .before .args .rows .now) (c .before .before .before .before .before .before .before .before .before .before .before .before .before .args .render .now) (c .before .before .before .before .before .before .before .before .before .before .before .before .before .args .fills .now)) (c .before .before .before .before .before .before .before .before .before .before .before .before .before .args .paint-attrs .now)) (c .before .before .before .before .before .before .before .before .before .before .before .before .before .args .paints .now) (c .before .before .before .before .before .before .before .before .before .before .before .before .before .args .segments .now) (c .before .before .before .before .before .before .before .before .before .before .before .before .before .args .draw) (sym (c .before .before .before .before .before .before .judge-lent .ensures) ∙ c .before .before .before .before .before .if1 .left) (sym (c .before .before .before .before .is-good-fill .ensures) ∙ not-false (c .before .before .before .before .is-good-fill .result) (c .before .before .before .if2 .left)) (rw (c .before .before .job-of .ensures) at (c .before .judge-list .ensures)) (c .if3 .taken)
 
 -- src/lib.rt:168:9
 returns-4 : tie.Need-returns-4
-returns-4 c = list-five (lent (c .before .before .before .before .before .before .before .before .before .before .before .before .before .before .args .screen) (words (c .before .before .before .before .before .before .before .before .before .before .before .before .before .before .args .rows .now) (c .before .before .before .before .before .before .before .before .before .before .before .before .before .before .args .render .now) (c .before .before .before .before .before .before .before .before .before .before .before .before .before .before .args .fills .now)) (c .before .before .before .before .before .before .before .before .before .before .before .before .before .before .args .paint-attrs .now)) (c .before .before .before .before .before .before .before .before .before .before .before .before .before .before .args .paints .now) (c .before .before .before .before .before .before .before .before .before .before .before .before .before .before .args .segments .now) (c .before .before .before .before .before .before .before .before .before .before .before .before .before .before .args .draw) (sym (c .before .before .before .before .before .before .before .judge-lent .ensures) ∙ c .before .before .before .before .before .before .if1 .left) (sym (c .before .before .before .before .before .is-good-draw .ensures) ∙ not-false (c .before .before .before .before .before .is-good-draw .result) (c .before .before .before .before .if2 .left)) (rw (c .before .before .before .job-of .ensures) at (c .before .before .judge-list .ensures)) (c .if4 .taken)
+returns-4 c = list-five (lent (c .before .before .before .before .before .before .before .before .before .before .before .before .before .before .args .screen) (words (c .before .before .before .before .before .before .before .before .before .before .before .before .before .before .args .rows .now) (c .before .before .before .before .before .before .before .before .before .before .before .before .before .before .args .render .now) (c .before .before .before .before .before .before .before .before .before .before .before .before .before .before .args .fills .now)) (c .before .before .before .before .before .before .before .before .before .before .before .before .before .before .args .paint-attrs .now)) (c .before .before .before .before .before .before .before .before .before .before .before .before .before .before .args .paints .now) (c .before .before .before .before .before .before .before .before .before .before .before .before .before .before .args .segments .now) (c .before .before .before .before .before .before .before .before .before .before .before .before .before .before .args .draw) (sym (c .before .before .before .before .before .before .before .judge-lent .ensures) ∙ c .before .before .before .before .before .before .if1 .left) (sym (c .before .before .before .before .before .is-good-fill .ensures) ∙ not-false (c .before .before .before .before .before .is-good-fill .result) (c .before .before .before .before .if2 .left)) (rw (c .before .before .before .job-of .ensures) at (c .before .before .judge-list .ensures)) (c .if4 .taken)
 
 -- src/lib.rt:171:9
 returns-5 : tie.Need-returns-5
-returns-5 c = list-no-id (lent (c .before .before .before .before .before .before .before .before .before .before .before .before .before .before .before .before .args .screen) (words (c .before .before .before .before .before .before .before .before .before .before .before .before .before .before .before .before .args .rows .now) (c .before .before .before .before .before .before .before .before .before .before .before .before .before .before .before .before .args .render .now) (c .before .before .before .before .before .before .before .before .before .before .before .before .before .before .before .before .args .fills .now)) (c .before .before .before .before .before .before .before .before .before .before .before .before .before .before .before .before .args .paint-attrs .now)) (c .before .before .before .before .before .before .before .before .before .before .before .before .before .before .before .before .args .paints .now) (c .before .before .before .before .before .before .before .before .before .before .before .before .before .before .before .before .args .segments .now) (c .before .before .before .before .before .before .before .before .before .before .before .before .before .before .before .before .args .draw) (sym (c .before .before .before .before .before .before .before .before .before .judge-lent .ensures) ∙ c .before .before .before .before .before .before .before .before .if1 .left) (sym (c .before .before .before .before .before .before .before .is-good-draw .ensures) ∙ not-false (c .before .before .before .before .before .before .before .is-good-draw .result) (c .before .before .before .before .before .before .if2 .left)) (rw (c .before .before .before .before .before .job-of .ensures) at (c .before .before .before .before .judge-list .ensures)) (c .before .before .before .if3 .left) (c .before .before .if4 .left) (c .if5 .taken)
+returns-5 c = list-no-id (lent (c .before .before .before .before .before .before .before .before .before .before .before .before .before .before .before .before .args .screen) (words (c .before .before .before .before .before .before .before .before .before .before .before .before .before .before .before .before .args .rows .now) (c .before .before .before .before .before .before .before .before .before .before .before .before .before .before .before .before .args .render .now) (c .before .before .before .before .before .before .before .before .before .before .before .before .before .before .before .before .args .fills .now)) (c .before .before .before .before .before .before .before .before .before .before .before .before .before .before .before .before .args .paint-attrs .now)) (c .before .before .before .before .before .before .before .before .before .before .before .before .before .before .before .before .args .paints .now) (c .before .before .before .before .before .before .before .before .before .before .before .before .before .before .before .before .args .segments .now) (c .before .before .before .before .before .before .before .before .before .before .before .before .before .before .before .before .args .draw) (sym (c .before .before .before .before .before .before .before .before .before .judge-lent .ensures) ∙ c .before .before .before .before .before .before .before .before .if1 .left) (sym (c .before .before .before .before .before .before .before .is-good-fill .ensures) ∙ not-false (c .before .before .before .before .before .before .before .is-good-fill .result) (c .before .before .before .before .before .before .if2 .left)) (rw (c .before .before .before .before .before .job-of .ensures) at (c .before .before .before .before .judge-list .ensures)) (c .before .before .before .if3 .left) (c .before .before .if4 .left) (c .if5 .taken)
 
 -- src/lib.rt:174:9
 returns-6 : tie.Need-returns-6
-returns-6 c = list-empty (lent (c .before .before .before .before .before .before .before .before .before .before .before .before .before .before .before .before .before .args .screen) (words (c .before .before .before .before .before .before .before .before .before .before .before .before .before .before .before .before .before .args .rows .now) (c .before .before .before .before .before .before .before .before .before .before .before .before .before .before .before .before .before .args .render .now) (c .before .before .before .before .before .before .before .before .before .before .before .before .before .before .before .before .before .args .fills .now)) (c .before .before .before .before .before .before .before .before .before .before .before .before .before .before .before .before .before .args .paint-attrs .now)) (c .before .before .before .before .before .before .before .before .before .before .before .before .before .before .before .before .before .args .paints .now) (c .before .before .before .before .before .before .before .before .before .before .before .before .before .before .before .before .before .args .segments .now) (c .before .before .before .before .before .before .before .before .before .before .before .before .before .before .before .before .before .args .draw) (sym (c .before .before .before .before .before .before .before .before .before .before .judge-lent .ensures) ∙ c .before .before .before .before .before .before .before .before .before .if1 .left) (sym (c .before .before .before .before .before .before .before .before .is-good-draw .ensures) ∙ not-false (c .before .before .before .before .before .before .before .before .is-good-draw .result) (c .before .before .before .before .before .before .before .if2 .left)) (rw (c .before .before .before .before .before .before .job-of .ensures) at (c .before .before .before .before .before .judge-list .ensures)) (c .before .before .before .before .if3 .left) (c .before .before .before .if4 .left) (c .before .if5 .left) (c .if6 .taken)
+returns-6 c = list-empty (lent (c .before .before .before .before .before .before .before .before .before .before .before .before .before .before .before .before .before .args .screen) (words (c .before .before .before .before .before .before .before .before .before .before .before .before .before .before .before .before .before .args .rows .now) (c .before .before .before .before .before .before .before .before .before .before .before .before .before .before .before .before .before .args .render .now) (c .before .before .before .before .before .before .before .before .before .before .before .before .before .before .before .before .before .args .fills .now)) (c .before .before .before .before .before .before .before .before .before .before .before .before .before .before .before .before .before .args .paint-attrs .now)) (c .before .before .before .before .before .before .before .before .before .before .before .before .before .before .before .before .before .args .paints .now) (c .before .before .before .before .before .before .before .before .before .before .before .before .before .before .before .before .before .args .segments .now) (c .before .before .before .before .before .before .before .before .before .before .before .before .before .before .before .before .before .args .draw) (sym (c .before .before .before .before .before .before .before .before .before .before .judge-lent .ensures) ∙ c .before .before .before .before .before .before .before .before .before .if1 .left) (sym (c .before .before .before .before .before .before .before .before .is-good-fill .ensures) ∙ not-false (c .before .before .before .before .before .before .before .before .is-good-fill .result) (c .before .before .before .before .before .before .before .if2 .left)) (rw (c .before .before .before .before .before .before .job-of .ensures) at (c .before .before .before .before .before .judge-list .ensures)) (c .before .before .before .before .if3 .left) (c .before .before .before .if4 .left) (c .before .if5 .left) (c .if6 .taken)
 
 -- src/lib.rt:177:9
 returns-7 : tie.Need-returns-7
-returns-7 c = list-no-attr (lent (c .before .before .before .before .before .before .before .before .before .before .before .before .before .before .before .before .before .before .before .args .screen) (words (c .before .before .before .before .before .before .before .before .before .before .before .before .before .before .before .before .before .before .before .args .rows .now) (c .before .before .before .before .before .before .before .before .before .before .before .before .before .before .before .before .before .before .before .args .render .now) (c .before .before .before .before .before .before .before .before .before .before .before .before .before .before .before .before .before .before .before .args .fills .now)) (c .before .before .before .before .before .before .before .before .before .before .before .before .before .before .before .before .before .before .before .args .paint-attrs .now)) (c .before .before .before .before .before .before .before .before .before .before .before .before .before .before .before .before .before .before .before .args .paints .now) (c .before .before .before .before .before .before .before .before .before .before .before .before .before .before .before .before .before .before .before .args .segments .now) (c .before .before .before .before .before .before .before .before .before .before .before .before .before .before .before .before .before .before .before .args .draw) (sym (c .before .before .before .before .before .before .before .before .before .before .before .before .judge-lent .ensures) ∙ c .before .before .before .before .before .before .before .before .before .before .before .if1 .left) (sym (c .before .before .before .before .before .before .before .before .before .before .is-good-draw .ensures) ∙ not-false (c .before .before .before .before .before .before .before .before .before .before .is-good-draw .result) (c .before .before .before .before .before .before .before .before .before .if2 .left)) (rw (c .before .before .before .before .before .before .before .before .job-of .ensures) at (c .before .before .before .before .before .before .before .judge-list .ensures)) (c .before .before .before .before .before .before .if3 .left) (c .before .before .before .before .before .if4 .left) (c .before .before .before .if5 .left) (c .before .before .if6 .left) (c .if7 .taken)
+returns-7 c = list-no-attr (lent (c .before .before .before .before .before .before .before .before .before .before .before .before .before .before .before .before .before .before .before .args .screen) (words (c .before .before .before .before .before .before .before .before .before .before .before .before .before .before .before .before .before .before .before .args .rows .now) (c .before .before .before .before .before .before .before .before .before .before .before .before .before .before .before .before .before .before .before .args .render .now) (c .before .before .before .before .before .before .before .before .before .before .before .before .before .before .before .before .before .before .before .args .fills .now)) (c .before .before .before .before .before .before .before .before .before .before .before .before .before .before .before .before .before .before .before .args .paint-attrs .now)) (c .before .before .before .before .before .before .before .before .before .before .before .before .before .before .before .before .before .before .before .args .paints .now) (c .before .before .before .before .before .before .before .before .before .before .before .before .before .before .before .before .before .before .before .args .segments .now) (c .before .before .before .before .before .before .before .before .before .before .before .before .before .before .before .before .before .before .before .args .draw) (sym (c .before .before .before .before .before .before .before .before .before .before .before .before .judge-lent .ensures) ∙ c .before .before .before .before .before .before .before .before .before .before .before .if1 .left) (sym (c .before .before .before .before .before .before .before .before .before .before .is-good-fill .ensures) ∙ not-false (c .before .before .before .before .before .before .before .before .before .before .is-good-fill .result) (c .before .before .before .before .before .before .before .before .before .if2 .left)) (rw (c .before .before .before .before .before .before .before .before .job-of .ensures) at (c .before .before .before .before .before .before .before .judge-list .ensures)) (c .before .before .before .before .before .before .if3 .left) (c .before .before .before .before .before .if4 .left) (c .before .before .before .if5 .left) (c .before .before .if6 .left) (c .if7 .taken)
 
 -- src/lib.rt:133:1
 returns-8 : tie.Need-returns-8
-returns-8 c = list-rows (lent (c .before .before .before .before .before .before .before .before .before .before .before .before .before .before .before .before .before .before .before .args .screen) (words (c .before .before .before .before .before .before .before .before .before .before .before .before .before .before .before .before .before .before .before .args .rows .now) (c .before .before .before .before .before .before .before .before .before .before .before .before .before .before .before .before .before .before .before .args .render .now) (c .before .before .before .before .before .before .before .before .before .before .before .before .before .before .before .before .before .before .before .args .fills .now)) (c .before .before .before .before .before .before .before .before .before .before .before .before .before .before .before .before .before .before .before .args .paint-attrs .now)) (c .before .before .before .before .before .before .before .before .before .before .before .before .before .before .before .before .before .before .before .args .paints .now) (c .before .before .before .before .before .before .before .before .before .before .before .before .before .before .before .before .before .before .before .args .segments .now) (c .before .before .before .before .before .before .before .before .before .before .before .before .before .before .before .before .before .before .before .args .draw) (sym (c .before .before .before .before .before .before .before .before .before .before .before .before .judge-lent .ensures) ∙ c .before .before .before .before .before .before .before .before .before .before .before .if1 .left) (sym (c .before .before .before .before .before .before .before .before .before .before .is-good-draw .ensures) ∙ not-false (c .before .before .before .before .before .before .before .before .before .before .is-good-draw .result) (c .before .before .before .before .before .before .before .before .before .if2 .left)) (rw (c .before .before .before .before .before .before .before .before .job-of .ensures) at (c .before .before .before .before .before .before .before .judge-list .ensures)) (c .before .before .before .before .before .before .if3 .left) (c .before .before .before .before .before .if4 .left) (c .before .before .before .if5 .left) (c .before .before .if6 .left) (c .if7 .left)
+returns-8 c = list-rows (lent (c .before .before .before .before .before .before .before .before .before .before .before .before .before .before .before .before .before .before .before .args .screen) (words (c .before .before .before .before .before .before .before .before .before .before .before .before .before .before .before .before .before .before .before .args .rows .now) (c .before .before .before .before .before .before .before .before .before .before .before .before .before .before .before .before .before .before .before .args .render .now) (c .before .before .before .before .before .before .before .before .before .before .before .before .before .before .before .before .before .before .before .args .fills .now)) (c .before .before .before .before .before .before .before .before .before .before .before .before .before .before .before .before .before .before .before .args .paint-attrs .now)) (c .before .before .before .before .before .before .before .before .before .before .before .before .before .before .before .before .before .before .before .args .paints .now) (c .before .before .before .before .before .before .before .before .before .before .before .before .before .before .before .before .before .before .before .args .segments .now) (c .before .before .before .before .before .before .before .before .before .before .before .before .before .before .before .before .before .before .before .args .draw) (sym (c .before .before .before .before .before .before .before .before .before .before .before .before .judge-lent .ensures) ∙ c .before .before .before .before .before .before .before .before .before .before .before .if1 .left) (sym (c .before .before .before .before .before .before .before .before .before .before .is-good-fill .ensures) ∙ not-false (c .before .before .before .before .before .before .before .before .before .before .is-good-fill .result) (c .before .before .before .before .before .before .before .before .before .if2 .left)) (rw (c .before .before .before .before .before .before .before .before .job-of .ensures) at (c .before .before .before .before .before .before .before .judge-list .ensures)) (c .before .before .before .before .before .before .if3 .left) (c .before .before .before .before .before .if4 .left) (c .before .before .before .if5 .left) (c .before .before .if6 .left) (c .if7 .left)
 
 pub judge-fill-spec : {M : Type 1} → statement M
 judge-fill-spec =
@@ -68,7 +68,7 @@ judge-fill-spec =
     (tie.spec
     judge-lent-requires
     returns
-    is-good-draw-requires
+    is-good-fill-requires
     returns-2
     job-of-requires
     judge-list-requires

@@ -13,7 +13,7 @@ use Rattle.rules.specs.Answers.{answer, first-of, Done, BadRecord, BadOr
 use Rattle.rules.specs.Boxes.{Box, width, height, by-4, bounded, good-box, good-dest, good-viewport, empty-box, rows-in, span-of, scene-tiles}
 use Rattle.rules.specs.Spans.{Span, span, Stretch, common, meeting, cut-at, cut-when, cut-to}
 use Rattle.rules.specs.Segments.{Segment, good-segment, ordered, judge-segments, stretch-of, Cut, localised, cut-in, cuts}
-use Rattle.rules.specs.Inputs.{Paint, Draw, Clip, Props, good-clip, good-handle, all-good, good-props, Filter, good-filter, draw-segments, good-draw}
+use Rattle.rules.specs.Inputs.{Paint, Draw, Clip, Props, good-clip, good-handle, all-good, good-props, Filter, good-filter, draw-segments, good-fill}
 use Rattle.rules.specs.Blends.{good-blend}
 use Rattle.rules.specs.Rows.{RowOps}
 use Rattle.rules.specs.Plans.{Frame, Layer, State, Step, a-fill, a-push, a-pop, a-filter, paint, touch, close, pop, on, Plan, still, clip-box, box-of, draw-act, draw-puts, plan-fill, layer-box, touches-all, plan-push, clip-segments, clip-fits, close-puts, closing, plan-pop, filter-box, draws-nothing, filter-puts, plan-filter-in, plan-filter, plan}
@@ -190,7 +190,7 @@ module _ (s : State) (f : Framed s) where
   unfolding plan-fill
   fill-ok ps ss d e =
       draws-ok _ (length (s .attrs .paints)) (s .next)
-      (cuts-short (s .frame .viewport) (box-of s) (judged-facts (not (good-draw ps ss d)) (draw-segments ss d) e .1))
+      (cuts-short (s .frame .viewport) (box-of s) (judged-facts (not (good-fill ps ss d)) (draw-segments ss d) e .1))
 
   push-ok : (p : Props) → All (PutOk BoundedSpan) (plan-push p s .puts)
   unfolding plan-push

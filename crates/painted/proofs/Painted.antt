@@ -39,6 +39,7 @@ reset-whole f g c d =
       fair = reset-fair f;
       count = length-replicate m (begin n);
       wide = all-replicate m (begin n) (length-replicate n 0);
+      closed = λ e. never (sym e);
       going = λ e. never (sym e);
     }
 
@@ -66,6 +67,7 @@ step-whole x k w = go (eqb (call Row row-ops 32 x (k .screen) .number) Done)
           fair = call-fair x (k .screen) (w .sound) (w .fair);
           count = w .count ∙ rows-kept;
           wide = rw (frame-kept x (k .screen)) (w .wide);
+          closed = λ e. never (sym e);
           going = λ e. never (sym e);
         }
     go false = w

@@ -189,6 +189,7 @@ module _ (k : calls.Canvas) (w : Whole k) (i : ℕ) where
               fair = w .fair;
               count = length-set (k .painters) i q ∙ w .count;
               wide = all-set i q (after-long ∙ all-at (w .wide) i (begin 0) (there e)) (w .wide);
+              closed = λ z. never (sym z);
               going = λ z. never (sym z);
             }
 

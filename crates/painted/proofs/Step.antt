@@ -9,7 +9,7 @@ use lib.Dec.{leb, ltb, eqb}
 use lib.ListN.{length, getD, set}
 use lib.Seq.{take-at, drop-at}
 use borrow.Author.Tests.{eq-eqb, lt-leb, leb-false, ltb-false}
-use Rattle.rules.specs.Lists.{join}
+use Rattle.rules.specs.Lists.{join, is-empty}
 use Rattle.rules.specs.Answers.{Done, BadRun, Open, NoRoom}
 use Rattle.rules.specs.Boxes.{buckets-of}
 use Rattle.rules.specs.Boxes as boxes
@@ -17,6 +17,8 @@ use Rattle.screen.specs.Attributes.{paint-attr-words}
 use Rattle.rules.specs.Rows.{Row, fresh-row}
 use Rattle.rules.specs.Steps as rule
 use Rattle.rules.specs.Painting.{Painter, Painted, begin, paint-step}
+use Rattle.rules.specs.Plans.{Layer}
+use Rattle.tiles.proofs.Cases.{and-right}
 use Rattle.rules.specs.Calls as calls
 use Rattle.rules.specs.Calls.{paint-call, give, with-painter}
 use Rattle.rules.proofs.All.{All, nil, cons, neither, all-at}
@@ -68,11 +70,16 @@ holds s =
       layer-ids = λ i h. join-at attr-words 6 (λ x. refl) (s .state .attrs .layers) _ i 3 _ h (omega arith);
     }
 
--- 12 without such a row, 13 where painting has not begun
+-- 12 without such a row, 13 where painting does not go on
 row-number : (t b : Bool) → cond (eqb (cond t BadRun Done) Done) (cond b Done Open) (cond t BadRun Done) ≡ cond t BadRun (cond b Done Open)
 row-number true b = refl
 row-number false true = refl
 row-number false false = refl
+
+-- no open layer, by their number
+none-open : (ls : List Layer) → eqb (length ls) 0 ≡ is-empty ls
+none-open [] = refl
+none-open (x ∷ ls) = refl
 
 module _ (k : calls.Canvas) (w : Whole k) (i : ℕ) (l : List ℕ) where
   abbrev s : rule.Screen Row
@@ -97,7 +104,7 @@ module _ (k : calls.Canvas) (w : Whole k) (i : ℕ) (l : List ℕ) where
   layers-long : length (attributes-of s .layers) ≡ 6144
   layers-long = table-length 0 6144 (join attr-words (s .state .attrs .layers)) (omega (arith, join-length attr-words 6 (λ x. refl) (s .state .attrs .layers), few .1))
 
-  step-judged : number (screen-of (s .state) (k .begun)) i (attributes-of s) (words-of k l) ≡ cond (leb (length (s .rows)) i) BadRun (cond (k .begun) Done Open)
+  step-judged : number (screen-of (s .state) (k .begun)) i (attributes-of s) (words-of k l) ≡ cond (leb (length (s .rows)) i) BadRun (cond (calls.paints-on k) Done Open)
   unfolding step-number
   step-judged =
       let e1 = eq-eqb _ _ (long .render) in
@@ -109,10 +116,13 @@ module _ (k : calls.Canvas) (w : Whole k) (i : ℕ) (l : List ℕ) where
       let e7 = eq-eqb _ _ layers-long in
       let x : arenas-long (screen-of (s .state) (k .begun)) (length (rows-of s .render)) (length (rows-of s .fills)) (length (depth-of (k .painters))) ≡ true = rw (e1, e2, e3) in
       let y : tables-long (screen-of (s .state) (k .begun)) (length (rows-of s .state)) (length (painting-of (k .painters))) (length (attributes-of s .paints)) (length (attributes-of s .layers)) ≡ true = rw (e4, e5, e6, e7) in
-      rw (judged-0 s (w .sound) (k .begun) _ _ x y, ← w .sound .count) (row-number (leb (length (s .rows)) i) (k .begun))
+      rw (judged-0 s (w .sound) (k .begun) _ _ x y, ← w .sound .count, none-open (s .state .layers)) (row-number (leb (length (s .rows)) i) (calls.paints-on k))
 
-  -- the step of a row that is there, painting having begun
-  module _ (b : k .begun ≡ true) (h : i < length (s .rows)) where
+  -- the step of a row that is there, where painting goes on
+  module _ (b : calls.paints-on k ≡ true) (h : i < length (s .rows)) where
+    on : k .begun ≡ true
+    on = and-right (is-empty (s .state .layers)) (k .begun) b
+
     abbrev r : Row
     r = getD (s .rows) i fresh-row
 
@@ -146,14 +156,14 @@ module _ (k : calls.Canvas) (w : Whole k) (i : ℕ) (l : List ℕ) where
         let g : Stands a (length (part n i (depth-of (k .painters)))) r (part 54 i (rows-of s .state)) (part (4 * s .state .frame .c) i (rows-of s .render)) (part (2 * s .state .frame .d) i (rows-of s .fills)) =
         rw (own-depth, m) (row-stands s i h (w .sound) (w .fair)) in
         let q : Ready a r (painter-at (part n i (depth-of (k .painters))) (part 2 i (painting-of (k .painters)))) =
-        rw (own-depth, own-painting) (going-ready a n r (fine-at (w .sound .built .fine) i) (w .fair i) p (w .going b i h)) in
-        let u : Sound (summary-at (part 54 i (rows-of s .state))) (part n i (depth-of (k .painters))) = rw (own-state, own-depth) (w .going b i h .sound) in
+        rw (own-depth, own-painting) (going-ready a n r (fine-at (w .sound .built .fine) i) (w .fair i) p (w .going on i h)) in
+        let u : Sound (summary-at (part 54 i (rows-of s .state))) (part n i (depth-of (k .painters))) = rw (own-state, own-depth) (w .going on i h .sound) in
         step-by-rules (screen-of (s .state) (k .begun)) i (attributes-of s) (words-of k l) done-number a (holds s) r g q u ∙ rw (own-depth, own-painting)
 
     -- 14 alters nothing; done, the row's painter is the rules'
     step-out : in-place (screen-of (s .state) (k .begun)) i (words-of k l) (settled (some o) (p .buckets) (standing-in p) l) ≡ given-out (paint-call 32 i (length l / 6) k) l
     unfolding settled paint-call
-    step-out = rw (lt-leb (length (s .rows)) i h, b) (go (ltb (length l / 6) (length (o .pieces))))
+    step-out = rw (lt-leb (length (s .rows)) i h, b, on) (go (ltb (length l / 6) (length (o .pieces))))
       where
         kept : (f : Painter → List ℕ) (m : ℕ) → All (λ (x : Painter). length (f x) ≡ m) (k .painters) → with-part m i (join f (k .painters)) (f p) ≡ join f (k .painters)
         kept f m a = put-join f m a i p there ∙ ap (join f) (set-same (k .painters) i (begin 0) there)
@@ -171,15 +181,15 @@ module _ (k : calls.Canvas) (w : Whole k) (i : ℕ) (l : List ℕ) where
   unfolding stepped paint-call
   missing e = rw (step-judged, e)
 
-  not-begun : leb (length (s .rows)) i ≡ false → k .begun ≡ false → Same
+  not-begun : leb (length (s .rows)) i ≡ false → calls.paints-on k ≡ false → Same
   unfolding stepped paint-call
   not-begun e f = rw (step-judged, e, f)
 
   -- The call at the words: the rules' number, pieces and painter, and nothing else altered.
   pub step-by : stepped (screen-of (s .state) (k .begun)) i (attributes-of s) (words-of k l) ≡ given-out (paint-call 32 i (length l / 6) k) l
-  step-by = go (leb (length (s .rows)) i) (k .begun) refl refl
+  step-by = go (leb (length (s .rows)) i) (calls.paints-on k) refl refl
     where
-      go : (t b : Bool) → leb (length (s .rows)) i ≡ t → k .begun ≡ b → Same
+      go : (t b : Bool) → leb (length (s .rows)) i ≡ t → calls.paints-on k ≡ b → Same
       go true b e f = missing e
       go false false e f = not-begun e f
       go false true e f = let h : i < length (s .rows) = leb-false _ _ e in by-step f h ∙ step-out f h

@@ -11,9 +11,9 @@ use Rattle.rules.specs.Lists.{is-empty}
 use Rattle.rules.specs.Answers.{settle, first-of, Done, BadRun, Open, NoRoom}
 use Rattle.rules.specs.Boxes.{buckets-of}
 use Rattle.rules.specs.Rows.{fresh-row}
-use Rattle.rules.specs.Plans.{Layer}
 use Rattle.rules.specs.Painting.{Painter, Painted, begin, paint-step}
-use Rattle.rules.specs.Calls.{Canvas, begin-call, paint-call, blank, with-painter}
+use Rattle.rules.specs.Calls.{Canvas, paints-on, begin-call, paint-call, blank, with-painter}
+use Rattle.tiles.proofs.Cases.{and-right}
 use Rattle.rules.proofs.All.{All, nil, cons, all-replicate}
 use Rattle.painted.specs.Painters.{Going}
 use Rattle.painted.specs.Canvases.{Whole}
@@ -31,23 +31,24 @@ module _ (k : Canvas) (w : Whole k) where
 
   pub begin-whole : Whole (begin-call 32 k .value)
   unfolding begin-call
-  begin-whole = go (k .screen .state .layers)
+  begin-whole = go (is-empty (k .screen .state .layers)) refl
     where
-      begun-now : Whole (record { screen = k .screen; begun = true; painters = blank 32 (k .screen) })
-      begun-now =
+      begun-now : is-empty (k .screen .state .layers) ≡ true → Whole (record { screen = k .screen; begun = true; painters = blank 32 (k .screen) })
+      begun-now none-open =
           record {
             sound = w .sound;
             fair = w .fair;
             count = length-replicate (length (k .screen .rows)) (begin n);
             wide = all-replicate (length (k .screen .rows)) (begin n) (length-replicate n 0);
+            closed = λ e. none-open;
             going = λ e i h.
                 rw (getD-replicate (length (k .screen .rows)) i (begin n) (begin 0) h)
                 (begin-going (k .screen .state .attrs) n (getD (k .screen .rows) i fresh-row) (fine-at (w .sound .built .fine) i) (w .fair i));
           }
 
-      go : (ls : List Layer) → Whole (settle (cond (is-empty ls) Done Open) k (record { screen = k .screen; begun = true; painters = blank 32 (k .screen) }) .value)
-      go [] = begun-now
-      go (l ∷ ls) = w
+      go : (b : Bool) → is-empty (k .screen .state .layers) ≡ b → Whole (settle (cond b Done Open) k (record { screen = k .screen; begun = true; painters = blank 32 (k .screen) }) .value)
+      go true e = begun-now e
+      go false e = w
 
   module _ (i : ℕ) where
     abbrev o : Painted
@@ -61,6 +62,7 @@ module _ (k : Canvas) (w : Whole k) where
           fair = w .fair;
           count = length-set (k .painters) i (o .painter) ∙ w .count;
           wide = all-set i (o .painter) (g .wide) (w .wide);
+          closed = w .closed;
           going = λ e j l. go g j l (eqb j i) refl;
         }
       where
@@ -74,11 +76,11 @@ module _ (k : Canvas) (w : Whole k) where
 
     pub paint-whole : (m : ℕ) → Whole (paint-call 32 i m k .canvas)
     unfolding paint-call
-    paint-whole m = go (leb (length (k .screen .rows)) i) (k .begun) (ltb m (length (o .pieces))) refl refl
+    paint-whole m = go (leb (length (k .screen .rows)) i) (paints-on k) (ltb m (length (o .pieces))) refl refl
       where
-        go : (t b u : Bool) → leb (length (k .screen .rows)) i ≡ t → k .begun ≡ b
+        go : (t b u : Bool) → leb (length (k .screen .rows)) i ≡ t → paints-on k ≡ b
             → Whole (cond (eqb (first-of ((t, BadRun) ∷ (not b, Open) ∷ (u, NoRoom) ∷ [])) Done) (with-painter 32 k (k .begun) i (o .painter)) k)
         go true b u e f = w
         go false false u e f = w
         go false true true e f = w
-        go false true false e f = step-on f (leb-false _ _ e)
+        go false true false e f = step-on (and-right (is-empty (k .screen .state .layers)) (k .begun) f) (leb-false _ _ e)

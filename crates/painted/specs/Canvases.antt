@@ -4,7 +4,7 @@ use mathlib.Core.Path.{_≡_}
 use mathlib.Core.Bool.{true}
 use mathlib.Core.List.{List, [], _∷_}
 use lib.ListN.{length, getD}
-use Rattle.rules.specs.Lists.{join}
+use Rattle.rules.specs.Lists.{join, is-empty}
 use Rattle.rules.specs.Answers.{answer}
 use Rattle.rules.specs.Boxes.{buckets-of}
 use Rattle.rules.specs.Spans.{Span}
@@ -43,12 +43,13 @@ painting-of ps = join standing-in ps
 abbrev pub canvas-of : rule.Canvas → Canvas
 canvas-of k = canvas (screen-of (k .screen .state) (k .begun)) (depth-of (k .painters)) (painting-of (k .painters))
 
--- a sound screen with fair rows, a painter for each, and where painting has begun each goes on
+-- a sound screen with fair rows, a painter for each, and where painting has begun no layer is open and each goes on
 pub record Whole (k : rule.Canvas) : Type 0 where
   pub sound : Sound (k .screen)
   pub fair : FairRows (k .screen)
   pub count : length (k .painters) ≡ length (k .screen .rows)
   pub wide : All (λ (p : Painter). length (p .buckets) ≡ buckets-of 32 (k .screen .state .frame .viewport)) (k .painters)
+  pub closed : k .begun ≡ true → is-empty (k .screen .state .layers) ≡ true
   pub going : k .begun ≡ true → (i : ℕ) → i < length (k .screen .rows)
       → Going (buckets-of 32 (k .screen .state .frame .viewport)) (getD (k .screen .rows) i fresh-row) (getD (k .painters) i (begin 0))
 

@@ -9,14 +9,14 @@ use borrow.Author.Tests.{lt-leb}
 use Rattle.rules.specs.Answers.{Answer, Done}
 use Rattle.rules.specs.Boxes.{rows-of}
 use Rattle.rules.specs.Plans.{Frame, Step}
-use Rattle.rules.specs.Calls.{Canvas, begin-call, painter-of, paint-call}
+use Rattle.rules.specs.Calls.{paints-on, Canvas, begin-call, painter-of, paint-call}
 use Rattle.screen.specs.Tables.{Lent}
 use Rattle.paint.specs.Painting.{Out}
 use Rattle.painted.specs.Canvases.{Whole}
 use Rattle.painted.proofs.Whole.{begin-whole}
 use Rattle.tiles.specs.Turns as rule
 use Rattle.tiles.specs.Turns.{turns, said-finished, has-finished}
-use Rattle.tiles.proofs.Turns.{step-ended, turns-screen, turns-begun, begun-is}
+use Rattle.tiles.proofs.Turns.{step-ended, turns-screen, turns-paints, begun-is, begun-paints}
 use Rattle.tiles.proofs.Finishes as tiles
 use Rattle.tiles.proofs.Finishes.{in-order}
 use Rattle.tiles.proofs.Picture.{built-on}
@@ -40,7 +40,7 @@ same-turns (t ∷ ts) =
     rw (length-replicate {A = ℕ} (6 * t .room) 0, e, same-turns ts)
 
 -- a row of which nothing is left says finished, whatever the room
-says-finished : (k : Canvas) → Whole k → (r : ℕ) → r < length (k .screen .rows) → k .begun ≡ true → has-finished 32 k r ≡ true → finished-at (canvas-words k) r ≡ true
+says-finished : (k : Canvas) → Whole k → (r : ℕ) → r < length (k .screen .rows) → paints-on k ≡ true → has-finished 32 k r ≡ true → finished-at (canvas-words k) r ≡ true
 unfolding has-finished paint-call
 says-finished k w r h b e =
     let f = step-ended 32 (k .screen .state .attrs) _ (painter-of 32 k r) e in
@@ -67,7 +67,7 @@ finishes f xs l h e =
       λ r there.
           let row = built-on 32 (omega arith) f xs (k .screen) (s .built) r there .1 in
           let same : turns 32 us b .canvas .screen ≡ k .screen = turns-screen 32 us b ∙ ap (λ (c : Canvas). c .screen) g in
-          let on : turns 32 us b .canvas .begun ≡ true = turns-begun 32 us b ∙ ap (λ (c : Canvas). c .begun) g in
+          let on : paints-on (turns 32 us b .canvas) ≡ true = turns-paints 32 us b ∙ begun-paints 32 k d in
           let t : turned (map lent-turn us) (begin-at l .value) ≡ canvas-words (turns 32 us b .canvas) =
           ap (turned (map lent-turn us)) v ∙ turned-words (map lent-turn us) b w ∙ ap (λ (x : List rule.Turn). canvas-words (turns 32 x b .canvas)) (same-turns us) in
           or-last (said-finished r (log (map lent-turn us) (begin-at l .value))) _

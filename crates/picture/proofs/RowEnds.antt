@@ -14,7 +14,7 @@ use Rattle.rules.specs.Boxes.{rows-of}
 use Rattle.rules.specs.Rows.{fresh-row}
 use Rattle.rules.specs.Plans.{Frame, Step}
 use Rattle.rules.specs.Painting.{Piece, Painted, paint-steps}
-use Rattle.rules.specs.Calls.{Canvas, Given, painter-of, paint-call}
+use Rattle.rules.specs.Calls.{paints-on, Canvas, Given, painter-of, paint-call}
 use Rattle.screen.specs.Tables.{Lent}
 use Rattle.refine.specs.Lent.{lent-of}
 use Rattle.paint.specs.Pieces.{piece-words, laid}
@@ -25,7 +25,7 @@ use Rattle.painted.specs.Canvases.{given-out, Whole}
 use Rattle.painted.proofs.Whole.{paint-whole}
 use Rattle.tiles.specs.Turns.{next-step}
 use Rattle.tiles.proofs.Cases.{by, and-right}
-use Rattle.tiles.proofs.Turns.{step-counts, step-ended, late-ended, call-given, call-screen, call-begun, call-own}
+use Rattle.tiles.proofs.Turns.{step-counts, step-ended, late-ended, call-given, call-screen, call-paints, call-own}
 use Rattle.tiles.proofs.Finishes.{work}
 use Rattle.tiles.proofs.Picture.{built-on}
 use Rattle.picture.specs.Reached.{Reached, paint-out, paint-at}
@@ -40,7 +40,7 @@ abbrev left-of : ℕ → Canvas → ℕ → List Piece
 left-of n k r = paint-steps 32 (k .screen .state .attrs) n (getD (k .screen .rows) r fresh-row) (painter-of 32 k r)
 
 -- a step with room for its pieces is done
-room-done : (k : Canvas) (r m : ℕ) → r < length (k .screen .rows) → k .begun ≡ true → length (next-step 32 k r .pieces) ≤ m → paint-call 32 r m k .number ≡ Done
+room-done : (k : Canvas) (r m : ℕ) → r < length (k .screen .rows) → paints-on k ≡ true → length (next-step 32 k r .pieces) ≤ m → paint-call 32 r m k .number ≡ Done
 unfolding paint-call
 room-done k r m h b e = rw (lt-leb (length (k .screen .rows)) r h, b, le-ltb m (length (next-step 32 k r .pieces)) e)
 
@@ -59,7 +59,7 @@ module _ (r : ℕ) (l : Lent) where
   record At (g : Out) (k : Canvas) : Type 0 where
     words : at r l g ≡ canvas-words k
     whole : Whole k
-    begun : k .begun ≡ true
+    goes-on : paints-on k ≡ true
     there : r < length (k .screen .rows)
     holds : Holds r l g
 
@@ -89,7 +89,7 @@ module _ (r : ℕ) (l : Lent) where
         record {
           words = sym (one-words r l g) ∙ ap (paint-at r ys) (z .words) ∙ paint-words k (z .whole) r ys;
           whole = paint-whole k (z .whole) r (length ys / 6);
-          begun = call-begun 32 r (length ys / 6) k ∙ z .begun;
+          goes-on = call-paints 32 r (length ys / 6) k ∙ z .goes-on;
           there = rw (call-screen 32 r (length ys / 6) k) (z .there);
           holds = one-holds r l g (z .holds);
         }
@@ -104,7 +104,7 @@ module _ (r : ℕ) (l : Lent) where
     -- there is room for its pieces
     module _ (room : 6 * length (next-step 32 k r .pieces) ≤ length ys) where
       done : eqb (c .number) Done ≡ true
-      done = eq-eqb _ _ (room-done k r (length ys / 6) (z .there) (z .begun) (omega arith))
+      done = eq-eqb _ _ (room-done k r (length ys / 6) (z .there) (z .goes-on) (omega arith))
 
       given : c .value ≡ next-step 32 k r
       given = call-given 32 r (length ys / 6) k done .0
@@ -153,7 +153,7 @@ module _ (r : ℕ) (l : Lent) where
       (ends f n (j + 1) (one-more (step r l) g) _ (on g k z) (rw (p, s) (omega arith)) (omega arith) (rw (p, s) (omega (arith, rw (given g k z first) at v)))))
 
 -- the call at the words of a canvas
-row-ended : (k : Canvas) → Whole k → k .begun ≡ true → (r : ℕ) → r < length (k .screen .rows) → (list : List ℕ)
+row-ended : (k : Canvas) → Whole k → paints-on k ≡ true → (r : ℕ) → r < length (k .screen .rows) → (list : List ℕ)
     → 6 * length (left-of (work k r) k r) ≤ length list → row-out r list (canvas-words k) .answer .finished ≡ true
 unfolding row-out row-painted
 row-ended k w b r h list room =
@@ -163,7 +163,7 @@ row-ended k w b r h list room =
     let q = s .rows r in
     let g = standing (canvas-words k .tables .depth) (canvas-words k .tables .painting) list in
     ends r (canvas-words k) most (work k r) 0 g k
-    (record { words = refl; whole = w; begun = b; there = h; holds = omega arith })
+    (record { words = refl; whole = w; goes-on = b; there = h; holds = omega arith })
     (omega arith) (omega (arith, c, d, q .commands, q .fills)) room
 
 -- While painting goes on, one call of `paint_row` into any list that is long enough says finished.
@@ -172,6 +172,7 @@ pub row-ends : {f : Frame} {xs : List Step} {l : Lent} → Reached f xs l → l 
 row-ends {f} {xs} {l} h b r there =
     let s = reached h in
     let k = s .canvas in
-    let on : k .begun ≡ true = unfold lent-of in (sym (ap (λ (m : Lent). m .screen .painting) (s .same)) ∙ b) in
+    let begun : k .begun ≡ true = unfold lent-of in (sym (ap (λ (m : Lent). m .screen .painting) (s .same)) ∙ b) in
+    let on : paints-on k ≡ true = rw (s .whole .closed begun) begun in
     let row = built-on 32 (omega arith) f xs (k .screen) (s .built) r there .1 in
     (6 * length (left-of (work k r) k r), λ list long. ap (λ (m : Lent). row-out r list m .answer .finished) (s .same) ∙ row-ended k (s .whole) on r row list long)

@@ -1,7 +1,7 @@
 -- A recording call at the words of a canvas is the rules' recording call, every word: from the reset on, the walk's steps keep words that are
 -- those of a whole canvas, and a refusal leaves either the words as they were or those of the reset. Assumes nothing.
 use Prim.Native.Nat.{ℕ}
-use mathlib.Core.Path.{_≡_, refl, sym, ap, _∙_}
+use mathlib.Core.Path.{_≡_, sym, ap, _∙_}
 use mathlib.Core.Bool.{true}
 use mathlib.Core.List.{List}
 use mathlib.Core.Option.{some}
@@ -17,7 +17,7 @@ use Rattle.walk.specs.Recorded.{recorded}
 use Rattle.refine.proofs.Walks.{Follow}
 use Rattle.painted.specs.Canvases.{Whole}
 use Rattle.painted.proofs.Painted.{step-whole}
-use Rattle.played.specs.Played.{place, Outcome, unaltered, made, Plays}
+use Rattle.played.specs.Played.{Outcome, unaltered, made, Plays}
 use Rattle.played.proofs.Laws.{words-play}
 use Rattle.picture.specs.Standing.{canvas-words}
 use Rattle.picture.proofs.Words.{step-words}
@@ -51,7 +51,8 @@ module _ (ws : List ℕ) (c d : ℕ) (k : Canvas)
 
   -- The number and every word. The tables beside the arenas are as long as the file's viewport asks.
   pub recorded-canvas : recorded ws c d (canvas-words k) ≡ answer (theirs .number) (canvas-words (theirs .value))
-  recorded-canvas = rw (plays .number, go (plays .value)) refl
+  recorded-canvas =
+      ap (λ (n : ℕ). answer n (recorded ws c d (canvas-words k) .value)) (plays .number) ∙ ap (λ (l : Lent). answer (theirs .number) l) (go (plays .value))
     where
       go : Outcome Held (theirs .number) k (canvas-words k) (theirs .value) (recorded ws c d (canvas-words k) .value)
           → recorded ws c d (canvas-words k) .value ≡ canvas-words (theirs .value)

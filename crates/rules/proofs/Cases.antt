@@ -327,23 +327,27 @@ unfolding computing
 kept-attributes = refl
 
 -- Two filter fills away from the origin: the first begins before the viewport, which stops its box but not its shift; the second inside it.
--- Their paints are counted after the paint list's.
+-- Their paints are counted after the paint list's. A draw comes after them.
 abbrev pub placed : Recording
 placed =
-    rec (box 128 64 384 72) [] []
+    rec (box 128 64 384 72)
+    (solid 16 40 44 ∷ [])
+    (draw 0 1 ∷ [])
     (filtered full 0 (filter 5 (box 120 65 200 67) 7 90) ∷ filtered full 0 (filter 6 (box 160 68 200 70) 170 60) ∷ [])
-    (node 0 0 1 ∷ node 0 0 2 ∷ [])
+    (node 0 0 1 ∷ node 0 0 2 ∷ node 0 1 0 ∷ [])
     0
-    2
+    3
 
-pub placed-lines : rowlist-words (file placed) ≡ header 2 2 2 ∷ row 0 0 1 ∷ P 0 18 none 0 ∷ row 1 0 1 ∷ P 8 18 none 1 ∷ []
+pub placed-lines :
+    rowlist-words (file placed) ≡
+    header 2 2 3 ∷ row 0 0 2 ∷ P 0 18 none 0 ∷ P 8 12 none 2 ∷ row 1 0 1 ∷ P 8 18 none 1 ∷ []
 unfolding computing
 placed-lines = refl
 
 pub placed-attributes :
     attributes placed ≡
     attrs
-    (paint-attr 1 0 3 0 1 0 128 64 ∷ paint-attr 2 0 3 0 2 0 128 64 ∷ [])
+    (paint-attr 1 0 3 0 1 0 128 64 ∷ paint-attr 2 0 3 0 2 0 128 64 ∷ paint-attr 0 0 3 0 3 0 128 64 ∷ [])
     []
     (filter-paint 5 (minus 113) (pos 25) ∷ filter-paint 6 (pos 10) (minus 8) ∷ [])
 unfolding computing
@@ -401,21 +405,21 @@ pub clipped-filter-lines :
 unfolding computing
 clipped-filter-lines = refl
 
--- An empty draw takes an id and no attribute; two layers one after the other, with a draw between, have attributes of their own. Both hold the
--- same node.
+-- An empty draw takes an id and no attribute, first of all and after a layer; two layers one after the other, with a draw between, have attributes
+-- of their own. Both hold the same node.
 abbrev pub in-turn : Recording
 in-turn =
     rec (box 0 0 256 4)
     (solid 0 0 8 ∷ solid 0 10 20 ∷ [])
     (draw 0 0 ∷ draw 0 1 ∷ draw 1 2 ∷ [])
     (layer 2 3 ∷ layer 2 3 ∷ [])
-    (node 0 2 1 ∷ node 1 2 2 ∷ node 2 3 0 ∷ [])
+    (node 0 2 1 ∷ node 0 2 2 ∷ node 2 3 0 ∷ [])
     0
     2
 
 pub in-turn-lines :
     rowlist-words (file in-turn) ≡
-    header 1 2 7
+    header 1 2 8
     ∷ row 0 0 10
     ∷ P 0 8 none 0
     ∷ B (some (span 0 64))
@@ -434,8 +438,8 @@ in-turn-lines = refl
 pub in-turn-attributes :
     attributes in-turn ≡
     attrs
-    (paint-attr 0 0 3 0 2 0 0 0 ∷ paint-attr 0 0 3 0 3 0 0 0 ∷ paint-attr 0 0 3 0 5 0 0 0 ∷ paint-attr 0 0 3 0 6 0 0 0 ∷ [])
-    (layer-attr 0 3 full 0 4 0 ∷ layer-attr 0 3 full 0 7 0 ∷ [])
+    (paint-attr 0 0 3 0 2 0 0 0 ∷ paint-attr 0 0 3 0 3 0 0 0 ∷ paint-attr 0 0 3 0 6 0 0 0 ∷ paint-attr 0 0 3 0 7 0 0 0 ∷ [])
+    (layer-attr 0 3 full 0 4 0 ∷ layer-attr 0 3 full 0 8 0 ∷ [])
     []
 unfolding computing
 in-turn-attributes = refl

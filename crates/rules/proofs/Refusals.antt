@@ -18,6 +18,7 @@ use Rattle.rules.specs.Attributes.{PaintAttr, LayerAttr, FilterPaint, At
 use Rattle.rules.specs.Rows.{fresh-row}
 use Rattle.rules.specs.Plans.{Frame, Layer, Step, a-fill, a-push, a-pop, a-filter}
 use Rattle.rules.proofs.Words.{file}
+use Rattle.rules.specs.Painting.{begin}
 use Rattle.rules.specs.Walk.{needed}
 use Rattle.rules.specs.Calls.{Canvas, fresh-canvas, reset-call, step-call, record-call, begin-call, paint-call, unset-call, visible-call, write-call, can-skip-call}
 use Rattle.rules.proofs.Samples.{solid, alpha, opaque-paint, draw, blend, clip, full, filter, node, rec, minus}
@@ -220,3 +221,22 @@ all-due = refl
 pub recorded-clears : recorded a-file nine ≡ answer Done (after (fills (solid 0 0 64 ∷ []) 1) start)
 unfolding computing
 recorded-clears = refl
+
+-- What is refused gives nothing and leaves the canvas as it was.
+pub paint-refused :
+    paint-call 32 0 0 painting ≡
+    record { number = NoRoom; value = record { finished = false; pieces = []; painter = begin 2 }; canvas = painting }
+unfolding computing
+paint-refused = refl
+
+pub write-refused : write-call 32 1 0 0 (span 0 2) start ≡ record { number = NoRoom; value = []; canvas = start }
+unfolding computing
+write-refused = refl
+
+pub runs-refused : visible-call 32 9 0 0 (span 31 32) nine ≡ record { number = NoRoom; value = []; canvas = nine }
+unfolding computing
+runs-refused = refl
+
+pub skip-refused : can-skip-call 32 1 (span 0 1) 1 start ≡ record { number = BadRun; value = false; canvas = start }
+unfolding computing
+skip-refused = refl

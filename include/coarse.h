@@ -35,7 +35,7 @@ enum coarse_answer {
 
 /* The screen's own numbers: viewport x0 y0 x1 y1, clip box x0 y0 x1 y1, C, D, next draw id, the numbers of paint attributes, layer
  * attributes, filter paints and open layers, and 1 if painting has begun, else 0. A host starts with zeros and lends them to every
- * call. Another length, or a last word above 1, is answer 4. */
+ * call. Another length is answer 4, whatever else is wrong; a last word above 1 is answer 4 after 3, 2 and 1. */
 #define COARSE_STATE 16
 
 /* Lengths that no viewport changes. coarse_sizes gives the others. */

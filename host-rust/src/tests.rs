@@ -445,4 +445,16 @@ fn words_that_are_no_screen() {
         Err(Answer::BadRecord)
     );
     assert_eq!(bucketer.state, before.state);
+    // The viewport, then C and D, are judged before the word that is no flag.
+    bucketer.state[8] = 0;
+    assert_eq!(
+        bucketer.push_layer(&LayerProps::default()),
+        Err(Answer::BadArena)
+    );
+    bucketer.state[0] = 2;
+    assert_eq!(
+        bucketer.push_layer(&LayerProps::default()),
+        Err(Answer::BadViewport)
+    );
+    assert_eq!(bucketer.begin_painting(), Err(Answer::BadViewport));
 }

@@ -3,7 +3,7 @@ use Prim.Native.Nat.{ℕ}
 use mathlib.Core.Bool.{Bool, true, false, _&&_, cond}
 use mathlib.Core.List.{List, [], _∷_}
 use lib.ListN.{length, getD}
-use lib.Dec.{leb, eqb}
+use lib.Dec.{leb, ltb, eqb}
 use Rattle.rules.specs.Answers.{Answer, answer, BadRecord}
 use Rattle.rect.specs.declared.Rect.{Rect}
 use Rattle.screen.specs.declared.Screen.{Screen}
@@ -57,10 +57,23 @@ screen-at ws =
 abbrev pub good-words : List ℕ → Bool
 good-words ws = eqb (length ws) 16 && leb (getD ws 15 0) 1
 
-unfoldable pub screen-of : List ℕ → Held
-screen-of ws = cond (good-words ws) (held.Good (screen-at ws)) held.Nothing
+-- the screen that the words stand for, if what else the host gives is good
+unfoldable pub screen-of : Bool → List ℕ → Held
+screen-of good ws = cond (good && good-words ws) (held.Good (screen-at ws)) held.Nothing
 
--- what a call on a screen gives, or 4 with everything as it was where there is none
-abbrev pub on : {T : Type 0} → Held → T → (Screen → Answer T) → Answer T
-on held.Nothing t f = answer BadRecord t
-on (held.Good s) t f = f s
+-- The number of a call whose words are refused by 4 at the border, n being the call's own: 1, 2 and 3 come first.
+unfoldable pub before-4 : ℕ → ℕ
+before-4 n = cond (ltb 0 n && ltb n BadRecord) n BadRecord
+
+-- .. of the screen at 16 words; words of another length are no screen at all
+unfoldable pub refused-at : List ℕ → (Screen → ℕ) → ℕ
+refused-at ws f = cond (eqb (length ws) 16) (before-4 (f (screen-at ws))) BadRecord
+
+-- what a call on a screen gives, or a refusal at the border with everything as it was
+abbrev pub at-held : {T : Type 0} → Held → List ℕ → T → (Screen → Answer T) → Answer T
+at-held held.Nothing ws t f = answer (refused-at ws (λ (s : Screen). f s .number)) t
+at-held (held.Good s) ws t f = f s
+
+-- .. on a host's words; good: whether what else the host gives is good
+abbrev pub on : {T : Type 0} → Bool → List ℕ → T → (Screen → Answer T) → Answer T
+on good ws t f = at-held (screen-of good ws) ws t f

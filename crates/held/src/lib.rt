@@ -6,7 +6,7 @@ use screen::Screen;
 ghost use mathlib.Core.Path.{_≡_};
 ghost use lib.ListN.{length};
 ghost use Rattle.cmd.specs.Answers.{number-of};
-ghost use Rattle.held.specs.State.{bit, screen-words, screen-of};
+ghost use Rattle.held.specs.State.{bit, screen-words, screen-at, screen-of, before-4};
 
 // What a host's words stand for.
 pub enum Held {
@@ -14,16 +14,11 @@ pub enum Held {
     Good(Screen),
 }
 
-// The screen of 16 words whose last is 0 or 1.
-pub fn screen_of(state: &[u32]) -> Held
-    ensures { λ r. ⌜ r ≡ screen-of (now (state .entry)) ⌝ }
+// The screen of 16 words, whatever the last.
+pub fn screen_at(state: &[u32]) -> Screen
+    requires { ⌜ length (now state) ≡ 16 ⌝ }
+    ensures { λ r. ⌜ r ≡ screen-at (now (state .entry)) ⌝ }
 {
-    if state.len() != 16 {
-        return Held::Nothing;
-    }
-    if 1 < state[15] {
-        return Held::Nothing;
-    }
     let viewport = Rect {
         x0: state[0],
         y0: state[1],
@@ -36,7 +31,7 @@ pub fn screen_of(state: &[u32]) -> Held
         x1: state[6],
         y1: state[7],
     };
-    Held::Good(Screen {
+    Screen {
         viewport,
         clip_bbox,
         c: state[8],
@@ -47,7 +42,36 @@ pub fn screen_of(state: &[u32]) -> Held
         filter_paints: state[13],
         layers: state[14],
         painting: state[15] == 1,
-    })
+    }
+}
+
+// The screen of 16 words whose last is 0 or 1, if what else the host gives is good.
+pub fn screen_of(state: &[u32], good: bool) -> Held
+    ensures { λ r. ⌜ r ≡ screen-of good (now (state .entry)) ⌝ }
+{
+    if !good {
+        return Held::Nothing;
+    }
+    if state.len() != 16 {
+        return Held::Nothing;
+    }
+    if 1 < state[15] {
+        return Held::Nothing;
+    }
+    Held::Good(screen_at(state))
+}
+
+// The number of a call whose words are refused by 4 at the border, n being the call's own: 1, 2 and 3 come first.
+pub fn before_4(n: u32) -> u32
+    ensures { λ r. ⌜ r ≡ before-4 n ⌝ }
+{
+    if n == 0 {
+        return 4;
+    }
+    if 4 <= n {
+        return 4;
+    }
+    n
 }
 
 pub fn flag(yes: bool) -> u32

@@ -1,12 +1,12 @@
 -- What a call gives at the screen that a host's words stand for is what it gives at the words.
 use mathlib.Core.Path.{_≡_, ap, _∙_}
-use mathlib.Core.Bool.{cond}
+use mathlib.Core.Bool.{true}
 use mathlib.Core.List.{List}
-use Prim.Native.Nat.{ℕ, _≤_, _<_}
+use Prim.Native.Nat.{ℕ}
 use lib.Ieee.{Float}
 use lib.IntN.{ℤ}
-use borrow.Author.Tests.{le-leb, lt-leb}
-use Rattle.rules.specs.Answers.{Answer, answer, BadRecord}
+use lib.Dec.{leb}
+use Rattle.rules.specs.Answers.{Answer, answer}
 use Rattle.rect.specs.declared.Rect.{Rect}
 use Rattle.row.specs.Words.{Words}
 use Rattle.screen.specs.declared.Screen.{Screen}
@@ -26,38 +26,32 @@ use Rattle.filter.specs.Filter.{given, filtered}
 use Rattle.painter.specs.Beginning.{canvas, beginning}
 use Rattle.held.specs.declared.Held.{Held}
 use Rattle.held.specs.declared.Held.the-variants as held
-use Rattle.held.specs.State.{screen-words, screen-of, on}
+use Rattle.held.specs.State.{screen-words, screen-of, at-held}
 use Rattle.host.specs.Building.{tables-left, reset-call, recording-call, fill-left, fill-call, push-left, push-call, pop-left, pop-call, filter-left, filter-call}
 use Rattle.host.specs.Painting.{begin-left, begin-call}
 
 -- st stands for s; afterwards the call has the screen s', and the words st' are its
-module _ (st st' : List ℕ) (s s' : Screen) (r n : ℕ) (h : held.Good s ≡ screen-of st) (rn : r ≡ n) (sw : st' ≡ screen-words s') where
+module _ (st st' : List ℕ) (s s' : Screen) (r n : ℕ) (h : held.Good s ≡ screen-of true st) (rn : r ≡ n) (sw : st' ≡ screen-words s') where
   pub reset-built : (v : Rect) (c d : ℕ) (t t' : Tables) → answer n (lent s' t') ≡ reset-to v c d (lent s t) → answer r (st', t') ≡ reset-call v c d st t
   unfolding reset-call
   reset-built v c d t t' e =
-      rw (rn, sw) (ap tables-left e ∙ ap (λ (x : Held). on x (st, t) (λ (s : Screen). tables-left (reset-to v c d (lent s t)))) h)
+      rw (rn, sw) (ap tables-left e ∙ ap (λ (x : Held). at-held x st (st, t) (λ (s : Screen). tables-left (reset-to v c d (lent s t)))) h)
 
   pub recording-built : (file : List ℕ) (c d : ℕ) (t t' : Tables) → answer n (lent s' t') ≡ recorded file c d (lent s t) → answer r (st', t') ≡ recording-call file c d st t
   unfolding recording-call
   recording-built file c d t t' e =
-      rw (rn, sw) (ap tables-left e ∙ ap (λ (x : Held). on x (st, t) (λ (s : Screen). tables-left (recorded file c d (lent s t)))) h)
+      rw (rn, sw) (ap tables-left e ∙ ap (λ (x : Held). at-held x st (st, t) (λ (s : Screen). tables-left (recorded file c d (lent s t)))) h)
 
   pub fill-built : (ps ss : List ℕ) (d : Draw) (w w' : Words) (pas pas' : List ℕ) → answer n (fills.lent s' w' pas') ≡ filled (fills.lent s w pas) ps ss d
       → answer r (st', w', pas') ≡ fill-call ps ss d st w pas
   unfolding fill-call
   fill-built ps ss d w w' pas pas' e =
-      rw (rn, sw) (ap fill-left e ∙ ap (λ (x : Held). on x (st, w, pas) (λ (s : Screen). fill-left (filled (fills.lent s w pas) ps ss d))) h)
-
-  pub push-built : (flag : ℕ) (p : LayerProps) (w w' : Words) (ls ls' : List ℕ) (os os' : List Float) → flag ≤ 1
-      → answer n (push.lent s' w' ls' os') ≡ pushed p (push.lent s w ls os) → answer r (st', w', ls', os') ≡ push-call flag p st w ls os
-  unfolding push-call
-  push-built flag p w w' ls ls' os os' f e =
-      rw (rn, sw, le-leb _ _ f) (ap push-left e ∙ ap (λ (x : Held). on x (st, w, ls, os) (λ (s : Screen). push-left (pushed p (push.lent s w ls os)))) h)
+      rw (rn, sw) (ap fill-left e ∙ ap (λ (x : Held). at-held x st (st, w, pas) (λ (s : Screen). fill-left (filled (fills.lent s w pas) ps ss d))) h)
 
   pub pop-built : (ss : List ℕ) (l l' : pop.Lent) → pop.out n s' l' ≡ popped s l ss → answer r (st', l') ≡ pop-call ss st l
   unfolding pop-call
   pop-built ss l l' e =
-      rw (rn, sw) (ap pop-left e ∙ ap (λ (x : Held). on x (st, l) (λ (s : Screen). pop-left (popped s l ss))) h)
+      rw (rn, sw) (ap pop-left e ∙ ap (λ (x : Held). at-held x st (st, l) (λ (s : Screen). pop-left (popped s l ss))) h)
 
   pub filter-built : (p : Placement) (pixmap k : ℕ) (w w' : Words) (pas pas' : List ℕ) (fps fps' : List ℤ)
       → answer n (filter.lent s' w' pas' fps') ≡ filtered (given p pixmap k) (filter.lent s w pas fps) → answer r (st', w', pas', fps') ≡ filter-call p pixmap k st w pas fps
@@ -65,15 +59,17 @@ module _ (st st' : List ℕ) (s s' : Screen) (r n : ℕ) (h : held.Good s ≡ sc
   filter-built p pixmap k w w' pas pas' fps fps' e =
       rw (rn, sw)
       (ap filter-left e
-      ∙ ap (λ (x : Held). on x (st, w, pas, fps) (λ (s : Screen). filter-left (filtered (given p pixmap k) (filter.lent s w pas fps)))) h)
+      ∙ ap (λ (x : Held). at-held x st (st, w, pas, fps) (λ (s : Screen). filter-left (filtered (given p pixmap k) (filter.lent s w pas fps)))) h)
 
   pub begin-built : (d d' p p' : List ℕ) → answer n (canvas s' d' p') ≡ beginning (canvas s d p) → answer r (st', d', p') ≡ begin-call st d p
   unfolding begin-call
   begin-built d d' p p' e =
-      rw (rn, sw) (ap begin-left e ∙ ap (λ (x : Held). on x (st, d, p) (λ (s : Screen). begin-left (beginning (canvas s d p)))) h)
+      rw (rn, sw) (ap begin-left e ∙ ap (λ (x : Held). at-held x st (st, d, p) (λ (s : Screen). begin-left (beginning (canvas s d p)))) h)
 
--- a clip flag that is neither 0 nor 1
-pub bad-flag : (st : List ℕ) (s : Screen) (flag : ℕ) (p : LayerProps) (w : Words) (ls : List ℕ) (os : List Float) → held.Good s ≡ screen-of st → 1 < flag
-    → answer BadRecord (st, w, ls, os) ≡ push-call flag p st w ls os
+-- .. of a push, which the clip flag lets through
+pub push-built : (st st' : List ℕ) (s s' : Screen) (r n flag : ℕ) → held.Good s ≡ screen-of (leb flag 1) st → r ≡ n → st' ≡ screen-words s'
+    → (p : LayerProps) (w w' : Words) (ls ls' : List ℕ) (os os' : List Float)
+    → answer n (push.lent s' w' ls' os') ≡ pushed p (push.lent s w ls os) → answer r (st', w', ls', os') ≡ push-call flag p st w ls os
 unfolding push-call
-bad-flag st s flag p w ls os h f = rw (← h, lt-leb _ _ f)
+push-built st st' s s' r n flag h rn sw p w w' ls ls' os os' e =
+    rw (rn, sw) (ap push-left e ∙ ap (λ (x : Held). at-held x st (st, w, ls, os) (λ (s : Screen). push-left (pushed p (push.lent s w ls os)))) h)

@@ -24,7 +24,7 @@ use Rattle.rowpaint.specs.Running.{goes-on, ended, one-more, run, most, standin
 use Rattle.painter.specs.Rows.{Wrote, or-runs, unset-of, visible-of, write-of, write-in-place, skip-of-row}
 use Rattle.held.specs.declared.Held.{Held}
 use Rattle.held.specs.declared.Held.the-variants as held
-use Rattle.held.specs.State.{screen-words, screen-of, on}
+use Rattle.held.specs.State.{screen-words, screen-of, at-held, on}
 use Rattle.held.proofs.Words.{written-back}
 use Rattle.host.specs.Painting.{with-room, step-left, step-call, row-call, runs-left, unset-call, visible-call, write-left, write-call, skip-left, skip-call, split-left, split-call}
 use Rattle.host.proofs.Refused.{Refused, settled}
@@ -38,11 +38,11 @@ roomed n ws t a k q = by (eqb (length ws) n) q
     by false q = refl
 
 -- a call at the screen that the words stand for
-at-screen : {T : Type 0} (st : List ℕ) (t : T) (f : Screen → Answer T) → ((s : Screen) → held.Good s ≡ screen-of st → Refused (f s) → f s .value ≡ t) → Refused (on (screen-of st) t f)
-    → on (screen-of st) t f .value ≡ t
-at-screen st t f k q = by (screen-of st) refl q
+at-screen : {T : Type 0} (good : Bool) (st : List ℕ) (t : T) (f : Screen → Answer T) → ((s : Screen) → held.Good s ≡ screen-of good st → Refused (f s) → f s .value ≡ t)
+    → Refused (on good st t f) → on good st t f .value ≡ t
+at-screen good st t f k q = by (screen-of good st) refl q
   where
-    by : (h : Held) → h ≡ screen-of st → Refused (on h t f) → on h t f .value ≡ t
+    by : (h : Held) → h ≡ screen-of good st → Refused (at-held h st t f) → at-held h st t f .value ≡ t
     by held.Nothing e q = refl
     by (held.Good s) e q = k s e q
 
@@ -67,24 +67,24 @@ runs-kept a l n k q = rw (k q, ne-eqb _ _ q)
 pub unset-refused : (r : ℕ) (t : Span) (st d l n : List ℕ) → Refused (unset-call r t st d l n) → unset-call r t st d l n .value ≡ (l, n)
 unfolding unset-call unset-of unset-answer
 unset-refused r t st d l n =
-    at-screen st (l, n) (λ (s : Screen). with-room 1 n (l, n) (runs-left n (unset-of s r d t l)))
-    (λ (s : Screen) (e : held.Good s ≡ screen-of st). roomed 1 n (l, n) (runs-left n (unset-of s r d t l))
+    at-screen (eqb (length n) 1) st (l, n) (λ (s : Screen). runs-left n (unset-of s r d t l))
+    (λ (s : Screen) (e : held.Good s ≡ screen-of (eqb (length n) 1) st).
     (runs-kept (or-runs (runs-number s r (length d)) (unset-answer 32 (part (wide s) r d) t (length l / 2))) l n
     (bare-or (runs-number s r (length d)) (unset-answer 32 (part (wide s) r d) t (length l / 2)) (bare-listed (bad-range 8192 t) (length l / 2) (unset-runs 32 (part (wide s) r d) t)))))
 
 pub visible-refused : (r : ℕ) (t : Span) (id : ℕ) (st d l n : List ℕ) → Refused (visible-call r t id st d l n) → visible-call r t id st d l n .value ≡ (l, n)
 unfolding visible-call visible-of visible-answer
 visible-refused r t id st d l n =
-    at-screen st (l, n) (λ (s : Screen). with-room 1 n (l, n) (runs-left n (visible-of s r d t id l)))
-    (λ (s : Screen) (e : held.Good s ≡ screen-of st). roomed 1 n (l, n) (runs-left n (visible-of s r d t id l))
+    at-screen (eqb (length n) 1) st (l, n) (λ (s : Screen). runs-left n (visible-of s r d t id l))
+    (λ (s : Screen) (e : held.Good s ≡ screen-of (eqb (length n) 1) st).
     (runs-kept (or-runs (runs-number s r (length d)) (visible-answer 32 (part (wide s) r d) id t (length l / 2))) l n
     (bare-or (runs-number s r (length d)) (visible-answer 32 (part (wide s) r d) id t (length l / 2)) (bare-listed (bad-range 8192 t) (length l / 2) (visible-runs 32 (part (wide s) r d) id t)))))
 
 pub skip-refused : (r : ℕ) (t : Span) (id : ℕ) (st rows old : List ℕ) → Refused (skip-call r t id st rows old) → skip-call r t id st rows old .value ≡ old
 unfolding skip-call
 skip-refused r t id st rows old =
-    at-screen st old (λ (s : Screen). with-room 1 old old (skip-left old (skip-of-row s r rows t id)))
-    (λ (s : Screen) (e : held.Good s ≡ screen-of st). roomed 1 old old (skip-left old (skip-of-row s r rows t id)) (λ q. rw (ne-eqb _ _ q)))
+    at-screen (eqb (length old) 1) st old (λ (s : Screen). skip-left old (skip-of-row s r rows t id))
+    (λ (s : Screen) (e : held.Good s ≡ screen-of (eqb (length old) 1) st). λ q. rw (ne-eqb _ _ q))
 
 pub split-refused : (s : Span) (parts : List ℕ) → Refused (split-call s parts) → split-call s parts .value ≡ parts
 unfolding split-call
@@ -94,12 +94,12 @@ split-refused s parts = roomed 9 parts parts (split-left parts (split-answer 32 
 abbrev after-write : Screen → ℕ → List ℕ → List ℕ → Answer (List Span) → List ℕ → Wrote
 after-write s r d w a l = write-in-place s r d (record { listed = listing a l; depth = cond (eqb (a .number) Done) w (part (wide s) r d) })
 
-write-kept : (s : Screen) (r : ℕ) (d w l n st : List ℕ) (a : Answer (List Span)) → held.Good s ≡ screen-of st → Bare a → Refused (write-left n (after-write s r d w a l))
+write-kept : (good : Bool) (s : Screen) (r : ℕ) (d w l n st : List ℕ) (a : Answer (List Span)) → held.Good s ≡ screen-of good st → Bare a → Refused (write-left n (after-write s r d w a l))
     → write-left n (after-write s r d w a l) .value ≡ (st, d, l, n)
 unfolding listing numbers
-write-kept s r d w l n st a e k q = rw (k q, ne-eqb _ _ q, put-same (r * wide s) (wide s) d, written-back st s e)
+write-kept good s r d w l n st a e k q = rw (k q, ne-eqb _ _ q, put-same (r * wide s) (wide s) d, written-back good st s e)
 
-module _ (s : Screen) (r : ℕ) (t : Span) (id : ℕ) (st d l n : List ℕ) (e : held.Good s ≡ screen-of st) where
+module _ (good : Bool) (s : Screen) (r : ℕ) (t : Span) (id : ℕ) (st d l n : List ℕ) (e : held.Good s ≡ screen-of good st) where
   at-row : Refused (write-left n (write-of s r d id t l)) → write-left n (write-of s r d id t l) .value ≡ (st, d, l, n)
   unfolding write-of write-answer write-after listing numbers
   at-row q = by (eqb (runs-number s r (length d)) Done) refl q
@@ -108,15 +108,15 @@ module _ (s : Screen) (r : ℕ) (t : Span) (id : ℕ) (st d l n : List ℕ) (e :
           → Refused (write-left n (cond b (after-write s r d (written (part (wide s) r d) id t) (write-answer (part (wide s) r d) id t (length l / 2)) l) (record { listed = listing (answer (runs-number s r (length d)) []) l; screen = s; depth = d })))
           → write-left n (cond b (after-write s r d (written (part (wide s) r d) id t) (write-answer (part (wide s) r d) id t (length l / 2)) l) (record { listed = listing (answer (runs-number s r (length d)) []) l; screen = s; depth = d })) .value ≡ (st, d, l, n)
       by true f q =
-          write-kept s r d (written (part (wide s) r d) id t) l n st (write-answer (part (wide s) r d) id t (length l / 2)) e
+          write-kept good s r d (written (part (wide s) r d) id t) l n st (write-answer (part (wide s) r d) id t (length l / 2)) e
           (bare-listed (bad-range (length (part (wide s) r d)) t || eqb id 0) (length l / 2) (write-runs (part (wide s) r d) t)) q
-      by false f q = rw (f, written-back st s e)
+      by false f q = rw (f, written-back good st s e)
 
 pub write-refused : (r : ℕ) (t : Span) (id : ℕ) (st d l n : List ℕ) → Refused (write-call r t id st d l n) → write-call r t id st d l n .value ≡ (st, d, l, n)
 unfolding write-call
 write-refused r t id st d l n =
-    at-screen st (st, d, l, n) (λ (s : Screen). with-room 1 n (st, d, l, n) (write-left n (write-of s r d id t l)))
-    (λ (s : Screen) (e : held.Good s ≡ screen-of st). roomed 1 n (st, d, l, n) (write-left n (write-of s r d id t l)) (at-row s r t id st d l n e))
+    at-screen (eqb (length n) 1) st (st, d, l, n) (λ (s : Screen). write-left n (write-of s r d id t l))
+    (λ (s : Screen) (e : held.Good s ≡ screen-of (eqb (length n) 1) st). at-row (eqb (length n) 1) s r t id st d l n e)
 
 -- A painting step. What a refused row's step leaves.
 row-kept : (o : Option rules.Painted) (d p l : List ℕ) → (paint.settled o d p l .answer .number ≡ 0 → ⊥)
@@ -152,18 +152,18 @@ module _ (s : Screen) (r : ℕ) (a : Attributes) (l : paint.Lent) (res : List �
 pub step-refused : (r : ℕ) (a : Attributes) (st : List ℕ) (l : paint.Lent) (res : List ℕ) → Refused (step-call r a st l res) → step-call r a st l res .value ≡ (l .depth, l .painting, l .list, res)
 unfolding step-call
 step-refused r a st l res =
-    at-screen st (l .depth, l .painting, l .list, res) (λ (s : Screen). with-room 2 res (l .depth, l .painting, l .list, res) (step-left res (stepped s r a l)))
-    (λ (s : Screen) (e : held.Good s ≡ screen-of st). roomed 2 res (l .depth, l .painting, l .list, res) (step-left res (stepped s r a l)) (step-at-row s r a l res))
+    at-screen (eqb (length res) 2) st (l .depth, l .painting, l .list, res) (λ (s : Screen). step-left res (stepped s r a l))
+    (λ (s : Screen) (e : held.Good s ≡ screen-of (eqb (length res) 2) st). step-at-row s r a l res)
 
 -- A row's steps. After one that is done the call is not refused, ..
-gone-on : (o : paint.Out) → goes-on (o .answer) ≡ true → o .answer .number ≡ 0
+pub gone-on : (o : paint.Out) → goes-on (o .answer) ≡ true → o .answer .number ≡ 0
 gone-on o e = eqb-true (o .answer .number) 0 (and-left (eqb (o .answer .number) 0) (not (o .answer .finished)) e)
 
 late : (k : ℕ) (o : paint.Out) → (k ≡ 0 → ⊥) → ended k o .answer .number ≡ 0
 late k o h = rw (ne-eqb k 0 h)
 
 module _ (step : List ℕ → List ℕ → List ℕ → paint.Out) where
-  on-done : (f k : ℕ) (g : paint.Out) → g .answer .number ≡ 0 → run step f (k + 1) g .answer .number ≡ 0
+  pub on-done : (f k : ℕ) (g : paint.Out) → g .answer .number ≡ 0 → run step f (k + 1) g .answer .number ≡ 0
   unfolding run
   on-done zero k g e = e
   on-done (suc f) k g e = by (goes-on (one-more step g .answer)) refl (on-done f (k + 1) (one-more step g))
@@ -213,5 +213,5 @@ module _ (s : Screen) (r : ℕ) (a : Attributes) (l : paint.Lent) (res : List �
 pub row-refused : (r : ℕ) (a : Attributes) (st : List ℕ) (l : paint.Lent) (res : List ℕ) → Refused (row-call r a st l res) → row-call r a st l res .value ≡ (l .depth, l .painting, l .list, res)
 unfolding row-call
 row-refused r a st l res =
-    at-screen st (l .depth, l .painting, l .list, res) (λ (s : Screen). with-room 2 res (l .depth, l .painting, l .list, res) (step-left res (row-painted s r a l)))
-    (λ (s : Screen) (e : held.Good s ≡ screen-of st). roomed 2 res (l .depth, l .painting, l .list, res) (step-left res (row-painted s r a l)) (steps-at-row s r a l res))
+    at-screen (eqb (length res) 2) st (l .depth, l .painting, l .list, res) (λ (s : Screen). step-left res (row-painted s r a l))
+    (λ (s : Screen) (e : held.Good s ≡ screen-of (eqb (length res) 2) st). steps-at-row s r a l res)

@@ -1,5 +1,8 @@
+pub mod Ways
 pub mod Built
 pub mod Results
 pub mod Refused
 pub mod Sized
 pub mod Kept
+pub mod Early
+pub mod Unheld

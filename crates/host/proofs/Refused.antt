@@ -29,7 +29,7 @@ use Rattle.painter.specs.Judging.{begin-number}
 use Rattle.painter.specs.Beginning.{Canvas, canvas, begun, beginning}
 use Rattle.held.specs.declared.Held.{Held}
 use Rattle.held.specs.declared.Held.the-variants as held
-use Rattle.held.specs.State.{screen-words, screen-of, on}
+use Rattle.held.specs.State.{screen-words, screen-of, at-held}
 use Rattle.host.specs.Building.{reset-call, fill-call, push-call, pop-call, filter-call}
 use Rattle.host.specs.Painting.{begin-call}
 use Rattle.held.proofs.Words.{written-back}
@@ -45,67 +45,57 @@ settled n x y q = by (eqb n Done) refl q
     by false e q = refl
 
 -- L: a screen with what a call is lent; T: the same without the screen; F: T with the state's words
-module _ {L T F : Type 0} (pack : List ℕ → T → F) (screen-in : L → Screen) (rest-in : L → T) (st : List ℕ) (t : T) (lend : Screen → L) (run : Screen → Answer L) where
+module _ {L T F : Type 0} (pack : List ℕ → T → F) (screen-in : L → Screen) (rest-in : L → T) (good : Bool) (st : List ℕ) (t : T) (lend : Screen → L) (run : Screen → Answer L) where
   abbrev call : Held → Answer F
-  call h = on h (pack st t) (λ (s : Screen). answer (run s .number) (pack (screen-words (screen-in (run s .value))) (rest-in (run s .value))))
+  call h = at-held h st (pack st t) (λ (s : Screen). answer (run s .number) (pack (screen-words (screen-in (run s .value))) (rest-in (run s .value))))
 
-  unchanged : ((s : Screen) → (screen-in (lend s) ≡ s) × (rest-in (lend s) ≡ t)) → ((s : Screen) → Refused (run s) → run s .value ≡ lend s) → (h : Held) → h ≡ screen-of st → Refused (call h)
+  unchanged : ((s : Screen) → (screen-in (lend s) ≡ s) × (rest-in (lend s) ≡ t)) → ((s : Screen) → Refused (run s) → run s .value ≡ lend s) → (h : Held) → h ≡ screen-of good st → Refused (call h)
       → call h .value ≡ pack st t
   unchanged same keeps held.Nothing e q = refl
-  unchanged same keeps (held.Good s) e q = rw (keeps s q, same s .0, same s .1, written-back st s e)
+  unchanged same keeps (held.Good s) e q = rw (keeps s q, same s .0, same s .1, written-back good st s e)
 
 pub reset-refused : (v : Rect) (c d : ℕ) (st : List ℕ) (t : Tables) → Refused (reset-call v c d st t) → reset-call v c d st t .value ≡ (st, t)
 unfolding reset-call reset-to
 reset-refused v c d st t q =
-    unchanged {T = Tables} {F = List ℕ × Tables} (λ (ws : List ℕ) (t : Tables). (ws, t)) (λ (l : Lent). l .screen) (λ (l : Lent). l .tables) st t (λ (s : Screen). lent s t) (λ (s : Screen). reset-to v c d (lent s t)) (λ (s : Screen). (refl, refl))
-    (λ (s : Screen). settled (judged-reset v c d (lengths t)) (lent s t) (lent (fresh-screen v c d) (zeroed t))) (screen-of st) refl q
+    unchanged {T = Tables} {F = List ℕ × Tables} (λ (ws : List ℕ) (t : Tables). (ws, t)) (λ (l : Lent). l .screen) (λ (l : Lent). l .tables) true st t (λ (s : Screen). lent s t) (λ (s : Screen). reset-to v c d (lent s t)) (λ (s : Screen). (refl, refl))
+    (λ (s : Screen). settled (judged-reset v c d (lengths t)) (lent s t) (lent (fresh-screen v c d) (zeroed t))) (screen-of true st) refl q
 
 pub fill-refused : (ps ss : List ℕ) (d : Draw) (st : List ℕ) (w : Words) (pas : List ℕ) → Refused (fill-call ps ss d st w pas) → fill-call ps ss d st w pas .value ≡ (st, w, pas)
 unfolding fill-call
 fill-refused ps ss d st w pas q =
-    unchanged {T = Words × List ℕ} {F = List ℕ × Words × List ℕ} (λ (ws : List ℕ) (t : Words × List ℕ). (ws, t .0, t .1)) (λ (l : fills.Lent). l .screen) (λ (l : fills.Lent). (l .words, l .paint-attrs)) st (w, pas) (λ (s : Screen). fills.lent s w pas) (λ (s : Screen). filled (fills.lent s w pas) ps ss d)
-    (λ (s : Screen). (refl, refl)) (λ (s : Screen). settled (fills.fill-number (fills.lent s w pas) ps ss d) (fills.lent s w pas) (fills.fill-done (fills.lent s w pas) ps ss d)) (screen-of st) refl q
+    unchanged {T = Words × List ℕ} {F = List ℕ × Words × List ℕ} (λ (ws : List ℕ) (t : Words × List ℕ). (ws, t .0, t .1)) (λ (l : fills.Lent). l .screen) (λ (l : fills.Lent). (l .words, l .paint-attrs)) true st (w, pas) (λ (s : Screen). fills.lent s w pas) (λ (s : Screen). filled (fills.lent s w pas) ps ss d)
+    (λ (s : Screen). (refl, refl)) (λ (s : Screen). settled (fills.fill-number (fills.lent s w pas) ps ss d) (fills.lent s w pas) (fills.fill-done (fills.lent s w pas) ps ss d)) (screen-of true st) refl q
 
 pub push-refused : (flag : ℕ) (p : LayerProps) (st : List ℕ) (w : Words) (ls : List ℕ) (os : List Float) → Refused (push-call flag p st w ls os) → push-call flag p st w ls os .value ≡ (st, w, ls, os)
 unfolding push-call pushed
-push-refused flag p st w ls os q = by (leb flag 1) refl (screen-of st) refl q
-  where
-    flagged : Bool → Held → Answer (List ℕ × Words × List ℕ × List Float)
-    flagged b h =
-        on h (st, w, ls, os)
-        (λ (s : Screen). cond b (answer (pushed p (push.lent s w ls os) .number) (screen-words (pushed p (push.lent s w ls os) .value .screen), pushed p (push.lent s w ls os) .value .words, pushed p (push.lent s w ls os) .value .layers, pushed p (push.lent s w ls os) .value .opacities)) (answer 4 (st, w, ls, os)))
-
-    by : (b : Bool) → leb flag 1 ≡ b → (h : Held) → h ≡ screen-of st → Refused (flagged b h) → flagged b h .value ≡ (st, w, ls, os)
-    by b f held.Nothing e q = refl
-    by false f (held.Good s) e q = refl
-    by true f (held.Good s) e q =
-        unchanged {T = Words × List ℕ × List Float} {F = List ℕ × Words × List ℕ × List Float} (λ (ws : List ℕ) (t : Words × List ℕ × List Float). (ws, t .0, t .1, t .2)) (λ (l : push.Lent). l .screen) (λ (l : push.Lent). (l .words, l .layers, l .opacities)) st (w, ls, os) (λ (s : Screen). push.lent s w ls os) (λ (s : Screen). pushed p (push.lent s w ls os))
-        (λ (s : Screen). (refl, refl)) (λ (s : Screen). settled (push.push-number p (push.lent s w ls os)) (push.lent s w ls os) (push.after p (push.lent s w ls os))) (held.Good s) e q
+push-refused flag p st w ls os q =
+    unchanged {T = Words × List ℕ × List Float} {F = List ℕ × Words × List ℕ × List Float} (λ (ws : List ℕ) (t : Words × List ℕ × List Float). (ws, t .0, t .1, t .2)) (λ (l : push.Lent). l .screen) (λ (l : push.Lent). (l .words, l .layers, l .opacities)) (leb flag 1) st (w, ls, os) (λ (s : Screen). push.lent s w ls os)
+    (λ (s : Screen). pushed p (push.lent s w ls os)) (λ (s : Screen). (refl, refl)) (λ (s : Screen). settled (push.push-number p (push.lent s w ls os)) (push.lent s w ls os) (push.after p (push.lent s w ls os))) (screen-of (leb flag 1) st) refl q
 
 pub filter-refused : (p : Placement) (pixmap n : ℕ) (st : List ℕ) (w : Words) (pas : List ℕ) (fps : List ℤ) → Refused (filter-call p pixmap n st w pas fps)
     → filter-call p pixmap n st w pas fps .value ≡ (st, w, pas, fps)
 unfolding filter-call filtered
 filter-refused p pixmap n st w pas fps q =
-    unchanged {T = Words × List ℕ × List ℤ} {F = List ℕ × Words × List ℕ × List ℤ} (λ (ws : List ℕ) (t : Words × List ℕ × List ℤ). (ws, t .0, t .1, t .2)) (λ (l : filter.Lent). l .screen) (λ (l : filter.Lent). (l .words, l .paint-attrs, l .filter-paints)) st (w, pas, fps) (λ (s : Screen). filter.lent s w pas fps)
-    (λ (s : Screen). filtered (given p pixmap n) (filter.lent s w pas fps)) (λ (s : Screen). (refl, refl)) (λ (s : Screen). settled (filter.filter-number (given p pixmap n) (filter.lent s w pas fps)) (filter.lent s w pas fps) (filter.after (given p pixmap n) (filter.lent s w pas fps))) (screen-of st) refl q
+    unchanged {T = Words × List ℕ × List ℤ} {F = List ℕ × Words × List ℕ × List ℤ} (λ (ws : List ℕ) (t : Words × List ℕ × List ℤ). (ws, t .0, t .1, t .2)) (λ (l : filter.Lent). l .screen) (λ (l : filter.Lent). (l .words, l .paint-attrs, l .filter-paints)) true st (w, pas, fps) (λ (s : Screen). filter.lent s w pas fps)
+    (λ (s : Screen). filtered (given p pixmap n) (filter.lent s w pas fps)) (λ (s : Screen). (refl, refl)) (λ (s : Screen). settled (filter.filter-number (given p pixmap n) (filter.lent s w pas fps)) (filter.lent s w pas fps) (filter.after (given p pixmap n) (filter.lent s w pas fps))) (screen-of true st) refl q
 
 pub begin-refused : (st d p : List ℕ) → Refused (begin-call st d p) → begin-call st d p .value ≡ (st, d, p)
 unfolding begin-call beginning
 begin-refused st d p q =
-    unchanged {T = List ℕ × List ℕ} {F = List ℕ × List ℕ × List ℕ} (λ (ws : List ℕ) (t : List ℕ × List ℕ). (ws, t .0, t .1)) (λ (k : Canvas). k .screen) (λ (k : Canvas). (k .depth, k .painting)) st (d, p) (λ (s : Screen). canvas s d p) (λ (s : Screen). beginning (canvas s d p))
-    (λ (s : Screen). (refl, refl)) (λ (s : Screen). settled (begin-number s (length d) (length p)) (canvas s d p) (canvas (begun true s) (zeros 0 d) (zeros 0 p))) (screen-of st) refl q
+    unchanged {T = List ℕ × List ℕ} {F = List ℕ × List ℕ × List ℕ} (λ (ws : List ℕ) (t : List ℕ × List ℕ). (ws, t .0, t .1)) (λ (k : Canvas). k .screen) (λ (k : Canvas). (k .depth, k .painting)) true st (d, p) (λ (s : Screen). canvas s d p) (λ (s : Screen). beginning (canvas s d p))
+    (λ (s : Screen). (refl, refl)) (λ (s : Screen). settled (begin-number s (length d) (length p)) (canvas s d p) (canvas (begun true s) (zeros 0 d) (zeros 0 p))) (screen-of true st) refl q
 
 pub pop-refused : (ss st : List ℕ) (l : pop.Lent) → Refused (pop-call ss st l) → pop-call ss st l .value ≡ (st, l)
 unfolding pop-call popped
-pop-refused ss st l q = by (screen-of st) refl q
+pop-refused ss st l q = by (screen-of true st) refl q
   where
     shut : Held → Answer (List ℕ × pop.Lent)
-    shut h = on h (st, l) (λ (s : Screen). answer (popped s l ss .number) (screen-words (popped s l ss .screen), popped s l ss .lent))
+    shut h = at-held h st (st, l) (λ (s : Screen). answer (popped s l ss .number) (screen-words (popped s l ss .screen), popped s l ss .lent))
 
-    inner : (s : Screen) → held.Good s ≡ screen-of st → (b : Bool) → eqb (pop.number s l ss) Done ≡ b → Refused (shut (held.Good s)) → shut (held.Good s) .value ≡ (st, l)
+    inner : (s : Screen) → held.Good s ≡ screen-of true st → (b : Bool) → eqb (pop.number s l ss) Done ≡ b → Refused (shut (held.Good s)) → shut (held.Good s) .value ≡ (st, l)
     inner s e true k q = absurd (q (rw k))
-    inner s e false k q = rw (k, written-back st s e)
+    inner s e false k q = rw (k, written-back true st s e)
 
-    by : (h : Held) → h ≡ screen-of st → Refused (shut h) → shut h .value ≡ (st, l)
+    by : (h : Held) → h ≡ screen-of true st → Refused (shut h) → shut h .value ≡ (st, l)
     by held.Nothing e q = refl
     by (held.Good s) e q = inner s e (eqb (pop.number s l ss) Done) refl q

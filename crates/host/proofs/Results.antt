@@ -27,7 +27,7 @@ use Rattle.painter.specs.Rows.{Wrote, wrote, unset-of, visible-of, write-of, sk
 use Rattle.host.specs.declared.painting.Slots.{Slots}
 use Rattle.held.specs.declared.Held.{Held}
 use Rattle.held.specs.declared.Held.the-variants as held
-use Rattle.held.specs.State.{screen-words, screen-of, on}
+use Rattle.held.specs.State.{screen-words, screen-of}
 use Rattle.host.specs.Painting.{result, step-result, step-left, step-call, row-call, count-left, runs-left, unset-call, visible-call, write-left, write-call, skip-left, skip-call, slot-words, split-left, split-call}
 use Rattle.host.specs.Sizes.{fixed}
 use Rattle.held.proofs.Lists.{by-length}
@@ -69,66 +69,39 @@ listed (runs.Listed m) l n n' k e = ap (λ (x : Answer (List ℕ)). answer (x .n
 written : (o : Written) (d l n n' : List ℕ) (k : ℕ) → answer k n' ≡ count-left n (out (o .runs) []) → answer k (screen-words (o .screen), d, l, n') ≡ write-left n (wrote o l d)
 written o d l n n' k e = ap (λ (x : Answer (List ℕ × List ℕ)). answer (x .number) (screen-words (o .screen), d, x .value .0, x .value .1)) (listed (o .runs) l n n' k e)
 
-module _ (st : List ℕ) (s : Screen) (h : held.Good s ≡ screen-of st) where
-  -- result words of another length
-  pub step-unroomed : (r : ℕ) (a : Attributes) (l : paint.Lent) (res : List ℕ) → (length res ≡ 2 → ⊥)
-      → answer BadRecord (l .depth, l .painting, l .list, res) ≡ step-call r a st l res
-  unfolding step-call
-  step-unroomed r a l res q = rw (← h, ne-eqb _ _ q)
-
-  pub row-unroomed : (r : ℕ) (a : Attributes) (l : paint.Lent) (res : List ℕ) → (length res ≡ 2 → ⊥)
-      → answer BadRecord (l .depth, l .painting, l .list, res) ≡ row-call r a st l res
-  unfolding row-call
-  row-unroomed r a l res q = rw (← h, ne-eqb _ _ q)
-
-  pub unset-unroomed : (r : ℕ) (t : Span) (d l n : List ℕ) → (length n ≡ 1 → ⊥) → answer BadRecord (l, n) ≡ unset-call r t st d l n
-  unfolding unset-call
-  unset-unroomed r t d l n q = rw (← h, ne-eqb _ _ q)
-
-  pub visible-unroomed : (r : ℕ) (t : Span) (id : ℕ) (d l n : List ℕ) → (length n ≡ 1 → ⊥) → answer BadRecord (l, n) ≡ visible-call r t id st d l n
-  unfolding visible-call
-  visible-unroomed r t id d l n q = rw (← h, ne-eqb _ _ q)
-
-  pub write-unroomed : (r : ℕ) (t : Span) (id : ℕ) (d l n : List ℕ) → (length n ≡ 1 → ⊥) → answer BadRecord (st, d, l, n) ≡ write-call r t id st d l n
-  unfolding write-call
-  write-unroomed r t id d l n q = rw (← h, ne-eqb _ _ q)
-
-  pub skip-unroomed : (r : ℕ) (t : Span) (id : ℕ) (rows old : List ℕ) → (length old ≡ 1 → ⊥) → answer BadRecord old ≡ skip-call r t id st rows old
-  unfolding skip-call
-  skip-unroomed r t id rows old q = rw (← h, ne-eqb _ _ q)
-
-  -- .. and of the right one
-  pub step-roomed : (r k : ℕ) (a : Attributes) (l : paint.Lent) (p : Painted) (d' p' l' res res' : List ℕ) → length res ≡ 2
+-- at the screen that the words stand for, with a result of the right length
+module _ (st : List ℕ) (s : Screen) where
+  pub step-roomed : (r k : ℕ) (a : Attributes) (l : paint.Lent) (p : Painted) (d' p' l' res res' : List ℕ) → held.Good s ≡ screen-of (eqb (length res) 2) st
       → paint.out p d' p' l' ≡ stepped s r a l → answer k res' ≡ step-result res p → answer k (d', p', l', res') ≡ step-call r a st l res
   unfolding step-call
   step-roomed r k a l p d' p' l' res res' q e f =
-      rw (← h, eq-eqb _ _ q) (ap (λ (x : Answer (List ℕ)). answer (x .number) (d', p', l', x .value)) f ∙ ap (step-left res) e)
+      rw (← q) (ap (λ (x : Answer (List ℕ)). answer (x .number) (d', p', l', x .value)) f ∙ ap (step-left res) e)
 
-  pub row-roomed : (r k : ℕ) (a : Attributes) (l : paint.Lent) (p : Painted) (d' p' l' res res' : List ℕ) → length res ≡ 2
+  pub row-roomed : (r k : ℕ) (a : Attributes) (l : paint.Lent) (p : Painted) (d' p' l' res res' : List ℕ) → held.Good s ≡ screen-of (eqb (length res) 2) st
       → paint.out p d' p' l' ≡ row-painted s r a l → answer k res' ≡ step-result res p → answer k (d', p', l', res') ≡ row-call r a st l res
   unfolding row-call
   row-roomed r k a l p d' p' l' res res' q e f =
-      rw (← h, eq-eqb _ _ q) (ap (λ (x : Answer (List ℕ)). answer (x .number) (d', p', l', x .value)) f ∙ ap (step-left res) e)
+      rw (← q) (ap (λ (x : Answer (List ℕ)). answer (x .number) (d', p', l', x .value)) f ∙ ap (step-left res) e)
 
-  pub unset-roomed : (r k : ℕ) (t : Span) (o : Runs) (d l l' n n' : List ℕ) → length n ≡ 1 → out o l' ≡ unset-of s r d t l
+  pub unset-roomed : (r k : ℕ) (t : Span) (o : Runs) (d l l' n n' : List ℕ) → held.Good s ≡ screen-of (eqb (length n) 1) st → out o l' ≡ unset-of s r d t l
       → answer k n' ≡ count-left n (out o []) → answer k (l', n') ≡ unset-call r t st d l n
   unfolding unset-call
-  unset-roomed r k t o d l l' n n' q e f = rw (← h, eq-eqb _ _ q) (listed o l' n n' k f ∙ ap (runs-left n) e)
+  unset-roomed r k t o d l l' n n' q e f = rw (← q) (listed o l' n n' k f ∙ ap (runs-left n) e)
 
-  pub visible-roomed : (r k : ℕ) (t : Span) (id : ℕ) (o : Runs) (d l l' n n' : List ℕ) → length n ≡ 1 → out o l' ≡ visible-of s r d t id l
+  pub visible-roomed : (r k : ℕ) (t : Span) (id : ℕ) (o : Runs) (d l l' n n' : List ℕ) → held.Good s ≡ screen-of (eqb (length n) 1) st → out o l' ≡ visible-of s r d t id l
       → answer k n' ≡ count-left n (out o []) → answer k (l', n') ≡ visible-call r t id st d l n
   unfolding visible-call
-  visible-roomed r k t id o d l l' n n' q e f = rw (← h, eq-eqb _ _ q) (listed o l' n n' k f ∙ ap (runs-left n) e)
+  visible-roomed r k t id o d l l' n n' q e f = rw (← q) (listed o l' n n' k f ∙ ap (runs-left n) e)
 
-  pub write-roomed : (r k : ℕ) (t : Span) (id : ℕ) (o : Written) (st' d d' l l' n n' : List ℕ) → length n ≡ 1 → wrote o l' d' ≡ write-of s r d id t l
+  pub write-roomed : (r k : ℕ) (t : Span) (id : ℕ) (o : Written) (st' d d' l l' n n' : List ℕ) → held.Good s ≡ screen-of (eqb (length n) 1) st → wrote o l' d' ≡ write-of s r d id t l
       → st' ≡ screen-words (o .screen) → answer k n' ≡ count-left n (out (o .runs) []) → answer k (st', d', l', n') ≡ write-call r t id st d l n
   unfolding write-call
-  write-roomed r k t id o st' d d' l l' n n' q e sw f = rw (sw, ← h, eq-eqb _ _ q) (written o d' l' n n' k f ∙ ap (write-left n) e)
+  write-roomed r k t id o st' d d' l l' n n' q e sw f = rw (sw, ← q) (written o d' l' n n' k f ∙ ap (write-left n) e)
 
-  pub skip-roomed : (r k : ℕ) (t : Span) (id : ℕ) (o : Skip) (rows old new : List ℕ) → length old ≡ 1 → skip-of o ≡ skip-of-row s r rows t id
+  pub skip-roomed : (r k : ℕ) (t : Span) (id : ℕ) (o : Skip) (rows old new : List ℕ) → held.Good s ≡ screen-of (eqb (length old) 1) st → skip-of o ≡ skip-of-row s r rows t id
       → answer k new ≡ skip-left old (skip-of o) → answer k new ≡ skip-call r t id st rows old
   unfolding skip-call
-  skip-roomed r k t id o rows old new q e f = rw (← h, eq-eqb _ _ q) (f ∙ ap (skip-left old) e)
+  skip-roomed r k t id o rows old new q e f = rw (← q) (f ∙ ap (skip-left old) e)
 
 pub split-unroomed : (s : Span) (parts : List ℕ) → (length parts ≡ 9 → ⊥) → answer BadRecord parts ≡ split-call s parts
 unfolding split-call

@@ -1,13 +1,13 @@
 -- Reset, the building steps and the recording call on a host's words: the call's own definition at the screen that the words stand for.
 -- Each gives the number, the words of the screen afterwards, and what else was lent.
 use Prim.Native.Nat.{ℕ}
-use mathlib.Core.Bool.{cond}
+use mathlib.Core.Bool.{true, cond}
 use mathlib.Core.List.{List}
 use mathlib.Core.Option.{Option, none, some}
 use lib.Dec.{leb, eqb}
 use lib.Ieee.{Float}
 use lib.IntN.{ℤ}
-use Rattle.rules.specs.Answers.{Answer, answer, BadRecord}
+use Rattle.rules.specs.Answers.{Answer, answer}
 use Rattle.rules.specs.Boxes.{box}
 use Rattle.rules.specs.Inputs as rule
 use Rattle.rect.specs.declared.Rect.{Rect}
@@ -27,17 +27,17 @@ use Rattle.filter.specs.declared.Placement.{Placement}
 use Rattle.filter.specs.Filter as filter
 use Rattle.filter.specs.Filter.{given, filtered}
 use Rattle.reading.specs.Reading.{props-in}
-use Rattle.held.specs.State.{screen-words, screen-of, on}
+use Rattle.held.specs.State.{screen-words, on}
 
 -- all tables
 abbrev pub tables-left : Answer Lent → Answer (List ℕ × Tables)
 tables-left a = answer (a .number) (screen-words (a .value .screen), a .value .tables)
 
 unfoldable pub reset-call : Rect → ℕ → ℕ → List ℕ → Tables → Answer (List ℕ × Tables)
-reset-call v c d st t = on (screen-of st) (st, t) (λ s. tables-left (reset-to v c d (lent s t)))
+reset-call v c d st t = on true st (st, t) (λ s. tables-left (reset-to v c d (lent s t)))
 
 unfoldable pub recording-call : List ℕ → ℕ → ℕ → List ℕ → Tables → Answer (List ℕ × Tables)
-recording-call file c d st t = on (screen-of st) (st, t) (λ s. tables-left (recorded file c d (lent s t)))
+recording-call file c d st t = on true st (st, t) (λ s. tables-left (recorded file c d (lent s t)))
 
 -- the rows and the paint attributes
 abbrev pub draw : ℕ → ℕ → ℕ → ℕ → ℕ → ℕ → ℕ → Draw
@@ -48,7 +48,7 @@ abbrev pub fill-left : Answer fills.Lent → Answer (List ℕ × Words × List �
 fill-left a = answer (a .number) (screen-words (a .value .screen), a .value .words, a .value .paint-attrs)
 
 unfoldable pub fill-call : List ℕ → List ℕ → Draw → List ℕ → Words → List ℕ → Answer (List ℕ × Words × List ℕ)
-fill-call ps ss d st w pas = on (screen-of st) (st, w, pas) (λ s. fill-left (filled (fills.lent s w pas) ps ss d))
+fill-call ps ss d st w pas = on true st (st, w, pas) (λ s. fill-left (filled (fills.lent s w pas) ps ss d))
 
 -- A layer's properties; the opacity as its bits, a clip where the flag is 1.
 abbrev pub props : ℕ → ℕ → ℕ → ℕ → ℕ → rule.Clip → LayerProps
@@ -59,21 +59,19 @@ props mix compose opacity mask flag clip =
 abbrev pub clip : ℕ → ℕ → ℕ → ℕ → ℕ → ℕ → ℕ → rule.Clip
 clip x0 y0 x1 y1 start end thread = record { bounds = box x0 y0 x1 y1; start = start; end = end; thread = thread }
 
--- the rows, the open layers and the opacities; 4 for a flag that is neither 0 nor 1
+-- the rows, the open layers and the opacities; a flag that is neither 0 nor 1 is refused
 abbrev pub push-left : Answer push.Lent → Answer (List ℕ × Words × List ℕ × List Float)
 push-left a = answer (a .number) (screen-words (a .value .screen), a .value .words, a .value .layers, a .value .opacities)
 
 unfoldable pub push-call : ℕ → LayerProps → List ℕ → Words → List ℕ → List Float → Answer (List ℕ × Words × List ℕ × List Float)
-push-call flag p st w ls os =
-    on (screen-of st) (st, w, ls, os)
-    (λ s. cond (leb flag 1) (push-left (pushed p (push.lent s w ls os))) (answer BadRecord (st, w, ls, os)))
+push-call flag p st w ls os = on (leb flag 1) st (st, w, ls, os) (λ s. push-left (pushed p (push.lent s w ls os)))
 
 -- the rows, the open layers, the opacities and the layer attributes
 abbrev pub pop-left : pop.Out → Answer (List ℕ × pop.Lent)
 pop-left o = answer (o .number) (screen-words (o .screen), o .lent)
 
 unfoldable pub pop-call : List ℕ → List ℕ → pop.Lent → Answer (List ℕ × pop.Lent)
-pop-call ss st l = on (screen-of st) (st, l) (λ s. pop-left (popped s l ss))
+pop-call ss st l = on true st (st, l) (λ s. pop-left (popped s l ss))
 
 -- the rows, the paint attributes and the filter paints
 abbrev pub placement : Rect → ℕ → ℕ → Placement
@@ -84,4 +82,4 @@ filter-left a = answer (a .number) (screen-words (a .value .screen), a .value .w
 
 unfoldable pub filter-call : Placement → ℕ → ℕ → List ℕ → Words → List ℕ → List ℤ → Answer (List ℕ × Words × List ℕ × List ℤ)
 filter-call p pixmap n st w pas fps =
-    on (screen-of st) (st, w, pas, fps) (λ s. filter-left (filtered (given p pixmap n) (filter.lent s w pas fps)))
+    on true st (st, w, pas, fps) (λ s. filter-left (filtered (given p pixmap n) (filter.lent s w pas fps)))

@@ -1,3 +1,4 @@
+pub mod Border
 pub mod Building
 pub mod Painting
 pub mod Sizes

@@ -1,7 +1,7 @@
--- Painting, the runs, `can_skip` and the split on a host's words. Results go into lent words of a fixed length; another length is 4, and a
--- refusal leaves them as they were.
+-- Painting, the runs, `can_skip` and the split on a host's words. Results go into lent words of a fixed length; another length is refused,
+-- and a refusal leaves them as they were.
 use Prim.Native.Nat.{ℕ}
-use mathlib.Core.Bool.{Bool, cond}
+use mathlib.Core.Bool.{Bool, true, cond}
 use mathlib.Core.List.{List, [], _∷_, _++_}
 use lib.ListN.{length, drop}
 use lib.Dec.{eqb}
@@ -18,9 +18,9 @@ use Rattle.painter.specs.Rows.{Wrote, unset-of, visible-of, write-of, skip-of-r
 use Rattle.rowpaint.specs.Running.{row-painted}
 use Rattle.host.specs.declared.painting.Slot.{Slot}
 use Rattle.host.specs.declared.painting.Slots.{Slots}
-use Rattle.held.specs.State.{bit, screen-words, screen-of, on}
+use Rattle.held.specs.State.{bit, screen-words, on}
 
--- n result words ws, or 4 where another number of them is lent
+-- the split has no screen: n result words ws, or 4 where another number of them is lent
 abbrev pub with-room : {T : Type 0} → ℕ → List ℕ → T → Answer T → Answer T
 with-room n ws t a = cond (eqb (length ws) n) a (answer BadRecord t)
 
@@ -33,7 +33,7 @@ abbrev pub begin-left : Answer Canvas → Answer (List ℕ × List ℕ × List �
 begin-left a = answer (a .number) (screen-words (a .value .screen), a .value .depth, a .value .painting)
 
 unfoldable pub begin-call : List ℕ → List ℕ → List ℕ → Answer (List ℕ × List ℕ × List ℕ)
-begin-call st d p = on (screen-of st) (st, d, p) (λ s. begin-left (beginning (canvas s d p)))
+begin-call st d p = on true st (st, d, p) (λ s. begin-left (beginning (canvas s d p)))
 
 -- a painting step's result: whether finished, how many pieces
 abbrev pub step-result : List ℕ → Painted → Answer (List ℕ)
@@ -45,14 +45,14 @@ step-left res o = answer (o .answer .number) (o .depth, o .painting, o .list, st
 
 unfoldable pub step-call : ℕ → Attributes → List ℕ → paint.Lent → List ℕ → Answer (List ℕ × List ℕ × List ℕ × List ℕ)
 step-call r a st l res =
-    on (screen-of st) (l .depth, l .painting, l .list, res)
-    (λ s. with-room 2 res (l .depth, l .painting, l .list, res) (step-left res (stepped s r a l)))
+    on (eqb (length res) 2) st (l .depth, l .painting, l .list, res)
+    (λ s. step-left res (stepped s r a l))
 
 -- a row's next steps in one call
 unfoldable pub row-call : ℕ → Attributes → List ℕ → paint.Lent → List ℕ → Answer (List ℕ × List ℕ × List ℕ × List ℕ)
 row-call r a st l res =
-    on (screen-of st) (l .depth, l .painting, l .list, res)
-    (λ s. with-room 2 res (l .depth, l .painting, l .list, res) (step-left res (row-painted s r a l)))
+    on (eqb (length res) 2) st (l .depth, l .painting, l .list, res)
+    (λ s. step-left res (row-painted s r a l))
 
 -- how many runs are listed
 abbrev pub count-left : List ℕ → Out → Answer (List ℕ)
@@ -63,10 +63,10 @@ abbrev pub runs-left : List ℕ → Out → Answer (List ℕ × List ℕ)
 runs-left n o = answer (o .number) (o .list, count-left n o .value)
 
 unfoldable pub unset-call : ℕ → Span → List ℕ → List ℕ → List ℕ → List ℕ → Answer (List ℕ × List ℕ)
-unset-call r t st d l n = on (screen-of st) (l, n) (λ s. with-room 1 n (l, n) (runs-left n (unset-of s r d t l)))
+unset-call r t st d l n = on (eqb (length n) 1) st (l, n) (λ s. runs-left n (unset-of s r d t l))
 
 unfoldable pub visible-call : ℕ → Span → ℕ → List ℕ → List ℕ → List ℕ → List ℕ → Answer (List ℕ × List ℕ)
-visible-call r t id st d l n = on (screen-of st) (l, n) (λ s. with-room 1 n (l, n) (runs-left n (visible-of s r d t id l)))
+visible-call r t id st d l n = on (eqb (length n) 1) st (l, n) (λ s. runs-left n (visible-of s r d t id l))
 
 -- .. and the depth words
 abbrev pub write-left : List ℕ → Wrote → Answer (List ℕ × List ℕ × List ℕ × List ℕ)
@@ -76,14 +76,14 @@ write-left n o =
 
 unfoldable pub write-call : ℕ → Span → ℕ → List ℕ → List ℕ → List ℕ → List ℕ → Answer (List ℕ × List ℕ × List ℕ × List ℕ)
 write-call r t id st d l n =
-    on (screen-of st) (st, d, l, n) (λ s. with-room 1 n (st, d, l, n) (write-left n (write-of s r d id t l)))
+    on (eqb (length n) 1) st (st, d, l, n) (λ s. write-left n (write-of s r d id t l))
 
 -- 1 for yes, 0 for no
 abbrev pub skip-left : List ℕ → Answer Bool → Answer (List ℕ)
 skip-left old a = answer (a .number) (result (a .number) (bit (a .value) ∷ []) old)
 
 unfoldable pub skip-call : ℕ → Span → ℕ → List ℕ → List ℕ → List ℕ → Answer (List ℕ)
-skip-call r t id st rows old = on (screen-of st) old (λ s. with-room 1 old old (skip-left old (skip-of-row s r rows t id)))
+skip-call r t id st rows old = on (eqb (length old) 1) st old (λ s. skip-left old (skip-of-row s r rows t id))
 
 -- A part is three words: 1 for a regular piece or 2 for a depth fill, first, end.
 abbrev pub slot : ℕ → ℕ → ℕ → Slot

@@ -1,4 +1,7 @@
 // Reset, the building steps and the recording call.
+use crate::border::refuse_build;
+use crate::border::refuse_recording;
+use crate::border::refuse_reset;
 use cmd::blend::Blend;
 use fill::Draw;
 use fill::fill;
@@ -46,10 +49,18 @@ pub extern "C" fn coarse_reset(
     ensures { λ r. ⌜ answer r (now (state .exit), tables (now (render .exit)) (now (fills .exit)) (now (depth .exit)) (now (rows .exit)) (now (painting .exit)) (now (layers .exit)) (now (opacities .exit)) (now («paint_attrs» .exit)) (now («layer_attrs» .exit)) (now («filter_paints» .exit)))
         ≡ reset-call (rect x0 y0 x1 y1) c d (now (state .entry)) (tables (now (render .entry)) (now (fills .entry)) (now (depth .entry)) (now (rows .entry)) (now (painting .entry)) (now (layers .entry)) (now (opacities .entry)) (now («paint_attrs» .entry)) (now («layer_attrs» .entry)) (now («filter_paints» .entry))) ⌝ }
 {
-    let Held::Good(screen) = screen_of(state) else {
-        return 4;
-    };
     let viewport = Rect { x0, y0, x1, y1 };
+    let Held::Good(screen) = screen_of(state, true) else {
+        return refuse_reset(
+            state,
+            viewport,
+            c,
+            d,
+            render.len(),
+            fills.len(),
+            depth.len(),
+        );
+    };
     let built = reset(
         screen,
         viewport,
@@ -90,8 +101,8 @@ pub extern "C" fn coarse_bucket_recording(
     ensures { λ r. ⌜ answer r (now (state .exit), tables (now (render .exit)) (now (fills .exit)) (now (depth .exit)) (now (rows .exit)) (now (painting .exit)) (now (layers .exit)) (now (opacities .exit)) (now («paint_attrs» .exit)) (now («layer_attrs» .exit)) (now («filter_paints» .exit)))
         ≡ recording-call (now (file .entry)) c d (now (state .entry)) (tables (now (render .entry)) (now (fills .entry)) (now (depth .entry)) (now (rows .entry)) (now (painting .entry)) (now (layers .entry)) (now (opacities .entry)) (now («paint_attrs» .entry)) (now («layer_attrs» .entry)) (now («filter_paints» .entry))) ⌝ }
 {
-    let Held::Good(screen) = screen_of(state) else {
-        return 4;
+    let Held::Good(screen) = screen_of(state, true) else {
+        return refuse_recording(state, file, c, d, render.len(), fills.len(), depth.len());
     };
     let built = bucket_recording(
         screen,
@@ -133,8 +144,8 @@ pub extern "C" fn coarse_fill(
     ensures { λ r. ⌜ answer r (now (state .exit), words (now (rows .exit)) (now (render .exit)) (now (fills .exit)), now («paint_attrs» .exit))
         ≡ fill-call (now (paints .entry)) (now (segments .entry)) (draw thread start «end» paint mix compose mask) (now (state .entry)) (words (now (rows .entry)) (now (render .entry)) (now (fills .entry))) (now («paint_attrs» .entry)) ⌝ }
 {
-    let Held::Good(screen) = screen_of(state) else {
-        return 4;
+    let Held::Good(screen) = screen_of(state, true) else {
+        return refuse_build(state, rows.len(), render.len(), fills.len());
     };
     let blend = Blend { mix, compose };
     let draw = Draw {
@@ -227,12 +238,9 @@ pub extern "C" fn coarse_push_layer(
     ensures { λ r. ⌜ answer r (now (state .exit), words (now (rows .exit)) (now (render .exit)) (now (fills .exit)), now (layers .exit), now (opacities .exit))
         ≡ push-call flag (props mix compose opacity mask flag (clip x0 y0 x1 y1 start «end» thread)) (now (state .entry)) (words (now (rows .entry)) (now (render .entry)) (now (fills .entry))) (now (layers .entry)) (now (opacities .entry)) ⌝ }
 {
-    let Held::Good(screen) = screen_of(state) else {
-        return 4;
+    let Held::Good(screen) = screen_of(state, flag <= 1) else {
+        return refuse_build(state, rows.len(), render.len(), fills.len());
     };
-    if 1 < flag {
-        return 4;
-    }
     let props = props_of(
         mix,
         compose,
@@ -266,8 +274,8 @@ pub extern "C" fn coarse_pop_layer(
     ensures { λ r. ⌜ answer r (now (state .exit), lent (words (now (rows .exit)) (now (render .exit)) (now (fills .exit))) (now (layers .exit)) (now (opacities .exit)) (now («layer_attrs» .exit)))
         ≡ pop-call (now (segments .entry)) (now (state .entry)) (lent (words (now (rows .entry)) (now (render .entry)) (now (fills .entry))) (now (layers .entry)) (now (opacities .entry)) (now («layer_attrs» .entry))) ⌝ }
 {
-    let Held::Good(screen) = screen_of(state) else {
-        return 4;
+    let Held::Good(screen) = screen_of(state, true) else {
+        return refuse_build(state, rows.len(), render.len(), fills.len());
     };
     let built = pop_layer(
         screen,
@@ -303,8 +311,8 @@ pub extern "C" fn coarse_filter_fill(
     ensures { λ r. ⌜ answer r (now (state .exit), words (now (rows .exit)) (now (render .exit)) (now (fills .exit)), now («paint_attrs» .exit), now («filter_paints» .exit))
         ≡ filter-call (placement (rect x0 y0 x1 y1) «source_x» «source_y») pixmap «paint_count» (now (state .entry)) (words (now (rows .entry)) (now (render .entry)) (now (fills .entry))) (now («paint_attrs» .entry)) (now («filter_paints» .entry)) ⌝ }
 {
-    let Held::Good(screen) = screen_of(state) else {
-        return 4;
+    let Held::Good(screen) = screen_of(state, true) else {
+        return refuse_build(state, rows.len(), render.len(), fills.len());
     };
     let dest = Rect { x0, y0, x1, y1 };
     let placement = Placement {

@@ -1,4 +1,8 @@
 // Painting, the runs, `can_skip` and the split.
+use crate::border::refuse_begin;
+use crate::border::refuse_runs;
+use crate::border::refuse_skip;
+use crate::border::refuse_step;
 use cmd::Answer;
 use depth::Edge;
 use depth::Runs;
@@ -43,8 +47,8 @@ pub extern "C" fn coarse_begin_painting(
     ensures { λ r. ⌜ answer r (now (state .exit), now (depth .exit), now (painting .exit))
         ≡ begin-call (now (state .entry)) (now (depth .entry)) (now (painting .entry)) ⌝ }
 {
-    let Held::Good(screen) = screen_of(state) else {
-        return 4;
+    let Held::Good(screen) = screen_of(state, true) else {
+        return refuse_begin(state, depth.len(), painting.len());
     };
     let built = begin_painting(screen, depth, painting);
     leave(state, built)
@@ -89,12 +93,19 @@ pub extern "C" fn coarse_paint_step(
     ensures { λ r. ⌜ answer r (now (depth .exit), now (painting .exit), now (list .exit), now (result .exit))
         ≡ step-call row (attributes (now («paint_attrs» .entry)) (now («layer_attrs» .entry))) (now (state .entry)) (lent (now (rows .entry)) (now (render .entry)) (now (fills .entry)) (now (depth .entry)) (now (painting .entry)) (now (list .entry))) (now (result .entry)) ⌝ }
 {
-    let Held::Good(screen) = screen_of(state) else {
-        return 4;
+    let Held::Good(screen) = screen_of(state, result.len() == 2) else {
+        return refuse_step(
+            state,
+            row,
+            rows.len(),
+            render.len(),
+            fills.len(),
+            depth.len(),
+            painting.len(),
+            paint_attrs.len(),
+            layer_attrs.len(),
+        );
     };
-    if result.len() != 2 {
-        return 4;
-    }
     let done = paint_step(
         screen,
         row,
@@ -129,12 +140,19 @@ pub extern "C" fn coarse_paint_row(
     ensures { λ r. ⌜ answer r (now (depth .exit), now (painting .exit), now (list .exit), now (result .exit))
         ≡ row-call row (attributes (now («paint_attrs» .entry)) (now («layer_attrs» .entry))) (now (state .entry)) (lent (now (rows .entry)) (now (render .entry)) (now (fills .entry)) (now (depth .entry)) (now (painting .entry)) (now (list .entry))) (now (result .entry)) ⌝ }
 {
-    let Held::Good(screen) = screen_of(state) else {
-        return 4;
+    let Held::Good(screen) = screen_of(state, result.len() == 2) else {
+        return refuse_step(
+            state,
+            row,
+            rows.len(),
+            render.len(),
+            fills.len(),
+            depth.len(),
+            painting.len(),
+            paint_attrs.len(),
+            layer_attrs.len(),
+        );
     };
-    if result.len() != 2 {
-        return 4;
-    }
     let done = paint_row(
         screen,
         row,
@@ -186,12 +204,9 @@ pub extern "C" fn coarse_unset_runs(
     ensures { λ r. ⌜ answer r (now (list .exit), now (count .exit))
         ≡ unset-call row (span first «end») (now (state .entry)) (now (depth .entry)) (now (list .entry)) (now (count .entry)) ⌝ }
 {
-    let Held::Good(screen) = screen_of(state) else {
-        return 4;
+    let Held::Good(screen) = screen_of(state, count.len() == 1) else {
+        return refuse_runs(state, row, depth.len());
     };
-    if count.len() != 1 {
-        return 4;
-    }
     let span = TileSpan { first, end };
     let runs = unset_runs(screen, row, depth, span, list);
     put_runs(runs, count)
@@ -212,12 +227,9 @@ pub extern "C" fn coarse_visible_runs(
     ensures { λ r. ⌜ answer r (now (list .exit), now (count .exit))
         ≡ visible-call row (span first «end») id (now (state .entry)) (now (depth .entry)) (now (list .entry)) (now (count .entry)) ⌝ }
 {
-    let Held::Good(screen) = screen_of(state) else {
-        return 4;
+    let Held::Good(screen) = screen_of(state, count.len() == 1) else {
+        return refuse_runs(state, row, depth.len());
     };
-    if count.len() != 1 {
-        return 4;
-    }
     let span = TileSpan { first, end };
     let runs = visible_runs(screen, row, depth, span, id, list);
     put_runs(runs, count)
@@ -238,12 +250,9 @@ pub extern "C" fn coarse_unset_runs_and_write(
     ensures { λ r. ⌜ answer r (now (state .exit), now (depth .exit), now (list .exit), now (count .exit))
         ≡ write-call row (span first «end») id (now (state .entry)) (now (depth .entry)) (now (list .entry)) (now (count .entry)) ⌝ }
 {
-    let Held::Good(screen) = screen_of(state) else {
-        return 4;
+    let Held::Good(screen) = screen_of(state, count.len() == 1) else {
+        return refuse_runs(state, row, depth.len());
     };
-    if count.len() != 1 {
-        return 4;
-    }
     let range = BucketRange { first, end };
     let written = unset_runs_and_write(screen, row, depth, range, id, list);
     let runs = written.runs;
@@ -266,12 +275,9 @@ pub extern "C" fn coarse_can_skip(
     ensures { λ r. ⌜ answer r (now (yes .exit))
         ≡ skip-call row (span first «end») id (now (state .entry)) (now (rows .entry)) (now (yes .entry)) ⌝ }
 {
-    let Held::Good(screen) = screen_of(state) else {
-        return 4;
+    let Held::Good(screen) = screen_of(state, yes.len() == 1) else {
+        return refuse_skip(state, row, rows.len());
     };
-    if yes.len() != 1 {
-        return 4;
-    }
     let span = TileSpan { first, end };
     let skip = can_skip(screen, row, rows, span, id);
     put_skip(skip, yes)

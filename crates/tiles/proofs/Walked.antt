@@ -13,7 +13,7 @@ use Rattle.rules.specs.Boxes.{Box}
 use Rattle.rules.specs.Segments.{Segment, good-segment, ordered, judge-segments}
 use Rattle.rules.specs.Inputs.{Paint, Draw, Props, Filter, good-filter, good-props, needs-buffer}
 use Rattle.rules.specs.Attributes.{attrs-full}
-use Rattle.rules.specs.Rows.{Row, row-ops}
+use Rattle.rules.specs.Rows.{Row, RowOps, row-ops}
 use Rattle.rules.specs.Plans.{Layer, State, Step, a-fill, a-push, a-pop, a-filter, Plan, still, box-of, filter-box, draws-nothing, plan-fill, plan-push, plan-pop, plan-filter-in, plan-filter, plan}
 use Rattle.rules.specs.Steps.{Screen, done, passes, refusal, perform, touched, call}
 use Rattle.rules.specs.Recording.{Recording, LayerRec, Node}
@@ -30,11 +30,11 @@ Late n = eqb n Done ≡ false → 3 < n
 pub not-done : {n : ℕ} → eqb n Done ≡ false → n ≡ Done → ⊥
 not-done {n} e z = never (sym (eq-eqb n Done z) ∙ e)
 
-late-done : Late Done
+pub late-done : Late Done
 late-done e = never e
 
 -- of several, the first that refuses
-first-late : (ts : List (Bool × ℕ)) → All (λ (t : Bool × ℕ). 3 < t .1) ts → Late (first-of ts)
+pub first-late : (ts : List (Bool × ℕ)) → All (λ (t : Bool × ℕ). 3 < t .1) ts → Late (first-of ts)
 first-late [] nil = late-done
 first-late (t ∷ ts) (cons p a) = by (t .0) (λ y. rw y (λ e. p)) (λ n. rw n (first-late ts a))
 
@@ -65,27 +65,28 @@ filter-facts n q s =
     let x = filter-box (s .frame .viewport) (box-of s) q in
     filter-tests (not (good-filter q && leb n 4096)) (draws-nothing q x) n q s x
 
-plan-late : (x : Step) (js : List ℕ) (s : State) → Late (plan x js s .refused)
+pub plan-late : (x : Step) (js : List ℕ) (s : State) → Late (plan x js s .refused)
 unfolding plan plan-fill plan-push
 plan-late (a-fill ps ss d) js s = judge-late _ _
 plan-late (a-push p) js s = push-late (good-props p)
 plan-late (a-pop ss) js s = pop-late (s .layers) ss js s
 plan-late (a-filter n q) js s = filter-facts n q s .0
 
-module _ (w : ℕ) where
-  refusal-late : (p : Plan) (t : Screen Row) → Late (p .refused) → Late (refusal Row row-ops w p t)
-  unfolding refusal
-  refusal-late p t h = by (eqb (p .refused) Done)
-      (λ y. rw y (first-late
-      ((ltb 16 (length (p .layers)), Deep)
-      ∷ (ltb 1048577 (p .next), Ids)
-      ∷ (attrs-full (p .attrs), FullAttrs)
-      ∷ (passes Row row-ops w (row-ops .renders) (t .state .frame .c) (p .puts) (t .rows), FullRow)
-      ∷ (passes Row row-ops w (row-ops .depths) (t .state .frame .d) (p .puts) (t .rows), FullDepth)
-      ∷ [])
-      (cons (omega arith) (cons (omega arith) (cons (omega arith) (cons (omega arith) (cons (omega arith) nil)))))))
-      (λ n. rw n h)
+-- what refuses a plan on rows of any kind is past 3
+pub refusal-late : {R : Type 0} (ops : RowOps R) (w : ℕ) (p : Plan) (t : Screen R) → Late (p .refused) → Late (refusal R ops w p t)
+unfolding refusal
+refusal-late {R} ops w p t h = by (eqb (p .refused) Done)
+    (λ y. rw y (first-late
+    ((ltb 16 (length (p .layers)), Deep)
+    ∷ (ltb 1048577 (p .next), Ids)
+    ∷ (attrs-full (p .attrs), FullAttrs)
+    ∷ (passes R ops w (ops .renders) (t .state .frame .c) (p .puts) (t .rows), FullRow)
+    ∷ (passes R ops w (ops .depths) (t .state .frame .d) (p .puts) (t .rows), FullDepth)
+    ∷ [])
+    (cons (omega arith) (cons (omega arith) (cons (omega arith) (cons (omega arith) (cons (omega arith) nil)))))))
+    (λ n. rw n h)
 
+module _ (w : ℕ) where
   -- a refused step's number is past 3
   pub call-late : (x : Step) (s : Screen Row) → Late (call Row row-ops w x s .number)
   unfolding call perform
@@ -94,7 +95,7 @@ module _ (w : ℕ) where
       let n = refusal Row row-ops w p (done Row row-ops w p s) in
       by (eqb n Done)
       (λ y. rw y late-done)
-      (λ m. rw m (refusal-late p (done Row row-ops w p s) (plan-late x _ (s .state))))
+      (λ m. rw m (refusal-late row-ops w p (done Row row-ops w p s) (plan-late x _ (s .state))))
 
   -- a done step leaves at most 16 layers open
   deep-most : (p : Plan) (t : Screen Row) → refusal Row row-ops w p t ≡ Done → length (p .layers) ≤ 16

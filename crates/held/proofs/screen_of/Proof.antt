@@ -1,93 +1,32 @@
-use borrow.Author.Tests.{eq-eqb, ne-eqb, le-leb, lt-leb}
-use Rattle.held.specs.State.{screen-of}
+-- Each test of the code is one of the definition's, in the same order.
+use borrow.Author.Tests.{not-true, not-false}
 use borrow.Author.Needs.{needs}
+use Rattle.held.proofs.Words.{not-good, not-long, no-flag, all-good}
 use Rattle.held.proofs.screen_of.Statement.{statement}
 use Rattle.held.proofs.screen_of.Tie as tie
 
 returns : tie.Need-returns
-unfolding screen-of
-returns c = rw (ne-eqb _ _ (c .if1 .taken))
-
-shared-slice-read-if2 : tie.Need-shared-slice-read-if2
-shared-slice-read-if2 c = search needs
+returns c = not-good _ _ (not-true _ (c .if1 .taken))
 
 returns-2 : tie.Need-returns-2
-unfolding screen-of
-returns-2 c = rw (eq-eqb _ _ (c .before .before .if1 .left), lt-leb _ _ (c .if2 .taken))
+returns-2 c = not-long _ _ (not-false _ (c .before .if1 .left)) (c .if2 .taken)
 
-shared-slice-read-t7 : tie.Need-shared-slice-read-t7
-shared-slice-read-t7 c = search needs
-
-shared-slice-read-t10 : tie.Need-shared-slice-read-t10
-shared-slice-read-t10 c = search needs
-
-shared-slice-read-t12 : tie.Need-shared-slice-read-t12
-shared-slice-read-t12 c = search needs
-
-shared-slice-read-t14 : tie.Need-shared-slice-read-t14
-shared-slice-read-t14 c = search needs
-
-shared-slice-read-t7-2 : tie.Need-shared-slice-read-t7-2
-shared-slice-read-t7-2 c = search needs
-
-shared-slice-read-t14-2 : tie.Need-shared-slice-read-t14-2
-shared-slice-read-t14-2 c = search needs
-
-shared-slice-read-t12-2 : tie.Need-shared-slice-read-t12-2
-shared-slice-read-t12-2 c = search needs
-
-shared-slice-read-t10-2 : tie.Need-shared-slice-read-t10-2
-shared-slice-read-t10-2 c = search needs
-
-shared-slice-read-t7-3 : tie.Need-shared-slice-read-t7-3
-shared-slice-read-t7-3 c = search needs
-
-shared-slice-read-t10-3 : tie.Need-shared-slice-read-t10-3
-shared-slice-read-t10-3 c = search needs
-
-shared-slice-read-t12-3 : tie.Need-shared-slice-read-t12-3
-shared-slice-read-t12-3 c = search needs
-
-shared-slice-read-t14-3 : tie.Need-shared-slice-read-t14-3
-shared-slice-read-t14-3 c = search needs
-
-shared-slice-read-t24 : tie.Need-shared-slice-read-t24
-shared-slice-read-t24 c = search needs
-
-shared-slice-read-t26 : tie.Need-shared-slice-read-t26
-shared-slice-read-t26 c = search needs
-
-shared-slice-read-t28 : tie.Need-shared-slice-read-t28
-shared-slice-read-t28 c = search needs
-
-shared-slice-read-t30 : tie.Need-shared-slice-read-t30
-shared-slice-read-t30 c = search needs
+shared-slice-read-if3 : tie.Need-shared-slice-read-if3
+shared-slice-read-if3 c = search needs
 
 returns-3 : tie.Need-returns-3
-unfolding screen-of
-returns-3 c = rw (eq-eqb _ _ (c .before .before .before .before .before .before .before .before .before .before .before .before .before .before .before .before .before .before .if1 .left), le-leb _ _ (c .before .before .before .before .before .before .before .before .before .before .before .before .before .before .before .before .if2 .left))
+returns-3 c = let at-length = c .before .before in no-flag _ _ (not-false _ (at-length .before .if1 .left)) (at-length .if2 .left) (c .if3 .taken)
+
+screen-at-requires : tie.Need-screen-at-requires
+screen-at-requires c κs = search needs
+
+returns-4 : tie.Need-returns-4
+returns-4 c =
+    let at-flag = c .before in
+    let at-length = at-flag .before .before in
+    all-good _ _ (not-false _ (at-length .before .if1 .left)) (at-length .if2 .left) (at-flag .if3 .left) _ (c .screen-at .ensures)
 
 pub screen-of-spec : {M : Type 1} → statement M
 screen-of-spec =
     tie.close
-    (tie.spec
-    returns
-    shared-slice-read-if2
-    returns-2
-    shared-slice-read-t7
-    shared-slice-read-t10
-    shared-slice-read-t12
-    shared-slice-read-t14
-    shared-slice-read-t7-2
-    shared-slice-read-t14-2
-    shared-slice-read-t12-2
-    shared-slice-read-t10-2
-    shared-slice-read-t7-3
-    shared-slice-read-t10-3
-    shared-slice-read-t12-3
-    shared-slice-read-t14-3
-    shared-slice-read-t24
-    shared-slice-read-t26
-    shared-slice-read-t28
-    shared-slice-read-t30
-    returns-3)
+    (tie.spec returns returns-2 shared-slice-read-if3 returns-3 screen-at-requires returns-4)

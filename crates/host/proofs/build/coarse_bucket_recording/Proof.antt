@@ -1,7 +1,9 @@
+-- Where the words stand for no screen the border answers; else the call's own equation, carried over to the words.
+use Rattle.screen.specs.Tables.{tables}
 use mathlib.Core.Path.{sym, _∙_}
-use Rattle.host.specs.Building.{recording-call}
-use Rattle.host.proofs.Built.{recording-built}
 use Rattle.held.proofs.Words.{long}
+use Rattle.host.proofs.Built.{recording-built}
+use Rattle.host.proofs.Unheld.{recording-unheld}
 use borrow.Author.Needs.{needs}
 use Rattle.host.proofs.build.coarse_bucket_recording.Statement.{statement}
 use Rattle.host.proofs.build.coarse_bucket_recording.Tie as tie
@@ -15,18 +17,26 @@ enum-known-screen c = search needs
 enum-told : tie.Need-enum-told
 enum-told c = search needs
 
+refuse-recording-requires : tie.Need-refuse-recording-requires
+refuse-recording-requires c κs = search needs
+
 same-length : tie.Need-same-length
 same-length c = search needs
 
 returns : tie.Need-returns
-unfolding recording-call
-returns c = rw (sym (c .before .before .screen-of .ensures) ∙ c .enum-told .given .1)
+returns c =
+    let at-enum-told = c .before .before in
+    let at-screen-of = at-enum-told .before .before in
+    recording-unheld _ _ _ _ _ (tables _ _ _ _ _ _ _ _ _ _) (sym (at-enum-told .enum-told .given .1) ∙ at-screen-of .screen-of .ensures) (c .refuse-recording .ensures)
 
 bucket-recording-requires : tie.Need-bucket-recording-requires
 bucket-recording-requires c κs = search needs
 
 leave-requires : tie.Need-leave-requires
-leave-requires c κs = long _ _ (sym (c .before .before .before .before .before .before .before .before .before .before .before .before .before .before .before .before .before .before .before .before .before .before .before .before .before .before .before .before .before .before .before .before .screen .given .1) ∙ c .before .before .before .before .before .before .before .before .before .before .before .before .before .before .before .before .before .before .before .before .before .before .before .before .before .before .before .before .before .before .before .before .before .before .screen-of .ensures)
+leave-requires c κs =
+    let at-screen = c .before .before .before .before .before .before .before .before .before .before .before .before .before .before .before .before .before .before .before .before .before .before .before .before .before .before .before .before .before .before .before .before in
+    let at-screen-of = at-screen .before .before in
+    long _ _ _ (sym (at-screen .screen .given .1) ∙ at-screen-of .screen-of .ensures)
 
 same-length-2 : tie.Need-same-length-2
 same-length-2 c = search needs
@@ -62,7 +72,12 @@ same-length-12 : tie.Need-same-length-12
 same-length-12 c = search needs
 
 returns-2 : tie.Need-returns-2
-returns-2 c = recording-built _ _ _ _ _ _ (sym (c .before .before .before .before .before .before .before .before .before .before .before .before .before .before .before .before .before .before .before .before .before .before .before .before .before .before .before .before .before .before .before .before .before .before .before .screen .given .1) ∙ c .before .before .before .before .before .before .before .before .before .before .before .before .before .before .before .before .before .before .before .before .before .before .before .before .before .before .before .before .before .before .before .before .before .before .before .before .before .screen-of .ensures) (c .before .before .leave .ensures .0) (c .before .before .leave .ensures .1) _ _ _ _ _ (c .before .before .before .before .before .before .before .before .before .before .before .before .before .before .before .before .before .before .before .before .before .before .before .bucket-recording .ensures)
+returns-2 c =
+    let at-leave = c .before .before in
+    let at-bucket-recording = at-leave .before .before .before .before .before .before .before .before .before .before .before .before .before .before .before .before .before .before .before .before .before in
+    let at-screen = at-bucket-recording .before .before .before .before .before .before .before .before .before .before .before .before in
+    let at-screen-of = at-screen .before .before in
+    recording-built _ _ _ _ _ _ (sym (at-screen .screen .given .1) ∙ at-screen-of .screen-of .ensures) (at-leave .leave .ensures .0) (at-leave .leave .ensures .1) _ _ _ _ _ (at-bucket-recording .bucket-recording .ensures)
 
 pub coarse-bucket-recording-spec : {M : Type 1} → statement M
 coarse-bucket-recording-spec =
@@ -71,6 +86,7 @@ coarse-bucket-recording-spec =
     screen-of-requires
     enum-known-screen
     enum-told
+    refuse-recording-requires
     same-length
     returns
     bucket-recording-requires

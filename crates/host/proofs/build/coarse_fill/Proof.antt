@@ -1,7 +1,9 @@
+-- Where the words stand for no screen the border answers; else the call's own equation, carried over to the words.
+use Rattle.row.specs.Words.{words}
 use mathlib.Core.Path.{sym, _∙_}
-use Rattle.host.specs.Building.{fill-call}
-use Rattle.host.proofs.Built.{fill-built}
 use Rattle.held.proofs.Words.{long}
+use Rattle.host.proofs.Built.{fill-built}
+use Rattle.host.proofs.Unheld.{fill-unheld}
 use borrow.Author.Needs.{needs}
 use Rattle.host.proofs.build.coarse_fill.Statement.{statement}
 use Rattle.host.proofs.build.coarse_fill.Tie as tie
@@ -15,18 +17,26 @@ enum-known-screen c = search needs
 enum-told : tie.Need-enum-told
 enum-told c = search needs
 
+refuse-build-requires : tie.Need-refuse-build-requires
+refuse-build-requires c κs = search needs
+
 same-length : tie.Need-same-length
 same-length c = search needs
 
 returns : tie.Need-returns
-unfolding fill-call
-returns c = rw (sym (c .before .before .screen-of .ensures) ∙ c .enum-told .given .1)
+returns c =
+    let at-enum-told = c .before .before in
+    let at-screen-of = at-enum-told .before .before in
+    fill-unheld _ _ _ _ _ (words _ _ _) _ (sym (at-enum-told .enum-told .given .1) ∙ at-screen-of .screen-of .ensures) (c .refuse-build .ensures)
 
 fill-requires : tie.Need-fill-requires
 fill-requires c κs = search needs
 
 leave-requires : tie.Need-leave-requires
-leave-requires c κs = long _ _ (sym (c .before .before .before .before .before .before .before .before .before .before .before .before .before .before .before .screen .given .1) ∙ c .before .before .before .before .before .before .before .before .before .before .before .before .before .before .before .before .before .screen-of .ensures)
+leave-requires c κs =
+    let at-screen = c .before .before .before .before .before .before .before .before .before .before .before .before .before .before .before in
+    let at-screen-of = at-screen .before .before in
+    long _ _ _ (sym (at-screen .screen .given .1) ∙ at-screen-of .screen-of .ensures)
 
 same-length-2 : tie.Need-same-length-2
 same-length-2 c = search needs
@@ -44,7 +54,12 @@ same-length-6 : tie.Need-same-length-6
 same-length-6 c = search needs
 
 returns-2 : tie.Need-returns-2
-returns-2 c = fill-built _ _ _ _ _ _ (sym (c .before .before .before .before .before .before .before .before .before .before .before .before .before .before .before .before .before .before .screen .given .1) ∙ c .before .before .before .before .before .before .before .before .before .before .before .before .before .before .before .before .before .before .before .before .screen-of .ensures) (c .before .before .leave .ensures .0) (c .before .before .leave .ensures .1) _ _ _ _ _ _ _ (c .before .before .before .before .before .before .before .before .before .before .before .before .fill .ensures)
+returns-2 c =
+    let at-leave = c .before .before in
+    let at-fill = at-leave .before .before .before .before .before .before .before .before .before .before in
+    let at-screen = at-fill .before .before .before .before .before .before in
+    let at-screen-of = at-screen .before .before in
+    fill-built _ _ _ _ _ _ (sym (at-screen .screen .given .1) ∙ at-screen-of .screen-of .ensures) (at-leave .leave .ensures .0) (at-leave .leave .ensures .1) _ _ _ _ _ _ _ (at-fill .fill .ensures)
 
 pub coarse-fill-spec : {M : Type 1} → statement M
 coarse-fill-spec =
@@ -53,6 +68,7 @@ coarse-fill-spec =
     screen-of-requires
     enum-known-screen
     enum-told
+    refuse-build-requires
     same-length
     returns
     fill-requires

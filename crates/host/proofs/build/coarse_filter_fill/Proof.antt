@@ -1,7 +1,9 @@
+-- Where the words stand for no screen the border answers; else the call's own equation, carried over to the words.
+use Rattle.row.specs.Words.{words}
 use mathlib.Core.Path.{sym, _∙_}
-use Rattle.host.specs.Building.{filter-call}
-use Rattle.host.proofs.Built.{filter-built}
 use Rattle.held.proofs.Words.{long}
+use Rattle.host.proofs.Built.{filter-built}
+use Rattle.host.proofs.Unheld.{filter-unheld}
 use borrow.Author.Needs.{needs}
 use Rattle.host.proofs.build.coarse_filter_fill.Statement.{statement}
 use Rattle.host.proofs.build.coarse_filter_fill.Tie as tie
@@ -15,18 +17,26 @@ enum-known-screen c = search needs
 enum-told : tie.Need-enum-told
 enum-told c = search needs
 
+refuse-build-requires : tie.Need-refuse-build-requires
+refuse-build-requires c κs = search needs
+
 same-length : tie.Need-same-length
 same-length c = search needs
 
 returns : tie.Need-returns
-unfolding filter-call
-returns c = rw (sym (c .before .before .screen-of .ensures) ∙ c .enum-told .given .1)
+returns c =
+    let at-enum-told = c .before .before in
+    let at-screen-of = at-enum-told .before .before in
+    filter-unheld _ _ _ _ _ (words _ _ _) _ _ (sym (at-enum-told .enum-told .given .1) ∙ at-screen-of .screen-of .ensures) (c .refuse-build .ensures)
 
 filter-fill-requires : tie.Need-filter-fill-requires
 filter-fill-requires c κs = search needs
 
 leave-requires : tie.Need-leave-requires
-leave-requires c κs = long _ _ (sym (c .before .before .before .before .before .before .before .before .before .before .before .before .before .before .before .before .before .screen .given .1) ∙ c .before .before .before .before .before .before .before .before .before .before .before .before .before .before .before .before .before .before .before .screen-of .ensures)
+leave-requires c κs =
+    let at-screen = c .before .before .before .before .before .before .before .before .before .before .before .before .before .before .before .before .before in
+    let at-screen-of = at-screen .before .before in
+    long _ _ _ (sym (at-screen .screen .given .1) ∙ at-screen-of .screen-of .ensures)
 
 same-length-2 : tie.Need-same-length-2
 same-length-2 c = search needs
@@ -47,7 +57,12 @@ same-length-7 : tie.Need-same-length-7
 same-length-7 c = search needs
 
 returns-2 : tie.Need-returns-2
-returns-2 c = filter-built _ _ _ _ _ _ (sym (c .before .before .before .before .before .before .before .before .before .before .before .before .before .before .before .before .before .before .before .before .screen .given .1) ∙ c .before .before .before .before .before .before .before .before .before .before .before .before .before .before .before .before .before .before .before .before .before .before .screen-of .ensures) (c .before .before .leave .ensures .0) (c .before .before .leave .ensures .1) _ _ _ _ _ _ _ _ _ (c .before .before .before .before .before .before .before .before .before .before .before .before .before .filter-fill .ensures)
+returns-2 c =
+    let at-leave = c .before .before in
+    let at-filter-fill = at-leave .before .before .before .before .before .before .before .before .before .before .before in
+    let at-screen = at-filter-fill .before .before .before .before .before .before .before in
+    let at-screen-of = at-screen .before .before in
+    filter-built _ _ _ _ _ _ (sym (at-screen .screen .given .1) ∙ at-screen-of .screen-of .ensures) (at-leave .leave .ensures .0) (at-leave .leave .ensures .1) _ _ _ _ _ _ _ _ _ (at-filter-fill .filter-fill .ensures)
 
 pub coarse-filter-fill-spec : {M : Type 1} → statement M
 coarse-filter-fill-spec =
@@ -56,6 +71,7 @@ coarse-filter-fill-spec =
     screen-of-requires
     enum-known-screen
     enum-told
+    refuse-build-requires
     same-length
     returns
     filter-fill-requires

@@ -1,7 +1,10 @@
+-- Where the words stand for no screen the border answers; else the call's own equation, carried over to the words.
+use Rattle.pop.specs.Pop.{lent}
+use Rattle.row.specs.Words.{words}
 use mathlib.Core.Path.{sym, _∙_}
-use Rattle.host.specs.Building.{pop-call}
-use Rattle.host.proofs.Built.{pop-built}
 use Rattle.held.proofs.Words.{long}
+use Rattle.host.proofs.Built.{pop-built}
+use Rattle.host.proofs.Unheld.{pop-unheld}
 use borrow.Author.Needs.{needs}
 use Rattle.host.proofs.build.coarse_pop_layer.Statement.{statement}
 use Rattle.host.proofs.build.coarse_pop_layer.Tie as tie
@@ -15,18 +18,26 @@ enum-known-screen c = search needs
 enum-told : tie.Need-enum-told
 enum-told c = search needs
 
+refuse-build-requires : tie.Need-refuse-build-requires
+refuse-build-requires c κs = search needs
+
 same-length : tie.Need-same-length
 same-length c = search needs
 
 returns : tie.Need-returns
-unfolding pop-call
-returns c = rw (sym (c .before .before .screen-of .ensures) ∙ c .enum-told .given .1)
+returns c =
+    let at-enum-told = c .before .before in
+    let at-screen-of = at-enum-told .before .before in
+    pop-unheld _ _ _ (lent (words _ _ _) _ _ _) (sym (at-enum-told .enum-told .given .1) ∙ at-screen-of .screen-of .ensures) (c .refuse-build .ensures)
 
 pop-layer-requires : tie.Need-pop-layer-requires
 pop-layer-requires c κs = search needs
 
 leave-requires : tie.Need-leave-requires
-leave-requires c κs = long _ _ (sym (c .before .before .before .before .before .before .before .before .before .before .before .before .before .before .before .before .before .before .before .before .before .screen .given .1) ∙ c .before .before .before .before .before .before .before .before .before .before .before .before .before .before .before .before .before .before .before .before .before .before .before .screen-of .ensures)
+leave-requires c κs =
+    let at-screen = c .before .before .before .before .before .before .before .before .before .before .before .before .before .before .before .before .before .before .before .before .before in
+    let at-screen-of = at-screen .before .before in
+    long _ _ _ (sym (at-screen .screen .given .1) ∙ at-screen-of .screen-of .ensures)
 
 same-length-2 : tie.Need-same-length-2
 same-length-2 c = search needs
@@ -50,7 +61,12 @@ same-length-8 : tie.Need-same-length-8
 same-length-8 c = search needs
 
 returns-2 : tie.Need-returns-2
-returns-2 c = pop-built _ _ _ _ _ _ (sym (c .before .before .before .before .before .before .before .before .before .before .before .before .before .before .before .before .before .before .before .before .before .before .before .before .screen .given .1) ∙ c .before .before .before .before .before .before .before .before .before .before .before .before .before .before .before .before .before .before .before .before .before .before .before .before .before .before .screen-of .ensures) (c .before .before .leave .ensures .0) (c .before .before .leave .ensures .1) _ _ _ (c .before .before .before .before .before .before .before .before .before .before .before .before .before .before .before .before .pop-layer .ensures)
+returns-2 c =
+    let at-leave = c .before .before in
+    let at-pop-layer = at-leave .before .before .before .before .before .before .before .before .before .before .before .before .before .before in
+    let at-screen = at-pop-layer .before .before .before .before .before .before .before .before in
+    let at-screen-of = at-screen .before .before in
+    pop-built _ _ _ _ _ _ (sym (at-screen .screen .given .1) ∙ at-screen-of .screen-of .ensures) (at-leave .leave .ensures .0) (at-leave .leave .ensures .1) _ _ _ (at-pop-layer .pop-layer .ensures)
 
 pub coarse-pop-layer-spec : {M : Type 1} → statement M
 coarse-pop-layer-spec =
@@ -59,6 +75,7 @@ coarse-pop-layer-spec =
     screen-of-requires
     enum-known-screen
     enum-told
+    refuse-build-requires
     same-length
     returns
     pop-layer-requires

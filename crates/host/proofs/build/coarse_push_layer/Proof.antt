@@ -1,7 +1,9 @@
+-- Where the words stand for no screen the border answers; else the call's own equation, carried over to the words.
+use Rattle.row.specs.Words.{words}
 use mathlib.Core.Path.{sym, _∙_}
-use Rattle.host.specs.Building.{push-call}
-use Rattle.host.proofs.Built.{bad-flag, push-built}
 use Rattle.held.proofs.Words.{long}
+use Rattle.host.proofs.Built.{push-built}
+use Rattle.host.proofs.Unheld.{push-unheld}
 use borrow.Author.Needs.{needs}
 use Rattle.host.proofs.build.coarse_push_layer.Statement.{statement}
 use Rattle.host.proofs.build.coarse_push_layer.Tie as tie
@@ -15,18 +17,17 @@ enum-known-screen c = search needs
 enum-told : tie.Need-enum-told
 enum-told c = search needs
 
+refuse-build-requires : tie.Need-refuse-build-requires
+refuse-build-requires c κs = search needs
+
 same-length : tie.Need-same-length
 same-length c = search needs
 
 returns : tie.Need-returns
-unfolding push-call
-returns c = rw (sym (c .before .before .screen-of .ensures) ∙ c .enum-told .given .1)
-
-same-length-2 : tie.Need-same-length-2
-same-length-2 c = search needs
-
-returns-2 : tie.Need-returns-2
-returns-2 c = bad-flag _ _ _ _ _ _ _ (sym (c .before .before .screen .given .1) ∙ c .before .before .before .before .screen-of .ensures) (c .if1 .taken)
+returns c =
+    let at-enum-told = c .before .before in
+    let at-screen-of = at-enum-told .before .before in
+    push-unheld _ _ _ _ (words _ _ _) _ _ (sym (at-enum-told .enum-told .given .1) ∙ at-screen-of .screen-of .ensures) (c .refuse-build .ensures)
 
 props-of-requires : tie.Need-props-of-requires
 props-of-requires c κs = search needs
@@ -35,7 +36,13 @@ push-layer-requires : tie.Need-push-layer-requires
 push-layer-requires c κs = search needs
 
 leave-requires : tie.Need-leave-requires
-leave-requires c κs = long _ _ (sym (c .before .before .before .before .before .before .before .before .before .before .before .before .before .before .before .before .before .before .before .before .screen .given .1) ∙ c .before .before .before .before .before .before .before .before .before .before .before .before .before .before .before .before .before .before .before .before .before .before .screen-of .ensures)
+leave-requires c κs =
+    let at-screen = c .before .before .before .before .before .before .before .before .before .before .before .before .before .before .before .before .before .before .before in
+    let at-screen-of = at-screen .before .before in
+    long _ _ _ (sym (at-screen .screen .given .1) ∙ at-screen-of .screen-of .ensures)
+
+same-length-2 : tie.Need-same-length-2
+same-length-2 c = search needs
 
 same-length-3 : tie.Need-same-length-3
 same-length-3 c = search needs
@@ -52,11 +59,14 @@ same-length-6 c = search needs
 same-length-7 : tie.Need-same-length-7
 same-length-7 c = search needs
 
-same-length-8 : tie.Need-same-length-8
-same-length-8 c = search needs
-
-returns-3 : tie.Need-returns-3
-returns-3 c = rw (← c .before .before .before .before .before .before .before .before .before .before .before .before .before .before .before .before .before .before .before .before .props-of .ensures) (push-built _ _ _ _ _ _ (sym (c .before .before .before .before .before .before .before .before .before .before .before .before .before .before .before .before .before .before .before .before .before .before .before .screen .given .1) ∙ c .before .before .before .before .before .before .before .before .before .before .before .before .before .before .before .before .before .before .before .before .before .before .before .before .before .screen-of .ensures) (c .before .before .leave .ensures .0) (c .before .before .leave .ensures .1) _ _ _ _ _ _ _ _ (c .before .before .before .before .before .before .before .before .before .before .before .before .before .before .before .before .before .before .before .before .before .if1 .left) (c .before .before .before .before .before .before .before .before .before .before .before .before .before .before .push-layer .ensures))
+returns-2 : tie.Need-returns-2
+returns-2 c =
+    let at-leave = c .before .before in
+    let at-push-layer = at-leave .before .before .before .before .before .before .before .before .before .before .before .before in
+    let at-props-of = at-push-layer .before .before .before .before .before .before in
+    let at-screen = at-props-of .before .before in
+    let at-screen-of = at-screen .before .before in
+    rw (← at-props-of .props-of .ensures) (push-built _ _ _ _ _ _ _ (sym (at-screen .screen .given .1) ∙ at-screen-of .screen-of .ensures) (at-leave .leave .ensures .0) (at-leave .leave .ensures .1) _ _ _ _ _ _ _ (at-push-layer .push-layer .ensures))
 
 pub coarse-push-layer-spec : {M : Type 1} → statement M
 coarse-push-layer-spec =
@@ -65,17 +75,16 @@ coarse-push-layer-spec =
     screen-of-requires
     enum-known-screen
     enum-told
+    refuse-build-requires
     same-length
     returns
-    same-length-2
-    returns-2
     props-of-requires
     push-layer-requires
     leave-requires
+    same-length-2
     same-length-3
     same-length-4
     same-length-5
     same-length-6
     same-length-7
-    same-length-8
-    returns-3)
+    returns-2)

@@ -1,7 +1,9 @@
+-- Where the words stand for no screen the border answers; else the call's own equation, carried over to the words.
 use mathlib.Core.Path.{sym, _∙_}
-use Rattle.host.proofs.Results.{write-unroomed, write-roomed}
-use Rattle.host.specs.Painting.{write-call}
-use Rattle.held.proofs.Words.{long}
+use borrow.Author.Tests.{eqb-true}
+use Rattle.held.proofs.Words.{long, was-good}
+use Rattle.host.proofs.Results.{write-roomed}
+use Rattle.host.proofs.Unheld.{write-unheld}
 use borrow.Author.Needs.{needs}
 use Rattle.host.proofs.painting.coarse_unset_runs_and_write.Statement.{statement}
 use Rattle.host.proofs.painting.coarse_unset_runs_and_write.Tie as tie
@@ -15,27 +17,35 @@ enum-known-screen c = search needs
 enum-told : tie.Need-enum-told
 enum-told c = search needs
 
+refuse-runs-requires : tie.Need-refuse-runs-requires
+refuse-runs-requires c κs = search needs
+
 same-length : tie.Need-same-length
 same-length c = search needs
 
 returns : tie.Need-returns
-unfolding write-call
-returns c = rw (sym (c .before .before .screen-of .ensures) ∙ c .enum-told .given .1)
-
-same-length-2 : tie.Need-same-length-2
-same-length-2 c = search needs
-
-returns-2 : tie.Need-returns-2
-returns-2 c = write-unroomed _ _ (sym (c .before .before .screen .given .1) ∙ c .before .before .before .before .screen-of .ensures) _ _ _ _ _ _ (c .if1 .taken)
+returns c =
+    let at-enum-told = c .before .before in
+    let at-screen-of = at-enum-told .before .before in
+    write-unheld _ _ _ _ _ _ _ _ (sym (at-enum-told .enum-told .given .1) ∙ at-screen-of .screen-of .ensures) (c .refuse-runs .ensures)
 
 unset-runs-and-write-requires : tie.Need-unset-runs-and-write-requires
 unset-runs-and-write-requires c κs = search needs
 
 put-screen-requires : tie.Need-put-screen-requires
-put-screen-requires c κs = long _ _ (sym (c .before .before .before .before .before .before .before .before .before .before .before .screen .given .1) ∙ c .before .before .before .before .before .before .before .before .before .before .before .before .before .screen-of .ensures)
+put-screen-requires c κs =
+    let at-screen = c .before .before .before .before .before .before .before .before .before .before in
+    let at-screen-of = at-screen .before .before in
+    long _ _ _ (sym (at-screen .screen .given .1) ∙ at-screen-of .screen-of .ensures)
 
 put-runs-requires : tie.Need-put-runs-requires
-put-runs-requires c κs = search needs
+put-runs-requires c κs =
+    let at-screen = c .before .before .before .before .before .before .before .before .before .before .before .before .before .before in
+    let at-screen-of = at-screen .before .before in
+    eqb-true _ _ (was-good _ _ _ (sym (at-screen .screen .given .1) ∙ at-screen-of .screen-of .ensures))
+
+same-length-2 : tie.Need-same-length-2
+same-length-2 c = search needs
 
 same-length-3 : tie.Need-same-length-3
 same-length-3 c = search needs
@@ -46,11 +56,14 @@ same-length-4 c = search needs
 same-length-5 : tie.Need-same-length-5
 same-length-5 c = search needs
 
-same-length-6 : tie.Need-same-length-6
-same-length-6 c = search needs
-
-returns-3 : tie.Need-returns-3
-returns-3 c = write-roomed _ _ (sym (c .before .before .before .before .before .before .before .before .before .before .before .before .before .before .before .before .before .before .screen .given .1) ∙ c .before .before .before .before .before .before .before .before .before .before .before .before .before .before .before .before .before .before .before .before .screen-of .ensures) _ _ _ _ (c .before .before .before .before .before .before .before .before .before .before .before .before .before .unset-runs-and-write .result) _ _ _ _ _ _ _ (c .before .before .before .before .before .before .before .before .before .before .before .before .before .before .before .before .if1 .left) (c .before .before .before .before .before .before .before .before .before .before .before .before .before .unset-runs-and-write .ensures) (c .before .before .before .before .before .before .put-screen .ensures) (c .before .before .put-runs .ensures)
+returns-2 : tie.Need-returns-2
+returns-2 c =
+    let at-put-runs = c .before .before in
+    let at-put-screen = at-put-runs .before .before .before .before in
+    let at-unset-runs-and-write = at-put-screen .before .before .before .before .before .before .before in
+    let at-screen = at-unset-runs-and-write .before .before .before .before in
+    let at-screen-of = at-screen .before .before in
+    write-roomed _ _ _ _ _ _ (at-unset-runs-and-write .unset-runs-and-write .result) _ _ _ _ _ _ _ (sym (at-screen .screen .given .1) ∙ at-screen-of .screen-of .ensures) (at-unset-runs-and-write .unset-runs-and-write .ensures) (at-put-screen .put-screen .ensures) (at-put-runs .put-runs .ensures)
 
 pub coarse-unset-runs-and-write-spec : {M : Type 1} → statement M
 coarse-unset-runs-and-write-spec =
@@ -59,15 +72,14 @@ coarse-unset-runs-and-write-spec =
     screen-of-requires
     enum-known-screen
     enum-told
+    refuse-runs-requires
     same-length
     returns
-    same-length-2
-    returns-2
     unset-runs-and-write-requires
     put-screen-requires
     put-runs-requires
+    same-length-2
     same-length-3
     same-length-4
     same-length-5
-    same-length-6
-    returns-3)
+    returns-2)

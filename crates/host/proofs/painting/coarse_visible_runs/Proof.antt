@@ -1,6 +1,9 @@
+-- Where the words stand for no screen the border answers; else the call's own equation, carried over to the words.
 use mathlib.Core.Path.{sym, _∙_}
-use Rattle.host.proofs.Results.{visible-unroomed, visible-roomed}
-use Rattle.host.specs.Painting.{visible-call}
+use borrow.Author.Tests.{eqb-true}
+use Rattle.held.proofs.Words.{was-good}
+use Rattle.host.proofs.Results.{visible-roomed}
+use Rattle.host.proofs.Unheld.{visible-unheld}
 use borrow.Author.Needs.{needs}
 use Rattle.host.proofs.painting.coarse_visible_runs.Statement.{statement}
 use Rattle.host.proofs.painting.coarse_visible_runs.Tie as tie
@@ -14,18 +17,23 @@ enum-known-screen c = search needs
 enum-told : tie.Need-enum-told
 enum-told c = search needs
 
-returns : tie.Need-returns
-unfolding visible-call
-returns c = rw (sym (c .before .before .screen-of .ensures) ∙ c .enum-told .given .1)
+refuse-runs-requires : tie.Need-refuse-runs-requires
+refuse-runs-requires c κs = search needs
 
-returns-2 : tie.Need-returns-2
-returns-2 c = visible-unroomed _ _ (sym (c .before .before .screen .given .1) ∙ c .before .before .before .before .screen-of .ensures) _ _ _ _ _ _ (c .if1 .taken)
+returns : tie.Need-returns
+returns c =
+    let at-enum-told = c .before in
+    let at-screen-of = at-enum-told .before .before in
+    visible-unheld _ _ _ _ _ _ _ _ (sym (at-enum-told .enum-told .given .1) ∙ at-screen-of .screen-of .ensures) (c .refuse-runs .ensures)
 
 visible-runs-requires : tie.Need-visible-runs-requires
 visible-runs-requires c κs = search needs
 
 put-runs-requires : tie.Need-put-runs-requires
-put-runs-requires c κs = search needs
+put-runs-requires c κs =
+    let at-screen = c .before .before .before .before .before .before in
+    let at-screen-of = at-screen .before .before in
+    eqb-true _ _ (was-good _ _ _ (sym (at-screen .screen .given .1) ∙ at-screen-of .screen-of .ensures))
 
 same-length : tie.Need-same-length
 same-length c = search needs
@@ -33,8 +41,13 @@ same-length c = search needs
 same-length-2 : tie.Need-same-length-2
 same-length-2 c = search needs
 
-returns-3 : tie.Need-returns-3
-returns-3 c = visible-roomed _ _ (sym (c .before .before .before .before .before .before .before .before .before .before .screen .given .1) ∙ c .before .before .before .before .before .before .before .before .before .before .before .before .screen-of .ensures) _ _ _ _ (c .before .before .before .before .before .before .visible-runs .result) _ _ _ _ _ (c .before .before .before .before .before .before .before .before .if1 .left) (c .before .before .before .before .before .before .visible-runs .ensures) (c .before .before .put-runs .ensures)
+returns-2 : tie.Need-returns-2
+returns-2 c =
+    let at-put-runs = c .before .before in
+    let at-visible-runs = at-put-runs .before .before .before .before in
+    let at-screen = at-visible-runs .before .before .before in
+    let at-screen-of = at-screen .before .before in
+    visible-roomed _ _ _ _ _ _ (at-visible-runs .visible-runs .result) _ _ _ _ _ (sym (at-screen .screen .given .1) ∙ at-screen-of .screen-of .ensures) (at-visible-runs .visible-runs .ensures) (at-put-runs .put-runs .ensures)
 
 pub coarse-visible-runs-spec : {M : Type 1} → statement M
 coarse-visible-runs-spec =
@@ -43,10 +56,10 @@ coarse-visible-runs-spec =
     screen-of-requires
     enum-known-screen
     enum-told
+    refuse-runs-requires
     returns
-    returns-2
     visible-runs-requires
     put-runs-requires
     same-length
     same-length-2
-    returns-3)
+    returns-2)

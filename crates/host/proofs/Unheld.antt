@@ -1,0 +1,133 @@
+-- Where the host's words stand for no screen, each call gives what the judge that it asks first says at the border.
+use mathlib.Core.Path.{_≡_, refl}
+use mathlib.Core.Bool.{true}
+use mathlib.Core.List.{List}
+use Prim.Native.Nat.{ℕ}
+use lib.ListN.{length}
+use lib.Dec.{leb, eqb}
+use lib.Ieee.{Float}
+use lib.IntN.{ℤ}
+use Rattle.rules.specs.Answers.{Answer, answer}
+use Rattle.rules.specs.Spans.{Span}
+use Rattle.rect.specs.declared.Rect.{Rect}
+use Rattle.row.specs.Words.{Words}
+use Rattle.screen.specs.declared.Screen.{Screen}
+use Rattle.screen.specs.Judging.{judged}
+use Rattle.screen.specs.Tables.{Tables, lent, reset-to}
+use Rattle.walk.specs.Recorded.{recorded}
+use Rattle.fill.specs.declared.Draw.{Draw}
+use Rattle.fill.specs.Fills as fills
+use Rattle.fill.specs.Fills.{filled}
+use Rattle.layers.specs.declared.LayerProps.{LayerProps}
+use Rattle.push.specs.Push as push
+use Rattle.push.specs.Push.{pushed}
+use Rattle.pop.specs.Pop as pop
+use Rattle.pop.specs.Pop.{popped}
+use Rattle.filter.specs.declared.Placement.{Placement}
+use Rattle.filter.specs.Filter as filter
+use Rattle.filter.specs.Filter.{given, filtered}
+use Rattle.paint.specs.Painting as paint
+use Rattle.painter.specs.Judging.{begin-number, runs-number, skip-number}
+use Rattle.painter.specs.Beginning.{canvas, beginning}
+use Rattle.painter.specs.Stepping.{Attributes, number, stepped}
+use Rattle.painter.specs.Rows.{unset-of, visible-of, write-of, skip-of-row}
+use Rattle.rowpaint.specs.Running.{row-painted}
+use Rattle.held.specs.declared.Held.the-variants as held
+use Rattle.held.specs.State.{screen-of, refused-at}
+use Rattle.held.proofs.Words.{refused-on}
+use Rattle.host.specs.Border.{arenas, arenas-number, file-number}
+use Rattle.host.specs.Building.{tables-left, reset-call, recording-call, fill-left, fill-call, push-left, push-call, pop-left, pop-call, filter-left, filter-call}
+use Rattle.host.specs.Painting.{begin-left, begin-call, step-left, step-call, row-call, runs-left, unset-call, visible-call, write-left, write-call, skip-left, skip-call}
+use Rattle.host.proofs.Early.{fill-early, push-early, filter-early, pop-early, begin-early, step-is-early, row-is-early, unset-early, visible-early, write-early, skip-early, reset-early, recorded-is-early}
+
+module _ (st : List ℕ) (n : ℕ) where
+  pub reset-unheld : (v : Rect) (c d : ℕ) (t : Tables) → held.Nothing ≡ screen-of true st
+      → n ≡ refused-at st (λ (s : Screen). arenas-number v c d (arenas (length (t .render)) (length (t .fills)) (length (t .depth)))) → answer n (st, t) ≡ reset-call v c d st t
+  unfolding reset-call
+  reset-unheld v c d t h q =
+      refused-on (screen-of true st) st (st, t) (λ (s : Screen). tables-left (reset-to v c d (lent s t)))
+      (λ (s : Screen). arenas-number v c d (arenas (length (t .render)) (length (t .fills)) (length (t .depth)))) n h q (λ (s : Screen). reset-early v c d (lent s t))
+
+  pub recording-unheld : (file : List ℕ) (c d : ℕ) (t : Tables) → held.Nothing ≡ screen-of true st
+      → n ≡ refused-at st (λ (s : Screen). file-number file c d (arenas (length (t .render)) (length (t .fills)) (length (t .depth)))) → answer n (st, t) ≡ recording-call file c d st t
+  unfolding recording-call
+  recording-unheld file c d t h q =
+      refused-on (screen-of true st) st (st, t) (λ (s : Screen). tables-left (recorded file c d (lent s t)))
+      (λ (s : Screen). file-number file c d (arenas (length (t .render)) (length (t .fills)) (length (t .depth)))) n h q (λ (s : Screen). recorded-is-early file c d (lent s t))
+
+  pub fill-unheld : (ps ss : List ℕ) (d : Draw) (w : Words) (pas : List ℕ) → held.Nothing ≡ screen-of true st
+      → n ≡ refused-at st (λ (s : Screen). judged s (length (w .state)) (length (w .render)) (length (w .fills))) → answer n (st, w, pas) ≡ fill-call ps ss d st w pas
+  unfolding fill-call
+  fill-unheld ps ss d w pas h q =
+      refused-on (screen-of true st) st (st, w, pas) (λ (s : Screen). fill-left (filled (fills.lent s w pas) ps ss d))
+      (λ (s : Screen). judged s (length (w .state)) (length (w .render)) (length (w .fills))) n h q (λ (s : Screen). fill-early (fills.lent s w pas) ps ss d)
+
+  pub push-unheld : (flag : ℕ) (p : LayerProps) (w : Words) (ls : List ℕ) (os : List Float) → held.Nothing ≡ screen-of (leb flag 1) st
+      → n ≡ refused-at st (λ (s : Screen). judged s (length (w .state)) (length (w .render)) (length (w .fills))) → answer n (st, w, ls, os) ≡ push-call flag p st w ls os
+  unfolding push-call
+  push-unheld flag p w ls os h q =
+      refused-on (screen-of (leb flag 1) st) st (st, w, ls, os) (λ (s : Screen). push-left (pushed p (push.lent s w ls os)))
+      (λ (s : Screen). judged s (length (w .state)) (length (w .render)) (length (w .fills))) n h q (λ (s : Screen). push-early p (push.lent s w ls os))
+
+  pub pop-unheld : (ss : List ℕ) (l : pop.Lent) → held.Nothing ≡ screen-of true st
+      → n ≡ refused-at st (λ (s : Screen). judged s (length (l .words .state)) (length (l .words .render)) (length (l .words .fills))) → answer n (st, l) ≡ pop-call ss st l
+  unfolding pop-call
+  pop-unheld ss l h q =
+      refused-on (screen-of true st) st (st, l) (λ (s : Screen). pop-left (popped s l ss))
+      (λ (s : Screen). judged s (length (l .words .state)) (length (l .words .render)) (length (l .words .fills))) n h q (λ (s : Screen). pop-early s l ss)
+
+  pub filter-unheld : (p : Placement) (pixmap k : ℕ) (w : Words) (pas : List ℕ) (fps : List ℤ) → held.Nothing ≡ screen-of true st
+      → n ≡ refused-at st (λ (s : Screen). judged s (length (w .state)) (length (w .render)) (length (w .fills))) → answer n (st, w, pas, fps) ≡ filter-call p pixmap k st w pas fps
+  unfolding filter-call
+  filter-unheld p pixmap k w pas fps h q =
+      refused-on (screen-of true st) st (st, w, pas, fps) (λ (s : Screen). filter-left (filtered (given p pixmap k) (filter.lent s w pas fps)))
+      (λ (s : Screen). judged s (length (w .state)) (length (w .render)) (length (w .fills))) n h q (λ (s : Screen). filter-early (given p pixmap k) (filter.lent s w pas fps))
+
+  pub begin-unheld : (d p : List ℕ) → held.Nothing ≡ screen-of true st → n ≡ refused-at st (λ (s : Screen). begin-number s (length d) (length p)) → answer n (st, d, p) ≡ begin-call st d p
+  unfolding begin-call
+  begin-unheld d p h q =
+      refused-on (screen-of true st) st (st, d, p) (λ (s : Screen). begin-left (beginning (canvas s d p))) (λ (s : Screen). begin-number s (length d) (length p)) n h q
+      (λ (s : Screen). begin-early (canvas s d p))
+
+  module _ (r : ℕ) where
+    pub step-unheld : (a : Attributes) (l : paint.Lent) (res : List ℕ) → held.Nothing ≡ screen-of (eqb (length res) 2) st → n ≡ refused-at st (λ (s : Screen). number s r a l)
+        → answer n (l .depth, l .painting, l .list, res) ≡ step-call r a st l res
+    unfolding step-call
+    step-unheld a l res h q =
+        refused-on (screen-of (eqb (length res) 2) st) st (l .depth, l .painting, l .list, res) (λ (s : Screen). step-left res (stepped s r a l)) (λ (s : Screen). number s r a l) n h q
+        (λ (s : Screen). step-is-early s r a l)
+
+    pub row-unheld : (a : Attributes) (l : paint.Lent) (res : List ℕ) → held.Nothing ≡ screen-of (eqb (length res) 2) st → n ≡ refused-at st (λ (s : Screen). number s r a l)
+        → answer n (l .depth, l .painting, l .list, res) ≡ row-call r a st l res
+    unfolding row-call
+    row-unheld a l res h q =
+        refused-on (screen-of (eqb (length res) 2) st) st (l .depth, l .painting, l .list, res) (λ (s : Screen). step-left res (row-painted s r a l)) (λ (s : Screen). number s r a l) n h q
+        (λ (s : Screen). row-is-early s r a l)
+
+    pub unset-unheld : (t : Span) (d l c : List ℕ) → held.Nothing ≡ screen-of (eqb (length c) 1) st → n ≡ refused-at st (λ (s : Screen). runs-number s r (length d))
+        → answer n (l, c) ≡ unset-call r t st d l c
+    unfolding unset-call
+    unset-unheld t d l c h q =
+        refused-on (screen-of (eqb (length c) 1) st) st (l, c) (λ (s : Screen). runs-left c (unset-of s r d t l)) (λ (s : Screen). runs-number s r (length d)) n h q
+        (λ (s : Screen). unset-early s r d t l)
+
+    pub visible-unheld : (t : Span) (id : ℕ) (d l c : List ℕ) → held.Nothing ≡ screen-of (eqb (length c) 1) st → n ≡ refused-at st (λ (s : Screen). runs-number s r (length d))
+        → answer n (l, c) ≡ visible-call r t id st d l c
+    unfolding visible-call
+    visible-unheld t id d l c h q =
+        refused-on (screen-of (eqb (length c) 1) st) st (l, c) (λ (s : Screen). runs-left c (visible-of s r d t id l)) (λ (s : Screen). runs-number s r (length d)) n h q
+        (λ (s : Screen). visible-early s r d t id l)
+
+    pub write-unheld : (t : Span) (id : ℕ) (d l c : List ℕ) → held.Nothing ≡ screen-of (eqb (length c) 1) st → n ≡ refused-at st (λ (s : Screen). runs-number s r (length d))
+        → answer n (st, d, l, c) ≡ write-call r t id st d l c
+    unfolding write-call
+    write-unheld t id d l c h q =
+        refused-on (screen-of (eqb (length c) 1) st) st (st, d, l, c) (λ (s : Screen). write-left c (write-of s r d id t l)) (λ (s : Screen). runs-number s r (length d)) n h q
+        (λ (s : Screen). write-early s r d t id l)
+
+    pub skip-unheld : (t : Span) (id : ℕ) (rows old : List ℕ) → held.Nothing ≡ screen-of (eqb (length old) 1) st → n ≡ refused-at st (λ (s : Screen). skip-number s r (length rows))
+        → answer n old ≡ skip-call r t id st rows old
+    unfolding skip-call
+    skip-unheld t id rows old h q =
+        refused-on (screen-of (eqb (length old) 1) st) st old (λ (s : Screen). skip-left old (skip-of-row s r rows t id)) (λ (s : Screen). skip-number s r (length rows)) n h q
+        (λ (s : Screen). skip-early s r rows t id)

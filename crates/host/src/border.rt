@@ -1,0 +1,152 @@
+// What a call answers where the host's own words are refused by 4: a state that is no screen's, a clip flag, a result of a wrong length.
+// Each asks the judge that the call itself asks first, so that 3, 2 and 1 come before that 4. Parts of the calls.
+use form::Form;
+use form::read_form;
+use held::before_4;
+use held::screen_at;
+use painter::judge::judge_begin;
+use painter::judge::judge_runs;
+use painter::judge::judge_skip;
+use painter::judge::judge_step;
+use recording::box_at;
+use rect::Rect;
+use screen::fresh;
+use screen::is_good_rooms;
+use screen::judge_screen;
+ghost use mathlib.Core.Path.{_≡_};
+ghost use lib.ListN.{length};
+ghost use Rattle.screen.specs.declared.Screen.{Screen as Numbers};
+ghost use Rattle.screen.specs.Judging.{judged};
+ghost use Rattle.painter.specs.Judging.{arenas-long, tables-long, begin-number, step-number, runs-number, skip-number};
+ghost use Rattle.held.specs.State.{refused-at};
+ghost use Rattle.host.specs.Border.{arenas, arenas-number, file-number};
+
+// 2, then 1, or 0: what a reset says of a viewport, C, D and the three arenas.
+fn judge_arenas(viewport: Rect, c: u32, d: u32, render: usize, fills: usize, depth: usize) -> u32
+    ensures { λ r. ⌜ r ≡ arenas-number viewport c d (arenas render fills depth) ⌝ }
+{
+    if !viewport.is_good_viewport() {
+        return 2;
+    }
+    let screen = fresh(viewport, c, d);
+    let n = screen.rows();
+    if !is_good_rooms(n, c, d, render, fills) {
+        return 1;
+    }
+    if depth != n * screen.buckets() {
+        return 1;
+    }
+    0
+}
+
+pub fn refuse_reset(
+    state: &[u32],
+    viewport: Rect,
+    c: u32,
+    d: u32,
+    render: usize,
+    fills: usize,
+    depth: usize,
+) -> u32
+    ensures { λ r. ⌜ r ≡ refused-at (now (state .entry)) (λ (s : Numbers). arenas-number viewport c d (arenas render fills depth)) ⌝ }
+{
+    if state.len() != 16 {
+        return 4;
+    }
+    before_4(judge_arenas(viewport, c, d, render, fills, depth))
+}
+
+// The file's form, then the reset to its viewport.
+fn judge_file(file: &[u32], c: u32, d: u32, render: usize, fills: usize, depth: usize) -> u32
+    ensures { λ r. ⌜ r ≡ file-number (now (file .entry)) c d (arenas render fills depth) ⌝ }
+{
+    let Form::Good(l) = read_form(file) else {
+        return 3;
+    };
+    judge_arenas(box_at(file, 1), c, d, render, fills, depth)
+}
+
+pub fn refuse_recording(
+    state: &[u32],
+    file: &[u32],
+    c: u32,
+    d: u32,
+    render: usize,
+    fills: usize,
+    depth: usize,
+) -> u32
+    ensures { λ r. ⌜ r ≡ refused-at (now (state .entry)) (λ (s : Numbers). file-number (now (file .entry)) c d (arenas render fills depth)) ⌝ }
+{
+    if state.len() != 16 {
+        return 4;
+    }
+    before_4(judge_file(file, c, d, render, fills, depth))
+}
+
+// A building step.
+pub fn refuse_build(state: &[u32], rows: usize, render: usize, fills: usize) -> u32
+    ensures { λ r. ⌜ r ≡ refused-at (now (state .entry)) (λ (s : Numbers). judged s rows render fills) ⌝ }
+{
+    if state.len() != 16 {
+        return 4;
+    }
+    before_4(judge_screen(screen_at(state), rows, render, fills))
+}
+
+pub fn refuse_begin(state: &[u32], depth: usize, painting: usize) -> u32
+    ensures { λ r. ⌜ r ≡ refused-at (now (state .entry)) (λ (s : Numbers). begin-number s depth painting) ⌝ }
+{
+    if state.len() != 16 {
+        return 4;
+    }
+    before_4(judge_begin(screen_at(state), depth, painting))
+}
+
+// A painting step, or a row's.
+pub fn refuse_step(
+    state: &[u32],
+    row: usize,
+    rows: usize,
+    render: usize,
+    fills: usize,
+    depth: usize,
+    painting: usize,
+    paint_attrs: usize,
+    layer_attrs: usize,
+) -> u32
+    ensures { λ r. ⌜ r ≡ refused-at (now (state .entry)) (λ (s : Numbers). step-number s row (arenas-long s render fills depth) (tables-long s rows painting «paint_attrs» «layer_attrs»)) ⌝ }
+{
+    if state.len() != 16 {
+        return 4;
+    }
+    before_4(judge_step(
+        screen_at(state),
+        row,
+        rows,
+        render,
+        fills,
+        depth,
+        painting,
+        paint_attrs,
+        layer_attrs,
+    ))
+}
+
+// The runs of a row.
+pub fn refuse_runs(state: &[u32], row: usize, depth: usize) -> u32
+    ensures { λ r. ⌜ r ≡ refused-at (now (state .entry)) (λ (s : Numbers). runs-number s row depth) ⌝ }
+{
+    if state.len() != 16 {
+        return 4;
+    }
+    before_4(judge_runs(screen_at(state), row, depth))
+}
+
+pub fn refuse_skip(state: &[u32], row: usize, rows: usize) -> u32
+    ensures { λ r. ⌜ r ≡ refused-at (now (state .entry)) (λ (s : Numbers). skip-number s row rows) ⌝ }
+{
+    if state.len() != 16 {
+        return 4;
+    }
+    before_4(judge_skip(screen_at(state), row, rows))
+}

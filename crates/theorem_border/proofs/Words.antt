@@ -2,16 +2,18 @@
 -- given. Assumes nothing.
 use Prim.Native.Nat.{ℕ}
 use native.Mathlib.Omega.{arith}
-use mathlib.Core.Path.{_≡_, refl, sym, ap, _∙_}
-use mathlib.Core.Bool.{Bool, true, false, cond}
+use mathlib.Core.Path.{_≡_, refl, sym, ap}
+use mathlib.Core.Bool.{Bool, true, false, _&&_, cond}
 use mathlib.Core.List.{List, []}
-use lib.Dec.{leb, eqb}
+use lib.Dec.{ltb, leb, eqb}
 use lib.Ieee.{Float}
 use lib.IntN.{ℤ}
 use lib.ListN.{length}
-use Rattle.rules.specs.Answers.{Answer, answer, Done}
+use borrow.Author.Tests.{ltb-true}
+use Rattle.rules.specs.Answers.{Answer, answer, Done, BadRecord}
 use Rattle.rules.specs.Spans.{Span}
 use Rattle.rules.specs.Inputs.{Clip}
+use Rattle.rules.proofs.All.{both}
 use Rattle.rect.specs.declared.Rect.{Rect}
 use Rattle.row.specs.Words.{Words}
 use Rattle.screen.specs.declared.Screen.{Screen}
@@ -32,7 +34,7 @@ use Rattle.walk.specs.Recorded.{recorded}
 use Rattle.steps.specs.Steps.{rows-words, pop-part}
 use Rattle.held.specs.declared.Held.{Held}
 use Rattle.held.specs.declared.Held.the-variants as held
-use Rattle.held.specs.State.{screen-words, screen-of, on}
+use Rattle.held.specs.State.{screen-words, screen-at, screen-of, before-4, refused-at, at-held, on}
 use Rattle.held.proofs.Words.{read-back, written-back}
 use Rattle.host.specs.Building.{tables-left, reset-call, recording-call, fill-left, fill-call, props, push-left, push-call, pop-left, pop-call, filter-left, filter-call}
 use Rattle.host.specs.Painting.{begin-left, begin-call, step-left, step-call, row-call, write-call, skip-left, skip-call}
@@ -49,16 +51,33 @@ host-of l = host (screen-words (l .screen)) (l .tables)
 abbrev pub hosted : Answer Lent → Answer Host
 hosted a = answer (a .number) (host-of (a .value))
 
-module _ {T : Type 0} (t : T) (f : Screen → Answer T) where
-  on-screen : (s : Screen) → on (screen-of (screen-words s)) t f ≡ f s
-  on-screen s = ap (λ (h : Held). on h t f) (read-back s)
+-- a refusal at the border is no 0
+late : (n : ℕ) → before-4 n ≡ Done → ⊥
+unfolding before-4
+late n = go (ltb 0 n && ltb n BadRecord) refl
+  where
+    go : (b : Bool) → (ltb 0 n && ltb n BadRecord) ≡ b → cond b n BadRecord ≡ Done → ⊥
+    go true q e = let h = ltb-true 0 n (both (ltb 0 n) (ltb n BadRecord) q .0) in omega arith
+    go false q e = omega arith
 
-  on-done : (good : Bool) (s : Screen) → on (screen-of (screen-words s)) t (λ (s : Screen). cond good (f s) (answer 4 t)) .number ≡ Done → on (screen-of (screen-words s)) t (λ (s : Screen). cond good (f s) (answer 4 t)) ≡ f s
+never-done : (st : List ℕ) (f : Screen → ℕ) → refused-at st f ≡ Done → ⊥
+unfolding refused-at
+never-done st f = go (eqb (length st) 16)
+  where
+    go : (b : Bool) → cond b (before-4 (f (screen-at st))) BadRecord ≡ Done → ⊥
+    go true e = late (f (screen-at st)) e
+    go false e = omega arith
+
+module _ {T : Type 0} (t : T) (f : Screen → Answer T) where
+  -- a call on the words of the screen s
+  on-screen : (s : Screen) → on true (screen-words s) t f ≡ f s
+  on-screen s = ap (λ (h : Held). at-held h (screen-words s) t f) (read-back s)
+
+  -- .. done, whatever else is asked
+  on-done : (good : Bool) (s : Screen) → on good (screen-words s) t f .number ≡ Done → on good (screen-words s) t f ≡ f s
+  unfolding screen-of
   on-done true s e = on-screen s
-  on-done false s e = let q = ap (λ (h : Held). on h t (λ (s : Screen). answer 4 t)) (read-back s) in absurd (go (sym (ap (λ (a : Answer T). a .number) q) ∙ e))
-    where
-      go : _≡_ {A = ℕ} 4 0 → ⊥
-      go e = omega arith
+  on-done false s e = absurd (never-done (screen-words s) (λ (s : Screen). f s .number) e)
 
 -- `coarse_can_skip`
 pub skip-on : (l : Lent) (r : ℕ) (t : Span) (id : ℕ) (old : List ℕ) → skip-call r t id (screen-words (l .screen)) (l .tables .rows) old .number ≡ Done
@@ -82,27 +101,24 @@ module _ (c d : ℕ) (l : Lent) where
 
 -- words that are a screen's, or no call on them is done
 pub data Known (h : Host) : Type 0 where
-  nothing : held.Nothing ≡ screen-of (h .state) → Known h
+  nothing : held.Nothing ≡ screen-of true (h .state) → Known h
   these : (l : Lent) → h ≡ host-of l → Known h
 
 pub known : (h : Host) → Known h
-known h = go (screen-of (h .state)) refl
+known h = go (screen-of true (h .state)) refl
   where
-    go : (k : Held) → k ≡ screen-of (h .state) → Known h
+    go : (k : Held) → k ≡ screen-of true (h .state) → Known h
     go held.Nothing q = nothing q
-    go (held.Good s) q = these (lent s (h .tables)) (ap (λ (st : List ℕ). host st (h .tables)) (sym (written-back (h .state) s q)))
+    go (held.Good s) q = these (lent s (h .tables)) (ap (λ (st : List ℕ). host st (h .tables)) (sym (written-back true (h .state) s q)))
 
-no4 : _≡_ {A = ℕ} 4 0 → ⊥
-no4 e = omega arith
-
-module _ (h : Host) (q : held.Nothing ≡ screen-of (h .state)) where
+module _ (h : Host) (q : held.Nothing ≡ screen-of true (h .state)) where
   pub reset-never : (v : Rect) (c d : ℕ) → reset-at v c d h .number ≡ Done → ⊥
   unfolding reset-at reset-call
-  reset-never v c d e = no4 (rw (← q) at e)
+  reset-never v c d e = never-done (h .state) _ (rw (← q) at e)
 
   pub recording-never : (file : List ℕ) (c d : ℕ) → recording-at file c d h .number ≡ Done → ⊥
   unfolding recording-at recording-call
-  recording-never file c d e = no4 (rw (← q) at e)
+  recording-never file c d e = never-done (h .state) _ (rw (← q) at e)
 
   pub recording-left : (file : List ℕ) (c d : ℕ) → recording-at file c d h .value ≡ h
   unfolding recording-at recording-call

@@ -39,6 +39,7 @@ use Rattle.fill.specs.declared.Draw.{Draw}
 use Rattle.fill.specs.Fills as fills
 use Rattle.fill.specs.Fills.{filled}
 use Rattle.layers.specs.declared.LayerProps.{LayerProps}
+use Rattle.layers.specs.Layers.{good-pattern}
 use Rattle.push.specs.Push as push
 use Rattle.push.specs.Push.{pushed}
 use Rattle.pop.specs.Pop as pop
@@ -109,8 +110,8 @@ pub push-early : (p : LayerProps) (l : push.Lent)
 unfolding pushed push.push-number plan
 push-early p l =
     lists-early (judged (l .screen) (length (l .words .state)) (length (l .words .render)) (length (l .words .fills)))
-    (eqb (length (l .layers)) 256 && eqb (length (l .opacities)) 1040)
-    ∙ step-early (push.first-number l) _ _ _ (plan-late (a-push _) [] _)
+    (eqb (length (l .layers)) 256 && eqb (length (l .opacities)) 1040 && good-pattern (p .opacity) (p .nan))
+    ∙ step-early (push.first-number p l) _ _ _ (plan-late (a-push _) [] _)
     ∙ ap before-4 (sym (settle-number (push.push-number p l) _ _))
 
 pub filter-early : (g : filter.Given) (l : filter.Lent)

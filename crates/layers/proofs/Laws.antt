@@ -1,19 +1,22 @@
 -- Laws of the table of open layers, for this crate and its callers. Assumes nothing.
-use mathlib.Core.Path.{_≡_, refl, _∙_}
+use mathlib.Core.Path.{_≡_, refl, sym, _∙_}
 use mathlib.Core.Bool.{Bool, true, false}
 use mathlib.Core.List.{List}
 use mathlib.Core.Option.{Option, none, some}
-use Prim.Native.Nat.{ℕ, suc, _≤_, _<_, _+_, _-_, _*_}
+use Prim.Native.Nat.{ℕ, suc, _≤_, _<_, _+_, _-_, _*_, _%_}
 use native.Mathlib.Omega.{arith}
-use lib.Dec.{leb}
+use lib.Dec.{leb, ltb, eqb}
 use lib.ListN.{length, getD, set, replicate, length-set}
 use lib.Seq.{sets, sets-eq}
+use lib.Ieee as ieee
+use lib.Ieee.{Float, inf, fin, binary32, up, down, eq, ne, isNan}
+use lib.Ieee.Bits.{nanBits-above}
 use borrow.Author.Tests.{eq-eqb, leb-true, leb-false}
 use Rattle.rules.specs.Inputs.{Clip}
 use Rattle.rules.specs.Plans.{Layer}
 use Rattle.cmd.specs.Attrs.{words-at}
 use Rattle.cmd.proofs.Tables.{length-at, at-inside, at-below, at-after}
-use Rattle.layers.specs.Layers.{layer-words, no-words, layer-word, box-in, clip-in, layer-at, open-at}
+use Rattle.layers.specs.Layers.{good-pattern, layer-words, no-words, layer-word, box-in, clip-in, layer-at, open-at}
 
 -- the loop over a layer's words, at word i
 pub record Dropping (xs : List ℕ) (at : ℕ) (ys : List ℕ) (i : ℕ) : Type 0 where
@@ -168,3 +171,20 @@ module _ (t : List ℕ) (k : ℕ) where
 
   pub has-clip : open-at t k .flag ≡ 1 → layer-at t k .props .clip ≡ some (clip-in t k)
   has-clip f = rw f
+
+-- what differs from itself is a NaN
+pub nan-by-itself : (o : Float) → ne o o ≡ isNan o
+unfolding ne eq isNan
+nan-by-itself ieee.nan = refl
+nan-by-itself (inf true) = refl
+nan-by-itself (inf false) = refl
+nan-by-itself (fin true m e) = rw (eq-eqb (m * up e * down e) (m * up e * down e) refl)
+nan-by-itself (fin false m e) = rw (eq-eqb (m * up e * down e) (m * up e * down e) refl)
+
+-- the two ways through the test of a pattern
+module _ (o : Float) (n : ℕ) where
+  pub nan-pattern : ne o o ≡ true → ltb 2139095040 (n % 2147483648) ≡ good-pattern o n
+  nan-pattern h = rw (sym (nan-by-itself o) ∙ h) (sym (nanBits-above binary32 n))
+
+  pub plain-pattern : ne o o ≡ false → eqb n 0 ≡ good-pattern o n
+  plain-pattern h = rw (sym (nan-by-itself o) ∙ h)

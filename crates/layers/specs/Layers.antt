@@ -5,10 +5,11 @@ use mathlib.Core.List.{List, [], _∷_, _++_}
 use mathlib.Core.Option.{Option, none, some}
 use lib.ListN.{getD, replicate}
 use lib.Dec.{leb, ltb, eqb}
+use lib.Ieee.{Float, binary32, isNan, nanBits}
 use Rattle.rules.specs.Boxes.{Box, box, width, height, by-4}
 use Rattle.rules.specs.Blends.{good-blend}
 use Rattle.rules.specs.Inputs as rule
-use Rattle.rules.specs.Inputs.{Props, good-handle, good-thread}
+use Rattle.rules.specs.Inputs.{Props, good-handle, good-thread, good-props}
 use Rattle.rules.specs.Plans.{Layer}
 use Rattle.cmd.specs.Blends.{blend-of}
 use Rattle.rect.specs.declared.Rect.{Rect}
@@ -27,6 +28,14 @@ clip-of (Present c) = some (record { bounds = box-of (c .bbox); start = c .start
 -- the opacity is 0 here: it stands apart, as an f32
 abbrev pub props-of : LayerProps → Props
 props-of p = record { blend = blend-of (p .blend); opacity = 0; mask = p .mask; clip = clip-of (p .clip) }
+
+-- a NaN opacity has a NaN's pattern beside it, any other 0
+abbrev pub good-pattern : Float → ℕ → Bool
+good-pattern o nan = cond (isNan o) (nanBits binary32 nan) (eqb nan 0)
+
+-- what a push is given: the pattern is its opacity's, the rest is good by the rules
+abbrev pub good-given : LayerProps → Bool
+good-given p = good-pattern (p .opacity) (p .nan) && good-props (props-of p)
 
 abbrev pub layer-of : LayerProps → Rect → Layer
 layer-of p b = record { props = props-of p; bounds = box-of b }

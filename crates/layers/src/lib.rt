@@ -3,11 +3,11 @@
 ghost use mathlib.Core.Path.{_≡_};
 ghost use Prim.Native.Nat.{_*_, _<_};
 ghost use lib.ListN.{length};
-ghost use Rattle.rules.specs.Inputs.{all-good, good-props};
+ghost use Rattle.rules.specs.Inputs.{all-good};
 ghost use Rattle.rules.specs.Plans.{layer-box};
 ghost use Rattle.rect.specs.Rects.{box-of};
 ghost use Rattle.cmd.specs.Attrs.{words-at};
-ghost use Rattle.layers.specs.Layers.{clip-of, props-of, layer-of, clip-words, flat-words, layer-words, no-words, open-at, box-in, good-layer, good-own-box};
+ghost use Rattle.layers.specs.Layers.{clip-of, good-pattern, good-given, layer-of, clip-words, flat-words, layer-words, no-words, open-at, box-in, good-layer, good-own-box};
 use cmd::blend::Blend;
 use rect::Rect;
 
@@ -24,7 +24,7 @@ pub enum LayerClip {
     Present(Clip),
 }
 
-// nan: the pattern of a NaN opacity that came from a file, else 0.
+// nan: the pattern of a NaN opacity, else 0.
 pub struct LayerProps {
     pub blend: Blend,
     pub opacity: f32,
@@ -102,12 +102,25 @@ fn is_good_clip(clip: LayerClip) -> bool
     }
 }
 
+// Answer 4: a NaN opacity has a NaN's pattern beside it, any other 0.
+fn is_good_pattern(opacity: f32, nan: u32) -> bool
+    ensures { λ r. ⌜ r ≡ good-pattern opacity nan ⌝ }
+{
+    if opacity != opacity {
+        return 2139095040 < nan % 2147483648;
+    }
+    nan == 0
+}
+
 // Answer 4: what a push is given.
 pub fn is_good_props(props: LayerProps) -> bool
-    ensures { λ r. ⌜ r ≡ good-props (props-of props) ⌝ }
+    ensures { λ r. ⌜ r ≡ good-given props ⌝ }
 {
     let blend = props.blend;
     let clip = props.clip;
+    if !is_good_pattern(props.opacity, props.nan) {
+        return false;
+    }
     if !blend.is_good() {
         return false;
     }

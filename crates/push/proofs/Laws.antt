@@ -20,7 +20,7 @@ use Rattle.rules.specs.Attributes.{attrs-full}
 use Rattle.rules.specs.Plans as plans
 use Rattle.rules.specs.Plans.{touch, on, Put, Plan, Layer, State, layer-box, plan-push}
 use Rattle.rules.specs.Steps.{done, refusal}
-use Rattle.rules.proofs.All.{never}
+use Rattle.rules.proofs.All.{both, never}
 use Rattle.cmd.specs.Attrs.{words-at}
 use Rattle.row.specs.Words.{Words, words, word-ops}
 use Rattle.arena.specs.Arena.{lay}
@@ -35,7 +35,7 @@ use Rattle.rect.proofs.Boxes.{view}
 use Rattle.screen.proofs.Laws.{bounds, clip, good-clip-of, clip-of, paint-count, layer-attr-count, filter-count, layer-count}
 use Rattle.screen.proofs.Passed.{Passed, passed}
 use Rattle.layers.specs.declared.LayerProps.{LayerProps}
-use Rattle.layers.specs.Layers.{clip-of as clip-in, props-of, layer-of, layer-words}
+use Rattle.layers.specs.Layers.{clip-of as clip-in, props-of, good-pattern, good-given, layer-of, layer-words}
 use Rattle.band.specs.Band.{band-number, each, rows-on, Whole, OnRows}
 use Rattle.band.proofs.Laws.{puts-each}
 use Rattle.band.proofs.Numbers.{Adding, band-answer, band-step, band-room, touch-adds, run-told}
@@ -144,20 +144,37 @@ module _ (p : LayerProps) (s : Screen) (w : Words) (ls : List ℕ) (os : List Fl
       unfolding plan-push
       plan-bad h = rw h
 
-      pub bad-props : good-props (props-of p) ≡ false → 4 ≡ push-number p (lent s w ls os)
+      bad-pattern : good-pattern (p .opacity) (p .nan) ≡ false → 4 ≡ push-number p (lent s w ls os)
       unfolding push-number step-number
-      bad-props h =
-          rw (z, eq-eqb _ _ e, eq-eqb _ _ f)
+      bad-pattern h = rw (z, eq-eqb _ _ e, eq-eqb _ _ f, h)
+
+      bad-rest : good-pattern (p .opacity) (p .nan) ≡ true → good-props (props-of p) ≡ false → 4 ≡ push-number p (lent s w ls os)
+      unfolding push-number step-number
+      bad-rest g h =
+          rw (z, eq-eqb _ _ e, eq-eqb _ _ f, g)
           (either-way (plan-bad h) (good-rows (frame-of s) (s .layers) (plan-of p s .puts) (rows-at (frame-of s) w)))
 
-      module _ (h : good-props (props-of p) ≡ true) where
+      pub bad-props : good-given p ≡ false → 4 ≡ push-number p (lent s w ls os)
+      bad-props h = by (good-pattern (p .opacity) (p .nan)) refl h
+        where
+          by : (b : Bool) → good-pattern (p .opacity) (p .nan) ≡ b → (b && good-props (props-of p)) ≡ false → 4 ≡ push-number p (lent s w ls os)
+          by true g h = bad-rest g h
+          by false g h = bad-pattern g
+
+      module _ (good : good-given p ≡ true) where
+        own-pattern : good-pattern (p .opacity) (p .nan) ≡ true
+        own-pattern = both (good-pattern (p .opacity) (p .nan)) (good-props (props-of p)) good .0
+
+        h : good-props (props-of p) ≡ true
+        h = both (good-pattern (p .opacity) (p .nan)) (good-props (props-of p)) good .1
+
         abbrev pub rows-number : ℕ
         rows-number = band-number (s .c) (s .d) (s .layers) (w .state) (range (own-run p s .a) (own-run p s .b))
 
         number-is : push-number p (lent s w ls os) ≡ band-answer rows-number (plan-of p s)
         unfolding push-number
         number-is =
-            rw (z, eq-eqb _ _ e, eq-eqb _ _ f)
+            rw (z, eq-eqb _ _ e, eq-eqb _ _ f, own-pattern)
             (band-step s w whole touch (own-run p s .a) (own-run p s .b) (run-within p s (fit .screen) (fit .view)) (plan-of p s)
             (plan-fine p s (fit .screen) h) (plan-puts p s (fit .screen)) (plan-adds p s (fit .screen)))
 
@@ -222,7 +239,7 @@ module _ (p : LayerProps) (s : Screen) (w : Words) (ls : List ℕ) (os : List Fl
       let z : judged-at s w ≡ 0 = decide (judged-at s w) 0 (λ h. h (bad-screen p s w ls os h ∙ q)) in
       let a : length ls ≡ 256 = decide (length ls) 256 (λ h. not-zero (bad-layers p s w ls os z h)) in
       let b : length os ≡ 1040 = decide (length os) 1040 (λ h. not-zero (bad-opacities p s w ls os z a h)) in
-      let g : good-props (props-of p) ≡ true = surely (good-props (props-of p)) (λ h. not-zero (bad-props p s w ls os z a b h)) in
+      let g : good-given p ≡ true = surely (good-given p) (λ h. not-zero (bad-props p s w ls os z a b h)) in
       let k = rows-number p s w ls os z a b g in
       let n : k ≡ 4 → ⊥ = λ t. not-zero (bad-rows p s w ls os z a b g k refl t) in
       let m : s .layers < 16 = below (s .layers) 16 (λ h. not-zero (deep p s w ls os z a b g k refl n h)) in
@@ -268,18 +285,18 @@ module _ (p : LayerProps) (l : Lent) where
   unfolding plan-push
   refused-small = if-small (good-props (props-of p)) 0 4 (omega arith) (omega arith)
 
-  first-small : first-number l ≤ 14
+  first-small : first-number p l ≤ 14
   first-small =
       let s = l .screen in
       let n = judged s (length (l .words .state)) (length (l .words .render)) (length (l .words .fills)) in
-      let t = eqb (length (l .layers)) 256 && eqb (length (l .opacities)) 1040 in
+      let t = eqb (length (l .layers)) 256 && eqb (length (l .opacities)) 1040 && good-pattern (p .opacity) (p .nan) in
       if-small (eqb n 0) (cond t 0 4) n (if-small t 0 4 (omega arith) (omega arith)) (judged-small s (length (l .words .state)) (length (l .words .render)) (length (l .words .fills)))
 
   pub small : push-number p l ≤ 14
   unfolding push-number
   small =
       let s = l .screen in
-      step-small (first-number l) (good-rows (frame-of s) (s .layers) (plan-of p s .puts) (rows-at (frame-of s) (l .words))) (plan-of p s)
+      step-small (first-number p l) (good-rows (frame-of s) (s .layers) (plan-of p s .puts) (rows-at (frame-of s) (l .words))) (plan-of p s)
       (screen-at (state-of s) (l .words)) first-small refused-small
 
   pub refused-is : (n m : ℕ) → m ≡ n → n ≡ push-number p l → (n ≡ 0 → ⊥) → answer m l ≡ pushed p l

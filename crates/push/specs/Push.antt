@@ -19,7 +19,7 @@ use Rattle.screen.specs.declared.Screen.{Screen}
 use Rattle.screen.specs.Screens.{frame-of, state-of, screen-after}
 use Rattle.screen.specs.Judging.{judged}
 use Rattle.layers.specs.declared.LayerProps.{LayerProps}
-use Rattle.layers.specs.Layers.{props-of, layer-words, no-words}
+use Rattle.layers.specs.Layers.{props-of, good-pattern, layer-words, no-words}
 use Rattle.push.specs.declared.Run.{Run}
 
 -- a screen and what a push is lent of its words
@@ -36,16 +36,17 @@ lent s w ls os = record { screen = s; words = w; layers = ls; opacities = os }
 abbrev pub plan-of : LayerProps → Screen → Plan
 plan-of p s = plan-push (props-of p) (state-of s)
 
--- 2, 1 and 4 for the screen's numbers and for how many words are lent
-abbrev pub first-number : Lent → ℕ
-first-number l =
+-- 2, 1 and 4 for the screen's numbers, for how many words are lent, and for a pattern that is not the opacity's
+abbrev pub first-number : LayerProps → Lent → ℕ
+first-number p l =
     let n = judged (l .screen) (length (l .words .state)) (length (l .words .render)) (length (l .words .fills)) in
-    cond (eqb n Done) (cond (eqb (length (l .layers)) 256 && eqb (length (l .opacities)) 1040) Done BadRecord) n
+    cond (eqb n Done)
+    (cond (eqb (length (l .layers)) 256 && eqb (length (l .opacities)) 1040 && good-pattern (p .opacity) (p .nan)) Done BadRecord) n
 
 unfoldable pub push-number : LayerProps → Lent → ℕ
 push-number p l =
     let s = l .screen in
-    step-number (first-number l) (good-rows (frame-of s) (s .layers) (plan-of p s .puts) (rows-at (frame-of s) (l .words))) (plan-of p s)
+    step-number (first-number p l) (good-rows (frame-of s) (s .layers) (plan-of p s .puts) (rows-at (frame-of s) (l .words))) (plan-of p s)
     (screen-at (state-of s) (l .words))
 
 -- the words of the innermost layer

@@ -1,2 +1,3 @@
 pub mod Boxed
 pub mod Opacity
+pub mod Given

@@ -22,7 +22,7 @@ pub zero-by-zero : div binary32 (ofBits binary32 0) (ofBits binary32 0) ≡ nan
 unfolding div ofBits ofFields odd span climb
 zero-by-zero = refl
 
-only-nan : (v : Float) → isNan v ≡ true → v ≡ nan
+pub only-nan : (v : Float) → isNan v ≡ true → v ≡ nan
 unfolding isNan
 only-nan nan h = refl
 only-nan (inf s) h = absurd (subst (λ (b : Bool). T (not b)) h tt)

@@ -3,7 +3,7 @@ use Prim.Native.Nat.{ℕ}
 use mathlib.Core.Bool.{Bool, true, false, _||_, not, cond}
 use mathlib.Core.Option.{Option, none, some}
 use lib.Dec.{eqb}
-use lib.Ieee.{Float, binary32, ofBits, nanBits, ne}
+use lib.Ieee.{Float, binary32, ofBits, toBits, isNan, nanBits, ne}
 use Rattle.rules.specs.Blends as blends
 use Rattle.rules.specs.Blends.{is-default}
 use Rattle.rules.specs.Inputs as rule
@@ -15,6 +15,7 @@ use Rattle.fill.specs.declared.Draw.{Draw}
 use Rattle.layers.specs.declared.LayerClip.{LayerClip}
 use Rattle.layers.specs.declared.LayerClip.the-variants.{Absent, Present}
 use Rattle.layers.specs.declared.LayerProps.{LayerProps}
+use Rattle.layers.specs.Layers.{clip-of}
 
 abbrev pub blend-in : blends.Blend → Blend
 blend-in b = record { mix = b .mix; compose = b .compose }
@@ -44,6 +45,16 @@ props-in p =
       nan = pattern-of (p .opacity);
       mask = p .mask;
       clip = clip-in (p .clip);
+    }
+
+-- the rules' properties that given ones say: the bits of the opacity, a NaN's pattern for a NaN
+abbrev pub props-said : LayerProps → rule.Props
+props-said p =
+    record {
+      blend = blend-of (p .blend);
+      opacity = cond (isNan (p .opacity)) (p .nan) (toBits binary32 (p .opacity));
+      mask = p .mask;
+      clip = clip-of (p .clip);
     }
 
 abbrev pub float-1 : Float

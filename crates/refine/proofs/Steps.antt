@@ -33,6 +33,7 @@ use Rattle.fill.specs.Fills as fills
 use Rattle.push.specs.Push as push
 use Rattle.layers.specs.Layers.{props-of, clip-of, layer-words}
 use Rattle.reading.specs.Reading.{pattern-of, draw-in, clip-in, props-in}
+use Rattle.reading.proofs.Given.{pattern-good}
 use Rattle.steps.specs.Steps.{placement-in, fill-part, fill-into, push-part, push-into, filter-part, filter-into, with-value, call-at}
 use Rattle.steps.proofs.Lists.{paints-words-length, segments-words-length, paints-said, segments-said}
 use Rattle.refine.specs.Sound.{Sound}
@@ -245,15 +246,15 @@ module _ (s : rule.Screen Row) (h : Sound s) (b : Bool) (de pa : List ℕ) where
     unfolding plan-push state-of
     top-is n = rw (clip-back (p .clip), box-same st b)
 
-    push-first : push.first-number (push-part (lent-of s b de pa)) ≡ 0
+    push-first : push.first-number (props-in p) (push-part (lent-of s b de pa)) ≡ 0
     unfolding lent-of
-    push-first = rw (judged-done s h b, eq-eqb _ _ (layers-long (st .layers) (h .deep)), eq-eqb _ _ opacities-long)
+    push-first = rw (judged-done s h b, eq-eqb _ _ (layers-long (st .layers) (h .deep)), eq-eqb _ _ opacities-long, pattern-good (p .opacity))
 
     push-is : push.push-number (props-in p) (push-part (lent-of s b de pa)) ≡ refusal Row row-ops 32 the-push (done Row row-ops 32 the-push s)
     unfolding push.push-number lent-of
     push-is =
         step-is s h b (push.plan-of (props-in p) (screen-of st b)) the-push push-same push-ok
-        (push.first-number (push-part (lent-of s b de pa))) push-first
+        (push.first-number (props-in p) (push-part (lent-of s b de pa))) push-first
 
     new-layers : words-at (table 0 256 (layers-words (st .layers))) (16 * length (st .layers)) (push.top-words (push.plan-of (props-in p) (screen-of st b) .layers) (pattern-of (p .opacity)))
         ≡ table 0 256 (layers-words (the-push .layers))

@@ -1,6 +1,6 @@
 -- The lines of a row's pieces.
-use Prim.Native.Nat.{ℕ, _+_, _*_, _%_}
-use mathlib.Core.Bool.{cond}
+use Prim.Native.Nat.{ℕ, _+_, _*_}
+use mathlib.Core.Bool.{_||_, cond}
 use mathlib.Core.List.{List, [], _∷_}
 use mathlib.Core.Option.{Option, none, some}
 use lib.ListN.{getD}
@@ -8,12 +8,12 @@ use lib.Dec.{leb, eqb}
 use Rattle.rules.specs.Details.{Detail, painted, p, l}
 use Rattle.list.specs.Places.{joined}
 
--- Six words: tag, attribute, first tile, end tile, alpha index, nesting; a paint's tag is 1 or 2, and an even one has alpha.
+-- Six words: tag, attribute, first tile, end tile, alpha index, nesting; a paint's tag is 1 or 2, and 2 and 4 have alpha.
 abbrev pub word : List ℕ → ℕ → ℕ
 word ws i = getD ws i 0
 
 abbrev pub alpha-of : ℕ → ℕ → Option ℕ
-alpha-of tag a = cond (eqb (tag % 2) 0) (some a) none
+alpha-of tag a = cond (eqb tag 2 || eqb tag 4) (some a) none
 
 -- p for a paint, l for a layer
 abbrev pub letter-of : ℕ → ℕ

@@ -32,7 +32,10 @@ ghost use Rattle.dump.specs.Dumped.{pieces-written, stopped-out, stopped
 fn alpha_of(tag: u32, index: u32) -> Alpha
     ensures { λ r. ⌜ alpha r ≡ alpha-of tag index ⌝ }
 {
-    if tag % 2 == 0 {
+    if tag == 2 {
+        return Alpha::At(index);
+    }
+    if tag == 4 {
         return Alpha::At(index);
     }
     Alpha::Solid

@@ -1,0 +1,127 @@
+-- What `row_text` writes of a row at the words of a canvas is the rules' text of the row, painted alone from its first step. Assumes nothing.
+use mathlib.Core.Path.{_≡_, refl, sym, ap, _∙_}
+use mathlib.Core.Bool.{Bool, true, false, cond}
+use mathlib.Core.List.{List, [], _∷_, _++_, map}
+use Prim.Native.Nat.{ℕ, zero, suc, _+_, _-_, _*_, _≤_, _<_}
+use native.Mathlib.Nat.{add-zero}
+use native.Mathlib.Omega.{arith}
+use lib.Dec.{leb}
+use lib.ListN.{length, getD, drop}
+use lib.Seq.{getD-drop, drop-drop}
+use borrow.Author.Tests.{le-leb, lt-leb, leb-true, leb-false, le-ltb, eq-eqb}
+use Rattle.rules.specs.Boxes.{buckets-of}
+use Rattle.rules.specs.Rows.{Row, fresh-row}
+use Rattle.rules.specs.Painting.{Piece, Painted, begin, paint-steps, paint-row}
+use Rattle.rules.specs.Calls.{Canvas, painter-of}
+use Rattle.rules.specs.Details.{Detail, painted, piece-line, painted-row}
+use Rattle.screen.specs.Tables.{Lent}
+use Rattle.paint.specs.Painting as paint
+use Rattle.painter.specs.Stepping.{attributes}
+use Rattle.rowpaint.specs.Running.{row-painted}
+use Rattle.list.specs.Places.{joined}
+use Rattle.list.specs.Listed.{written}
+use Rattle.details.specs.Bytes.{details-text}
+use Rattle.dump.specs.Pieces.{word, piece-at, row-lines}
+use Rattle.dump.specs.Dumped.{with-text, pieces-written, row-dumped}
+use Rattle.painted.specs.Canvases.{Whole}
+use Rattle.tiles.specs.Turns.{Gave, from, steps-of, said-finished, turns, has-finished}
+use Rattle.tiles.proofs.Turns.{all-given, by-turns, said-so, next-at, turns-screen}
+use Rattle.picture.specs.Standing.{canvas-words}
+use Rattle.picture.specs.Turns.{turn-of, piece-in, pieces-in}
+use Rattle.picture.specs.Rows.{row-out}
+use Rattle.picture.proofs.Turns.{log-words}
+use Rattle.picture.proofs.Rows.{row-turns}
+
+-- a tag is a paint's or a layer's
+either : {A : Type 0} (t : ℕ) (x y : A) → cond (leb t 2) x y ≡ cond (leb 3 t) y x
+either t x y = go (leb t 2) refl
+  where
+    go : (b : Bool) → leb t 2 ≡ b → cond b x y ≡ cond (leb 3 t) y x
+    go true e = rw (lt-leb 3 t (omega (arith, leb-true t 2 e)))
+    go false e = rw (le-leb 3 t (omega (arith, leb-false t 2 e)))
+
+-- the line of six words is the line of the piece that they say
+piece-same : (ws : List ℕ) (k : ℕ) → piece-at ws k ≡ piece-line (piece-in (drop (6 * k) ws))
+unfolding piece-at
+piece-same ws k =
+    rw (
+      getD-drop (6 * k) ws 0 0,
+      getD-drop (6 * k) ws 1 0,
+      getD-drop (6 * k) ws 2 0,
+      getD-drop (6 * k) ws 3 0,
+      getD-drop (6 * k) ws 4 0,
+      getD-drop (6 * k) ws 5 0,
+      add-zero (6 * k),
+    )
+    (either (word ws (6 * k)) _ _)
+
+-- the pieces in a list, the last apart
+last-piece : (n : ℕ) (ws : List ℕ) → pieces-in (suc n) ws ≡ pieces-in n ws ++ (piece-in (drop (6 * n) ws) ∷ [])
+unfolding pieces-in
+last-piece zero ws = refl
+last-piece (suc n) ws =
+    let e : 6 + 6 * n ≡ 6 * suc n = omega arith in
+    ap (λ (ps : List Piece). piece-in ws ∷ ps) (last-piece n (drop 6 ws)) ∙ rw (drop-drop (6 * n) 6 ws, e)
+
+many : (n : ℕ) (ws : List ℕ) → length (pieces-in n ws) ≡ n
+unfolding pieces-in
+many zero ws = refl
+many (suc n) ws = ap suc (many n (drop 6 ws))
+
+map-two : {A B : Type 0} (f : A → B) (xs ys : List A) → map f (xs ++ ys) ≡ map f xs ++ map f ys
+map-two f [] ys = refl
+map-two f (x ∷ xs) ys = ap (λ l. f x ∷ l) (map-two f xs ys)
+
+pieces-same : (n : ℕ) (ws : List ℕ) → joined (λ (k : ℕ). piece-at ws k ∷ []) n ≡ map piece-line (pieces-in n ws)
+unfolding joined pieces-in
+pieces-same zero ws = refl
+pieces-same (suc n) ws =
+    rw (pieces-same n ws, piece-same ws n) (sym (ap (map piece-line) (last-piece n ws) ∙ map-two piece-line (pieces-in n ws) (piece-in (drop (6 * n) ws) ∷ [])))
+
+lines-same : (r n : ℕ) (ws : List ℕ) → row-lines r ws n ≡ painted-row r (pieces-in n ws)
+unfolding row-lines
+lines-same r n ws = rw (many n ws, pieces-same n ws)
+
+sub-zero : (n : ℕ) → n - 0 ≡ n
+sub-zero n = omega arith
+
+module _ (k : Canvas) (w : Whole k) (r : ℕ) (there : r < length (k .screen .rows)) (fresh : painter-of 32 k r ≡ begin (buckets-of 32 (k .screen .state .frame .viewport)))
+    (list : List ℕ) where
+  abbrev l : Lent
+  l = canvas-words k
+
+  abbrev o : paint.Out
+  o = row-out r list l
+
+  -- what the rules paint of the row
+  abbrev pub theirs : List Piece
+  theirs = paint-row 32 (k .screen .state .attrs) (buckets-of 32 (k .screen .state .frame .viewport)) (getD (k .screen .rows) r fresh-row)
+
+  -- a call of `paint_row` that says finished has listed the rules' pieces
+  pub row-gave : o .answer .finished ≡ true → pieces-in (o .answer .pieces) (o .list) ≡ theirs
+  unfolding has-finished paint-row
+  row-gave f =
+      let z = row-turns r l list in
+      let ts = map turn-of (z .turns) in
+      let t = turns 32 ts k in
+      let p = begin (buckets-of 32 (k .screen .state .frame .viewport)) in
+      let row = getD (k .screen .rows) r fresh-row in
+      let same = log-words (z .turns) k w in
+      let in-place : r < length (k .painters) = rw (w .count) there in
+      let a = by-turns 32 ts k (k .screen) r p refl in-place fresh in
+      let said = said-so 32 ts k r in-place (sym (ap (λ (gs : List Gave). said-finished r gs) same) ∙ z .said ∙ f) in
+      let fin = sym (ap (λ (x : Painted). x .finished) (next-at 32 (t .canvas) (k .screen) r _ (turns-screen 32 ts k) (a .painter))) ∙ said in
+      sym (z .pieces) ∙ ap (λ (gs : List Gave). from r gs) same ∙ a .pieces
+      ∙ all-given 32 (k .screen .state .attrs) (steps-of r (t .log)) row p fin
+      ∙ ap (λ (n : ℕ). paint-steps 32 (k .screen .state .attrs) n row p) (sub-zero (length (row .fills) + length (row .commands)))
+
+  -- The text that `row_text` writes then is that of the rules' own lines.
+  pub row-printed : (bs : List ℕ) → o .answer .number ≡ 0 → o .answer .finished ≡ true → o .answer .pieces ≤ 65536
+      → row-dumped (l .screen) r (attributes (l .tables .paint-attrs) (l .tables .layer-attrs))
+      (paint.lent (l .tables .rows) (l .tables .render) (l .tables .fills) (l .tables .depth) (l .tables .painting) list)
+      bs
+      ≡ with-text o (written (details-text (painted-row r theirs)) bs)
+  unfolding row-dumped row-out pieces-written
+  row-printed bs z f h =
+      let e : row-lines r (o .list) (o .answer .pieces) ≡ painted-row r theirs = lines-same r (o .answer .pieces) (o .list) ∙ ap (painted-row r) (row-gave f) in
+      rw (eq-eqb (o .answer .number) 0 z, f, le-ltb 65536 (o .answer .pieces) h, e)

@@ -2,17 +2,21 @@
 use mathlib.Core.Path.{_≡_, refl, sym, ap, _∙_}
 use mathlib.Core.Bool.{Bool, true, false, cond}
 use mathlib.Core.List.{List, [], _∷_, _++_, map}
-use Prim.Native.Nat.{ℕ, zero, suc, _+_, _-_, _*_, _≤_, _<_}
+use Prim.Native.Nat.{ℕ, zero, suc, _+_, _-_, _*_, _/_, _≤_, _<_}
 use native.Mathlib.Nat.{add-zero}
 use native.Mathlib.Omega.{arith}
-use lib.Dec.{leb}
+use lib.Dec.{leb, eqb}
 use lib.ListN.{length, getD, drop}
 use lib.Seq.{getD-drop, drop-drop}
-use borrow.Author.Tests.{le-leb, lt-leb, leb-true, leb-false, le-ltb, eq-eqb}
-use Rattle.rules.specs.Boxes.{buckets-of}
+use borrow.Author.Tests.{le-leb, lt-leb, leb-true, leb-false, le-ltb, eq-eqb, eqb-true}
+use Rattle.rules.specs.Lists.{every}
+use Rattle.rules.specs.Answers.{Answer, Done}
+use Rattle.rules.specs.Boxes.{rows-of, buckets-of}
+use Rattle.rules.specs.Plans.{Frame, Step}
+use Rattle.rules.specs.Steps.{Screen}
 use Rattle.rules.specs.Rows.{Row, fresh-row}
 use Rattle.rules.specs.Painting.{Piece, Painted, begin, paint-steps, paint-row}
-use Rattle.rules.specs.Calls.{Canvas, painter-of}
+use Rattle.rules.specs.Calls.{Canvas, painter-of, begin-call, paint-call}
 use Rattle.rules.specs.Details.{Detail, painted, piece-line, painted-row}
 use Rattle.screen.specs.Tables.{Lent}
 use Rattle.paint.specs.Painting as paint
@@ -25,11 +29,17 @@ use Rattle.dump.specs.Pieces.{word, piece-at, row-lines}
 use Rattle.dump.specs.Dumped.{with-text, pieces-written, row-dumped}
 use Rattle.painted.specs.Canvases.{Whole}
 use Rattle.tiles.specs.Turns.{Gave, from, steps-of, said-finished, turns, has-finished}
-use Rattle.tiles.proofs.Turns.{all-given, by-turns, said-so, next-at, turns-screen}
+use Rattle.painted.proofs.Whole.{begin-whole}
+use Rattle.tiles.proofs.Cases.{and-left, and-right}
+use Rattle.tiles.proofs.Turns.{all-given, by-turns, said-so, next-at, turns-screen, call-other, begun-is, begun-painter}
+use Rattle.tiles.proofs.Picture.{built-on}
+use Rattle.picture.specs.Reached.{Reached, begin-at}
 use Rattle.picture.specs.Standing.{canvas-words}
-use Rattle.picture.specs.Turns.{turn-of, piece-in, pieces-in}
-use Rattle.picture.specs.Rows.{row-out}
-use Rattle.picture.proofs.Turns.{log-words}
+use Rattle.picture.specs.Turns.{Turn, turn-of, piece-in, pieces-in, turned}
+use Rattle.picture.specs.Rows.{row-out, row-at}
+use Rattle.picture.proofs.Words.{begin-words}
+use Rattle.picture.proofs.Reached.{reached}
+use Rattle.picture.proofs.Turns.{log-words, turned-words, turns-whole}
 use Rattle.picture.proofs.Rows.{row-turns}
 
 -- a tag is a paint's or a layer's
@@ -125,3 +135,69 @@ module _ (k : Canvas) (w : Whole k) (r : ℕ) (there : r < length (k .screen .ro
   row-printed bs z f h =
       let e : row-lines r (o .list) (o .answer .pieces) ≡ painted-row r theirs = lines-same r (o .answer .pieces) (o .list) ∙ ap (painted-row r) (row-gave f) in
       rw (eq-eqb (o .answer .number) 0 z, f, le-ltb 65536 (o .answer .pieces) h, e)
+
+-- Words at which row r stands at its first step, painting having begun, on the screen s.
+pub record Waits (s : Screen Row) (r : ℕ) (m : Lent) : Type 0 where
+  pub canvas : Canvas
+  pub whole : Whole canvas
+  pub screen : canvas .screen ≡ s
+  pub there : r < length (canvas .screen .rows)
+  pub fresh : painter-of 32 canvas r ≡ begin (buckets-of 32 (canvas .screen .state .frame .viewport))
+  pub same : m ≡ canvas-words canvas
+
+-- steps of another row leave it there
+others : (i r : ℕ) → (i ≡ r → ⊥) → (ts : List Turn) → every (λ (t : Turn). eqb (t .row) i) ts ≡ true → (k : Canvas)
+    → painter-of 32 (turns 32 (map turn-of ts) k .canvas) r ≡ painter-of 32 k r
+unfolding turns
+others i r d [] e k = refl
+others i r d (t ∷ ts) e k =
+    let g = paint-call 32 (t .row) (length (t .list) / 6) k in
+    let o : t .row ≡ r → ⊥ = λ q. d (sym (eqb-true (t .row) i (and-left _ _ e)) ∙ q) in
+    others i r d ts (and-right (eqb (t .row) i) _ e) (g .canvas) ∙ call-other 32 (t .row) (length (t .list) / 6) k r o
+
+-- Once painting has begun at reached words, every row does, ..
+pub begin-waits : {f : Frame} {xs : List Step} {l : Lent} (h : Reached f xs l) → begin-at l .number ≡ Done → (r : ℕ) → r < rows-of (f .viewport)
+    → Waits (reached h .canvas .screen) r (begin-at l .value)
+begin-waits {f} {xs} {l} h e r there =
+    let s = reached h in
+    let k = s .canvas in
+    let words = ap begin-at (s .same) ∙ begin-words k (s .whole) in
+    let d : begin-call 32 k .number ≡ Done = sym (ap (λ (a : Answer Lent). a .number) words) ∙ e in
+    let row = built-on 32 (omega arith) f xs (k .screen) (s .built) r there .1 in
+    let p : begin-call 32 k .value .screen ≡ k .screen = ap (λ (c : Canvas). c .screen) (begun-is 32 k d) in
+    record {
+      canvas = begin-call 32 k .value;
+      whole = begin-whole k (s .whole);
+      screen = p;
+      there = rw p row;
+      fresh = begun-painter 32 k r d row ∙ rw p;
+      same = ap (λ (a : Answer Lent). a .value) words;
+    }
+
+-- .. and still does after another row was painted: so `rowdump` prints of each row, in their order, the rules' text.
+pub row-waits : {s : Screen Row} {r : ℕ} {m : Lent} → Waits s r m → (i : ℕ) (list : List ℕ) → (i ≡ r → ⊥) → Waits s r (row-at i list m)
+row-waits {s} {r} {m} h i list d =
+    let z = row-turns i m list in
+    let k = h .canvas in
+    let ts = map turn-of (z .turns) in
+    let p = turns-screen 32 ts k in
+    record {
+      canvas = turns 32 ts k .canvas;
+      whole = turns-whole ts k (h .whole);
+      screen = p ∙ h .screen;
+      there = rw p (h .there);
+      fresh = others i r d (z .turns) (z .own) k ∙ h .fresh ∙ rw p;
+      same = sym (z .words) ∙ ap (turned (z .turns)) (h .same) ∙ turned-words (z .turns) k (h .whole);
+    }
+
+-- The text that `row_text` writes of a row that waits is that of the rules' own lines of the row.
+pub waiting-printed : {s : Screen Row} {r : ℕ} {m : Lent} (h : Waits s r m) (list bs : List ℕ) → row-out r list m .answer .number ≡ 0 → row-out r list m .answer .finished ≡ true
+    → row-out r list m .answer .pieces ≤ 65536
+    → row-dumped (m .screen) r (attributes (m .tables .paint-attrs) (m .tables .layer-attrs))
+    (paint.lent (m .tables .rows) (m .tables .render) (m .tables .fills) (m .tables .depth) (m .tables .painting) list)
+    bs
+    ≡ with-text (row-out r list m)
+    (written (details-text (painted-row r (paint-row 32 (s .state .attrs) (buckets-of 32 (s .state .frame .viewport)) (getD (s .rows) r fresh-row)))) bs)
+waiting-printed {s} {r} {m} h list bs z f g =
+    let q = h .same in
+    rw (q, ← h .screen) (row-printed (h .canvas) (h .whole) r (h .there) (h .fresh) list bs (rw q at z) (rw q at f) (rw q at g))

@@ -1,5 +1,5 @@
-// What `rowdump` prints after the lines of `rowlist`: attributes, filter paints, pieces. Parts: each asks for room, and its callers have
-// seen to it.
+// What `rowdump` prints after the lines of `rowlist`: attributes, filter paints, pieces. Parts: each asks for a place that is
+// not far, and its callers have seen to it.
 use text::magnitude;
 use text::put_byte;
 use text::put_number;
@@ -11,13 +11,13 @@ ghost use Prim.Native.Nat.{_+_, _*_, _≤_};
 ghost use lib.ListN.{length};
 ghost use Rattle.rules.specs.Lines.{number};
 ghost use Rattle.details.specs.Details.{paint-attr-line, layer-attr-line};
-ghost use Rattle.text.specs.Texts.{text, Wrote};
+ghost use Rattle.text.specs.Texts.{text, far, Wrote};
 ghost use Rattle.details.specs.Bytes.{detail-bytes, details-text};
 ghost use Rattle.details.specs.Tables.{paint-attr-at, opacity-bits, layer-attr-at, filter-at, paint-lines, layer-lines, filter-lines};
 
 // A heading, and how many lines follow it.
 fn put_heading(out: &mut [u8], at: usize, s: &[u8], n: u32) -> usize
-    requires { ⌜ (at + 96 ≤ length (now out)) × (length (now s) ≤ 64) ⌝ }
+    requires { ⌜ (at + 96 ≤ far) × (length (now s) ≤ 64) ⌝ }
     ensures { λ r. ⌜ Wrote ((now (s .entry) ++ number n) ++ (10 ∷ [])) 96 (text (now (out .entry)) at) (text (now (out .exit)) r) ⌝ }
 {
     let a = put_text(out, at, s);
@@ -27,7 +27,7 @@ fn put_heading(out: &mut [u8], at: usize, s: &[u8], n: u32) -> usize
 
 // Four numbers.
 fn put_four(out: &mut [u8], at: usize, a: u32, b: u32, c: u32, d: u32) -> usize
-    requires { ⌜ at + 44 ≤ length (now out) ⌝ }
+    requires { ⌜ at + 44 ≤ far ⌝ }
     ensures { λ r. ⌜ Wrote (number a ++ (number b ++ (number c ++ number d))) 44 (text (now (out .entry)) at) (text (now (out .exit)) r) ⌝ }
 {
     let e = put_number(out, at, a);
@@ -38,7 +38,7 @@ fn put_four(out: &mut [u8], at: usize, a: u32, b: u32, c: u32, d: u32) -> usize
 
 // Paint, mix, compose, mask, id, thread, origin.
 fn put_paint_attr(out: &mut [u8], at: usize, table: &[u32], i: usize) -> usize
-    requires { ⌜ (at + 96 ≤ length (now out)) × (8 * i + 8 ≤ length (now table)) ⌝ }
+    requires { ⌜ (at + 96 ≤ far) × (8 * i + 8 ≤ length (now table)) ⌝ }
     ensures { λ r. ⌜ Wrote (detail-bytes (paint-attr-line (paint-attr-at (now (table .entry)) i))) 96 (text (now (out .entry)) at) (text (now (out .exit)) r) ⌝ }
 {
     let k = 8 * i;
@@ -67,7 +67,7 @@ fn opacity_bits(opacity: f32, kept: u32) -> u32
 
 // Mix, compose, opacity, mask, id, thread.
 fn put_layer_attr(out: &mut [u8], at: usize, table: &[u32], opacities: &[f32], i: usize) -> usize
-    requires { ⌜ (at + 96 ≤ length (now out)) × (6 * i + 6 ≤ length (now table)) × (16 + (i + 1) ≤ length (now opacities)) ⌝ }
+    requires { ⌜ (at + 96 ≤ far) × (6 * i + 6 ≤ length (now table)) × (16 + (i + 1) ≤ length (now opacities)) ⌝ }
     ensures { λ r. ⌜ Wrote (detail-bytes (layer-attr-line (layer-attr-at (now (table .entry)) (now (opacities .entry)) i))) 96 (text (now (out .entry)) at) (text (now (out .exit)) r) ⌝ }
 {
     let k = 6 * i;
@@ -81,7 +81,7 @@ fn put_layer_attr(out: &mut [u8], at: usize, table: &[u32], opacities: &[f32], i
 
 // Flag, pixmap, shift.
 fn put_filter(out: &mut [u8], at: usize, table: &[i32], i: usize) -> usize
-    requires { ⌜ (at + 96 ≤ length (now out)) × (4 * i + 4 ≤ length (now table)) ⌝ }
+    requires { ⌜ (at + 96 ≤ far) × (4 * i + 4 ≤ length (now table)) ⌝ }
     ensures { λ r. ⌜ Wrote (detail-bytes (filter-at (now (table .entry)) i)) 96 (text (now (out .entry)) at) (text (now (out .exit)) r) ⌝ }
 {
     let k = 4 * i;
@@ -99,7 +99,7 @@ fn put_filter(out: &mut [u8], at: usize, table: &[i32], i: usize) -> usize
 
 // The first n paint attributes.
 pub fn put_paint_attrs(out: &mut [u8], at: usize, table: &[u32], n: u32) -> usize
-    requires { ⌜ (at + 96 * (1 + n) ≤ length (now out)) × (8 * n ≤ length (now table)) ⌝ }
+    requires { ⌜ (at + 96 * (1 + n) ≤ far) × (8 * n ≤ length (now table)) ⌝ }
     ensures { λ r. ⌜ Wrote (details-text (paint-lines (now (table .entry)) n)) (96 * (1 + n)) (text (now (out .entry)) at) (text (now (out .exit)) r) ⌝ }
 {
     let mut place = put_heading(out, at, b"paint attributes", n);
@@ -114,7 +114,7 @@ pub fn put_paint_attrs(out: &mut [u8], at: usize, table: &[u32], n: u32) -> usiz
 
 // The first n layer attributes.
 pub fn put_layer_attrs(out: &mut [u8], at: usize, table: &[u32], opacities: &[f32], n: u32) -> usize
-    requires { ⌜ (at + 96 * (1 + n) ≤ length (now out)) × (6 * n ≤ length (now table)) × (16 + n ≤ length (now opacities)) ⌝ }
+    requires { ⌜ (at + 96 * (1 + n) ≤ far) × (6 * n ≤ length (now table)) × (16 + n ≤ length (now opacities)) ⌝ }
     ensures { λ r. ⌜ Wrote (details-text (layer-lines (now (table .entry)) (now (opacities .entry)) n)) (96 * (1 + n)) (text (now (out .entry)) at) (text (now (out .exit)) r) ⌝ }
 {
     let mut place = put_heading(out, at, b"layer attributes", n);
@@ -129,7 +129,7 @@ pub fn put_layer_attrs(out: &mut [u8], at: usize, table: &[u32], opacities: &[f3
 
 // The first n filter paints.
 pub fn put_filter_paints(out: &mut [u8], at: usize, table: &[i32], n: u32) -> usize
-    requires { ⌜ (at + 96 * (1 + n) ≤ length (now out)) × (4 * n ≤ length (now table)) ⌝ }
+    requires { ⌜ (at + 96 * (1 + n) ≤ far) × (4 * n ≤ length (now table)) ⌝ }
     ensures { λ r. ⌜ Wrote (details-text (filter-lines (now (table .entry)) n)) (96 * (1 + n)) (text (now (out .entry)) at) (text (now (out .exit)) r) ⌝ }
 {
     let mut place = put_heading(out, at, b"filter paints", n);

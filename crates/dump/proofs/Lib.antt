@@ -1,3 +1,3 @@
-pub mod Steps
+pub mod Holds
 pub mod Pieces
 pub mod Texts

@@ -1,2 +1,2 @@
-pub mod Strokes
+pub mod Pieces
 pub mod Dumped

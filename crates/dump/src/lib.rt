@@ -5,125 +5,37 @@ use details::put_paint_attrs;
 use lines::put_alpha;
 use list::Listing;
 use painter::step::paint_step;
+use rowpaint::paint_row;
 use screen::Screen;
 use span::Alpha;
 use text::put_byte;
 use text::put_number;
 use text::put_text;
 ghost use mathlib.Core.Path.{_≡_};
+ghost use mathlib.Core.Bool.{true, _&&_};
+ghost use mathlib.Core.List.{[]};
 ghost use Prim.Native.Nat.{_+_, _*_, _≤_};
 ghost use lib.ListN.{length};
+ghost use lib.Dec.{ltb};
 ghost use Rattle.rules.specs.Lines.{alpha-bytes};
 ghost use Rattle.details.specs.Details.{painted};
 ghost use Rattle.span.specs.Spans.{alpha};
-ghost use Rattle.text.specs.Texts.{text, Wrote};
+ghost use Rattle.text.specs.Texts.{text, far, Wrote};
 ghost use Rattle.details.specs.Bytes.{detail-bytes, details-text, piece-bytes};
+ghost use Rattle.paint.specs.Painting.{lent};
 ghost use Rattle.painter.specs.Stepping.{attributes};
 ghost use Rattle.list.specs.Listed.{left};
-ghost use Rattle.dump.specs.Strokes.{stroke, stored, stepped-on, strokes, most, alpha-of, letter-of, piece-at, row-lines, none-yet};
-ghost use Rattle.dump.specs.Dumped.{room, row-out, row-dumped, tables, good-lengths, attrs-room, attrs-dumped};
-
-// number: the last step's answer. finished: no step was left. pieces: how many stand in the list, six words each.
-pub struct Strokes {
-    pub number: u32,
-    pub finished: bool,
-    pub pieces: usize,
-}
-
-// One step more: its pieces go after those so far.
-fn paint_next(
-    so_far: Strokes,
-    screen: Screen,
-    row: usize,
-    rows: &[u32],
-    render: &[u32],
-    fills: &[u32],
-    depth: &mut [u32],
-    painting: &mut [u32],
-    paint_attrs: &[u32],
-    layer_attrs: &[u32],
-    list: &mut [u32],
-) -> Strokes
-    requires { ⌜ 6 * «so_far» .pieces ≤ length (now list) ⌝ }
-    ensures { λ r. ⌜ stroke r (now (depth .exit)) (now (painting .exit)) (now (list .exit))
-        ≡ stepped-on screen row (stored (now (rows .entry)) (now (render .entry)) (now (fills .entry)) (attributes (now («paint_attrs» .entry)) (now («layer_attrs» .entry)))) (stroke «so_far» (now (depth .entry)) (now (painting .entry)) (now (list .entry))) ⌝ }
-    ensures { λ r. ⌜ 6 * r .pieces ≤ length (now (list .entry)) ⌝ }
-{
-    let pieces = so_far.pieces;
-    let at = 6 * pieces;
-    let step = paint_step(
-        screen,
-        row,
-        rows,
-        render,
-        fills,
-        depth,
-        painting,
-        paint_attrs,
-        layer_attrs,
-        &mut list[at..],
-    );
-    let answer = step.answer;
-    Strokes {
-        number: answer.number(),
-        finished: step.finished,
-        pieces: pieces + step.pieces,
-    }
-}
-
-// The row's steps, one after the other, until one is refused or the row is finished.
-fn paint_row(
-    screen: Screen,
-    row: usize,
-    rows: &[u32],
-    render: &[u32],
-    fills: &[u32],
-    depth: &mut [u32],
-    painting: &mut [u32],
-    paint_attrs: &[u32],
-    layer_attrs: &[u32],
-    list: &mut [u32],
-) -> Strokes
-    ensures { λ r. ⌜ stroke r (now (depth .exit)) (now (painting .exit)) (now (list .exit))
-        ≡ strokes screen row (stored (now (rows .entry)) (now (render .entry)) (now (fills .entry)) (attributes (now («paint_attrs» .entry)) (now («layer_attrs» .entry)))) most (stroke none-yet (now (depth .entry)) (now (painting .entry)) (now (list .entry))) ⌝ }
-    ensures { λ r. ⌜ 6 * r .pieces ≤ length (now (list .entry)) ⌝ }
-{
-    let mut done = Strokes {
-        number: 0,
-        finished: false,
-        pieces: 0,
-    };
-    let mut steps: usize = 0;
-    while steps < 2049 {
-        done = paint_next(
-            done,
-            screen,
-            row,
-            rows,
-            render,
-            fills,
-            depth,
-            painting,
-            paint_attrs,
-            layer_attrs,
-            list,
-        );
-        if done.number != 0 {
-            return done;
-        }
-        if done.finished {
-            return done;
-        }
-        steps += 1;
-    }
-    done
-}
+ghost use Rattle.dump.specs.Pieces.{alpha-of, letter-of, piece-at, row-lines};
+ghost use Rattle.dump.specs.Dumped.{pieces-written, stopped-out, stopped, row-out, row-dumped, tables, good-lengths, good-tables, attrs-room, attrs-text, attrs-dumped};
 
 // The alpha index that a piece's tag says it has.
 fn alpha_of(tag: u32, index: u32) -> Alpha
     ensures { λ r. ⌜ alpha r ≡ alpha-of tag index ⌝ }
 {
-    if tag % 2 == 0 {
+    if tag == 2 {
+        return Alpha::At(index);
+    }
+    if tag == 4 {
         return Alpha::At(index);
     }
     Alpha::Solid
@@ -139,7 +51,7 @@ fn put_piece_fields(
     index: Alpha,
     nesting: u32,
 ) -> usize
-    requires { ⌜ at + 55 ≤ length (now out) ⌝ }
+    requires { ⌜ at + 55 ≤ far ⌝ }
     ensures { λ r. ⌜ Wrote (piece-bytes attribute first «end» (alpha-bytes (alpha index)) nesting) 55 (text (now (out .entry)) at) (text (now (out .exit)) r) ⌝ }
 {
     let a = put_number(out, at, attribute);
@@ -161,8 +73,8 @@ fn letter(tag: u32) -> u8
 
 // The piece at place k of a list.
 fn put_piece(out: &mut [u8], at: usize, list: &[u32], k: usize) -> usize
-    requires { ⌜ (at + 96 ≤ length (now out)) × (6 * k + 6 ≤ length (now list)) ⌝ }
-    ensures { λ r. ⌜ Wrote (detail-bytes (piece-at (now (list .entry)) k)) 96 (text (now (out .entry)) at) (text (now (out .exit)) r) ⌝ }
+    requires { ⌜ (at + 64 ≤ far) × (6 * k + 6 ≤ length (now list)) ⌝ }
+    ensures { λ r. ⌜ Wrote (detail-bytes (piece-at (now (list .entry)) k)) 64 (text (now (out .entry)) at) (text (now (out .exit)) r) ⌝ }
 {
     let i = 6 * k;
     let tag = list[i];
@@ -182,8 +94,8 @@ fn put_piece(out: &mut [u8], at: usize, list: &[u32], k: usize) -> usize
 
 // A row's number, and how many pieces it gave.
 fn put_painted(out: &mut [u8], at: usize, row: u32, n: u32) -> usize
-    requires { ⌜ at + 96 ≤ length (now out) ⌝ }
-    ensures { λ r. ⌜ Wrote (detail-bytes (painted row n)) 96 (text (now (out .entry)) at) (text (now (out .exit)) r) ⌝ }
+    requires { ⌜ at + 64 ≤ far ⌝ }
+    ensures { λ r. ⌜ Wrote (detail-bytes (painted row n)) 64 (text (now (out .entry)) at) (text (now (out .exit)) r) ⌝ }
 {
     let a = put_text(out, at, b"painted");
     let b = put_number(out, a, row);
@@ -194,8 +106,8 @@ fn put_painted(out: &mut [u8], at: usize, row: u32, n: u32) -> usize
 
 // A row with its first n pieces.
 fn put_pieces(out: &mut [u8], row: u32, list: &[u32], n: usize) -> usize
-    requires { ⌜ (96 * (1 + n) ≤ length (now out)) × (6 * n ≤ length (now list)) × (n ≤ 65536) ⌝ }
-    ensures { λ r. ⌜ Wrote (details-text (row-lines row (now (list .entry)) n)) (96 * (1 + n)) (text (now (out .entry)) 0) (text (now (out .exit)) r) ⌝ }
+    requires { ⌜ (6 * n ≤ length (now list)) × (n ≤ 65536) ⌝ }
+    ensures { λ r. ⌜ Wrote (details-text (row-lines row (now (list .entry)) n)) (64 * (1 + n)) (text (now (out .entry)) 0) (text (now (out .exit)) r) ⌝ }
 {
     let mut place = put_painted(out, 0, row, n as u32);
     let mut k = 0;
@@ -206,12 +118,72 @@ fn put_pieces(out: &mut [u8], row: u32, list: &[u32], n: usize) -> usize
     place
 }
 
-// Room for lines.
-fn room(n: usize) -> usize
-    ensures { λ r. ⌜ r ≡ room n ⌝ }
+// Whether a row's text is longer than so many bytes: it is measured only where they are fewer than it can have at most.
+fn is_short_row(row: u32, list: &[u32], n: usize, room: usize) -> bool
+    requires { ⌜ (6 * n ≤ length (now list)) × (n ≤ 65536) ⌝ }
+    ensures { λ r. ⌜ r ≡ (ltb room (64 * (1 + n)) && ltb room (length (details-text (row-lines row (now (list .entry)) n)))) ⌝ }
 {
-    let lines = n / 96;
-    if lines < 65536 { lines } else { 65536 }
+    if 64 * (1 + n) <= room {
+        return false;
+    }
+    let mut none = [0u8; 0];
+    room < put_pieces(&mut none, row, list, n)
+}
+
+// The lines of a painted row, given its first n pieces.
+fn write_pieces(row: u32, list: &[u32], n: usize, out: &mut [u8]) -> Listing
+    requires { ⌜ 6 * n ≤ length (now list) ⌝ }
+    ensures { λ r. ⌜ left r (now (out .exit)) ≡ pieces-written row (now (list .entry)) n (now (out .entry)) ⌝ }
+{
+    if 65536 < n {
+        return Listing {
+            number: 14,
+            bytes: 0,
+        };
+    }
+    if is_short_row(row, list, n, out.len()) {
+        return Listing {
+            number: 14,
+            bytes: 0,
+        };
+    }
+    let bytes = put_pieces(out, row, list, n);
+    Listing { number: 0, bytes }
+}
+
+// The number of the step that a row stands at, which is refused: it is tried with no list.
+fn refused_at(
+    screen: Screen,
+    row: usize,
+    rows: &[u32],
+    render: &[u32],
+    fills: &[u32],
+    depth: &mut [u32],
+    painting: &mut [u32],
+    paint_attrs: &[u32],
+    layer_attrs: &[u32],
+) -> Listing
+    ensures { λ r. ⌜ stopped-out r (now (depth .exit)) (now (painting .exit))
+        ≡ stopped screen row (attributes (now («paint_attrs» .entry)) (now («layer_attrs» .entry))) (lent (now (rows .entry)) (now (render .entry)) (now (fills .entry)) (now (depth .entry)) (now (painting .entry)) []) ⌝ }
+{
+    let mut none = [0u32; 0];
+    let step = paint_step(
+        screen,
+        row,
+        rows,
+        render,
+        fills,
+        depth,
+        painting,
+        paint_attrs,
+        layer_attrs,
+        &mut none,
+    );
+    let answer = step.answer;
+    Listing {
+        number: answer.number(),
+        bytes: 0,
+    }
 }
 
 // The text of a row: painted to its end, its pieces in the list and as lines. The screen's painting has begun, and the row stands at its
@@ -230,7 +202,7 @@ pub fn row_text(
     out: &mut [u8],
 ) -> Listing
     ensures { λ r. ⌜ row-out r (now (depth .exit)) (now (painting .exit)) (now (list .exit)) (now (out .exit))
-        ≡ row-dumped screen row (stored (now (rows .entry)) (now (render .entry)) (now (fills .entry)) (attributes (now («paint_attrs» .entry)) (now («layer_attrs» .entry)))) (stroke none-yet (now (depth .entry)) (now (painting .entry)) (now (list .entry))) (now (out .entry)) ⌝ }
+        ≡ row-dumped screen row (attributes (now («paint_attrs» .entry)) (now («layer_attrs» .entry))) (lent (now (rows .entry)) (now (render .entry)) (now (fills .entry)) (now (depth .entry)) (now (painting .entry)) (now (list .entry))) (now (out .entry)) ⌝ }
 {
     let done = paint_row(
         screen,
@@ -244,20 +216,28 @@ pub fn row_text(
         layer_attrs,
         list,
     );
-    if done.number != 0 {
+    let answer = done.answer;
+    let n = answer.number();
+    if n != 0 {
         return Listing {
-            number: done.number,
+            number: n,
             bytes: 0,
         };
     }
-    if room(out.len()) <= done.pieces {
-        return Listing {
-            number: 14,
-            bytes: 0,
-        };
+    if !done.finished {
+        return refused_at(
+            screen,
+            row as usize,
+            rows,
+            render,
+            fills,
+            depth,
+            painting,
+            paint_attrs,
+            layer_attrs,
+        );
     }
-    let bytes = put_pieces(out, row, list, done.pieces);
-    Listing { number: 0, bytes }
+    write_pieces(row, list, done.pieces, out)
 }
 
 // Answer 4: counts within their limits, tables of their lengths.
@@ -291,7 +271,7 @@ fn is_good_tables(
     filters == 1024
 }
 
-// The room that is asked for.
+// What the text of a screen's attributes has at most.
 fn attrs_room(screen: Screen) -> usize
     requires { ⌜ (screen .«paint_attrs» ≤ 1024) × (screen .«layer_attrs» ≤ 1024) × (screen .«filter_paints» ≤ 256) ⌝ }
     ensures { λ r. ⌜ r ≡ attrs-room screen ⌝ }
@@ -300,6 +280,49 @@ fn attrs_room(screen: Screen) -> usize
     let layers = screen.layer_attrs as usize;
     let filters = screen.filter_paints as usize;
     96 * (3 + (paints + (layers + filters)))
+}
+
+// The lines of tables that are judged.
+fn put_attrs(
+    out: &mut [u8],
+    screen: Screen,
+    paint_attrs: &[u32],
+    layer_attrs: &[u32],
+    opacities: &[f32],
+    filter_paints: &[i32],
+) -> usize
+    requires { ⌜ good-tables screen (tables (now «paint_attrs») (now «layer_attrs») (now opacities) (now «filter_paints»)) ≡ true ⌝ }
+    ensures { λ r. ⌜ Wrote (attrs-text screen (tables (now («paint_attrs» .entry)) (now («layer_attrs» .entry)) (now (opacities .entry)) (now («filter_paints» .entry)))) (attrs-room screen) (text (now (out .entry)) 0) (text (now (out .exit)) r) ⌝ }
+{
+    let a = put_paint_attrs(out, 0, paint_attrs, screen.paint_attrs);
+    let b = put_layer_attrs(out, a, layer_attrs, opacities, screen.layer_attrs);
+    put_filter_paints(out, b, filter_paints, screen.filter_paints)
+}
+
+// Whether that text is longer than so many bytes.
+fn is_short_attrs(
+    screen: Screen,
+    paint_attrs: &[u32],
+    layer_attrs: &[u32],
+    opacities: &[f32],
+    filter_paints: &[i32],
+    room: usize,
+) -> bool
+    requires { ⌜ good-tables screen (tables (now «paint_attrs») (now «layer_attrs») (now opacities) (now «filter_paints»)) ≡ true ⌝ }
+    ensures { λ r. ⌜ r ≡ (ltb room (attrs-room screen) && ltb room (length (attrs-text screen (tables (now («paint_attrs» .entry)) (now («layer_attrs» .entry)) (now (opacities .entry)) (now («filter_paints» .entry)))))) ⌝ }
+{
+    if attrs_room(screen) <= room {
+        return false;
+    }
+    let mut none = [0u8; 0];
+    room < put_attrs(
+        &mut none,
+        screen,
+        paint_attrs,
+        layer_attrs,
+        opacities,
+        filter_paints,
+    )
 }
 
 // The text of a screen's attributes and filter paints.
@@ -325,14 +348,26 @@ pub fn attrs_text(
             bytes: 0,
         };
     }
-    if out.len() < attrs_room(screen) {
+    if is_short_attrs(
+        screen,
+        paint_attrs,
+        layer_attrs,
+        opacities,
+        filter_paints,
+        out.len(),
+    ) {
         return Listing {
             number: 14,
             bytes: 0,
         };
     }
-    let a = put_paint_attrs(out, 0, paint_attrs, screen.paint_attrs);
-    let b = put_layer_attrs(out, a, layer_attrs, opacities, screen.layer_attrs);
-    let bytes = put_filter_paints(out, b, filter_paints, screen.filter_paints);
+    let bytes = put_attrs(
+        out,
+        screen,
+        paint_attrs,
+        layer_attrs,
+        opacities,
+        filter_paints,
+    );
     Listing { number: 0, bytes }
 }

@@ -18,7 +18,8 @@ use Rattle.rules.specs.Plans.{a-fill, a-push, a-pop, a-filter, Plan, plan}
 use Rattle.rules.specs.Steps.{done, reset, call, refusal}
 use Rattle.rules.specs.Steps as rule
 use Rattle.rules.specs.Recording.{Recording, shape, sections, recording, good-records, good-order}
-use Rattle.rules.specs.Walk.{go-on, _then_, walk-all, Logged, logged-call}
+use Rattle.rules.specs.Walk.{go-on, _then_, walk-all}
+use Rattle.rules.proofs.Logged.{Logged, logged-call}
 use Rattle.rules.specs.Painting as rules
 use Rattle.rules.proofs.All.{nil, cons}
 use Rattle.tiles.proofs.Cases.{by}

@@ -1,13 +1,12 @@
-// The lines that `rowlist` prints, one function for each kind. Parts: each asks for room for a line, and its callers have seen to it.
+// The lines that `rowlist` prints, one function for each kind. Parts: each asks for a place that is not far, and its callers have seen to it.
 ghost use mathlib.Core.Path.{_≡_};
 ghost use mathlib.Core.List.{[], _∷_};
 ghost use Prim.Native.Nat.{_+_, _≤_};
-ghost use lib.ListN.{length};
 ghost use Rattle.rules.specs.Lines.{header, row, refused, depth-line, command-line, fill-bytes, alpha-bytes, span-bytes, line-text, line-bytes};
 ghost use Rattle.span.specs.Spans.{tiles, alpha};
 ghost use Rattle.cmd.specs.Commands.{command, recorded-of};
 ghost use Rattle.cmd.specs.DepthFills.{depth-fill};
-ghost use Rattle.text.specs.Texts.{text, Wrote};
+ghost use Rattle.text.specs.Texts.{text, far, Wrote};
 use cmd::command::Fill;
 use cmd::command::Recorded;
 use cmd::command::RenderCmd;
@@ -18,12 +17,12 @@ use text::put_dash;
 use text::put_number;
 use text::put_text;
 
-// Room that is asked for a line.
+// A line's bytes at most.
 pub const LINE: usize = 64;
 
 // Rows, buckets, ids taken.
 pub fn put_header(out: &mut [u8], at: usize, rows: u32, buckets: u32, ids: u32) -> usize
-    requires { ⌜ at + 64 ≤ length (now out) ⌝ }
+    requires { ⌜ at + 64 ≤ far ⌝ }
     ensures { λ r. ⌜ Wrote (line-bytes (header rows buckets ids)) 64 (text (now (out .entry)) at) (text (now (out .exit)) r) ⌝ }
 {
     let a = put_text(out, at, b"rows");
@@ -37,7 +36,7 @@ pub fn put_header(out: &mut [u8], at: usize, rows: u32, buckets: u32, ids: u32) 
 
 // A row's number, and how many depth fills and commands it has.
 pub fn put_row_line(out: &mut [u8], at: usize, r: u32, depths: u32, renders: u32) -> usize
-    requires { ⌜ at + 64 ≤ length (now out) ⌝ }
+    requires { ⌜ at + 64 ≤ far ⌝ }
     ensures { λ p. ⌜ Wrote (line-bytes (row r depths renders)) 64 (text (now (out .entry)) at) (text (now (out .exit)) p) ⌝ }
 {
     let a = put_text(out, at, b"row");
@@ -50,7 +49,7 @@ pub fn put_row_line(out: &mut [u8], at: usize, r: u32, depths: u32, renders: u32
 }
 
 pub fn put_depth_line(out: &mut [u8], at: usize, fill: DepthFill) -> usize
-    requires { ⌜ at + 64 ≤ length (now out) ⌝ }
+    requires { ⌜ at + 64 ≤ far ⌝ }
     ensures { λ r. ⌜ Wrote (line-bytes (depth-line (depth-fill fill))) 64 (text (now (out .entry)) at) (text (now (out .exit)) r) ⌝ }
 {
     let range = fill.buckets;
@@ -63,7 +62,7 @@ pub fn put_depth_line(out: &mut [u8], at: usize, fill: DepthFill) -> usize
 
 // An alpha index, or a dash.
 pub fn put_alpha(out: &mut [u8], at: usize, index: Alpha) -> usize
-    requires { ⌜ at + 11 ≤ length (now out) ⌝ }
+    requires { ⌜ at + 11 ≤ far ⌝ }
     ensures { λ r. ⌜ Wrote (alpha-bytes (alpha index)) 11 (text (now (out .entry)) at) (text (now (out .exit)) r) ⌝ }
 {
     match index {
@@ -74,7 +73,7 @@ pub fn put_alpha(out: &mut [u8], at: usize, index: Alpha) -> usize
 
 // What a P and an L have in common.
 fn put_fill(out: &mut [u8], at: usize, fill: Fill) -> usize
-    requires { ⌜ at + 44 ≤ length (now out) ⌝ }
+    requires { ⌜ at + 44 ≤ far ⌝ }
     ensures { λ r. ⌜ Wrote (fill-bytes (fill .span .first) (fill .span .end) (alpha (fill .alpha)) (fill .«attrs_idx»)) 44 (text (now (out .entry)) at) (text (now (out .exit)) r) ⌝ }
 {
     let span = fill.span;
@@ -87,7 +86,7 @@ fn put_fill(out: &mut [u8], at: usize, fill: Fill) -> usize
 
 // A buffer's span, or two dashes.
 fn put_recorded(out: &mut [u8], at: usize, recorded: Recorded) -> usize
-    requires { ⌜ at + 22 ≤ length (now out) ⌝ }
+    requires { ⌜ at + 22 ≤ far ⌝ }
     ensures { λ r. ⌜ Wrote (span-bytes (recorded-of recorded)) 22 (text (now (out .entry)) at) (text (now (out .exit)) r) ⌝ }
 {
     match recorded {
@@ -104,7 +103,7 @@ fn put_recorded(out: &mut [u8], at: usize, recorded: Recorded) -> usize
 
 // A command without its line feed.
 fn put_command(out: &mut [u8], at: usize, cmd: RenderCmd) -> usize
-    requires { ⌜ at + 45 ≤ length (now out) ⌝ }
+    requires { ⌜ at + 45 ≤ far ⌝ }
     ensures { λ r. ⌜ Wrote (line-text (command-line (command cmd))) 45 (text (now (out .entry)) at) (text (now (out .exit)) r) ⌝ }
 {
     match cmd {
@@ -125,7 +124,7 @@ fn put_command(out: &mut [u8], at: usize, cmd: RenderCmd) -> usize
 }
 
 pub fn put_command_line(out: &mut [u8], at: usize, cmd: RenderCmd) -> usize
-    requires { ⌜ at + 64 ≤ length (now out) ⌝ }
+    requires { ⌜ at + 64 ≤ far ⌝ }
     ensures { λ r. ⌜ Wrote (line-bytes (command-line (command cmd))) 64 (text (now (out .entry)) at) (text (now (out .exit)) r) ⌝ }
 {
     let a = put_command(out, at, cmd);
@@ -133,7 +132,7 @@ pub fn put_command_line(out: &mut [u8], at: usize, cmd: RenderCmd) -> usize
 }
 
 pub fn put_refused(out: &mut [u8], at: usize, n: u32) -> usize
-    requires { ⌜ at + 64 ≤ length (now out) ⌝ }
+    requires { ⌜ at + 64 ≤ far ⌝ }
     ensures { λ r. ⌜ Wrote (line-bytes (refused n)) 64 (text (now (out .entry)) at) (text (now (out .exit)) r) ⌝ }
 {
     let a = put_text(out, at, b"refused");

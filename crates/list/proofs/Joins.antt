@@ -28,9 +28,9 @@ module _ {A : Type 0} (f : A → List ℕ) where
 
   -- place by place, the first to the last
   module _ (g : ℕ → List A) where
-    pub places-none : {n : ℕ} (t : Text) → t .at ≤ length (t .bytes) → Wrote (join f (joined g 0)) n t t
+    pub places-none : {n : ℕ} (t : Text) → Wrote (join f (joined g 0)) n t t
     unfolding joined
-    places-none t h = wrote-none t h
+    places-none t = wrote-none t
 
     pub places-more : {m n o : ℕ} (k : ℕ) {t u v : Text} → m + n ≤ o → Wrote (join f (joined g k)) m t u → Wrote (join f (g k)) n u v → Wrote (join f (joined g (k + 1))) o t v
     unfolding joined

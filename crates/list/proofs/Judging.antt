@@ -1,15 +1,13 @@
 -- What words stand for, one by one. Assumes nothing.
 use mathlib.Core.Path.{_≡_, refl, _∙_}
-use mathlib.Core.Bool.{Bool, true, false, _&&_, not, cond}
+use mathlib.Core.Bool.{Bool, true, false, _&&_, cond}
 use mathlib.Core.Option.{Option, none, some}
-use mathlib.Core.List.{[], _∷_}
 use Prim.Native.Nat.{ℕ, zero, suc, _+_, _-_, _*_, _≤_, _<_}
 use native.Mathlib.Omega.{arith}
 use native.Mathlib.Nat.{mul-le-mul}
 use lib.ListN.{length, take, drop}
-use lib.Dec.{leb, ltb, eqb}
-use borrow.Author.Tests.{le-leb, lt-leb, lt-ltb, le-ltb, ne-eqb, leb-true, ltb-false}
-use Rattle.rules.specs.Answers.{first-of}
+use lib.Dec.{leb, eqb}
+use borrow.Author.Tests.{le-leb, lt-leb, ne-eqb, leb-true}
 use Rattle.rules.proofs.All.{both}
 use Rattle.row.specs.Words.{Words, words, word}
 use Rattle.arena.specs.Arena.{nowhere, sizes, row-at}
@@ -21,7 +19,7 @@ use Rattle.screen.specs.declared.Screen.{Screen}
 use Rattle.screen.specs.Judging.{judged}
 use Rattle.screen.proofs.Laws.{few-rows, few-buckets, bounds}
 use Rattle.screen.proofs.Passed.{passed}
-use Rattle.list.specs.Listed.{good-depths, good-commands, good-row, good-rows, row-room, room-asked, list-number, Whole, Few, Ready}
+use Rattle.list.specs.Listed.{good-depths, good-commands, good-row, good-rows, screen-room, list-number, Whole, Few, Ready}
 use Rattle.list.proofs.Runs.{below-at}
 
 pub not-there : {A : Type 0} {x y : Option A} → x ≡ y → x ≡ none → false ≡ is-some y
@@ -82,8 +80,8 @@ module _ {m c d : ℕ} {w : Words} (o : Whole m c d w) (r : ℕ) (h : r < m) whe
       rw part-is (record { state = at-state (sizes c d) m r w (o .long) h; commands = omega (arith, x, f .commands); depths = omega (arith, y, f .depths) })
 
 -- the call's number
-module _ (s : Screen) (w : Words) (room : ℕ) where
-  pub by-screen : (n : ℕ) → n ≡ judged s (length (w .state)) (length (w .render)) (length (w .fills)) → (n ≡ 0 → ⊥) → n ≡ list-number s w room
+module _ (s : Screen) (w : Words) where
+  pub by-screen : (n : ℕ) → n ≡ judged s (length (w .state)) (length (w .render)) (length (w .fills)) → (n ≡ 0 → ⊥) → n ≡ list-number s w
   unfolding list-number
   by-screen n e h = rw (← e, ne-eqb n 0 h)
 
@@ -100,44 +98,39 @@ module _ (s : Screen) (w : Words) (room : ℕ) where
         })
 
     module _ {b : ℕ} (q : b ≡ buckets-of 32 (box-of (s .viewport))) where
-      pub by-rows : good-rows (s .c) (s .d) b w m ≡ false → 4 ≡ list-number s w room
+      pub by-rows : good-rows (s .c) (s .d) b w m ≡ false → 4 ≡ list-number s w
       unfolding list-number
       by-rows g = rw (e, ← p, ← q, g)
 
-      module _ (g : good-rows (s .c) (s .d) b w m ≡ true) where
-        pub by-room : room < 64 + m * row-room (s .c) (s .d) → 14 ≡ list-number s w room
-        unfolding list-number
-        by-room h = rw (e, ← p, ← q, g, lt-ltb room (64 + m * row-room (s .c) (s .d)) h)
-
-        pub by-none : 64 + m * row-room (s .c) (s .d) ≤ room → 0 ≡ list-number s w room
-        unfolding list-number
-        by-none h = rw (e, ← p, ← q, g, le-ltb room (64 + m * row-room (s .c) (s .d)) h)
+      pub by-none : good-rows (s .c) (s .d) b w m ≡ true → 0 ≡ list-number s w
+      unfolding list-number
+      by-none g = rw (e, ← p, ← q, g)
 
 -- a screen that the call lists
-pub record Listable (s : Screen) (w : Words) (n : ℕ) : Type 0 where
+pub record Listable (s : Screen) (w : Words) : Type 0 where
   pub whole : Whole (rows-of (box-of (s .viewport))) (s .c) (s .d) w
   pub few : (r : ℕ) → r < rows-of (box-of (s .viewport)) → Few (s .c) (s .d) (row-at (sizes (s .c) (s .d)) r w)
-  pub room : room-asked s ≤ n
+  pub room : screen-room s ≤ 67141696
   pub some-id : 1 ≤ s .«next_draw_id»
   pub few-buckets : buckets-of 32 (box-of (s .viewport)) ≤ 32
 
-none-said : (n : ℕ) (g r : Bool) → cond (eqb n 0) (first-of ((not g, 4) ∷ (r, 14) ∷ [])) n ≡ 0 → (n ≡ 0) × (g ≡ true) × (r ≡ false)
-none-said zero true true h = absurd (omega arith)
-none-said zero true false h = (refl, refl, refl)
-none-said zero false r h = absurd (omega arith)
-none-said (suc n) g r h = let e : suc n ≡ 0 = rw (ne-eqb (suc n) 0 (λ p. omega arith)) at h in absurd (omega arith)
+none-said : (n : ℕ) (g : Bool) → cond (eqb n 0) (cond g 0 4) n ≡ 0 → (n ≡ 0) × (g ≡ true)
+none-said zero true h = (refl, refl)
+none-said zero false h = absurd (omega arith)
+none-said (suc n) g h = let e : suc n ≡ 0 = rw (ne-eqb (suc n) 0 (λ p. omega arith)) at h in absurd (omega arith)
 
-module _ (s : Screen) (w : Words) (room : ℕ) where
-  pub listable : list-number s w room ≡ 0 → Listable s w room
+module _ (s : Screen) (w : Words) where
+  pub listable : list-number s w ≡ 0 → Listable s w
   unfolding list-number
   listable e =
       let v = box-of (s .viewport) in
-      let all = none-said (judged s (length (w .state)) (length (w .render)) (length (w .fills))) (good-rows (s .c) (s .d) (buckets-of 32 v) w (rows-of v)) (ltb room (room-asked s)) e in
+      let all = none-said (judged s (length (w .state)) (length (w .render)) (length (w .fills))) (good-rows (s .c) (s .d) (buckets-of 32 v) w (rows-of v)) e in
       let o = passed s (length (w .state)) (length (w .render)) (length (w .fills)) (all .0) in
+      let l = whole s w (all .0) refl in
       record {
-        whole = whole s w room (all .0) refl;
+        whole = l;
         few = λ r h. row-few _ _ _ _ (below-at _ (rows-of v) (all .1) r h);
-        room = ltb-false _ _ (all .2);
+        room = omega (arith, small (rows-of v) (s .c) (s .d) (l .few-rows) (l .few-c) (l .few-d));
         some-id = bounds s (o .screen) .some-id;
         few-buckets = few-buckets v (o .view);
       }

@@ -66,9 +66,9 @@ module _ (p : ℕ → Bool) where
       go (suc n) e (suc j) q = go n (both (p n) (all-below p n) e .1) j (omega arith)
 
 -- the text of lines
-pub no-lines : {n : ℕ} (t : Text) → t .at ≤ length (t .bytes) → Wrote (text-of []) n t t
+pub no-lines : {n : ℕ} (t : Text) → Wrote (text-of []) n t t
 unfolding text-of
-no-lines t h = wrote-none t h
+no-lines t = wrote-none t
 
 module _ {m : ℕ} {t u : Text} where
   pub one-line : (l : Line) → Wrote (line-bytes l) m t u → Wrote (text-of (l ∷ [])) m t u
@@ -86,9 +86,9 @@ module _ {m : ℕ} {t u : Text} where
 
 -- lines place by place, the first to the last
 module _ (f : ℕ → List Line) where
-  pub joined-none : {n : ℕ} (t : Text) → t .at ≤ length (t .bytes) → Wrote (text-of (joined f 0)) n t t
+  pub joined-none : {n : ℕ} (t : Text) → Wrote (text-of (joined f 0)) n t t
   unfolding text-of
-  joined-none t h = places-none line-bytes f t h
+  joined-none t = places-none line-bytes f t
 
   pub joined-more : {m n o : ℕ} (k : ℕ) {t u v : Text} → m + n ≤ o → Wrote (text-of (joined f k)) m t u → Wrote (text-of (f k)) n u v → Wrote (text-of (joined f (k + 1))) o t v
   unfolding text-of

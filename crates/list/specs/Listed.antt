@@ -1,13 +1,13 @@
 -- The lines of a screen's words, and what the call that lists them answers.
 use Prim.Native.Nat.{ℕ, _+_, _-_, _*_, _≤_}
 use mathlib.Core.Path.{_≡_}
-use mathlib.Core.Bool.{Bool, _&&_, not, cond}
+use mathlib.Core.Bool.{Bool, _&&_, cond}
 use mathlib.Core.List.{List, [], _∷_, _++_}
 use mathlib.Core.Option.{Option, none, some}
 use lib.ListN.{length, getD, drop}
 use lib.Dec.{leb, ltb, eqb}
 use Rattle.rules.specs.Lists.{join}
-use Rattle.rules.specs.Answers.{Done, BadRecord, NoRoom, first-of}
+use Rattle.rules.specs.Answers.{Done, BadRecord, NoRoom}
 use Rattle.rules.specs.Boxes.{rows-of, buckets-of}
 use Rattle.rules.specs.Commands.{Command, DepthFill}
 use Rattle.cmd.specs.Reading.{command-of, depth-fill-of}
@@ -75,16 +75,16 @@ good-rows c d n w m = all-below (λ (r : ℕ). good-row c d n (row-at (sizes c d
 abbrev pub row-room : ℕ → ℕ → ℕ
 row-room c d = 64 * (1 + (c + d))
 
--- the room that is asked for a screen
-abbrev pub room-asked : Screen → ℕ
-room-asked s = 64 + rows-of (box-of (s .viewport)) * row-room (s .c) (s .d)
+-- what a screen's text has at most
+abbrev pub screen-room : Screen → ℕ
+screen-room s = 64 + rows-of (box-of (s .viewport)) * row-room (s .c) (s .d)
 
--- what the screen and the lent lengths say (2, 1, 4), then 4 for a row, then 14
-unfoldable pub list-number : Screen → Words → ℕ → ℕ
-list-number s w room =
+-- what the screen and the lent lengths say (2, 1, 4), then 4 for a row
+unfoldable pub list-number : Screen → Words → ℕ
+list-number s w =
     let first = judged s (length (w .state)) (length (w .render)) (length (w .fills)) in
     let good = good-rows (s .c) (s .d) (buckets-of 32 (box-of (s .viewport))) w (rows-of (box-of (s .viewport))) in
-    cond (eqb first Done) (first-of ((not good, BadRecord) ∷ (ltb room (room-asked s), NoRoom) ∷ [])) first
+    cond (eqb first Done) (cond good Done BadRecord) first
 
 -- what a call leaves: its answer, and the lent bytes
 pub record Out : Type 0 where
@@ -101,14 +101,18 @@ listing n k = record { number = n; bytes = k }
 abbrev pub begun-with : List ℕ → List ℕ → Out
 begun-with ts bs = left (listing Done (length ts)) (ts ++ drop (length ts) bs)
 
+-- 14 for a text that is longer than the bytes
+unfoldable pub written : List ℕ → List ℕ → Out
+written ts bs = cond (ltb (length bs) (length ts)) (left (listing NoRoom 0) bs) (begun-with ts bs)
+
 unfoldable pub listed : Screen → Words → List ℕ → Out
 listed s w bs =
-    let n = list-number s w (length bs) in
-    cond (eqb n Done) (begun-with (text-of (screen-lines s w)) bs) (left (listing n 0) bs)
+    let n = list-number s w in
+    cond (eqb n Done) (written (text-of (screen-lines s w)) bs) (left (listing n 0) bs)
 
--- the line of a refusal, 14 without room for a line
-unfoldable pub refused-listed : ℕ → List ℕ → Out
-refused-listed n bs = cond (ltb (length bs) 64) (left (listing NoRoom 0) bs) (begun-with (line-bytes (refused n)) bs)
+-- the line of a refusal
+abbrev pub refused-listed : ℕ → List ℕ → Out
+refused-listed n bs = written (line-bytes (refused n)) bs
 
 -- a screen's words
 pub record Whole (m c d : ℕ) (w : Words) : Type 0 where

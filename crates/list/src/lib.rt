@@ -16,15 +16,17 @@ use screen::Screen;
 use screen::judge_screen;
 ghost use mathlib.Core.Path.{_≡_};
 ghost use Prim.Native.Nat.{ℕ, _+_, _*_, _≤_, _<_};
+ghost use mathlib.Core.Bool.{_&&_};
 ghost use lib.ListN.{length, getD};
+ghost use lib.Dec.{ltb};
 ghost use Rattle.rules.specs.Lines.{depth-line, command-line};
 ghost use Rattle.cmd.specs.Commands.{read-of};
 ghost use Rattle.cmd.specs.DepthFills.{read-depth-of};
-ghost use Rattle.text.specs.Texts.{text, Wrote};
+ghost use Rattle.text.specs.Texts.{text, far, Wrote};
 ghost use Rattle.row.specs.Words.{words};
 ghost use Rattle.arena.specs.Arena.{sizes, row-at};
 ghost use Rattle.list.specs.Places.{is-some};
-ghost use Rattle.list.specs.Listed.{depth-fill-at, command-at, shown, depth-lines, command-lines, row-lines, rows-lines, screen-lines, text-of, good-depths, good-commands, good-row, good-rows, row-room, room-asked, list-number, left, listed, refused-listed, Whole, Few, Ready};
+ghost use Rattle.list.specs.Listed.{depth-fill-at, command-at, shown, depth-lines, command-lines, row-lines, rows-lines, screen-lines, text-of, good-depths, good-commands, good-row, good-rows, row-room, screen-room, list-number, left, listed, refused-listed, Whole, Few, Ready};
 
 // number: document 01's answer. bytes: how many are written, at the start of the lent ones.
 pub struct Listing {
@@ -186,7 +188,7 @@ fn judge_rows(
 
 // The depth fill at place k, if words stand for one.
 fn put_depth(out: &mut [u8], at: usize, fills: &[u32], k: usize, buckets: u32) -> usize
-    requires { ⌜ (at + 64 ≤ length (now out)) × (2 * k + 2 ≤ length (now fills)) ⌝ }
+    requires { ⌜ (at + 64 ≤ far) × (2 * k + 2 ≤ length (now fills)) ⌝ }
     ensures { λ r. ⌜ Wrote (text-of (shown depth-line (depth-fill-at buckets (now (fills .entry)) k))) 64 (text (now (out .entry)) at) (text (now (out .exit)) r) ⌝ }
 {
     match read_depth(fills, k, buckets) {
@@ -197,7 +199,7 @@ fn put_depth(out: &mut [u8], at: usize, fills: &[u32], k: usize, buckets: u32) -
 
 // The command at place k.
 fn put_command(out: &mut [u8], at: usize, render: &[u32], k: usize) -> usize
-    requires { ⌜ (at + 64 ≤ length (now out)) × (4 * k + 4 ≤ length (now render)) ⌝ }
+    requires { ⌜ (at + 64 ≤ far) × (4 * k + 4 ≤ length (now render)) ⌝ }
     ensures { λ r. ⌜ Wrote (text-of (shown command-line (command-at (now (render .entry)) k))) 64 (text (now (out .entry)) at) (text (now (out .exit)) r) ⌝ }
 {
     match read_command(render, k) {
@@ -208,7 +210,7 @@ fn put_command(out: &mut [u8], at: usize, render: &[u32], k: usize) -> usize
 
 // The first n depth fills.
 fn put_depths(out: &mut [u8], at: usize, fills: &[u32], n: usize, buckets: u32) -> usize
-    requires { ⌜ (at + 64 * n ≤ length (now out)) × (2 * n ≤ length (now fills)) ⌝ }
+    requires { ⌜ (at + 64 * n ≤ far) × (2 * n ≤ length (now fills)) ⌝ }
     ensures { λ r. ⌜ Wrote (text-of (depth-lines buckets (now (fills .entry)) n)) (64 * n) (text (now (out .entry)) at) (text (now (out .exit)) r) ⌝ }
 {
     let mut place = at;
@@ -222,7 +224,7 @@ fn put_depths(out: &mut [u8], at: usize, fills: &[u32], n: usize, buckets: u32) 
 
 // The first n commands.
 fn put_commands(out: &mut [u8], at: usize, render: &[u32], n: usize) -> usize
-    requires { ⌜ (at + 64 * n ≤ length (now out)) × (4 * n ≤ length (now render)) ⌝ }
+    requires { ⌜ (at + 64 * n ≤ far) × (4 * n ≤ length (now render)) ⌝ }
     ensures { λ r. ⌜ Wrote (text-of (command-lines (now (render .entry)) n)) (64 * n) (text (now (out .entry)) at) (text (now (out .exit)) r) ⌝ }
 {
     let mut place = at;
@@ -244,7 +246,7 @@ fn put_row(
     buckets: u32,
     r: u32,
 ) -> usize
-    requires { ⌜ Ready (words (now state) (now render) (now fills)) × (at + 64 * (1 + (getD (now state) 0 0 + getD (now state) 1 0)) ≤ length (now out)) ⌝ }
+    requires { ⌜ Ready (words (now state) (now render) (now fills)) × (at + 64 * (1 + (getD (now state) 0 0 + getD (now state) 1 0)) ≤ far) ⌝ }
     ensures { λ p. ⌜ Wrote (text-of (row-lines buckets r (words (now (state .entry)) (now (render .entry)) (now (fills .entry))))) (64 * (1 + (getD (now (state .entry)) 0 0 + getD (now (state .entry)) 1 0))) (text (now (out .entry)) at) (text (now (out .exit)) p) ⌝ }
 {
     let renders = state[0];
@@ -267,7 +269,7 @@ fn put_row_at(
     buckets: u32,
     r: usize,
 ) -> usize
-    requires { ⌜ Whole m c d (words (now rows) (now render) (now fills)) × (r < m) × Few c d (row-at (sizes c d) r (words (now rows) (now render) (now fills))) × (at + row-room c d ≤ length (now out)) ⌝ }
+    requires { ⌜ Whole m c d (words (now rows) (now render) (now fills)) × (r < m) × Few c d (row-at (sizes c d) r (words (now rows) (now render) (now fills))) × (at + row-room c d ≤ far) ⌝ }
     ensures { λ p. ⌜ Wrote (text-of (row-lines buckets r (row-at (sizes c d) r (words (now (rows .entry)) (now (render .entry)) (now (fills .entry)))))) (row-room c d) (text (now (out .entry)) at) (text (now (out .exit)) p) ⌝ }
 {
     let cw = 4 * (c as usize);
@@ -298,7 +300,7 @@ fn put_rows(
     d: u32,
     buckets: u32,
 ) -> usize
-    requires { ⌜ Whole m c d (words (now rows) (now render) (now fills)) × ((r : ℕ) → r < m → Few c d (row-at (sizes c d) r (words (now rows) (now render) (now fills)))) × (at + m * row-room c d ≤ length (now out)) ⌝ }
+    requires { ⌜ Whole m c d (words (now rows) (now render) (now fills)) × ((r : ℕ) → r < m → Few c d (row-at (sizes c d) r (words (now rows) (now render) (now fills)))) × (at + m * row-room c d ≤ far) ⌝ }
     ensures { λ p. ⌜ Wrote (text-of (rows-lines (sizes c d) buckets (words (now (rows .entry)) (now (render .entry)) (now (fills .entry))) m)) (m * row-room c d) (text (now (out .entry)) at) (text (now (out .exit)) p) ⌝ }
 {
     let mut place = at;
@@ -310,17 +312,17 @@ fn put_rows(
     place
 }
 
-// The room that is asked for m rows.
-fn room_asked(m: usize, c: u32, d: u32) -> usize
+// What the text of m rows has at most.
+fn screen_room(m: usize, c: u32, d: u32) -> usize
     requires { ⌜ (m ≤ 512) × (c ≤ 1024) × (d ≤ 1024) ⌝ }
     ensures { λ r. ⌜ r ≡ 64 + m * row-room c d ⌝ }
 {
     LINE + m * (LINE * (1 + (wide(c) + wide(d))))
 }
 
-// 2, 1 and 4, then 14, or 0.
-fn judge_list(screen: Screen, rows: &[u32], render: &[u32], fills: &[u32], room: usize) -> u32
-    ensures { λ r. ⌜ r ≡ list-number screen (words (now (rows .entry)) (now (render .entry)) (now (fills .entry))) room ⌝ }
+// 2, 1 and 4, or 0.
+fn judge_list(screen: Screen, rows: &[u32], render: &[u32], fills: &[u32]) -> u32
+    ensures { λ r. ⌜ r ≡ list-number screen (words (now (rows .entry)) (now (render .entry)) (now (fills .entry))) ⌝ }
 {
     let n = judge_screen(screen, rows.len(), render.len(), fills.len());
     if n != 0 {
@@ -331,21 +333,36 @@ fn judge_list(screen: Screen, rows: &[u32], render: &[u32], fills: &[u32], room:
     if !judge_rows(rows, render, fills, m, screen.c, screen.d, buckets) {
         return 4;
     }
-    if room < room_asked(m, screen.c, screen.d) {
-        return 14;
-    }
     0
 }
 
 // The lines of a screen that is judged.
 fn put_screen(out: &mut [u8], screen: Screen, rows: &[u32], render: &[u32], fills: &[u32]) -> usize
-    requires { ⌜ list-number screen (words (now rows) (now render) (now fills)) (length (now out)) ≡ 0 ⌝ }
-    ensures { λ r. ⌜ Wrote (text-of (screen-lines screen (words (now (rows .entry)) (now (render .entry)) (now (fills .entry))))) (room-asked screen) (text (now (out .entry)) 0) (text (now (out .exit)) r) ⌝ }
+    requires { ⌜ list-number screen (words (now rows) (now render) (now fills)) ≡ 0 ⌝ }
+    ensures { λ r. ⌜ Wrote (text-of (screen-lines screen (words (now (rows .entry)) (now (render .entry)) (now (fills .entry))))) (screen-room screen) (text (now (out .entry)) 0) (text (now (out .exit)) r) ⌝ }
 {
     let m = screen.rows();
     let buckets = screen.buckets() as u32;
     let a = put_header(out, 0, m as u32, buckets, screen.next_draw_id - 1);
     put_rows(out, a, rows, render, fills, m, screen.c, screen.d, buckets)
+}
+
+// Whether the text is longer than so many bytes: it is measured only where they are fewer than it can have at most.
+fn is_short(
+    screen: Screen,
+    rows: &[u32],
+    render: &[u32],
+    fills: &[u32],
+    room: usize,
+) -> bool
+    requires { ⌜ list-number screen (words (now rows) (now render) (now fills)) ≡ 0 ⌝ }
+    ensures { λ r. ⌜ r ≡ (ltb room (screen-room screen) && ltb room (length (text-of (screen-lines screen (words (now (rows .entry)) (now (render .entry)) (now (fills .entry))))))) ⌝ }
+{
+    if screen_room(screen.rows(), screen.c, screen.d) <= room {
+        return false;
+    }
+    let mut none = [0u8; 0];
+    room < put_screen(&mut none, screen, rows, render, fills)
 }
 
 // The text of a screen: the header, then each row with its depth fills and commands, as stored.
@@ -358,10 +375,16 @@ pub fn list_screen(
 ) -> Listing
     ensures { λ r. ⌜ left r (now (out .exit)) ≡ listed screen (words (now (rows .entry)) (now (render .entry)) (now (fills .entry))) (now (out .entry)) ⌝ }
 {
-    let n = judge_list(screen, rows, render, fills, out.len());
+    let n = judge_list(screen, rows, render, fills);
     if n != 0 {
         return Listing {
             number: n,
+            bytes: 0,
+        };
+    }
+    if is_short(screen, rows, render, fills, out.len()) {
+        return Listing {
+            number: 14,
             bytes: 0,
         };
     }
@@ -373,7 +396,8 @@ pub fn list_screen(
 pub fn refusal_line(n: u32, out: &mut [u8]) -> Listing
     ensures { λ r. ⌜ left r (now (out .exit)) ≡ refused-listed n (now (out .entry)) ⌝ }
 {
-    if out.len() < LINE {
+    let mut none = [0u8; 0];
+    if out.len() < put_refused(&mut none, 0, n) {
         return Listing {
             number: 14,
             bytes: 0,

@@ -18,7 +18,7 @@ use Rattle.list.specs.declared.Listing.{Listing}
 use Rattle.list.specs.Listed.{Out, left, listed, refused-listed}
 use Rattle.listing.specs.declared.FileText.{FileText}
 use Rattle.listing.specs.declared.Size.{Size}
-use Rattle.listing.specs.Files.{nothing, Showed, showed, file-text, refusing, showing, file-out, recording-text, viewport-of, size, size-of, cut-to, over, in-front, words-text}
+use Rattle.listing.specs.Files.{nothing, Showed, showed, file-text, refusing, showing, file-out, FileOut, recording-text, viewport-of, size, size-of, cut-to, over, in-front, front-text, is-roomy, words-text}
 
 module _ (n : ℕ) (s : Screen) (bs : List ℕ) {r : Listing} {cs : List ℕ} where
   pub refused-as : left r cs ≡ refused-listed n bs → showed (file-text n (r .bytes) s) cs ≡ refusing n s bs
@@ -72,11 +72,21 @@ module _ (ws : List ℕ) where
 pub small : (n b : ℕ) → n ≤ 32 → b ≤ 32 → n * b ≤ 1024
 small n b h g = mul-le-mul {n₂ = 32} {m₂ = 32} h g
 
-module _ (ws : List ℕ) (t : Tables) (bs : List ℕ) {z : Size} (e : z ≡ size-of ws) {x : Showed} where
-  pub words-refused : {q : Screen} → q ≡ nothing → (z .number ≡ 0 → ⊥) → x ≡ refusing (z .number) q bs → file-out x t ≡ words-text ws t bs
-  unfolding words-text
-  words-refused p h g = rw (← e, ne-eqb (z .number) 0 h) (ap (λ (y : Showed). file-out y t) (rw p at g))
+pub front-shown : (n b : ℕ) (ws : List ℕ) (t : Tables) (bs : List ℕ) {x : Showed} {u : Tables}
+    → file-out x u ≡ recording-text ws (cut-to (size 0 n b) t) bs → file-out x (over (size 0 n b) t u) ≡ front-text n b ws t bs
+unfolding front-text
+front-shown n b ws t bs g = ap (in-front (size 0 n b) t) g
 
-  pub words-shown : {u : Tables} → z .number ≡ 0 → file-out x u ≡ recording-text ws (cut-to z t) bs → file-out x (over z t u) ≡ words-text ws t bs
+module _ (ws : List ℕ) (t : Tables) (bs : List ℕ) {z : Size} (e : z ≡ size-of ws) where
+  module _ {x : Showed} {q : Screen} (p : q ≡ nothing) where
+    pub words-refused : (z .number ≡ 0 → ⊥) → x ≡ refusing (z .number) q bs → file-out x t ≡ words-text ws t bs
+    unfolding words-text
+    words-refused h g = rw (← e, ne-eqb (z .number) 0 h) (ap (λ (y : Showed). file-out y t) (rw p at g))
+
+    pub words-short : z .number ≡ 0 → is-roomy t ≡ false → x ≡ refusing 4 q bs → file-out x t ≡ words-text ws t bs
+    unfolding words-text
+    words-short h i g = rw (← e, eq-eqb (z .number) 0 h, i) (ap (λ (y : Showed). file-out y t) (rw p at g))
+
+  pub words-shown : {o : FileOut} → z .number ≡ 0 → is-roomy t ≡ true → o ≡ front-text (z .rows) (z .buckets) ws t bs → o ≡ words-text ws t bs
   unfolding words-text
-  words-shown h g = rw (← e, eq-eqb (z .number) 0 h) (ap (in-front z t) g)
+  words-shown h i g = rw (← e, eq-eqb (z .number) 0 h, i) g

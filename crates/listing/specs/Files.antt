@@ -14,7 +14,7 @@ use Rattle.screen.specs.Tables.{Tables, tables, Lent, lent}
 use Rattle.form.specs.declared.Form.{Form}
 use Rattle.form.specs.declared.Form.the-variants as form
 use Rattle.form.specs.Layouts.{form-of}
-use Rattle.form.specs.Words.{words-in, filled-with}
+use Rattle.form.specs.Words.{words-in}
 use Rattle.recording.specs.Judging.{box-from}
 use Rattle.walk.specs.Recorded.{recorded}
 use Rattle.list.specs.Listed.{Out, listed, refused-listed}
@@ -118,12 +118,9 @@ in-front z t o = file-out (o .showed) (over z t (o .tables))
 abbrev pub refused-as-is : ℕ → Tables → List ℕ → FileOut
 refused-as-is n t bs = file-out (refusing n nothing bs) t
 
-abbrev pub text-in : Size → List ℕ → Tables → List ℕ → FileOut
-text-in z ws t bs = cond (eqb (z .number) Done) (in-front z t (recording-text ws (cut-to z t) bs)) (refused-as-is (z .number) t bs)
-
--- a file's words
-unfoldable pub words-text : List ℕ → Tables → List ℕ → FileOut
-words-text ws t bs = text-in (size-of ws) ws t bs
+-- .. n rows of b buckets
+unfoldable pub front-text : ℕ → ℕ → List ℕ → Tables → List ℕ → FileOut
+front-text n b ws t bs = in-front (size Done n b) t (recording-text ws (cut-to (size Done n b) t) bs)
 
 -- the tables' lengths
 pub record Roomy (t : Tables) : Type 0 where
@@ -134,29 +131,26 @@ pub record Roomy (t : Tables) : Type 0 where
   pub painting : 64 ≤ length (t .painting)
 
 -- how many words the programs' tables have at least
-abbrev pub roomy : ℕ → ℕ → ℕ → ℕ → ℕ → ℕ → Bool
-roomy words render fills depth rows painting =
-    leb 16384 words && (leb 8192 render && (leb 4096 fills && (leb 1024 depth && (leb 1728 rows && leb 64 painting))))
+abbrev pub roomy : ℕ → ℕ → ℕ → ℕ → ℕ → Bool
+roomy render fills depth rows painting =
+    leb 8192 render && (leb 4096 fills && (leb 1024 depth && (leb 1728 rows && leb 64 painting)))
 
-abbrev pub is-roomy : List ℕ → Tables → Bool
-is-roomy ws t =
-    roomy (length ws) (length (t .render)) (length (t .fills)) (length (t .depth)) (length (t .rows)) (length (t .painting))
+abbrev pub is-roomy : Tables → Bool
+is-roomy t = roomy (length (t .render)) (length (t .fills)) (length (t .depth)) (length (t .rows)) (length (t .painting))
+
+-- 3 and 2 of the file, then 4 for a lent table that is too short
+abbrev pub text-in : Size → List ℕ → Tables → List ℕ → FileOut
+text-in z ws t bs =
+    cond (eqb (z .number) Done) (cond (is-roomy t) (front-text (z .rows) (z .buckets) ws t bs) (refused-as-is BadRecord t bs)) (refused-as-is (z .number) t bs)
+
+-- a file's words
+unfoldable pub words-text : List ℕ → Tables → List ℕ → FileOut
+words-text ws t bs = text-in (size-of ws) ws t bs
 
 -- a file's bytes: at most 65,536, in whole words
 abbrev pub good-bytes : ℕ → Bool
 good-bytes n = leb n 65536 && eqb (n % 4) 0
 
--- what a call on bytes leaves: the words are the file's, then what was there
-pub record BytesOut : Type 0 where
-  pub file : FileOut
-  pub words : List ℕ
-
-abbrev pub bytes-out : FileOut → List ℕ → BytesOut
-bytes-out o ws = record { file = o; words = ws }
-
--- 3 for the bytes, then 4 for a lent list that is too short
-unfoldable pub bytes-text : List ℕ → List ℕ → Tables → List ℕ → BytesOut
-bytes-text fs ws t bs =
-    cond (good-bytes (length fs))
-    (cond (is-roomy ws t) (bytes-out (words-text (words-in fs) t bs) (filled-with fs ws .words)) (bytes-out (refused-as-is BadRecord t bs) ws))
-    (bytes-out (refused-as-is BadForm t bs) ws)
+-- 3 for the bytes, then what their words say
+unfoldable pub bytes-text : List ℕ → Tables → List ℕ → FileOut
+bytes-text fs t bs = cond (good-bytes (length fs)) (words-text (words-in fs) t bs) (refused-as-is BadForm t bs)

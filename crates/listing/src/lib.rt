@@ -11,9 +11,10 @@ use screen::fresh;
 use walk::bucket_recording;
 ghost use mathlib.Core.Path.{_≡_};
 ghost use Prim.Native.Nat.{_≤_};
+ghost use lib.ListN.{length};
 ghost use Rattle.screen.specs.Tables.{tables};
 ghost use Rattle.row.specs.Words.{words};
-ghost use Rattle.listing.specs.Files.{nothing, showed, file-out, refusing, showing, recording-text, size-of, words-text, Roomy, roomy, good-bytes, bytes-out, bytes-text};
+ghost use Rattle.listing.specs.Files.{nothing, showed, file-out, refusing, showing, recording-text, size-of, front-text, words-text, Roomy, roomy, good-bytes, bytes-text};
 
 // number: document 01's answer. bytes: how many are written, at the start of the lent ones. screen: the screen afterwards.
 pub struct FileText {
@@ -151,9 +152,11 @@ pub fn size_of(file: &[u32]) -> Size
     }
 }
 
-// A file's words, in tables for 32 rows of 32 buckets.
-fn words_text(
+// A file's words in tables for 32 rows of 32 buckets: n rows of b buckets stand in their first words.
+fn front_text(
     file: &[u32],
+    n: usize,
+    b: usize,
     render: &mut [u32],
     fills: &mut [u32],
     depth: &mut [u32],
@@ -166,16 +169,10 @@ fn words_text(
     filter_paints: &mut [i32],
     out: &mut [u8],
 ) -> FileText
-    requires { ⌜ Roomy (tables (now render) (now fills) (now depth) (now rows) (now painting) (now layers) (now opacities) (now «paint_attrs») (now «layer_attrs») (now «filter_paints»)) ⌝ }
+    requires { ⌜ Roomy (tables (now render) (now fills) (now depth) (now rows) (now painting) (now layers) (now opacities) (now «paint_attrs») (now «layer_attrs») (now «filter_paints»)) × (n ≤ 32) × (b ≤ 32) ⌝ }
     ensures { λ r. ⌜ file-out (showed r (now (out .exit))) (tables (now (render .exit)) (now (fills .exit)) (now (depth .exit)) (now (rows .exit)) (now (painting .exit)) (now (layers .exit)) (now (opacities .exit)) (now («paint_attrs» .exit)) (now («layer_attrs» .exit)) (now («filter_paints» .exit)))
-        ≡ words-text (now (file .entry)) (tables (now (render .entry)) (now (fills .entry)) (now (depth .entry)) (now (rows .entry)) (now (painting .entry)) (now (layers .entry)) (now (opacities .entry)) (now («paint_attrs» .entry)) (now («layer_attrs» .entry)) (now («filter_paints» .entry))) (now (out .entry)) ⌝ }
+        ≡ front-text n b (now (file .entry)) (tables (now (render .entry)) (now (fills .entry)) (now (depth .entry)) (now (rows .entry)) (now (painting .entry)) (now (layers .entry)) (now (opacities .entry)) (now («paint_attrs» .entry)) (now («layer_attrs» .entry)) (now («filter_paints» .entry))) (now (out .entry)) ⌝ }
 {
-    let size = size_of(file);
-    let n = size.rows;
-    let b = size.buckets;
-    if size.number != 0 {
-        return refuse(size.number, no_screen(), out);
-    }
     recording_text(
         file,
         &mut render[..n * 256],
@@ -192,20 +189,10 @@ fn words_text(
     )
 }
 
-// Tables for 32 rows of 32 buckets, and words for 65,536 bytes.
-fn is_roomy(
-    words: usize,
-    render: usize,
-    fills: usize,
-    depth: usize,
-    rows: usize,
-    painting: usize,
-) -> bool
-    ensures { λ r. ⌜ r ≡ roomy words render fills depth rows painting ⌝ }
+// Tables for 32 rows of 32 buckets.
+fn is_roomy(render: usize, fills: usize, depth: usize, rows: usize, painting: usize) -> bool
+    ensures { λ r. ⌜ r ≡ roomy render fills depth rows painting ⌝ }
 {
-    if words < 16384 {
-        return false;
-    }
     if render < 8192 {
         return false;
     }
@@ -221,20 +208,9 @@ fn is_roomy(
     64 <= painting
 }
 
-// At most 65,536 bytes, in whole words.
-fn is_good_bytes(n: usize) -> bool
-    ensures { λ r. ⌜ r ≡ good-bytes n ⌝ }
-{
-    if 65536 < n {
-        return false;
-    }
-    n % 4 == 0
-}
-
-// A recording file's bytes: what `rowlist` prints of them. The lent words take the file's words, the tables its screen.
-pub fn file_text(
-    file: &[u8],
-    words: &mut [u32],
+// A file's words: 3 and 2 of the file, then 4 of the tables, then its text.
+fn words_text(
+    file: &[u32],
     render: &mut [u32],
     fills: &mut [u32],
     depth: &mut [u32],
@@ -247,14 +223,14 @@ pub fn file_text(
     filter_paints: &mut [i32],
     out: &mut [u8],
 ) -> FileText
-    ensures { λ r. ⌜ bytes-out (file-out (showed r (now (out .exit))) (tables (now (render .exit)) (now (fills .exit)) (now (depth .exit)) (now (rows .exit)) (now (painting .exit)) (now (layers .exit)) (now (opacities .exit)) (now («paint_attrs» .exit)) (now («layer_attrs» .exit)) (now («filter_paints» .exit)))) (now (words .exit))
-        ≡ bytes-text (now (file .entry)) (now (words .entry)) (tables (now (render .entry)) (now (fills .entry)) (now (depth .entry)) (now (rows .entry)) (now (painting .entry)) (now (layers .entry)) (now (opacities .entry)) (now («paint_attrs» .entry)) (now («layer_attrs» .entry)) (now («filter_paints» .entry))) (now (out .entry)) ⌝ }
+    ensures { λ r. ⌜ file-out (showed r (now (out .exit))) (tables (now (render .exit)) (now (fills .exit)) (now (depth .exit)) (now (rows .exit)) (now (painting .exit)) (now (layers .exit)) (now (opacities .exit)) (now («paint_attrs» .exit)) (now («layer_attrs» .exit)) (now («filter_paints» .exit)))
+        ≡ words-text (now (file .entry)) (tables (now (render .entry)) (now (fills .entry)) (now (depth .entry)) (now (rows .entry)) (now (painting .entry)) (now (layers .entry)) (now (opacities .entry)) (now («paint_attrs» .entry)) (now («layer_attrs» .entry)) (now («filter_paints» .entry))) (now (out .entry)) ⌝ }
 {
-    if !is_good_bytes(file.len()) {
-        return refuse(3, no_screen(), out);
+    let size = size_of(file);
+    if size.number != 0 {
+        return refuse(size.number, no_screen(), out);
     }
     if !is_roomy(
-        words.len(),
         render.len(),
         fills.len(),
         depth.len(),
@@ -263,7 +239,64 @@ pub fn file_text(
     ) {
         return refuse(4, no_screen(), out);
     }
-    let n = words_of_bytes(file, words);
+    front_text(
+        file,
+        size.rows,
+        size.buckets,
+        render,
+        fills,
+        depth,
+        rows,
+        painting,
+        layers,
+        opacities,
+        paint_attrs,
+        layer_attrs,
+        filter_paints,
+        out,
+    )
+}
+
+// At most 65,536 bytes, in whole words.
+fn is_good_bytes(n: usize) -> bool
+    ensures { λ r. ⌜ r ≡ good-bytes n ⌝ }
+{
+    if 65536 < n {
+        return false;
+    }
+    n % 4 == 0
+}
+
+// The words of the longest file.
+fn no_words() -> [u32; 16384]
+    ensures { λ r. ⌜ 16384 ≡ length r ⌝ }
+{
+    [0; 16384]
+}
+
+// A recording file's bytes: what `rowlist` prints of them. The tables take its screen.
+pub fn file_text(
+    file: &[u8],
+    render: &mut [u32],
+    fills: &mut [u32],
+    depth: &mut [u32],
+    rows: &mut [u32],
+    painting: &mut [u32],
+    layers: &mut [u32],
+    opacities: &mut [f32],
+    paint_attrs: &mut [u32],
+    layer_attrs: &mut [u32],
+    filter_paints: &mut [i32],
+    out: &mut [u8],
+) -> FileText
+    ensures { λ r. ⌜ file-out (showed r (now (out .exit))) (tables (now (render .exit)) (now (fills .exit)) (now (depth .exit)) (now (rows .exit)) (now (painting .exit)) (now (layers .exit)) (now (opacities .exit)) (now («paint_attrs» .exit)) (now («layer_attrs» .exit)) (now («filter_paints» .exit)))
+        ≡ bytes-text (now (file .entry)) (tables (now (render .entry)) (now (fills .entry)) (now (depth .entry)) (now (rows .entry)) (now (painting .entry)) (now (layers .entry)) (now (opacities .entry)) (now («paint_attrs» .entry)) (now («layer_attrs» .entry)) (now («filter_paints» .entry))) (now (out .entry)) ⌝ }
+{
+    if !is_good_bytes(file.len()) {
+        return refuse(3, no_screen(), out);
+    }
+    let mut words = no_words();
+    let n = words_of_bytes(file, &mut words);
     words_text(
         &words[..n],
         render,

@@ -10,7 +10,7 @@ use lib.ListN.{length}
 use borrow.Author.Tests.{eqb-true, eqb-false}
 use Rattle.rules.specs.Lists.{join}
 use Rattle.rules.specs.Answers.{first-of, Done, BadRecord}
-use Rattle.rules.specs.Recording.{paint-words, segment-words}
+use Rattle.rules.proofs.Words.{paint-words, segment-words}
 use Rattle.rules.specs.Inputs.{Props}
 use Rattle.rules.specs.Plans.{Plan, a-fill, a-push}
 use Rattle.rules.specs.Steps.{Screen, refusal, done}

@@ -9,7 +9,7 @@ use lib.Dec.{ltb, leb, eqb}
 use lib.ListN.{length, getD, drop}
 use lib.Seq.{length-take-le, getD-drop}
 use borrow.Author.Tests.{le-ltb, lt-ltb, leb-true, leb-false, eq-eqb, eqb-true}
-use Rattle.rules.specs.Answers.{Answer, answer, settle, Done, BadForm, BadRecord}
+use Rattle.rules.specs.Answers.{Answer, answer, settle, Done, BadForm}
 use Rattle.rules.specs.Boxes.{Box, box, good-viewport, rows-of, buckets-of}
 use Rattle.rules.specs.Rows.{Row, fresh-row, row-ops}
 use Rattle.rules.specs.Plans.{Frame}
@@ -26,7 +26,7 @@ use Rattle.screen.specs.Judging.{good-tables, good-fixed, arenas, judged-reset}
 use Rattle.screen.specs.Tables.{Tables, lengths, Lent, lent}
 use Rattle.screen.proofs.Laws.{few-buckets}
 use Rattle.screen.proofs.Numbers.{and-left, and-right}
-use Rattle.refine.specs.Lent.{lent-of}
+use Rattle.refine.specs.Sound.{Fitting}
 use Rattle.refine.proofs.Refined.{Refines}
 use Rattle.refine.proofs.Reset.{fresh-sound}
 use Rattle.painted.proofs.Kept.{reset-fair}
@@ -35,15 +35,16 @@ use Rattle.played.proofs.Laws.{file-plays}
 use Rattle.walk.specs.Recorded.{recorded}
 use Rattle.form.specs.Layouts.{layout, formed, form-of, sections-at}
 use Rattle.form.specs.declared.Form.the-variants as form
-use Rattle.form.specs.Words.{words-in, filled-with}
+use Rattle.form.specs.Words.{words-in}
 use Rattle.form.proofs.Bytes.{rules-words}
 use Rattle.form.proofs.Laid.{good-form}
 use Rattle.form.proofs.Reading.{viewport-is}
 use Rattle.recording.specs.Judging.{box-from}
-use Rattle.list.specs.Listed.{refused-listed, text-of, room-asked}
-use Rattle.listing.specs.Files.{Showed, nothing, refusing, showing, answered, recording-text, viewport-of, size, sized-if, sized, size-of, cut-to, text-in, words-text, Roomy, is-roomy, refused-as-is, bytes-out, bytes-text}
+use Rattle.list.specs.Listed.{written, text-of}
+use Rattle.listing.specs.Files.{Showed, nothing, refusing, shown-as, showing, answered, recording-text, viewport-of, size, sized-if, sized, size-of, cut-to, front-text, text-in, words-text, Roomy, is-roomy, refused-as-is, bytes-text}
 use Rattle.listing.proofs.Texts.{small}
 use Rattle.listing.proofs.Bytes.{enough}
+use Rattle.printed.proofs.Lengths.{line-few, lines-few, rows-few}
 use Rattle.printed.proofs.Printed.{row-words, listed-held}
 use Rattle.printed.proofs.Walked.{Kept, walk-keeps}
 
@@ -60,19 +61,28 @@ record Done-with (a : Answer (Screen Row)) (w : Answer Lent) (v : Box) : Type 0 
   pub refines : Refines (a .value) (w .value)
   pub kept : Kept (record { viewport = v; c = 64; d = 64 }) (a .value)
 
-module _ (bs : List ℕ) (room : 264256 ≤ length bs) where
-  refusing-shows : (n : ℕ) (s : declared.Screen) → shows (refusing n s bs) ≡ text-first (text-of (refused n ∷ [])) bs
-  unfolding refusing refused-listed text-of
-  refusing-shows n s = rw (le-ltb (length bs) 64 (omega arith), append-nil (line-bytes (refused n)))
+-- what a screen in a file's frame prints has at most 264,256 bytes
+screen-few : (v : Box) (s : Screen Row) → rows-of v ≤ 32 → Kept (record { viewport = v; c = 64; d = 64 }) s → length (text-of (rules.screen-lines 32 s)) ≤ 264256
+screen-few v s few h =
+    let f : (j : ℕ) → Fitting 64 64 (getD (s .rows) j fresh-row) = λ j. rw (h .frame) at (h .sound .rows j) in
+    let n : length (s .rows) ≤ 32 = omega (arith, few, rw (h .frame) at (h .sound .count)) in
+    omega (arith, lines-few (rules.screen-lines 32 s), rows-few 0 (s .rows) f, n)
 
-  asked : (a : Answer (Screen Row)) (w : Answer Lent) (v : Box) → rows-of v ≤ 32 → Done-with a w v → room-asked (w .value .screen) ≤ length bs
-  unfolding lent-of
-  asked a w v few h = rw (h .refines .holds .same, h .kept .frame) (omega (arith, few, room))
+module _ (bs : List ℕ) (room : 264256 ≤ length bs) where
+  -- a text that fits
+  fits : (ts : List ℕ) → length ts ≤ 264256 → (s : declared.Screen) → shows (shown-as s (written ts bs)) ≡ text-first ts bs
+  unfolding written
+  fits ts h s = rw (le-ltb (length bs) (length ts) (omega (arith, h, room)))
+
+  refusing-shows : (n : ℕ) (s : declared.Screen) → shows (refusing n s bs) ≡ text-first (text-of (refused n ∷ [])) bs
+  unfolding refusing written text-of
+  refusing-shows n s = rw (le-ltb (length bs) (length (line-bytes (refused n))) (omega (arith, line-few (refused n), room)), append-nil (line-bytes (refused n)))
 
   done-shows : (a : Answer (Screen Row)) (w : Answer Lent) (v : Box) → rows-of v ≤ 32 → Done-with a w v
       → shows (showing (w .value .screen) (row-words (w .value)) bs) ≡ text-first (text-of (rules.screen-lines 32 (a .value))) bs
   unfolding showing
-  done-shows a w v few h = rw (listed-held (h .refines) (h .kept .fair) bs, le-ltb (length bs) (room-asked (w .value .screen)) (asked a w v few h))
+  done-shows a w v few h =
+      rw (listed-held (h .refines) (h .kept .fair) bs) (fits (text-of (rules.screen-lines 32 (a .value))) (screen-few v (a .value) few (h .kept)) (w .value .screen))
 
   answer-shows : (a : Answer (Screen Row)) (w : Answer Lent) (v : Box) → rows-of v ≤ 32 → w .number ≡ a .number → (a .number ≡ 0 → Done-with a w v)
       → shows (answered w bs .showed) ≡ text-first (text-of (answer-lines 32 a)) bs
@@ -146,9 +156,12 @@ not-shown true n e = lt-ltb 32 n (leb-false n 32 e)
 some-same : {A : Type 0} {x y : A} → some x ≡ some y → x ≡ y
 some-same p = cc
 
-module _ (ws : List ℕ) (t : Tables) (roomy : Roomy t) (fixed : good-fixed (lengths t) ≡ true) (bs : List ℕ) (room : 264256 ≤ length bs) where
+module _ (ws : List ℕ) (t : Tables) (enough-room : is-roomy t ≡ true) (fixed : good-fixed (lengths t) ≡ true) (bs : List ℕ) (room : 264256 ≤ length bs) where
   abbrev old : Screen Row
   old = reset fresh-row rules.nothing
+
+  roomy : Roomy t
+  roomy = enough t enough-room
 
   module _ (ss : List (List (List ℕ))) (e : sections shape ws ≡ some ss) where
     abbrev r : Recording
@@ -268,7 +281,7 @@ module _ (ws : List ℕ) (t : Tables) (roomy : Roomy t) (fixed : good-fixed (len
     by-size : (x : Bool) → (good-viewport v && leb (rows-of v) 32) ≡ x
         → shows (text-in (sized-if x v) ws t bs .showed) ≡ text-first (text-of (answer-lines 32 (play-records (Screen Row) (call Row row-ops 32) (reset fresh-row) 32 (rowlist-place ws) old r))) bs
     by-size false h = rw (refused-there h) (refusing-shows bs room 2 nothing)
-    by-size true h = shown-there (and-left (good-viewport v) (leb (rows-of v) 32) h) (leb-true _ _ (and-right (good-viewport v) (leb (rows-of v) 32) h))
+    by-size true h = rw enough-room (unfold front-text in shown-there (and-left (good-viewport v) (leb (rows-of v) 32) h) (leb-true _ _ (and-right (good-viewport v) (leb (rows-of v) 32) h)))
 
   -- A file's words, in tables that are long enough, with room for the longest text: what is written is the text of the rules' lines.
   pub words-printed : shows (words-text ws t bs .showed) ≡ text-first (text-of (rowlist-words ws)) bs
@@ -288,14 +301,14 @@ module _ (ws : List ℕ) (t : Tables) (roomy : Roomy t) (fixed : good-fixed (len
       go none e = refusing-shows bs room 3 nothing
       go (some ss) e = rw (view ss e) (by-size ss e _ refl)
 
--- `rowlist`: a file's bytes, with words, tables and room lent as the program has them. What `file_text` writes is the text of the rules' `rowlist` of the bytes.
-module _ (fs ws : List ℕ) (t : Tables) (roomy : is-roomy ws t ≡ true) (fixed : good-fixed (lengths t) ≡ true) (bs : List ℕ) (room : 264256 ≤ length bs) where
-  pub file-printed : shows (bytes-text fs ws t bs .file .showed) ≡ text-first (text-of (rowlist fs)) bs
+-- `rowlist`: a file's bytes, with tables and room lent as the program has them. What `file_text` writes is the text of the rules' `rowlist` of the bytes.
+module _ (fs : List ℕ) (t : Tables) (roomy : is-roomy t ≡ true) (fixed : good-fixed (lengths t) ≡ true) (bs : List ℕ) (room : 264256 ≤ length bs) where
+  pub file-printed : shows (bytes-text fs t bs .showed) ≡ text-first (text-of (rowlist fs)) bs
   unfolding bytes-text rowlist
   file-printed = go (leb (length fs) 65536) (eqb (length fs % 4) 0) refl refl
     where
       go : (x y : Bool) → leb (length fs) 65536 ≡ x → eqb (length fs % 4) 0 ≡ y
-          → shows (cond (x && y) (cond (is-roomy ws t) (bytes-out (words-text (words-in fs) t bs) (filled-with fs ws .words)) (bytes-out (refused-as-is BadRecord t bs) ws)) (bytes-out (refused-as-is BadForm t bs) ws) .file .showed)
+          → shows (cond (x && y) (words-text (words-in fs) t bs) (refused-as-is BadForm t bs) .showed)
           ≡ text-first
           (text-of
           (elim (ltb 65536 (length fs)) [
@@ -305,6 +318,4 @@ module _ (fs ws : List ℕ) (t : Tables) (roomy : is-roomy ws t ≡ true) (fixed
           bs
       go false y p q = rw (lt-ltb 65536 (length fs) (leb-false _ _ p)) (refusing-shows bs room 3 nothing)
       go true false p q = rw (le-ltb 65536 (length fs) (leb-true _ _ p), rules-words fs, q) (refusing-shows bs room 3 nothing)
-      go true true p q =
-          rw (le-ltb 65536 (length fs) (leb-true _ _ p), rules-words fs, q, roomy)
-          (words-printed (words-in fs) t (enough fs ws t bs (rw (p, q)) roomy .tables) fixed bs room)
+      go true true p q = rw (le-ltb 65536 (length fs) (leb-true _ _ p), rules-words fs, q) (words-printed (words-in fs) t roomy fixed bs room)

@@ -1,3 +1,4 @@
+pub mod Lengths
 pub mod Printed
 pub mod Walked
 pub mod Files

@@ -1,14 +1,12 @@
 -- The lines of a built screen's words are the rules' lines of the screen, and listing it is never refused for a record. Assumes nothing.
 use mathlib.Core.Path.{_≡_, refl}
-use mathlib.Core.Bool.{Bool, true, false, cond}
+use mathlib.Core.Bool.{Bool, true}
 use mathlib.Core.List.{List}
 use mathlib.Core.Option.{Option, some}
 use Prim.Native.Nat.{ℕ, zero, suc, _≤_, _<_}
 use native.Mathlib.Omega.{arith}
-use lib.Dec.{ltb, eqb}
 use lib.ListN.{length, getD}
 use borrow.Author.Tests.{le-leb}
-use Rattle.rules.specs.Answers.{NoRoom}
 use Rattle.rules.specs.Boxes.{buckets-of}
 use Rattle.rules.specs.Boxes as boxes
 use Rattle.rules.specs.Commands.{pop-buf}
@@ -26,7 +24,7 @@ use Rattle.painted.specs.Fair.{FairRows}
 use Rattle.painted.proofs.Standing.{stands}
 use Rattle.painted.proofs.Kept.{built-fair, own-words}
 use Rattle.list.specs.Places.{all-below, is-some}
-use Rattle.list.specs.Listed.{depth-fill-at, command-at, screen-lines, good-row, good-rows, list-number, room-asked, left, listing, begun-with, text-of, listed}
+use Rattle.list.specs.Listed.{depth-fill-at, command-at, screen-lines, good-row, good-rows, list-number, written, text-of, listed}
 use Rattle.list.proofs.ByRules.{Stands, no-fill, screen-by-rules}
 
 -- what is there at each place is some
@@ -80,21 +78,15 @@ module _ (s : Screen Row) (o : Sound s) (f : FairRows s) where
   rows-good : good-rows c d n (rows-of s) (boxes.rows-of (s .state .frame .viewport)) ≡ true
   rows-good = all-true _ (length (s .rows)) _ row-good (omega (arith, o .count))
 
-  -- only room may be wanting
-  pub number-printed : (b : Bool) (m : ℕ) → list-number (screen-of (s .state) b) (rows-of s) m ≡ cond (ltb m (room-asked (screen-of (s .state) b))) NoRoom 0
+  -- nothing is wrong
+  pub number-printed : (b : Bool) → list-number (screen-of (s .state) b) (rows-of s) ≡ 0
   unfolding list-number
-  number-printed b m = rw (judged-done s o b, rows-good)
+  number-printed b = rw (judged-done s o b, rows-good)
 
-  -- what is listed: the text of the rules' lines
-  pub listed-printed : (b : Bool) (bs : List ℕ)
-      → listed (screen-of (s .state) b) (rows-of s) bs
-      ≡ cond (ltb (length bs) (room-asked (screen-of (s .state) b))) (left (listing NoRoom 0) bs) (begun-with (text-of (rules.screen-lines 32 s)) bs)
+  -- what is listed: the text of the rules' lines, where it fits
+  pub listed-printed : (b : Bool) (bs : List ℕ) → listed (screen-of (s .state) b) (rows-of s) bs ≡ written (text-of (rules.screen-lines 32 s)) bs
   unfolding listed
-  listed-printed b bs = rw (number-printed b (length bs), screen-printed b) (go (ltb (length bs) (room-asked (screen-of (s .state) b))))
-    where
-      go : (t : Bool) → cond (eqb (cond t NoRoom 0) 0) (begun-with (text-of (rules.screen-lines 32 s)) bs) (left (listing (cond t NoRoom 0) 0) bs) ≡ cond t (left (listing NoRoom 0) bs) (begun-with (text-of (rules.screen-lines 32 s)) bs)
-      go true = refl
-      go false = refl
+  listed-printed b bs = rw (number-printed b, screen-printed b)
 
 -- the words of the rows, among all that is lent
 abbrev pub row-words : Lent → Words
@@ -106,8 +98,7 @@ module _ {s : Screen Row} {l : Lent} (h : Refines s l) (f : FairRows s) where
   unfolding lent-of
   lines-held = rw (h .holds .same) (screen-printed s (h .sound) f (h .holds .begun))
 
-  pub listed-held : (bs : List ℕ)
-      → listed (l .screen) (row-words l) bs ≡ cond (ltb (length bs) (room-asked (l .screen))) (left (listing NoRoom 0) bs) (begun-with (text-of (rules.screen-lines 32 s)) bs)
+  pub listed-held : (bs : List ℕ) → listed (l .screen) (row-words l) bs ≡ written (text-of (rules.screen-lines 32 s)) bs
   unfolding lent-of
   listed-held bs = rw (h .holds .same) (listed-printed s (h .sound) f (h .holds .begun) bs)
 
@@ -115,7 +106,6 @@ module _ {s : Screen Row} {l : Lent} (h : Refines s l) (f : FairRows s) where
 pub built-lines : {s : Screen Row} {l : Lent} → BuiltBy s l → screen-lines (l .screen) (row-words l) ≡ rules.screen-lines 32 s
 built-lines b = lines-held (built-refines b) (built-fair b)
 
--- .. and `list_screen` writes their text wherever it has the room that it asks for.
-pub built-listed : {s : Screen Row} {l : Lent} → BuiltBy s l → (bs : List ℕ)
-    → listed (l .screen) (row-words l) bs ≡ cond (ltb (length bs) (room-asked (l .screen))) (left (listing NoRoom 0) bs) (begun-with (text-of (rules.screen-lines 32 s)) bs)
+-- .. and `list_screen` writes their text wherever it fits: 14 is its only refusal there.
+pub built-listed : {s : Screen Row} {l : Lent} → BuiltBy s l → (bs : List ℕ) → listed (l .screen) (row-words l) bs ≡ written (text-of (rules.screen-lines 32 s)) bs
 built-listed b bs = listed-held (built-refines b) (built-fair b) bs

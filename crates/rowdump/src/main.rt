@@ -1,103 +1,36 @@
 // Prints what `rowlist` prints of each recording of a stream on standard input, and the attributes and painted pieces of those that are not
-// refused. Each recording stands after its length in bytes, a little-endian u32; a length past the stream's end takes what is left.
+// refused. Each recording stands after its length in bytes, a little-endian u32; a length past the stream's end takes what is left. A read or
+// a write that fails is told on standard error, and nothing else goes there.
 use dump::attrs_text;
 use dump::row_text;
+use libc::STDERR_FILENO;
 use libc::STDIN_FILENO;
 use libc::STDOUT_FILENO;
 use listing::file_text;
 use painter::begin::begin_painting;
 use screen::Screen;
-ghost use mathlib.Core.Path.{_≡_};
+use text_programs::Input;
+use text_programs::read_all;
+use text_programs::tables::depth_words;
+use text_programs::tables::file_buffer;
+use text_programs::tables::fill_words;
+use text_programs::tables::filter_words;
+use text_programs::tables::layer_attr_words;
+use text_programs::tables::layer_words;
+use text_programs::tables::opacity_words;
+use text_programs::tables::painting_words;
+use text_programs::tables::piece_words;
+use text_programs::tables::render_words;
+use text_programs::tables::row_words;
+use text_programs::tables::text_buffer;
 ghost use Prim.Native.Nat.{_<_};
-ghost use lib.ListN.{length};
 
-// Room for the longest file, and one byte more.
-fn file_buffer() -> [u8; 65537]
-    ensures { λ r. ⌜ 65537 ≡ length r ⌝ }
-{
-    [0; 65537]
-}
-
-// Room for the longest text of a screen, or of its attributes.
-fn text_buffer() -> [u8; 264256]
-    ensures { λ r. ⌜ 264256 ≡ length r ⌝ }
-{
-    [0; 264256]
-}
-
-fn file_words() -> [u32; 16384]
-    ensures { λ r. ⌜ 16384 ≡ length r ⌝ }
-{
-    [0; 16384]
-}
-
-// Tables for 32 rows of 32 buckets.
-fn render_words() -> [u32; 8192]
-    ensures { λ r. ⌜ 8192 ≡ length r ⌝ }
-{
-    [0; 8192]
-}
-
-fn fill_words() -> [u32; 4096]
-    ensures { λ r. ⌜ 4096 ≡ length r ⌝ }
-{
-    [0; 4096]
-}
-
-fn depth_words() -> [u32; 1024]
-    ensures { λ r. ⌜ 1024 ≡ length r ⌝ }
-{
-    [0; 1024]
-}
-
-fn row_words() -> [u32; 1728]
-    ensures { λ r. ⌜ 1728 ≡ length r ⌝ }
-{
-    [0; 1728]
-}
-
-fn painting_words() -> [u32; 64]
-    ensures { λ r. ⌜ 64 ≡ length r ⌝ }
-{
-    [0; 64]
-}
-
-fn layer_words() -> [u32; 256]
-    ensures { λ r. ⌜ 256 ≡ length r ⌝ }
-{
-    [0; 256]
-}
-
-fn opacity_words() -> [f32; 1040]
-    ensures { λ r. ⌜ 1040 ≡ length r ⌝ }
-{
-    [0.0; 1040]
-}
-
-fn layer_attr_words() -> [u32; 6144]
-    ensures { λ r. ⌜ 6144 ≡ length r ⌝ }
-{
-    [0; 6144]
-}
-
-fn filter_words() -> [i32; 1024]
-    ensures { λ r. ⌜ 1024 ≡ length r ⌝ }
-{
-    [0; 1024]
-}
-
-// The pieces of a row: at most 64 depth fills and 64 commands, each at most 17 pieces of six words.
-fn piece_words() -> [u32; 13056]
-    ensures { λ r. ⌜ 13056 ≡ length r ⌝ }
-{
-    [0; 13056]
-}
-
-// Writes the first n bytes.
-fn print(out: &[u8], n: usize) {
+// Writes the first n bytes; whether that could be done.
+fn print(out: &[u8], n: usize) -> bool {
     if n <= out.len() {
-        io::write_all(STDOUT_FILENO, &out[..n]);
+        return io::write_all(STDOUT_FILENO, &out[..n]);
     }
+    false
 }
 
 // Writes the n rows of a screen whose painting has begun, each with its pieces.
@@ -113,7 +46,7 @@ fn print_rows(
     layer_attrs: &[u32],
     list: &mut [u32],
     out: &mut [u8],
-) {
+) -> bool {
     let mut r = 0;
     while r < n {
         let text = row_text(
@@ -129,9 +62,12 @@ fn print_rows(
             list,
             out,
         );
-        print(out, text.bytes);
+        if !print(out, text.bytes) {
+            return false;
+        }
         r += 1;
     }
+    true
 }
 
 // Writes the attributes and the painted rows of a screen, given its own words.
@@ -149,7 +85,7 @@ fn print_details(
     filter_paints: &[i32],
     list: &mut [u32],
     out: &mut [u8],
-) {
+) -> bool {
     let text = attrs_text(
         screen,
         paint_attrs,
@@ -158,7 +94,9 @@ fn print_details(
         filter_paints,
         out,
     );
-    print(out, text.bytes);
+    if !print(out, text.bytes) {
+        return false;
+    }
     let begun = begin_painting(screen, depth, painting);
     let s = begun.screen;
     print_rows(
@@ -173,7 +111,7 @@ fn print_details(
         layer_attrs,
         list,
         out,
-    );
+    )
 }
 
 // The same, given tables for 32 rows of 32 buckets.
@@ -190,29 +128,29 @@ fn print_screen(
     filter_paints: &[i32],
     list: &mut [u32],
     out: &mut [u8],
-) {
+) -> bool {
     let n = screen.rows();
     let b = screen.buckets();
     if 32 < n {
-        return;
+        return true;
     }
     if 32 < b {
-        return;
+        return true;
     }
     if rows.len() < 1728 {
-        return;
+        return true;
     }
     if render.len() < 8192 {
-        return;
+        return true;
     }
     if fills.len() < 4096 {
-        return;
+        return true;
     }
     if depth.len() < 1024 {
-        return;
+        return true;
     }
     if painting.len() < 64 {
-        return;
+        return true;
     }
     print_details(
         screen,
@@ -228,12 +166,11 @@ fn print_screen(
         filter_paints,
         list,
         out,
-    );
+    )
 }
 
-// Writes what there is to say of recording i.
-fn print_recording(i: u64, file: &[u8]) {
-    let mut words = file_words();
+// Writes what there is to say of recording i; whether that could be done.
+fn print_recording(i: u64, file: &[u8]) -> bool {
     let mut render = render_words();
     let mut fills = fill_words();
     let mut depth = depth_words();
@@ -251,7 +188,6 @@ fn print_recording(i: u64, file: &[u8]) {
     io::write_all(STDOUT_FILENO, b"\n");
     let text = file_text(
         file,
-        &mut words,
         &mut render,
         &mut fills,
         &mut depth,
@@ -264,9 +200,11 @@ fn print_recording(i: u64, file: &[u8]) {
         &mut filter_paints,
         &mut out,
     );
-    print(&out, text.bytes);
+    if !print(&out, text.bytes) {
+        return false;
+    }
     if text.number != 0 {
-        return;
+        return true;
     }
     let screen = text.screen;
     print_screen(
@@ -282,15 +220,15 @@ fn print_recording(i: u64, file: &[u8]) {
         &filter_paints,
         &mut list,
         &mut out,
-    );
+    )
 }
 
-// Reads up to k bytes to the start of the buffer; how many there were.
-fn read(buf: &mut [u8], k: usize) -> usize {
+// Reads up to k bytes to the start of the buffer.
+fn read(buf: &mut [u8], k: usize) -> Input {
     if k <= buf.len() {
-        return io::read_full(STDIN_FILENO, &mut buf[..k]);
+        return read_all(STDIN_FILENO, &mut buf[..k]);
     }
-    io::read_full(STDIN_FILENO, buf)
+    read_all(STDIN_FILENO, buf)
 }
 
 fn wide(x: u8) -> usize
@@ -307,47 +245,75 @@ fn length_of(b: &[u8]) -> usize {
     wide(b[0]) + 256 * (wide(b[1]) + 256 * (wide(b[2]) + 256 * wide(b[3])))
 }
 
-// Reads on over n bytes.
-fn skip(n: usize) {
+// Reads on over n bytes; whether no read failed.
+fn skip(n: usize) -> bool {
     let mut left = n;
     while 0 < left {
         let mut buf = io::buffer();
         let got = read(&mut buf, left);
-        if got == 0 {
-            return;
+        if got.failed {
+            return false;
         }
-        if left <= got {
-            return;
+        if got.count == 0 {
+            return true;
         }
-        left -= got;
+        if left <= got.count {
+            return true;
+        }
+        left -= got.count;
     }
+    true
 }
 
-// The recording after its length. A file longer than the buffer fills it, which is too long, and the rest is passed over.
-fn print_next(i: u64, length: usize) {
+fn no_read() {
+    io::write_all(STDERR_FILENO, b"rowdump: cannot read\n");
+}
+
+fn no_write() {
+    io::write_all(STDERR_FILENO, b"rowdump: cannot write\n");
+}
+
+// The recording after its length; whether the stream goes on. A file longer than the buffer fills it, which is too long, and the rest is
+// passed over.
+fn print_next(i: u64, length: usize) -> bool {
     let mut bytes = file_buffer();
-    let n = read(&mut bytes, length);
-    print_file(i, &bytes, n);
-    if 65537 < length {
-        skip(length - 65537);
+    let got = read(&mut bytes, length);
+    if got.failed {
+        no_read();
+        return false;
     }
+    if !print_file(i, &bytes, got.count) {
+        no_write();
+        return false;
+    }
+    if 65537 < length {
+        if !skip(length - 65537) {
+            no_read();
+            return false;
+        }
+    }
+    true
 }
 
-fn print_file(i: u64, bytes: &[u8], n: usize) {
+fn print_file(i: u64, bytes: &[u8], n: usize) -> bool {
     if n <= bytes.len() {
-        print_recording(i, &bytes[..n]);
+        return print_recording(i, &bytes[..n]);
     }
+    true
 }
 
 // Whether there was another recording.
 fn next(i: u64) -> bool {
     let mut head = [0u8; 4];
-    let n = io::read_full(STDIN_FILENO, &mut head);
-    if n < 4 {
+    let got = read_all(STDIN_FILENO, &mut head);
+    if got.failed {
+        no_read();
         return false;
     }
-    print_next(i, length_of(&head));
-    true
+    if got.count < 4 {
+        return false;
+    }
+    print_next(i, length_of(&head))
 }
 
 // A proved loop has to end, and nothing says that a stream does: it counts up to a number that no run reaches.

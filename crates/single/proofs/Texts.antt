@@ -17,15 +17,15 @@ use denote.Triple.Clauses.{AtExit}
 use Rattle.row.specs.Words.{Words, words}
 use Rattle.screen.specs.declared.Screen.{Screen}
 use Rattle.screen.specs.Tables.{Tables, tables}
-use Rattle.painter.specs.Stepping.{attributes}
+use Rattle.painter.specs.Stepping.{Attributes, attributes}
 use Rattle.list.specs.declared.Listing.{Listing}
 use Rattle.list.specs.Listed.{Out, left, listed, refused-listed}
-use Rattle.dump.specs.Strokes.{Stroke, stroke, none-yet, Stored, stored}
+use Rattle.paint.specs.Painting as paint
 use Rattle.dump.specs.Dumped as dumped
 use Rattle.dump.specs.Dumped.{RowOut, row-out, row-dumped, attrs-dumped}
 use Rattle.listing.specs.declared.FileText.{FileText}
 use Rattle.listing.specs.declared.Size.{Size}
-use Rattle.listing.specs.Files.{showed, FileOut, file-out, BytesOut, bytes-out, recording-text, size-of, bytes-text}
+use Rattle.listing.specs.Files.{showed, FileOut, file-out, recording-text, size-of, bytes-text}
 use Rattle.list.proofs.list_screen as list-call
 use Rattle.list.proofs.refusal_line as refusal-call
 use Rattle.dump.proofs.attrs_text as attrs-call
@@ -63,9 +63,9 @@ module _ (screen : Screen) (given : dumped.Tables) (bytes : List ℕ) where
   one-details r q b c e f = text-once r q b c (e ∙ sym f)
 
 -- `row_text`: the depth words, the painting table, the list of pieces and the bytes
-module _ (screen : Screen) (row : ℕ) (given : Stored) (begun : Stroke) (bytes : List ℕ) where
+module _ (screen : Screen) (row : ℕ) (ids : Attributes) (given : paint.Lent) (bytes : List ℕ) where
   abbrev pub Paints : Listing → List ℕ → List ℕ → List ℕ → List ℕ → Type 0
-  Paints r d p l b = row-out r d p l b ≡ row-dumped screen row given begun bytes
+  Paints r d p l b = row-out r d p l b ≡ row-dumped screen row ids given bytes
 
   pub one-row : (r q : Listing) (d e p o l m b c : List ℕ) → Paints r d p l b → Paints q e o m c → (r ≡ q) × (d ≡ e) × (p ≡ o) × (l ≡ m) × (b ≡ c)
   one-row r q d e p o l m b c f g =
@@ -95,19 +95,15 @@ module _ (file : List ℕ) (lent : Tables) (bytes : List ℕ) where
       let h = e ∙ sym f in
       (ap (λ (x : FileOut). x .showed .text) h, ap (λ (x : FileOut). x .tables) h, ap (λ (x : FileOut). x .showed .bytes) h)
 
--- `file_text`: the words, the ten tables and the bytes
-module _ (file given : List ℕ) (lent : Tables) (bytes : List ℕ) where
-  abbrev pub Prints : FileText → List ℕ → Tables → List ℕ → Type 0
-  Prints r w t b = bytes-out (file-out (showed r b) t) w ≡ bytes-text file given lent bytes
+-- `file_text`: the ten tables and the bytes
+module _ (file : List ℕ) (lent : Tables) (bytes : List ℕ) where
+  abbrev pub Prints : FileText → Tables → List ℕ → Type 0
+  Prints r t b = file-out (showed r b) t ≡ bytes-text file lent bytes
 
-  pub one-file : (r q : FileText) (w v : List ℕ) (t u : Tables) (b c : List ℕ) → Prints r w t b → Prints q v u c → (r ≡ q) × (w ≡ v) × (t ≡ u) × (b ≡ c)
-  one-file r q w v t u b c e f =
-      let h = e ∙ sym f in (
-        ap (λ (x : BytesOut). x .file .showed .text) h,
-        ap (λ (x : BytesOut). x .words) h,
-        ap (λ (x : BytesOut). x .file .tables) h,
-        ap (λ (x : BytesOut). x .file .showed .bytes) h,
-      )
+  pub one-file : (r q : FileText) (t u : Tables) (b c : List ℕ) → Prints r t b → Prints q u c → (r ≡ q) × (t ≡ u) × (b ≡ c)
+  one-file r q t u b c e f =
+      let h = e ∙ sym f in
+      (ap (λ (x : FileOut). x .showed .text) h, ap (λ (x : FileOut). x .tables) h, ap (λ (x : FileOut). x .showed .bytes) h)
 
 -- No call asks anything, and the promises are the sources' clauses: at the arguments a, the result r and the arguments at exit e.
 module _ {M : Type 1} (𝓤 : URA M) (H : Heap 𝓤) (A : Atoms 𝓤) (mem : Memory → SProp 𝓤) (run : Routine → Fun 𝓤) where
@@ -128,7 +124,7 @@ module _ {M : Type 1} (𝓤 : URA M) (H : Heap 𝓤) (A : Atoms 𝓤) (mem : Mem
 
   row-source : (κs : Lfts (row-call.signature .lifetimes)) (a : Args row-call.signature κs) (r : Listing) (e : AtExit row-call.ended κs)
       → (row-call.clauses 𝓤 H A mem run κs a .requires tt ≡ emp 𝓤)
-      × (row-call.clauses 𝓤 H A mem run κs a .ensures tt r e ≡ fact 𝓤 (Paints (a .0) (a .1 .0) (stored (now (a .1 .1 .0)) (now (a .1 .1 .1 .0)) (now (a .1 .1 .1 .1 .0)) (attributes (now (a .1 .1 .1 .1 .1 .1 .1 .0)) (now (a .1 .1 .1 .1 .1 .1 .1 .1 .0)))) (stroke none-yet (now (a .1 .1 .1 .1 .1 .0)) (now (a .1 .1 .1 .1 .1 .1 .0)) (now (a .1 .1 .1 .1 .1 .1 .1 .1 .1 .0))) (now (a .1 .1 .1 .1 .1 .1 .1 .1 .1 .1 .0)) r (now (e .1 .1 .1 .1 .1 .0)) (now (e .1 .1 .1 .1 .1 .1 .0)) (now (e .1 .1 .1 .1 .1 .1 .1 .1 .1 .0)) (now (e .1 .1 .1 .1 .1 .1 .1 .1 .1 .1 .0))))
+      × (row-call.clauses 𝓤 H A mem run κs a .ensures tt r e ≡ fact 𝓤 (Paints (a .0) (a .1 .0) (attributes (now (a .1 .1 .1 .1 .1 .1 .1 .0)) (now (a .1 .1 .1 .1 .1 .1 .1 .1 .0))) (paint.lent (now (a .1 .1 .0)) (now (a .1 .1 .1 .0)) (now (a .1 .1 .1 .1 .0)) (now (a .1 .1 .1 .1 .1 .0)) (now (a .1 .1 .1 .1 .1 .1 .0)) (now (a .1 .1 .1 .1 .1 .1 .1 .1 .1 .0))) (now (a .1 .1 .1 .1 .1 .1 .1 .1 .1 .1 .0)) r (now (e .1 .1 .1 .1 .1 .0)) (now (e .1 .1 .1 .1 .1 .1 .0)) (now (e .1 .1 .1 .1 .1 .1 .1 .1 .1 .0)) (now (e .1 .1 .1 .1 .1 .1 .1 .1 .1 .1 .0))))
   row-source κs a r e = (refl, refl)
 
   -- its source has a second clause, that the numbers are small
@@ -144,5 +140,5 @@ module _ {M : Type 1} (𝓤 : URA M) (H : Heap 𝓤) (A : Atoms 𝓤) (mem : Mem
 
   file-source : (κs : Lfts (file-call.signature .lifetimes)) (a : Args file-call.signature κs) (r : FileText) (e : AtExit file-call.ended κs)
       → (file-call.clauses 𝓤 H A mem run κs a .requires tt ≡ emp 𝓤)
-      × (file-call.clauses 𝓤 H A mem run κs a .ensures tt r e ≡ fact 𝓤 (Prints (now (a .0)) (now (a .1 .0)) (tables (now (a .1 .1 .0)) (now (a .1 .1 .1 .0)) (now (a .1 .1 .1 .1 .0)) (now (a .1 .1 .1 .1 .1 .0)) (now (a .1 .1 .1 .1 .1 .1 .0)) (now (a .1 .1 .1 .1 .1 .1 .1 .0)) (now (a .1 .1 .1 .1 .1 .1 .1 .1 .0)) (now (a .1 .1 .1 .1 .1 .1 .1 .1 .1 .0)) (now (a .1 .1 .1 .1 .1 .1 .1 .1 .1 .1 .0)) (now (a .1 .1 .1 .1 .1 .1 .1 .1 .1 .1 .1 .0))) (now (a .1 .1 .1 .1 .1 .1 .1 .1 .1 .1 .1 .1 .0)) r (now (e .1 .0)) (tables (now (e .1 .1 .0)) (now (e .1 .1 .1 .0)) (now (e .1 .1 .1 .1 .0)) (now (e .1 .1 .1 .1 .1 .0)) (now (e .1 .1 .1 .1 .1 .1 .0)) (now (e .1 .1 .1 .1 .1 .1 .1 .0)) (now (e .1 .1 .1 .1 .1 .1 .1 .1 .0)) (now (e .1 .1 .1 .1 .1 .1 .1 .1 .1 .0)) (now (e .1 .1 .1 .1 .1 .1 .1 .1 .1 .1 .0)) (now (e .1 .1 .1 .1 .1 .1 .1 .1 .1 .1 .1 .0))) (now (e .1 .1 .1 .1 .1 .1 .1 .1 .1 .1 .1 .1 .0))))
+      × (file-call.clauses 𝓤 H A mem run κs a .ensures tt r e ≡ fact 𝓤 (Prints (now (a .0)) (tables (now (a .1 .0)) (now (a .1 .1 .0)) (now (a .1 .1 .1 .0)) (now (a .1 .1 .1 .1 .0)) (now (a .1 .1 .1 .1 .1 .0)) (now (a .1 .1 .1 .1 .1 .1 .0)) (now (a .1 .1 .1 .1 .1 .1 .1 .0)) (now (a .1 .1 .1 .1 .1 .1 .1 .1 .0)) (now (a .1 .1 .1 .1 .1 .1 .1 .1 .1 .0)) (now (a .1 .1 .1 .1 .1 .1 .1 .1 .1 .1 .0))) (now (a .1 .1 .1 .1 .1 .1 .1 .1 .1 .1 .1 .0)) r (tables (now (e .1 .0)) (now (e .1 .1 .0)) (now (e .1 .1 .1 .0)) (now (e .1 .1 .1 .1 .0)) (now (e .1 .1 .1 .1 .1 .0)) (now (e .1 .1 .1 .1 .1 .1 .0)) (now (e .1 .1 .1 .1 .1 .1 .1 .0)) (now (e .1 .1 .1 .1 .1 .1 .1 .1 .0)) (now (e .1 .1 .1 .1 .1 .1 .1 .1 .1 .0)) (now (e .1 .1 .1 .1 .1 .1 .1 .1 .1 .1 .0))) (now (e .1 .1 .1 .1 .1 .1 .1 .1 .1 .1 .1 .0))))
   file-source κs a r e = (refl, refl)

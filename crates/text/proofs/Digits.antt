@@ -3,7 +3,6 @@ use mathlib.Core.Path.{_≡_, refl}
 use mathlib.Core.List.{[], _∷_, _++_}
 use Prim.Native.Nat.{ℕ, zero, suc, _+_, _-_, _≤_, _<_, _/_, _%_}
 use native.Mathlib.Omega.{arith}
-use lib.ListN.{length}
 use borrow.Author.Tests.{lt-ltb, le-ltb}
 use Rattle.rules.specs.Lines.{digits}
 use Rattle.text.specs.Texts.{Text, Wrote}
@@ -18,8 +17,8 @@ digits-more zero n d h = absurd (d refl)
 digits-more (suc k) n d h = let e : suc k - 1 ≡ k = omega arith in rw (le-ltb n 10 h, e)
 
 module _ (k n : ℕ) {t : Text} where
-  pub no-digits : k ≡ 0 → t .at ≤ length (t .bytes) → Wrote (digits k n) k t t
-  no-digits e h = rw e (wrote-none t h)
+  pub no-digits : k ≡ 0 → Wrote (digits k n) k t t
+  no-digits e = rw e (wrote-none t)
 
   module _ (d : k ≡ 0 → ⊥) (b : ℕ) (e : b ≡ 48 + n % 10) {u : Text} where
     pub one-digit : n < 10 → Wrote (b ∷ []) 1 t u → Wrote (digits k n) k t u

@@ -62,22 +62,29 @@ put-one bs p b h = rw (set-split bs p b h, add-one)
 module _ {m n : ℕ} where
   -- two pieces are one
   pub then : {a b : List ℕ} {t u v : Text} → Wrote a m t u → Wrote b n u v → Wrote (a ++ b) (m + n) t v
-  then {a} {b} {t} x y =
+  then {a} {b} {t} {u} {v} x y =
       record {
-        is = y .is ∙ ap (put b) (x .is) ∙ put-two a b t (x .started);
-        started = x .started;
+        moved = rw (length-append a b) (omega (arith, x .moved, y .moved));
+        near = omega (arith, x .near, y .near);
         same = y .same ∙ x .same;
-        near = omega arith;
+        is = λ h. let k : t .at + (length a + length b) ≤ length (t .bytes) = rw (length-append a b) at h in whole x y k;
       }
+    where
+      whole : Wrote a m t u → Wrote b n u v → t .at + (length a + length b) ≤ length (t .bytes) → v ≡ put (a ++ b) t
+      whole x y k = y .is (omega (arith, k, x .moved, x .same)) ∙ ap (put b) (x .is (omega (arith, k))) ∙ put-two a b t (omega (arith, k))
 
   pub within : {a : List ℕ} {t u : Text} → m ≤ n → Wrote a m t u → Wrote a n t u
-  within h x = record { is = x .is; started = x .started; same = x .same; near = omega arith }
+  within h x = record { moved = x .moved; near = omega (arith, h, x .near); same = x .same; is = x .is }
 
-pub wrote-none : {n : ℕ} (t : Text) → t .at ≤ length (t .bytes) → Wrote [] n t t
-wrote-none t h = record { is = sym (put-none t); started = h; same = refl; near = omega arith }
+pub wrote-none : {n : ℕ} (t : Text) → Wrote [] n t t
+wrote-none t = record { moved = omega arith; near = omega arith; same = refl; is = λ h. sym (put-none t) }
 
-pub wrote-one : (bs : List ℕ) (p b : ℕ) → p + 1 ≤ length bs → Wrote (b ∷ []) 1 (text bs p) (text (set bs p b) (p + 1))
-wrote-one bs p b h = record { is = put-one bs p b (omega arith); started = omega arith; same = length-set bs p b; near = omega arith }
+pub wrote-one : (bs : List ℕ) (p b : ℕ) → p < length bs → Wrote (b ∷ []) 1 (text bs p) (text (set bs p b) (p + 1))
+wrote-one bs p b h = record { moved = refl; near = omega arith; same = length-set bs p b; is = λ k. put-one bs p b h }
+
+-- past the end
+pub wrote-past : (bs : List ℕ) (p b : ℕ) → length bs ≤ p → Wrote (b ∷ []) 1 (text bs p) (text bs (p + 1))
+wrote-past bs p b h = record { moved = refl; near = omega arith; same = refl; is = λ k. let j : p + 1 ≤ length bs = k in absurd (omega (arith, h, j)) }
 
 -- a text byte by byte
 module _ (s : List ℕ) (i : ℕ) {t u : Text} (w : Wrote (take i s) i t u) where

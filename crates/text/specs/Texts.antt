@@ -17,12 +17,16 @@ text bs p = record { bytes = bs; at = p }
 unfoldable pub put : List ℕ → Text → Text
 put ws t = text (take (t .at) (t .bytes) ++ (ws ++ drop (t .at + length ws) (t .bytes))) (t .at + length ws)
 
--- ws is written, at most `most` bytes
+-- places stay below this
+abbrev pub far : ℕ
+far = 4294967295
+
+-- ws is written, at most `most` bytes: the place is after it, and where the bytes have room for all of it, it stands there
 pub record Wrote (ws : List ℕ) (most : ℕ) (before after : Text) : Type 0 where
-  pub is : after ≡ put ws before
-  pub started : before .at ≤ length (before .bytes)
-  pub same : length (after .bytes) ≡ length (before .bytes)
+  pub moved : after .at ≡ before .at + length ws
   pub near : after .at ≤ before .at + most
+  pub same : length (after .bytes) ≡ length (before .bytes)
+  pub is : before .at + length ws ≤ length (before .bytes) → after ≡ put ws before
 
 -- a space, and a minus sign below 0
 abbrev pub sign : ℤ → List ℕ

@@ -1,24 +1,27 @@
-// Text into a lent list of bytes: each function writes at a place and gives the place after what it wrote. Parts: where a function asks
-// for room, its callers have seen to it.
+// Text into a lent list of bytes: each function writes at a place, as far as the bytes go, and gives the place after what it wrote. On no
+// bytes it measures. Parts: where a function asks for a place that is not far, its callers have seen to it.
 ghost use mathlib.Core.Path.{_≡_};
 ghost use mathlib.Core.List.{[], _∷_};
 ghost use Prim.Native.Nat.{_+_, _≤_, _%_};
 ghost use lib.ListN.{length};
 ghost use lib.IntN.{natAbs};
 ghost use Rattle.rules.specs.Lines.{digits, number, dash};
-ghost use Rattle.text.specs.Texts.{sign, signed, text, Wrote};
+ghost use Rattle.text.specs.Texts.{sign, signed, text, far, Wrote};
 
 pub fn put_byte(out: &mut [u8], at: usize, b: u8) -> usize
-    requires { ⌜ at + 1 ≤ length (now out) ⌝ }
+    requires { ⌜ at + 1 ≤ far ⌝ }
     ensures { λ r. ⌜ Wrote (b ∷ []) 1 (text (now (out .entry)) at) (text (now (out .exit)) r) ⌝ }
 {
-    out[at] = b;
+    if at < out.len() {
+        out[at] = b;
+        return at + 1;
+    }
     at + 1
 }
 
 // A text as it stands.
 pub fn put_text(out: &mut [u8], at: usize, s: &[u8]) -> usize
-    requires { ⌜ at + length (now s) ≤ length (now out) ⌝ }
+    requires { ⌜ at + length (now s) ≤ far ⌝ }
     ensures { λ r. ⌜ Wrote (now (s .entry)) (length (now (s .entry))) (text (now (out .entry)) at) (text (now (out .exit)) r) ⌝ }
 {
     let mut place = at;
@@ -39,7 +42,7 @@ fn digit(n: u32) -> u8
 
 // A number in decimal, its last k digits at most.
 fn put_digits(out: &mut [u8], at: usize, n: u32, k: usize) -> usize
-    requires { ⌜ at + k ≤ length (now out) ⌝ }
+    requires { ⌜ at + k ≤ far ⌝ }
     ensures { λ r. ⌜ Wrote (digits k n) k (text (now (out .entry)) at) (text (now (out .exit)) r) ⌝ }
 {
     if k == 0 {
@@ -54,7 +57,7 @@ fn put_digits(out: &mut [u8], at: usize, n: u32, k: usize) -> usize
 
 // A space and a number.
 pub fn put_number(out: &mut [u8], at: usize, n: u32) -> usize
-    requires { ⌜ at + 11 ≤ length (now out) ⌝ }
+    requires { ⌜ at + 11 ≤ far ⌝ }
     ensures { λ r. ⌜ Wrote (number n) 11 (text (now (out .entry)) at) (text (now (out .exit)) r) ⌝ }
 {
     let place = put_byte(out, at, b' ');
@@ -63,7 +66,7 @@ pub fn put_number(out: &mut [u8], at: usize, n: u32) -> usize
 
 // A space and a dash.
 pub fn put_dash(out: &mut [u8], at: usize) -> usize
-    requires { ⌜ at + 2 ≤ length (now out) ⌝ }
+    requires { ⌜ at + 2 ≤ far ⌝ }
     ensures { λ r. ⌜ Wrote dash 2 (text (now (out .entry)) at) (text (now (out .exit)) r) ⌝ }
 {
     let place = put_byte(out, at, b' ');
@@ -82,7 +85,7 @@ pub fn magnitude(x: i32) -> u32
 
 // A space, and a minus sign below 0.
 fn put_sign(out: &mut [u8], at: usize, x: i32) -> usize
-    requires { ⌜ at + 2 ≤ length (now out) ⌝ }
+    requires { ⌜ at + 2 ≤ far ⌝ }
     ensures { λ r. ⌜ Wrote (sign x) 2 (text (now (out .entry)) at) (text (now (out .exit)) r) ⌝ }
 {
     if x < 0 {
@@ -93,7 +96,7 @@ fn put_sign(out: &mut [u8], at: usize, x: i32) -> usize
 
 // A space and a number that may be negative.
 pub fn put_signed(out: &mut [u8], at: usize, x: i32) -> usize
-    requires { ⌜ at + 12 ≤ length (now out) ⌝ }
+    requires { ⌜ at + 12 ≤ far ⌝ }
     ensures { λ r. ⌜ Wrote (signed x) 12 (text (now (out .entry)) at) (text (now (out .exit)) r) ⌝ }
 {
     let place = put_sign(out, at, x);

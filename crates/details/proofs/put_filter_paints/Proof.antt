@@ -24,7 +24,7 @@ put-heading-requires : tie.Need-put-heading-requires Inv-loop μ-loop
 put-heading-requires c κs = omega arith
 
 loop-holds : tie.Need-loop-holds Inv-loop μ-loop
-loop-holds c = (omega arith, places-none _ _ _ (omega arith))
+loop-holds c = (omega arith, places-none _ _ _)
 
 put-filter-requires : tie.Need-put-filter-requires Inv-loop μ-loop
 put-filter-requires c κs = omega arith

@@ -25,7 +25,7 @@ put-heading-requires : tie.Need-put-heading-requires Inv-loop μ-loop
 put-heading-requires c κs = omega arith
 
 loop-holds : tie.Need-loop-holds Inv-loop μ-loop
-loop-holds c = (omega arith, places-none _ _ _ (omega arith))
+loop-holds c = (omega arith, places-none _ _ _)
 
 put-paint-attr-requires : tie.Need-put-paint-attr-requires Inv-loop μ-loop
 put-paint-attr-requires c κs = omega arith

@@ -1,8 +1,12 @@
+-- 4 for the tables, 14 for a text that is too long, else the text: it has at most what `attrs_room` says.
 use mathlib.Core.Path.{sym, _∙_}
 use native.Mathlib.Omega.{arith}
+use Prim.Native.Nat.{_≤_}
+use lib.ListN.{length}
 use Rattle.list.proofs.Runs.{not-true, not-false}
-use Rattle.dump.specs.Dumped.{tables}
-use Rattle.dump.proofs.Texts.{good, attrs-bad, attrs-full, attrs-done}
+use Rattle.list.proofs.Writing.{measured, short-yes, short-no}
+use Rattle.dump.specs.Dumped.{tables, attrs-room, attrs-text}
+use Rattle.dump.proofs.Texts.{attrs-bad, attrs-full, attrs-done}
 use borrow.Author.Needs.{needs}
 use Rattle.dump.proofs.attrs_text.Statement.{statement}
 use Rattle.dump.proofs.attrs_text.Tie as tie
@@ -11,28 +15,43 @@ is-good-tables-requires : tie.Need-is-good-tables-requires
 is-good-tables-requires c κs = search needs
 
 returns : tie.Need-returns
-returns c = attrs-bad ((c .before .before .before .before .before .before .args) .screen) (tables ((c .before .before .before .before .before .before .args) .paint-attrs .now) ((c .before .before .before .before .before .before .args) .layer-attrs .now) ((c .before .before .before .before .before .before .args) .opacities .now) ((c .before .before .before .before .before .before .args) .filter-paints .now)) _ (sym ((c .before .is-good-tables) .ensures) ∙ not-true _ ((c .if1) .taken))
+returns c =
+    let entry = c .before .before .before .before .before .before in
+    attrs-bad _ (tables (entry .args .paint-attrs .now) (entry .args .layer-attrs .now) (entry .args .opacities .now) (entry .args .filter-paints .now)) _ (sym (c .before .is-good-tables .ensures) ∙ not-true _ (c .if1 .taken))
 
-attrs-room-requires : tie.Need-attrs-room-requires
-attrs-room-requires c κs = let g = good ((c .before .before .before .before .before .before .args) .screen) (tables ((c .before .before .before .before .before .before .args) .paint-attrs .now) ((c .before .before .before .before .before .before .args) .layer-attrs .now) ((c .before .before .before .before .before .before .args) .opacities .now) ((c .before .before .before .before .before .before .args) .filter-paints .now)) (sym ((c .before .is-good-tables) .ensures) ∙ not-false _ ((c .if1) .left)) in (g .paints, g .layers, g .filters)
+is-short-attrs-requires : tie.Need-is-short-attrs-requires
+is-short-attrs-requires c κs = sym (c .before .is-good-tables .ensures) ∙ not-false _ (c .if1 .left)
 
 returns-2 : tie.Need-returns-2
-returns-2 c = attrs-full ((c .before .before .before .before .before .before .before .before .args) .screen) (tables ((c .before .before .before .before .before .before .before .before .args) .paint-attrs .now) ((c .before .before .before .before .before .before .before .before .args) .layer-attrs .now) ((c .before .before .before .before .before .before .before .before .args) .opacities .now) ((c .before .before .before .before .before .before .before .before .args) .filter-paints .now)) _ (sym ((c .before .before .before .is-good-tables) .ensures) ∙ not-false _ ((c .before .before .if1) .left)) (rw ((c .before .attrs-room) .ensures) at ((c .if2) .taken))
+returns-2 c =
+    let at-if1 = c .before .before in
+    let at-is-good-tables = at-if1 .before in
+    let entry = at-is-good-tables .before .before .before .before .before in
+    attrs-full _ (tables (entry .args .paint-attrs .now) (entry .args .layer-attrs .now) (entry .args .opacities .now) (entry .args .filter-paints .now)) _ (sym (at-is-good-tables .is-good-tables .ensures) ∙ not-false _ (at-if1 .if1 .left)) (short-yes _ _ _ (sym (c .before .is-short-attrs .ensures) ∙ c .if2 .taken))
 
-put-paint-attrs-requires : tie.Need-put-paint-attrs-requires
-put-paint-attrs-requires c κs = let g = good ((c .before .before .before .before .before .before .before .before .before .args) .screen) (tables ((c .before .before .before .before .before .before .before .before .before .args) .paint-attrs .now) ((c .before .before .before .before .before .before .before .before .before .args) .layer-attrs .now) ((c .before .before .before .before .before .before .before .before .before .args) .opacities .now) ((c .before .before .before .before .before .before .before .before .before .args) .filter-paints .now)) (sym ((c .before .before .before .before .is-good-tables) .ensures) ∙ not-false _ ((c .before .before .before .if1) .left)) in let r = rw ((c .before .before .attrs-room) .ensures) at ((c .before .if2) .left) in (omega (arith, r), omega (arith, g .paints, g .paint-table))
-
-put-layer-attrs-requires : tie.Need-put-layer-attrs-requires
-put-layer-attrs-requires c κs = let g = good ((c .before .before .before .before .before .before .before .before .before .before .before .before .before .args) .screen) (tables ((c .before .before .before .before .before .before .before .before .before .before .before .before .before .args) .paint-attrs .now) ((c .before .before .before .before .before .before .before .before .before .before .before .before .before .args) .layer-attrs .now) ((c .before .before .before .before .before .before .before .before .before .before .before .before .before .args) .opacities .now) ((c .before .before .before .before .before .before .before .before .before .before .before .before .before .args) .filter-paints .now)) (sym ((c .before .before .before .before .before .before .before .before .is-good-tables) .ensures) ∙ not-false _ ((c .before .before .before .before .before .before .before .if1) .left)) in let r = rw ((c .before .before .before .before .before .before .attrs-room) .ensures) at ((c .before .before .before .before .before .if2) .left) in (omega (arith, r), omega (arith, g .layers, g .layer-table), omega (arith, g .layers, g .opacity-table))
-
-put-filter-paints-requires : tie.Need-put-filter-paints-requires
-put-filter-paints-requires c κs = let g = good ((c .before .before .before .before .before .before .before .before .before .before .before .before .before .before .before .before .before .args) .screen) (tables ((c .before .before .before .before .before .before .before .before .before .before .before .before .before .before .before .before .before .args) .paint-attrs .now) ((c .before .before .before .before .before .before .before .before .before .before .before .before .before .before .before .before .before .args) .layer-attrs .now) ((c .before .before .before .before .before .before .before .before .before .before .before .before .before .before .before .before .before .args) .opacities .now) ((c .before .before .before .before .before .before .before .before .before .before .before .before .before .before .before .before .before .args) .filter-paints .now)) (sym ((c .before .before .before .before .before .before .before .before .before .before .before .before .is-good-tables) .ensures) ∙ not-false _ ((c .before .before .before .before .before .before .before .before .before .before .before .if1) .left)) in let r = rw ((c .before .before .before .before .before .before .before .before .before .before .attrs-room) .ensures) at ((c .before .before .before .before .before .before .before .before .before .if2) .left) in (omega (arith, r), omega (arith, g .filters, g .filter-table))
+put-attrs-requires : tie.Need-put-attrs-requires
+put-attrs-requires c κs =
+    let at-if1 = c .before .before .before in
+    let at-is-good-tables = at-if1 .before in
+    sym (at-is-good-tables .is-good-tables .ensures) ∙ not-false _ (at-if1 .if1 .left)
 
 same-length : tie.Need-same-length
 same-length c = search needs
 
 returns-3 : tie.Need-returns-3
-returns-3 c = attrs-done ((c .before .before .before .before .before .before .before .before .before .before .before .before .before .before .before .before .before .before .before .before .args) .screen) (tables ((c .before .before .before .before .before .before .before .before .before .before .before .before .before .before .before .before .before .before .before .before .args) .paint-attrs .now) ((c .before .before .before .before .before .before .before .before .before .before .before .before .before .before .before .before .before .before .before .before .args) .layer-attrs .now) ((c .before .before .before .before .before .before .before .before .before .before .before .before .before .before .before .before .before .before .before .before .args) .opacities .now) ((c .before .before .before .before .before .before .before .before .before .before .before .before .before .before .before .before .before .before .before .before .args) .filter-paints .now)) _ (sym ((c .before .before .before .before .before .before .before .before .before .before .before .before .before .before .before .is-good-tables) .ensures) ∙ not-false _ ((c .before .before .before .before .before .before .before .before .before .before .before .before .before .before .if1) .left)) (rw ((c .before .before .before .before .before .before .before .before .before .before .before .before .before .attrs-room) .ensures) at ((c .before .before .before .before .before .before .before .before .before .before .before .before .if2) .left)) ((c .before .before .before .before .before .before .before .before .before .before .put-paint-attrs) .ensures) ((c .before .before .before .before .before .before .put-layer-attrs) .ensures) ((c .before .before .put-filter-paints) .ensures)
+returns-3 c =
+    let at-put-attrs = c .before .before in
+    let at-if2 = at-put-attrs .before .before in
+    let at-is-short-attrs = at-if2 .before in
+    let at-if1 = at-is-short-attrs .before in
+    let at-is-good-tables = at-if1 .before in
+    let entry = at-is-good-tables .before .before .before .before .before in
+    let t = (tables (entry .args .paint-attrs .now) (entry .args .layer-attrs .now) (entry .args .opacities .now) (entry .args .filter-paints .now)) in
+    let x = at-put-attrs .put-attrs .ensures in
+    let few : length (attrs-text (entry .args .screen) t) ≤ attrs-room (entry .args .screen) = omega (arith, x .near, measured x) in
+    attrs-done (entry .args .screen) t _ (sym (at-is-good-tables .is-good-tables .ensures) ∙ not-false _ (at-if1 .if1 .left))
+    (short-no _ _ _ (sym (at-is-short-attrs .is-short-attrs .ensures) ∙ at-if2 .if2 .left) few)
+    x
 
 pub attrs-text-spec : {M : Type 1} → statement M
 attrs-text-spec =
@@ -40,10 +59,8 @@ attrs-text-spec =
     (tie.spec
     is-good-tables-requires
     returns
-    attrs-room-requires
+    is-short-attrs-requires
     returns-2
-    put-paint-attrs-requires
-    put-layer-attrs-requires
-    put-filter-paints-requires
+    put-attrs-requires
     same-length
     returns-3)

@@ -5,13 +5,13 @@ use Rattle.text.specs.Texts.{text, Wrote}
 use Rattle.list.specs.Places.{joined}
 use Rattle.list.proofs.Joins.{one-of, places-none, places-more, places-all}
 use Rattle.details.specs.Bytes.{detail-bytes, details-text}
-use Rattle.dump.specs.Strokes.{piece-at}
+use Rattle.dump.specs.Pieces.{piece-at}
 use Rattle.dump.proofs.Pieces.{row-written}
 use Rattle.dump.proofs.put_pieces.Statement.{statement}
 use Rattle.dump.proofs.put_pieces.Tie as tie
 
 abbrev Inv-loop : tie.InvT-loop
-Inv-loop out₀ row list n place₀ k₀ out place k = (k ≤ n) × Wrote (details-text (joined (λ (i : ℕ). piece-at list i ∷ []) k)) (96 * k) (text out₀ place₀) (text out place)
+Inv-loop out₀ row list n place₀ k₀ out place k = (k ≤ n) × Wrote (details-text (joined (λ (i : ℕ). piece-at list i ∷ []) k)) (64 * k) (text out₀ place₀) (text out place)
 
 abbrev μ-loop : tie.MeasureT-loop
 μ-loop out₀ row list n place₀ k₀ out place k = n - k
@@ -23,7 +23,7 @@ put-painted-requires : tie.Need-put-painted-requires Inv-loop μ-loop
 put-painted-requires c κs = omega arith
 
 loop-holds : tie.Need-loop-holds Inv-loop μ-loop
-loop-holds c = (omega arith, places-none _ _ _ (omega arith))
+loop-holds c = (omega arith, places-none _ _ _)
 
 put-piece-requires : tie.Need-put-piece-requires Inv-loop μ-loop
 put-piece-requires c κs = omega arith
@@ -41,7 +41,7 @@ same-length : tie.Need-same-length Inv-loop μ-loop
 same-length c = omega arith
 
 returns : tie.Need-returns Inv-loop μ-loop
-returns c = row-written ((c .before .before .before .before .before .before .before .before .args) .list .now) _ _ ((c .before .before .before .before .put-painted) .ensures) (places-all detail-bytes _ (λ (k : ℕ). 96 * k) _ _ (omega arith) ((c .before .loop) .inv .0) ((c .before .loop) .inv .1))
+returns c = row-written ((c .before .before .before .before .before .before .before .before .args) .list .now) _ _ ((c .before .before .before .before .put-painted) .ensures) (places-all detail-bytes _ (λ (k : ℕ). 64 * k) _ _ (omega arith) ((c .before .loop) .inv .0) ((c .before .loop) .inv .1))
 
 pub put-pieces-spec : {M : Type 1} → statement M
 put-pieces-spec =

@@ -15,7 +15,7 @@ abbrev μ-loop : tie.MeasureT-loop
 μ-loop out₀ at fills n buckets place₀ k₀ out place k = n - k
 
 loop-holds : tie.Need-loop-holds Inv-loop μ-loop
-loop-holds c = (omega arith, joined-none _ _ (omega arith))
+loop-holds c = (omega arith, joined-none _ _)
 
 put-depth-requires : tie.Need-put-depth-requires Inv-loop μ-loop
 put-depth-requires c κs = omega arith

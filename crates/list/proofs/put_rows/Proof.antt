@@ -16,7 +16,7 @@ abbrev μ-loop : tie.MeasureT-loop
 μ-loop out₀ at rows render fills m c d buckets place₀ r₀ out place r = m - r
 
 loop-holds : tie.Need-loop-holds Inv-loop μ-loop
-loop-holds c = (omega arith, joined-none _ _ (omega arith))
+loop-holds c = (omega arith, joined-none _ _)
 
 put-row-at-requires : tie.Need-put-row-at-requires Inv-loop μ-loop
 put-row-at-requires c κs = ((c .before .before .before .before .before .before .before .pre) .0, (c .before .loop-test) .taken, (c .before .before .before .before .before .before .before .pre) .1 _ ((c .before .loop-test) .taken), omega (arith, within _ _ (row-room ((c .before .before .before .before .before .before .before .args) .c) ((c .before .before .before .before .before .before .before .args) .d)) ((c .before .loop-test) .taken), (c .before .before .before .before .before .before .before .pre) .2))

@@ -1,9 +1,11 @@
+-- 3 for the bytes; else their words, and what those say.
 use mathlib.Core.Path.{sym, _∙_}
 use native.Mathlib.Omega.{arith}
+use lib.ListN.{length}
 use lib.Seq.{length-take-le}
-use Rattle.screen.specs.Tables.{tables}
 use Rattle.list.proofs.Runs.{not-true, not-false}
-use Rattle.listing.proofs.Bytes.{enough, filled-in, bytes-bad, bytes-short, bytes-shown}
+use Rattle.screen.specs.Tables.{tables}
+use Rattle.listing.proofs.Bytes.{bytes-bad, few-words, filled-in, bytes-shown}
 use borrow.Author.Needs.{needs}
 use Rattle.listing.proofs.file_text.Statement.{statement}
 use Rattle.listing.proofs.file_text.Tie as tie
@@ -21,37 +23,52 @@ same-length : tie.Need-same-length
 same-length c = search needs
 
 returns : tie.Need-returns
-returns c = bytes-bad ((c .before .before .before .before .before .before .before .before .before .before .before .before .before .before .before .before .before .before .before .args) .file .now) ((c .before .before .before .before .before .before .before .before .before .before .before .before .before .before .before .before .before .before .before .args) .words .now) (tables ((c .before .before .before .before .before .before .before .before .before .before .before .before .before .before .before .before .before .before .before .args) .render .now) ((c .before .before .before .before .before .before .before .before .before .before .before .before .before .before .before .before .before .before .before .args) .fills .now) ((c .before .before .before .before .before .before .before .before .before .before .before .before .before .before .before .before .before .before .before .args) .depth .now) ((c .before .before .before .before .before .before .before .before .before .before .before .before .before .before .before .before .before .before .before .args) .rows .now) ((c .before .before .before .before .before .before .before .before .before .before .before .before .before .before .before .before .before .before .before .args) .painting .now) ((c .before .before .before .before .before .before .before .before .before .before .before .before .before .before .before .before .before .before .before .args) .layers .now) ((c .before .before .before .before .before .before .before .before .before .before .before .before .before .before .before .before .before .before .before .args) .opacities .now) ((c .before .before .before .before .before .before .before .before .before .before .before .before .before .before .before .before .before .before .before .args) .paint-attrs .now) ((c .before .before .before .before .before .before .before .before .before .before .before .before .before .before .before .before .before .before .before .args) .layer-attrs .now) ((c .before .before .before .before .before .before .before .before .before .before .before .before .before .before .before .before .before .before .before .args) .filter-paints .now)) ((c .before .before .before .before .before .before .before .before .before .before .before .before .before .before .before .before .before .before .before .args) .out .now) ((c .before .before .before .before .no-screen) .ensures) (sym ((c .before .before .before .before .before .before .is-good-bytes) .ensures) ∙ not-true _ ((c .before .before .before .before .before .if1) .taken)) ((c .before .before .refuse) .ensures)
+returns c =
+    let at-refuse = c .before .before in
+    let at-no-screen = at-refuse .before .before in
+    let at-if1 = at-no-screen .before in
+    let at-is-good-bytes = at-if1 .before in
+    let entry = at-is-good-bytes .before .before .before .before .before .before .before .before .before .before .before .before in
+    bytes-bad (entry .args .file .now) (tables (entry .args .render .now) (entry .args .fills .now) (entry .args .depth .now) (entry .args .rows .now) (entry .args .painting .now) (entry .args .layers .now) (entry .args .opacities .now) (entry .args .paint-attrs .now) (entry .args .layer-attrs .now) (entry .args .filter-paints .now)) (entry .args .out .now) (at-no-screen .no-screen .ensures) (sym (at-is-good-bytes .is-good-bytes .ensures) ∙ not-true _ (at-if1 .if1 .taken)) (at-refuse .refuse .ensures)
 
-is-roomy-requires : tie.Need-is-roomy-requires
-is-roomy-requires c κs = search needs
+no-words-requires : tie.Need-no-words-requires
+no-words-requires c κs = search needs
 
-no-screen-requires-2 : tie.Need-no-screen-requires-2
-no-screen-requires-2 c κs = search needs
+slice-aggregate-words-of-bytes : tie.Need-slice-aggregate-words-of-bytes
+slice-aggregate-words-of-bytes c = search needs
 
-refuse-requires-2 : tie.Need-refuse-requires-2
-refuse-requires-2 c κs = search needs
+words-of-bytes-requires : tie.Need-words-of-bytes-requires
+words-of-bytes-requires c κs =
+    let at-if1 = c .before .before in
+    let at-is-good-bytes = at-if1 .before in
+    let entry = at-is-good-bytes .before .before .before .before .before .before .before .before .before .before .before .before in
+    omega (arith, few-words (entry .args .file .now) (sym (at-is-good-bytes .is-good-bytes .ensures) ∙ not-false _ (at-if1 .if1 .left)), c .before .no-words .ensures)
+
+array-share-prefix-words : tie.Need-array-share-prefix-words
+array-share-prefix-words c =
+    let at-no-words = c .before .before .before in
+    let at-if1 = at-no-words .before in
+    let at-is-good-bytes = at-if1 .before in
+    let entry = at-is-good-bytes .before .before .before .before .before .before .before .before .before .before .before .before in
+    filled-in (entry .args .file .now) (at-no-words .no-words .result) (sym (at-is-good-bytes .is-good-bytes .ensures) ∙ not-false _ (at-if1 .if1 .left)) (c .before .words-of-bytes .ensures) (at-no-words .no-words .ensures)
+
+slice-aggregate-words-text : tie.Need-slice-aggregate-words-text
+slice-aggregate-words-text c =
+    let at-words-of-bytes = c .before .before in
+    let at-no-words = at-words-of-bytes .before .before in
+    let at-if1 = at-no-words .before in
+    let at-is-good-bytes = at-if1 .before in
+    let entry = at-is-good-bytes .before .before .before .before .before .before .before .before .before .before .before .before in
+    sym (length-take-le _ _ (filled-in (entry .args .file .now) (at-no-words .no-words .result) (sym (at-is-good-bytes .is-good-bytes .ensures) ∙ not-false _ (at-if1 .if1 .left)) (at-words-of-bytes .words-of-bytes .ensures) (at-no-words .no-words .ensures)))
+
+words-text-requires : tie.Need-words-text-requires
+words-text-requires c κs = search needs
 
 same-length-2 : tie.Need-same-length-2
 same-length-2 c = search needs
 
-returns-2 : tie.Need-returns-2
-returns-2 c = bytes-short ((c .before .before .before .before .before .before .before .before .before .before .before .before .before .before .before .before .before .before .before .before .before .args) .file .now) ((c .before .before .before .before .before .before .before .before .before .before .before .before .before .before .before .before .before .before .before .before .before .args) .words .now) (tables ((c .before .before .before .before .before .before .before .before .before .before .before .before .before .before .before .before .before .before .before .before .before .args) .render .now) ((c .before .before .before .before .before .before .before .before .before .before .before .before .before .before .before .before .before .before .before .before .before .args) .fills .now) ((c .before .before .before .before .before .before .before .before .before .before .before .before .before .before .before .before .before .before .before .before .before .args) .depth .now) ((c .before .before .before .before .before .before .before .before .before .before .before .before .before .before .before .before .before .before .before .before .before .args) .rows .now) ((c .before .before .before .before .before .before .before .before .before .before .before .before .before .before .before .before .before .before .before .before .before .args) .painting .now) ((c .before .before .before .before .before .before .before .before .before .before .before .before .before .before .before .before .before .before .before .before .before .args) .layers .now) ((c .before .before .before .before .before .before .before .before .before .before .before .before .before .before .before .before .before .before .before .before .before .args) .opacities .now) ((c .before .before .before .before .before .before .before .before .before .before .before .before .before .before .before .before .before .before .before .before .before .args) .paint-attrs .now) ((c .before .before .before .before .before .before .before .before .before .before .before .before .before .before .before .before .before .before .before .before .before .args) .layer-attrs .now) ((c .before .before .before .before .before .before .before .before .before .before .before .before .before .before .before .before .before .before .before .before .before .args) .filter-paints .now)) ((c .before .before .before .before .before .before .before .before .before .before .before .before .before .before .before .before .before .before .before .before .before .args) .out .now) ((c .before .before .before .before .no-screen2) .ensures) (sym ((c .before .before .before .before .before .before .before .before .is-good-bytes) .ensures) ∙ not-false _ ((c .before .before .before .before .before .before .before .if1) .left)) (sym ((c .before .before .before .before .before .before .is-roomy) .ensures) ∙ not-true _ ((c .before .before .before .before .before .if2) .taken)) ((c .before .before .refuse2) .ensures)
-
-words-of-bytes-requires : tie.Need-words-of-bytes-requires
-words-of-bytes-requires c κs = omega (arith, enough ((c .before .before .before .before .before .before .before .before .before .before .before .before .before .before .before .before .before .args) .file .now) ((c .before .before .before .before .before .before .before .before .before .before .before .before .before .before .before .before .before .args) .words .now) (tables ((c .before .before .before .before .before .before .before .before .before .before .before .before .before .before .before .before .before .args) .render .now) ((c .before .before .before .before .before .before .before .before .before .before .before .before .before .before .before .before .before .args) .fills .now) ((c .before .before .before .before .before .before .before .before .before .before .before .before .before .before .before .before .before .args) .depth .now) ((c .before .before .before .before .before .before .before .before .before .before .before .before .before .before .before .before .before .args) .rows .now) ((c .before .before .before .before .before .before .before .before .before .before .before .before .before .before .before .before .before .args) .painting .now) ((c .before .before .before .before .before .before .before .before .before .before .before .before .before .before .before .before .before .args) .layers .now) ((c .before .before .before .before .before .before .before .before .before .before .before .before .before .before .before .before .before .args) .opacities .now) ((c .before .before .before .before .before .before .before .before .before .before .before .before .before .before .before .before .before .args) .paint-attrs .now) ((c .before .before .before .before .before .before .before .before .before .before .before .before .before .before .before .before .before .args) .layer-attrs .now) ((c .before .before .before .before .before .before .before .before .before .before .before .before .before .before .before .before .before .args) .filter-paints .now)) ((c .before .before .before .before .before .before .before .before .before .before .before .before .before .before .before .before .before .args) .out .now) (sym ((c .before .before .before .before .is-good-bytes) .ensures) ∙ not-false _ ((c .before .before .before .if1) .left)) (sym ((c .before .before .is-roomy) .ensures) ∙ not-false _ ((c .before .if2) .left)) .few, enough ((c .before .before .before .before .before .before .before .before .before .before .before .before .before .before .before .before .before .args) .file .now) ((c .before .before .before .before .before .before .before .before .before .before .before .before .before .before .before .before .before .args) .words .now) (tables ((c .before .before .before .before .before .before .before .before .before .before .before .before .before .before .before .before .before .args) .render .now) ((c .before .before .before .before .before .before .before .before .before .before .before .before .before .before .before .before .before .args) .fills .now) ((c .before .before .before .before .before .before .before .before .before .before .before .before .before .before .before .before .before .args) .depth .now) ((c .before .before .before .before .before .before .before .before .before .before .before .before .before .before .before .before .before .args) .rows .now) ((c .before .before .before .before .before .before .before .before .before .before .before .before .before .before .before .before .before .args) .painting .now) ((c .before .before .before .before .before .before .before .before .before .before .before .before .before .before .before .before .before .args) .layers .now) ((c .before .before .before .before .before .before .before .before .before .before .before .before .before .before .before .before .before .args) .opacities .now) ((c .before .before .before .before .before .before .before .before .before .before .before .before .before .before .before .before .before .args) .paint-attrs .now) ((c .before .before .before .before .before .before .before .before .before .before .before .before .before .before .before .before .before .args) .layer-attrs .now) ((c .before .before .before .before .before .before .before .before .before .before .before .before .before .before .before .before .before .args) .filter-paints .now)) ((c .before .before .before .before .before .before .before .before .before .before .before .before .before .before .before .before .before .args) .out .now) (sym ((c .before .before .before .before .is-good-bytes) .ensures) ∙ not-false _ ((c .before .before .before .if1) .left)) (sym ((c .before .before .is-roomy) .ensures) ∙ not-false _ ((c .before .if2) .left)) .words)
-
-slice-reshare-prefix-words-text : tie.Need-slice-reshare-prefix-words-text
-slice-reshare-prefix-words-text c = omega (arith, filled-in ((c .before .before .before .before .before .before .before .before .before .before .before .before .before .before .before .before .before .before .before .before .args) .file .now) ((c .before .before .before .before .before .before .before .before .before .before .before .before .before .before .before .before .before .before .before .before .args) .words .now) (tables ((c .before .before .before .before .before .before .before .before .before .before .before .before .before .before .before .before .before .before .before .before .args) .render .now) ((c .before .before .before .before .before .before .before .before .before .before .before .before .before .before .before .before .before .before .before .before .args) .fills .now) ((c .before .before .before .before .before .before .before .before .before .before .before .before .before .before .before .before .before .before .before .before .args) .depth .now) ((c .before .before .before .before .before .before .before .before .before .before .before .before .before .before .before .before .before .before .before .before .args) .rows .now) ((c .before .before .before .before .before .before .before .before .before .before .before .before .before .before .before .before .before .before .before .before .args) .painting .now) ((c .before .before .before .before .before .before .before .before .before .before .before .before .before .before .before .before .before .before .before .before .args) .layers .now) ((c .before .before .before .before .before .before .before .before .before .before .before .before .before .before .before .before .before .before .before .before .args) .opacities .now) ((c .before .before .before .before .before .before .before .before .before .before .before .before .before .before .before .before .before .before .before .before .args) .paint-attrs .now) ((c .before .before .before .before .before .before .before .before .before .before .before .before .before .before .before .before .before .before .before .before .args) .layer-attrs .now) ((c .before .before .before .before .before .before .before .before .before .before .before .before .before .before .before .before .before .before .before .before .args) .filter-paints .now)) ((c .before .before .before .before .before .before .before .before .before .before .before .before .before .before .before .before .before .before .before .before .args) .out .now) (sym ((c .before .before .before .before .before .before .before .is-good-bytes) .ensures) ∙ not-false _ ((c .before .before .before .before .before .before .if1) .left)) (sym ((c .before .before .before .before .before .is-roomy) .ensures) ∙ not-false _ ((c .before .before .before .before .if2) .left)) ((c .before .before .words-of-bytes) .ensures), enough ((c .before .before .before .before .before .before .before .before .before .before .before .before .before .before .before .before .before .before .before .before .args) .file .now) ((c .before .before .before .before .before .before .before .before .before .before .before .before .before .before .before .before .before .before .before .before .args) .words .now) (tables ((c .before .before .before .before .before .before .before .before .before .before .before .before .before .before .before .before .before .before .before .before .args) .render .now) ((c .before .before .before .before .before .before .before .before .before .before .before .before .before .before .before .before .before .before .before .before .args) .fills .now) ((c .before .before .before .before .before .before .before .before .before .before .before .before .before .before .before .before .before .before .before .before .args) .depth .now) ((c .before .before .before .before .before .before .before .before .before .before .before .before .before .before .before .before .before .before .before .before .args) .rows .now) ((c .before .before .before .before .before .before .before .before .before .before .before .before .before .before .before .before .before .before .before .before .args) .painting .now) ((c .before .before .before .before .before .before .before .before .before .before .before .before .before .before .before .before .before .before .before .before .args) .layers .now) ((c .before .before .before .before .before .before .before .before .before .before .before .before .before .before .before .before .before .before .before .before .args) .opacities .now) ((c .before .before .before .before .before .before .before .before .before .before .before .before .before .before .before .before .before .before .before .before .args) .paint-attrs .now) ((c .before .before .before .before .before .before .before .before .before .before .before .before .before .before .before .before .before .before .before .before .args) .layer-attrs .now) ((c .before .before .before .before .before .before .before .before .before .before .before .before .before .before .before .before .before .before .before .before .args) .filter-paints .now)) ((c .before .before .before .before .before .before .before .before .before .before .before .before .before .before .before .before .before .before .before .before .args) .out .now) (sym ((c .before .before .before .before .before .before .before .is-good-bytes) .ensures) ∙ not-false _ ((c .before .before .before .before .before .before .if1) .left)) (sym ((c .before .before .before .before .before .is-roomy) .ensures) ∙ not-false _ ((c .before .before .before .before .if2) .left)) .words, (c .before .before .words-of-bytes) .kept .1 .0)
-
-slice-aggregate-words-text : tie.Need-slice-aggregate-words-text
-slice-aggregate-words-text c = sym (length-take-le _ _ (omega (arith, filled-in ((c .before .before .before .before .before .before .before .before .before .before .before .before .before .before .before .before .before .before .before .before .before .args) .file .now) ((c .before .before .before .before .before .before .before .before .before .before .before .before .before .before .before .before .before .before .before .before .before .args) .words .now) (tables ((c .before .before .before .before .before .before .before .before .before .before .before .before .before .before .before .before .before .before .before .before .before .args) .render .now) ((c .before .before .before .before .before .before .before .before .before .before .before .before .before .before .before .before .before .before .before .before .before .args) .fills .now) ((c .before .before .before .before .before .before .before .before .before .before .before .before .before .before .before .before .before .before .before .before .before .args) .depth .now) ((c .before .before .before .before .before .before .before .before .before .before .before .before .before .before .before .before .before .before .before .before .before .args) .rows .now) ((c .before .before .before .before .before .before .before .before .before .before .before .before .before .before .before .before .before .before .before .before .before .args) .painting .now) ((c .before .before .before .before .before .before .before .before .before .before .before .before .before .before .before .before .before .before .before .before .before .args) .layers .now) ((c .before .before .before .before .before .before .before .before .before .before .before .before .before .before .before .before .before .before .before .before .before .args) .opacities .now) ((c .before .before .before .before .before .before .before .before .before .before .before .before .before .before .before .before .before .before .before .before .before .args) .paint-attrs .now) ((c .before .before .before .before .before .before .before .before .before .before .before .before .before .before .before .before .before .before .before .before .before .args) .layer-attrs .now) ((c .before .before .before .before .before .before .before .before .before .before .before .before .before .before .before .before .before .before .before .before .before .args) .filter-paints .now)) ((c .before .before .before .before .before .before .before .before .before .before .before .before .before .before .before .before .before .before .before .before .before .args) .out .now) (sym ((c .before .before .before .before .before .before .before .before .is-good-bytes) .ensures) ∙ not-false _ ((c .before .before .before .before .before .before .before .if1) .left)) (sym ((c .before .before .before .before .before .before .is-roomy) .ensures) ∙ not-false _ ((c .before .before .before .before .before .if2) .left)) ((c .before .before .before .words-of-bytes) .ensures), enough ((c .before .before .before .before .before .before .before .before .before .before .before .before .before .before .before .before .before .before .before .before .before .args) .file .now) ((c .before .before .before .before .before .before .before .before .before .before .before .before .before .before .before .before .before .before .before .before .before .args) .words .now) (tables ((c .before .before .before .before .before .before .before .before .before .before .before .before .before .before .before .before .before .before .before .before .before .args) .render .now) ((c .before .before .before .before .before .before .before .before .before .before .before .before .before .before .before .before .before .before .before .before .before .args) .fills .now) ((c .before .before .before .before .before .before .before .before .before .before .before .before .before .before .before .before .before .before .before .before .before .args) .depth .now) ((c .before .before .before .before .before .before .before .before .before .before .before .before .before .before .before .before .before .before .before .before .before .args) .rows .now) ((c .before .before .before .before .before .before .before .before .before .before .before .before .before .before .before .before .before .before .before .before .before .args) .painting .now) ((c .before .before .before .before .before .before .before .before .before .before .before .before .before .before .before .before .before .before .before .before .before .args) .layers .now) ((c .before .before .before .before .before .before .before .before .before .before .before .before .before .before .before .before .before .before .before .before .before .args) .opacities .now) ((c .before .before .before .before .before .before .before .before .before .before .before .before .before .before .before .before .before .before .before .before .before .args) .paint-attrs .now) ((c .before .before .before .before .before .before .before .before .before .before .before .before .before .before .before .before .before .before .before .before .before .args) .layer-attrs .now) ((c .before .before .before .before .before .before .before .before .before .before .before .before .before .before .before .before .before .before .before .before .before .args) .filter-paints .now)) ((c .before .before .before .before .before .before .before .before .before .before .before .before .before .before .before .before .before .before .before .before .before .args) .out .now) (sym ((c .before .before .before .before .before .before .before .before .is-good-bytes) .ensures) ∙ not-false _ ((c .before .before .before .before .before .before .before .if1) .left)) (sym ((c .before .before .before .before .before .before .is-roomy) .ensures) ∙ not-false _ ((c .before .before .before .before .before .if2) .left)) .words, (c .before .before .before .words-of-bytes) .kept .1 .0)))
-
-words-text-requires : tie.Need-words-text-requires
-words-text-requires c κs = enough ((c .before .before .before .before .before .before .before .before .before .before .before .before .before .before .before .before .before .before .before .before .before .before .before .before .before .before .before .before .before .before .before .before .args) .file .now) ((c .before .before .before .before .before .before .before .before .before .before .before .before .before .before .before .before .before .before .before .before .before .before .before .before .before .before .before .before .before .before .before .before .args) .words .now) (tables ((c .before .before .before .before .before .before .before .before .before .before .before .before .before .before .before .before .before .before .before .before .before .before .before .before .before .before .before .before .before .before .before .before .args) .render .now) ((c .before .before .before .before .before .before .before .before .before .before .before .before .before .before .before .before .before .before .before .before .before .before .before .before .before .before .before .before .before .before .before .before .args) .fills .now) ((c .before .before .before .before .before .before .before .before .before .before .before .before .before .before .before .before .before .before .before .before .before .before .before .before .before .before .before .before .before .before .before .before .args) .depth .now) ((c .before .before .before .before .before .before .before .before .before .before .before .before .before .before .before .before .before .before .before .before .before .before .before .before .before .before .before .before .before .before .before .before .args) .rows .now) ((c .before .before .before .before .before .before .before .before .before .before .before .before .before .before .before .before .before .before .before .before .before .before .before .before .before .before .before .before .before .before .before .before .args) .painting .now) ((c .before .before .before .before .before .before .before .before .before .before .before .before .before .before .before .before .before .before .before .before .before .before .before .before .before .before .before .before .before .before .before .before .args) .layers .now) ((c .before .before .before .before .before .before .before .before .before .before .before .before .before .before .before .before .before .before .before .before .before .before .before .before .before .before .before .before .before .before .before .before .args) .opacities .now) ((c .before .before .before .before .before .before .before .before .before .before .before .before .before .before .before .before .before .before .before .before .before .before .before .before .before .before .before .before .before .before .before .before .args) .paint-attrs .now) ((c .before .before .before .before .before .before .before .before .before .before .before .before .before .before .before .before .before .before .before .before .before .before .before .before .before .before .before .before .before .before .before .before .args) .layer-attrs .now) ((c .before .before .before .before .before .before .before .before .before .before .before .before .before .before .before .before .before .before .before .before .before .before .before .before .before .before .before .before .before .before .before .before .args) .filter-paints .now)) ((c .before .before .before .before .before .before .before .before .before .before .before .before .before .before .before .before .before .before .before .before .before .before .before .before .before .before .before .before .before .before .before .before .args) .out .now) (sym ((c .before .before .before .before .before .before .before .before .before .before .before .before .before .before .before .before .before .before .before .is-good-bytes) .ensures) ∙ not-false _ ((c .before .before .before .before .before .before .before .before .before .before .before .before .before .before .before .before .before .before .if1) .left)) (sym ((c .before .before .before .before .before .before .before .before .before .before .before .before .before .before .before .before .before .is-roomy) .ensures) ∙ not-false _ ((c .before .before .before .before .before .before .before .before .before .before .before .before .before .before .before .before .if2) .left)) .tables
-
 same-length-3 : tie.Need-same-length-3
-same-length-3 c = (c .before .before .before .before .before .before .before .before .before .before .before .before .before .before .before .before .before .before .before .before .before .before .before .before .before .before .before .before .before .before .before .before .before .before .before .before .words-of-bytes) .kept .1 .0
+same-length-3 c = search needs
 
 same-length-4 : tie.Need-same-length-4
 same-length-4 c = search needs
@@ -80,14 +97,16 @@ same-length-11 c = search needs
 same-length-12 : tie.Need-same-length-12
 same-length-12 c = search needs
 
-same-length-13 : tie.Need-same-length-13
-same-length-13 c = search needs
-
-same-length-14 : tie.Need-same-length-14
-same-length-14 c = search needs
-
-returns-3 : tie.Need-returns-3
-returns-3 c = bytes-shown ((c .before .before .before .before .before .before .before .before .before .before .before .before .before .before .before .before .before .before .before .before .before .before .before .before .before .before .before .before .before .before .before .before .before .before .before .before .before .before .before .before .before .before .before .before .before .before .before .before .before .before .before .before .before .before .args) .file .now) ((c .before .before .before .before .before .before .before .before .before .before .before .before .before .before .before .before .before .before .before .before .before .before .before .before .before .before .before .before .before .before .before .before .before .before .before .before .before .before .before .before .before .before .before .before .before .before .before .before .before .before .before .before .before .before .args) .words .now) (tables ((c .before .before .before .before .before .before .before .before .before .before .before .before .before .before .before .before .before .before .before .before .before .before .before .before .before .before .before .before .before .before .before .before .before .before .before .before .before .before .before .before .before .before .before .before .before .before .before .before .before .before .before .before .before .before .args) .render .now) ((c .before .before .before .before .before .before .before .before .before .before .before .before .before .before .before .before .before .before .before .before .before .before .before .before .before .before .before .before .before .before .before .before .before .before .before .before .before .before .before .before .before .before .before .before .before .before .before .before .before .before .before .before .before .before .args) .fills .now) ((c .before .before .before .before .before .before .before .before .before .before .before .before .before .before .before .before .before .before .before .before .before .before .before .before .before .before .before .before .before .before .before .before .before .before .before .before .before .before .before .before .before .before .before .before .before .before .before .before .before .before .before .before .before .before .args) .depth .now) ((c .before .before .before .before .before .before .before .before .before .before .before .before .before .before .before .before .before .before .before .before .before .before .before .before .before .before .before .before .before .before .before .before .before .before .before .before .before .before .before .before .before .before .before .before .before .before .before .before .before .before .before .before .before .before .args) .rows .now) ((c .before .before .before .before .before .before .before .before .before .before .before .before .before .before .before .before .before .before .before .before .before .before .before .before .before .before .before .before .before .before .before .before .before .before .before .before .before .before .before .before .before .before .before .before .before .before .before .before .before .before .before .before .before .before .args) .painting .now) ((c .before .before .before .before .before .before .before .before .before .before .before .before .before .before .before .before .before .before .before .before .before .before .before .before .before .before .before .before .before .before .before .before .before .before .before .before .before .before .before .before .before .before .before .before .before .before .before .before .before .before .before .before .before .before .args) .layers .now) ((c .before .before .before .before .before .before .before .before .before .before .before .before .before .before .before .before .before .before .before .before .before .before .before .before .before .before .before .before .before .before .before .before .before .before .before .before .before .before .before .before .before .before .before .before .before .before .before .before .before .before .before .before .before .before .args) .opacities .now) ((c .before .before .before .before .before .before .before .before .before .before .before .before .before .before .before .before .before .before .before .before .before .before .before .before .before .before .before .before .before .before .before .before .before .before .before .before .before .before .before .before .before .before .before .before .before .before .before .before .before .before .before .before .before .before .args) .paint-attrs .now) ((c .before .before .before .before .before .before .before .before .before .before .before .before .before .before .before .before .before .before .before .before .before .before .before .before .before .before .before .before .before .before .before .before .before .before .before .before .before .before .before .before .before .before .before .before .before .before .before .before .before .before .before .before .before .before .args) .layer-attrs .now) ((c .before .before .before .before .before .before .before .before .before .before .before .before .before .before .before .before .before .before .before .before .before .before .before .before .before .before .before .before .before .before .before .before .before .before .before .before .before .before .before .before .before .before .before .before .before .before .before .before .before .before .before .before .before .before .args) .filter-paints .now)) ((c .before .before .before .before .before .before .before .before .before .before .before .before .before .before .before .before .before .before .before .before .before .before .before .before .before .before .before .before .before .before .before .before .before .before .before .before .before .before .before .before .before .before .before .before .before .before .before .before .before .before .before .before .before .before .args) .out .now) (sym ((c .before .before .before .before .before .before .before .before .before .before .before .before .before .before .before .before .before .before .before .before .before .before .before .before .before .before .before .before .before .before .before .before .before .before .before .before .before .before .before .before .before .is-good-bytes) .ensures) ∙ not-false _ ((c .before .before .before .before .before .before .before .before .before .before .before .before .before .before .before .before .before .before .before .before .before .before .before .before .before .before .before .before .before .before .before .before .before .before .before .before .before .before .before .before .if1) .left)) (sym ((c .before .before .before .before .before .before .before .before .before .before .before .before .before .before .before .before .before .before .before .before .before .before .before .before .before .before .before .before .before .before .before .before .before .before .before .before .before .before .before .is-roomy) .ensures) ∙ not-false _ ((c .before .before .before .before .before .before .before .before .before .before .before .before .before .before .before .before .before .before .before .before .before .before .before .before .before .before .before .before .before .before .before .before .before .before .before .before .before .before .if2) .left)) ((c .before .before .before .before .before .before .before .before .before .before .before .before .before .before .before .before .before .before .before .before .before .before .before .before .before .before .before .before .before .before .before .before .before .before .before .before .words-of-bytes) .ensures) ((c .before .before .before .before .before .before .before .before .before .before .before .before .before .before .before .before .before .before .before .before .before .words-text) .ensures)
+returns-2 : tie.Need-returns-2
+returns-2 c =
+    let at-words-text = c .before .before .before .before .before .before .before .before .before .before .before .before .before .before .before .before .before .before .before .before .before in
+    let at-words-of-bytes = at-words-text .before .before .before .before .before .before .before .before .before .before .before .before .before .before in
+    let at-no-words = at-words-of-bytes .before .before in
+    let at-if1 = at-no-words .before in
+    let at-is-good-bytes = at-if1 .before in
+    let entry = at-is-good-bytes .before .before .before .before .before .before .before .before .before .before .before .before in
+    bytes-shown (entry .args .file .now) (at-no-words .no-words .result) (sym (at-is-good-bytes .is-good-bytes .ensures) ∙ not-false _ (at-if1 .if1 .left)) (at-words-of-bytes .words-of-bytes .ensures)
+    (tables (entry .args .render .now) (entry .args .fills .now) (entry .args .depth .now) (entry .args .rows .now) (entry .args .painting .now) (entry .args .layers .now) (entry .args .opacities .now) (entry .args .paint-attrs .now) (entry .args .layer-attrs .now) (entry .args .filter-paints .now)) (entry .args .out .now) (at-words-text .words-text .ensures)
 
 pub file-text-spec : {M : Type 1} → statement M
 file-text-spec =
@@ -98,15 +117,13 @@ file-text-spec =
     refuse-requires
     same-length
     returns
-    is-roomy-requires
-    no-screen-requires-2
-    refuse-requires-2
-    same-length-2
-    returns-2
+    no-words-requires
+    slice-aggregate-words-of-bytes
     words-of-bytes-requires
-    slice-reshare-prefix-words-text
+    array-share-prefix-words
     slice-aggregate-words-text
     words-text-requires
+    same-length-2
     same-length-3
     same-length-4
     same-length-5
@@ -117,6 +134,4 @@ file-text-spec =
     same-length-10
     same-length-11
     same-length-12
-    same-length-13
-    same-length-14
-    returns-3)
+    returns-2)

@@ -1,8 +1,9 @@
-use mathlib.Core.Path.{sym}
-use native.Mathlib.Omega.{arith}
-use lib.Seq.{length-take-le}
+-- 3 and 2 of the file, then 4 of the tables, then the text.
+use mathlib.Core.Path.{sym, _∙_}
+use Rattle.list.proofs.Runs.{not-true, not-false}
 use Rattle.screen.specs.Tables.{tables}
-use Rattle.listing.proofs.Texts.{small, words-refused, words-shown}
+use Rattle.listing.proofs.Bytes.{enough}
+use Rattle.listing.proofs.Texts.{words-refused, words-short, words-shown}
 use borrow.Author.Needs.{needs}
 use Rattle.listing.proofs.words_text.Statement.{statement}
 use Rattle.listing.proofs.words_text.Tie as tie
@@ -20,58 +21,44 @@ same-length : tie.Need-same-length
 same-length c = search needs
 
 returns : tie.Need-returns
-returns c = words-refused ((c .before .before .before .before .before .before .before .before .before .before .before .before .before .before .before .before .before .before .before .args) .file .now) (tables ((c .before .before .before .before .before .before .before .before .before .before .before .before .before .before .before .before .before .before .before .args) .render .now) ((c .before .before .before .before .before .before .before .before .before .before .before .before .before .before .before .before .before .before .before .args) .fills .now) ((c .before .before .before .before .before .before .before .before .before .before .before .before .before .before .before .before .before .before .before .args) .depth .now) ((c .before .before .before .before .before .before .before .before .before .before .before .before .before .before .before .before .before .before .before .args) .rows .now) ((c .before .before .before .before .before .before .before .before .before .before .before .before .before .before .before .before .before .before .before .args) .painting .now) ((c .before .before .before .before .before .before .before .before .before .before .before .before .before .before .before .before .before .before .before .args) .layers .now) ((c .before .before .before .before .before .before .before .before .before .before .before .before .before .before .before .before .before .before .before .args) .opacities .now) ((c .before .before .before .before .before .before .before .before .before .before .before .before .before .before .before .before .before .before .before .args) .paint-attrs .now) ((c .before .before .before .before .before .before .before .before .before .before .before .before .before .before .before .before .before .before .before .args) .layer-attrs .now) ((c .before .before .before .before .before .before .before .before .before .before .before .before .before .before .before .before .before .before .before .args) .filter-paints .now)) ((c .before .before .before .before .before .before .before .before .before .before .before .before .before .before .before .before .before .before .before .args) .out .now) ((c .before .before .before .before .before .before .before .size-of) .ensures .0) ((c .before .before .before .before .no-screen) .ensures) ((c .before .before .before .before .before .if1) .taken) ((c .before .before .refuse) .ensures)
+returns c =
+    let at-refuse = c .before .before in
+    let at-no-screen = at-refuse .before .before in
+    let at-if1 = at-no-screen .before in
+    let at-size-of = at-if1 .before .before in
+    let entry = at-size-of .before .before .before .before .before .before .before .before .before .before .before .before in
+    words-refused (entry .args .file .now) (tables (entry .args .render .now) (entry .args .fills .now) (entry .args .depth .now) (entry .args .rows .now) (entry .args .painting .now) (entry .args .layers .now) (entry .args .opacities .now) (entry .args .paint-attrs .now) (entry .args .layer-attrs .now) (entry .args .filter-paints .now)) (entry .args .out .now) (at-size-of .size-of .ensures .0) (at-no-screen .no-screen .ensures) (at-if1 .if1 .taken) (at-refuse .refuse .ensures)
 
-mul-recording-text : tie.Need-mul-recording-text
-mul-recording-text c = search needs
+is-roomy-requires : tie.Need-is-roomy-requires
+is-roomy-requires c κs = search needs
 
-slice-relend-prefix-recording-text : tie.Need-slice-relend-prefix-recording-text
-slice-relend-prefix-recording-text c = search needs
+no-screen-requires-2 : tie.Need-no-screen-requires-2
+no-screen-requires-2 c κs = search needs
 
-slice-aggregate-recording-text : tie.Need-slice-aggregate-recording-text
-slice-aggregate-recording-text c = sym (length-take-le _ _ (omega (arith, (c .before .before .before .size-of) .ensures .1 .0, (c .before .before .before .before .before .before .before .before .before .before .before .before .before .before .before .pre) .render)))
-
-mul-recording-text-2 : tie.Need-mul-recording-text-2
-mul-recording-text-2 c = search needs
-
-slice-relend-prefix-recording-text-2 : tie.Need-slice-relend-prefix-recording-text-2
-slice-relend-prefix-recording-text-2 c = search needs
-
-slice-aggregate-recording-text-2 : tie.Need-slice-aggregate-recording-text-2
-slice-aggregate-recording-text-2 c = sym (length-take-le _ _ (omega (arith, (c .before .before .before .before .size-of) .ensures .1 .0, (c .before .before .before .before .before .before .before .before .before .before .before .before .before .before .before .before .pre) .fills)))
-
-mul-recording-text-3 : tie.Need-mul-recording-text-3
-mul-recording-text-3 c = record { fits = omega (arith, small _ _ ((c .before .before .before .before .size-of) .ensures .1 .0) ((c .before .before .before .before .size-of) .ensures .1 .1)) }
-
-slice-relend-prefix-recording-text-3 : tie.Need-slice-relend-prefix-recording-text-3
-slice-relend-prefix-recording-text-3 c = omega (arith, small _ _ ((c .before .before .before .before .size-of) .ensures .1 .0) ((c .before .before .before .before .size-of) .ensures .1 .1), (c .before .before .before .before .before .before .before .before .before .before .before .before .before .before .before .before .pre) .depth)
-
-slice-aggregate-recording-text-3 : tie.Need-slice-aggregate-recording-text-3
-slice-aggregate-recording-text-3 c = sym (length-take-le _ _ (omega (arith, small _ _ ((c .before .before .before .before .before .size-of) .ensures .1 .0) ((c .before .before .before .before .before .size-of) .ensures .1 .1), (c .before .before .before .before .before .before .before .before .before .before .before .before .before .before .before .before .before .pre) .depth)))
-
-mul-recording-text-4 : tie.Need-mul-recording-text-4
-mul-recording-text-4 c = search needs
-
-slice-relend-prefix-recording-text-4 : tie.Need-slice-relend-prefix-recording-text-4
-slice-relend-prefix-recording-text-4 c = search needs
-
-slice-aggregate-recording-text-4 : tie.Need-slice-aggregate-recording-text-4
-slice-aggregate-recording-text-4 c = sym (length-take-le _ _ (omega (arith, (c .before .before .before .before .before .before .size-of) .ensures .1 .0, (c .before .before .before .before .before .before .before .before .before .before .before .before .before .before .before .before .before .before .pre) .rows)))
-
-mul-recording-text-5 : tie.Need-mul-recording-text-5
-mul-recording-text-5 c = search needs
-
-slice-relend-prefix-recording-text-5 : tie.Need-slice-relend-prefix-recording-text-5
-slice-relend-prefix-recording-text-5 c = search needs
-
-slice-aggregate-recording-text-5 : tie.Need-slice-aggregate-recording-text-5
-slice-aggregate-recording-text-5 c = sym (length-take-le _ _ (omega (arith, (c .before .before .before .before .before .before .before .size-of) .ensures .1 .0, (c .before .before .before .before .before .before .before .before .before .before .before .before .before .before .before .before .before .before .before .pre) .painting)))
-
-recording-text-requires : tie.Need-recording-text-requires
-recording-text-requires c κs = search needs
+refuse-requires-2 : tie.Need-refuse-requires-2
+refuse-requires-2 c κs = search needs
 
 same-length-2 : tie.Need-same-length-2
 same-length-2 c = search needs
+
+returns-2 : tie.Need-returns-2
+returns-2 c =
+    let at-refuse2 = c .before .before in
+    let at-no-screen2 = at-refuse2 .before .before in
+    let at-if2 = at-no-screen2 .before in
+    let at-is-roomy = at-if2 .before in
+    let at-if1 = at-is-roomy .before in
+    let at-size-of = at-if1 .before .before in
+    let entry = at-size-of .before .before .before .before .before .before .before .before .before .before .before .before in
+    words-short (entry .args .file .now) (tables (entry .args .render .now) (entry .args .fills .now) (entry .args .depth .now) (entry .args .rows .now) (entry .args .painting .now) (entry .args .layers .now) (entry .args .opacities .now) (entry .args .paint-attrs .now) (entry .args .layer-attrs .now) (entry .args .filter-paints .now)) (entry .args .out .now) (at-size-of .size-of .ensures .0) (at-no-screen2 .no-screen2 .ensures) (at-if1 .if1 .left) (sym (at-is-roomy .is-roomy .ensures) ∙ not-true _ (at-if2 .if2 .taken)) (at-refuse2 .refuse2 .ensures)
+
+front-text-requires : tie.Need-front-text-requires
+front-text-requires c κs =
+    let at-if2 = c .before .before .before .before .before .before .before .before .before .before .before in
+    let at-is-roomy = at-if2 .before in
+    let at-size-of = at-is-roomy .before .before .before in
+    let entry = at-size-of .before .before .before .before .before .before .before .before .before .before .before .before in
+    (enough (tables (entry .args .render .now) (entry .args .fills .now) (entry .args .depth .now) (entry .args .rows .now) (entry .args .painting .now) (entry .args .layers .now) (entry .args .opacities .now) (entry .args .paint-attrs .now) (entry .args .layer-attrs .now) (entry .args .filter-paints .now)) (sym (at-is-roomy .is-roomy .ensures) ∙ not-false _ (at-if2 .if2 .left)), at-size-of .size-of .ensures .1 .0, at-size-of .size-of .ensures .1 .1)
 
 same-length-3 : tie.Need-same-length-3
 same-length-3 c = search needs
@@ -103,8 +90,18 @@ same-length-11 c = search needs
 same-length-12 : tie.Need-same-length-12
 same-length-12 c = search needs
 
-returns-2 : tie.Need-returns-2
-returns-2 c = words-shown ((c .before .before .before .before .before .before .before .before .before .before .before .before .before .before .before .before .before .before .before .before .before .before .before .before .before .before .before .before .before .before .before .before .before .before .before .before .before .before .before .before .before .before .before .before .before .before .before .args) .file .now) (tables ((c .before .before .before .before .before .before .before .before .before .before .before .before .before .before .before .before .before .before .before .before .before .before .before .before .before .before .before .before .before .before .before .before .before .before .before .before .before .before .before .before .before .before .before .before .before .before .before .args) .render .now) ((c .before .before .before .before .before .before .before .before .before .before .before .before .before .before .before .before .before .before .before .before .before .before .before .before .before .before .before .before .before .before .before .before .before .before .before .before .before .before .before .before .before .before .before .before .before .before .before .args) .fills .now) ((c .before .before .before .before .before .before .before .before .before .before .before .before .before .before .before .before .before .before .before .before .before .before .before .before .before .before .before .before .before .before .before .before .before .before .before .before .before .before .before .before .before .before .before .before .before .before .before .args) .depth .now) ((c .before .before .before .before .before .before .before .before .before .before .before .before .before .before .before .before .before .before .before .before .before .before .before .before .before .before .before .before .before .before .before .before .before .before .before .before .before .before .before .before .before .before .before .before .before .before .before .args) .rows .now) ((c .before .before .before .before .before .before .before .before .before .before .before .before .before .before .before .before .before .before .before .before .before .before .before .before .before .before .before .before .before .before .before .before .before .before .before .before .before .before .before .before .before .before .before .before .before .before .before .args) .painting .now) ((c .before .before .before .before .before .before .before .before .before .before .before .before .before .before .before .before .before .before .before .before .before .before .before .before .before .before .before .before .before .before .before .before .before .before .before .before .before .before .before .before .before .before .before .before .before .before .before .args) .layers .now) ((c .before .before .before .before .before .before .before .before .before .before .before .before .before .before .before .before .before .before .before .before .before .before .before .before .before .before .before .before .before .before .before .before .before .before .before .before .before .before .before .before .before .before .before .before .before .before .before .args) .opacities .now) ((c .before .before .before .before .before .before .before .before .before .before .before .before .before .before .before .before .before .before .before .before .before .before .before .before .before .before .before .before .before .before .before .before .before .before .before .before .before .before .before .before .before .before .before .before .before .before .before .args) .paint-attrs .now) ((c .before .before .before .before .before .before .before .before .before .before .before .before .before .before .before .before .before .before .before .before .before .before .before .before .before .before .before .before .before .before .before .before .before .before .before .before .before .before .before .before .before .before .before .before .before .before .before .args) .layer-attrs .now) ((c .before .before .before .before .before .before .before .before .before .before .before .before .before .before .before .before .before .before .before .before .before .before .before .before .before .before .before .before .before .before .before .before .before .before .before .before .before .before .before .before .before .before .before .before .before .before .before .args) .filter-paints .now)) ((c .before .before .before .before .before .before .before .before .before .before .before .before .before .before .before .before .before .before .before .before .before .before .before .before .before .before .before .before .before .before .before .before .before .before .before .before .before .before .before .before .before .before .before .before .before .before .before .args) .out .now) ((c .before .before .before .before .before .before .before .before .before .before .before .before .before .before .before .before .before .before .before .before .before .before .before .before .before .before .before .before .before .before .before .before .before .before .before .size-of) .ensures .0) ((c .before .before .before .before .before .before .before .before .before .before .before .before .before .before .before .before .before .before .before .before .before .before .before .before .before .before .before .before .before .before .before .before .before .if1) .left) ((c .before .before .before .before .before .before .before .before .before .before .before .before .before .before .before .before .before .before .before .before .before .recording-text) .ensures)
+same-length-13 : tie.Need-same-length-13
+same-length-13 c = search needs
+
+returns-3 : tie.Need-returns-3
+returns-3 c =
+    let at-front-text = c .before .before .before .before .before .before .before .before .before .before .before .before .before .before .before .before .before .before .before .before .before in
+    let at-if2 = at-front-text .before .before .before .before .before .before .before .before .before .before .before .before in
+    let at-is-roomy = at-if2 .before in
+    let at-if1 = at-is-roomy .before in
+    let at-size-of = at-if1 .before .before in
+    let entry = at-size-of .before .before .before .before .before .before .before .before .before .before .before .before in
+    words-shown (entry .args .file .now) (tables (entry .args .render .now) (entry .args .fills .now) (entry .args .depth .now) (entry .args .rows .now) (entry .args .painting .now) (entry .args .layers .now) (entry .args .opacities .now) (entry .args .paint-attrs .now) (entry .args .layer-attrs .now) (entry .args .filter-paints .now)) (entry .args .out .now) (at-size-of .size-of .ensures .0) (at-if1 .if1 .left) (sym (at-is-roomy .is-roomy .ensures) ∙ not-false _ (at-if2 .if2 .left)) (at-front-text .front-text .ensures)
 
 pub words-text-spec : {M : Type 1} → statement M
 words-text-spec =
@@ -115,23 +112,12 @@ words-text-spec =
     refuse-requires
     same-length
     returns
-    mul-recording-text
-    slice-relend-prefix-recording-text
-    slice-aggregate-recording-text
-    mul-recording-text-2
-    slice-relend-prefix-recording-text-2
-    slice-aggregate-recording-text-2
-    mul-recording-text-3
-    slice-relend-prefix-recording-text-3
-    slice-aggregate-recording-text-3
-    mul-recording-text-4
-    slice-relend-prefix-recording-text-4
-    slice-aggregate-recording-text-4
-    mul-recording-text-5
-    slice-relend-prefix-recording-text-5
-    slice-aggregate-recording-text-5
-    recording-text-requires
+    is-roomy-requires
+    no-screen-requires-2
+    refuse-requires-2
     same-length-2
+    returns-2
+    front-text-requires
     same-length-3
     same-length-4
     same-length-5
@@ -142,4 +128,5 @@ words-text-spec =
     same-length-10
     same-length-11
     same-length-12
-    returns-2)
+    same-length-13
+    returns-3)

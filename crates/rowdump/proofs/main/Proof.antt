@@ -1,3 +1,4 @@
+-- Each turn counts one recording.
 use Prim.Native.Nat.{_-_}
 use native.Mathlib.Omega.{arith}
 use Rattle.rowdump.proofs.main.Statement.{statement}

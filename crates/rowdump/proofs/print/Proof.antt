@@ -1,3 +1,4 @@
+-- The first bytes, as far as there are so many.
 use mathlib.Core.Path.{sym}
 use lib.Seq.{length-take-le}
 use borrow.Author.Needs.{needs}
@@ -5,7 +6,7 @@ use Rattle.rowdump.proofs.print.Statement.{statement}
 use Rattle.rowdump.proofs.print.Tie as tie
 
 slice-aggregate-write-all : tie.Need-slice-aggregate-write-all
-slice-aggregate-write-all c = sym (length-take-le _ _ ((c .before .if1) .taken))
+slice-aggregate-write-all c = sym (length-take-le _ _ (c .before .if1 .taken))
 
 write-all-requires : tie.Need-write-all-requires
 write-all-requires c κs = search needs

@@ -1,3 +1,4 @@
+-- The first bytes are the file.
 use mathlib.Core.Path.{sym}
 use lib.Seq.{length-take-le}
 use borrow.Author.Needs.{needs}
@@ -5,7 +6,7 @@ use Rattle.rowdump.proofs.print_file.Statement.{statement}
 use Rattle.rowdump.proofs.print_file.Tie as tie
 
 slice-aggregate-print-recording : tie.Need-slice-aggregate-print-recording
-slice-aggregate-print-recording c = sym (length-take-le _ _ ((c .before .if1) .taken))
+slice-aggregate-print-recording c = sym (length-take-le _ _ (c .before .if1 .taken))
 
 print-recording-requires : tie.Need-print-recording-requires
 print-recording-requires c κs = search needs

@@ -1,9 +1,7 @@
+-- Tables of the programs' own lengths are lent.
 use borrow.Author.Needs.{needs}
 use Rattle.rowdump.proofs.print_recording.Statement.{statement}
 use Rattle.rowdump.proofs.print_recording.Tie as tie
-
-file-words-requires : tie.Need-file-words-requires
-file-words-requires c κs = search needs
 
 render-words-requires : tie.Need-render-words-requires
 render-words-requires c κs = search needs
@@ -89,9 +87,6 @@ slice-aggregate-file-text-10 c = search needs
 slice-aggregate-file-text-11 : tie.Need-slice-aggregate-file-text-11
 slice-aggregate-file-text-11 c = search needs
 
-slice-aggregate-file-text-12 : tie.Need-slice-aggregate-file-text-12
-slice-aggregate-file-text-12 c = search needs
-
 file-text-requires : tie.Need-file-text-requires
 file-text-requires c κs = search needs
 
@@ -103,6 +98,9 @@ print-requires c κs = search needs
 
 returns : tie.Need-returns
 returns c = search needs
+
+returns-2 : tie.Need-returns-2
+returns-2 c = search needs
 
 slice-aggregate-print-screen : tie.Need-slice-aggregate-print-screen
 slice-aggregate-print-screen c = search needs
@@ -132,7 +130,10 @@ slice-aggregate-print-screen-9 : tie.Need-slice-aggregate-print-screen-9
 slice-aggregate-print-screen-9 c = search needs
 
 slice-aggregate-print-screen-10 : tie.Need-slice-aggregate-print-screen-10
-slice-aggregate-print-screen-10 c = (c .before .before .before .before .before .before .before .before .before .before .before .before .before .before .before .before .before .before .before .before .before .before .before .before .before .before .before .before .before .before .before .before .before .before .before .before .before .before .before .before .before .before .before .before .before .before .piece-words) .ensures
+slice-aggregate-print-screen-10 c =
+    let at-text = c .before .before .before .before .before .before .before .before .before .before .before .before .before .before .before .before .before .before .before .before in
+    let at-pieces = at-text .before .before .before .before .before .before .before .before .before .before .before .before .before .before .before .before .before .before .before .before .before .before .before .before .before in
+    at-pieces .piece-words .ensures
 
 slice-aggregate-print-screen-11 : tie.Need-slice-aggregate-print-screen-11
 slice-aggregate-print-screen-11 c = search needs
@@ -140,14 +141,13 @@ slice-aggregate-print-screen-11 c = search needs
 print-screen-requires : tie.Need-print-screen-requires
 print-screen-requires c κs = search needs
 
-returns-2 : tie.Need-returns-2
-returns-2 c = search needs
+returns-3 : tie.Need-returns-3
+returns-3 c = search needs
 
 pub print-recording-spec : {M : Type 1} → statement M
 print-recording-spec =
     tie.close
     (tie.spec
-    file-words-requires
     render-words-requires
     fill-words-requires
     depth-words-requires
@@ -176,11 +176,11 @@ print-recording-spec =
     slice-aggregate-file-text-9
     slice-aggregate-file-text-10
     slice-aggregate-file-text-11
-    slice-aggregate-file-text-12
     file-text-requires
     slice-aggregate-print
     print-requires
     returns
+    returns-2
     slice-aggregate-print-screen
     slice-aggregate-print-screen-2
     slice-aggregate-print-screen-3
@@ -193,4 +193,4 @@ print-recording-spec =
     slice-aggregate-print-screen-10
     slice-aggregate-print-screen-11
     print-screen-requires
-    returns-2)
+    returns-3)

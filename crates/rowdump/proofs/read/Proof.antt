@@ -1,17 +1,18 @@
+-- Into the first bytes, as far as there are so many.
 use mathlib.Core.Path.{sym}
 use lib.Seq.{length-take-le}
 use borrow.Author.Needs.{needs}
 use Rattle.rowdump.proofs.read.Statement.{statement}
 use Rattle.rowdump.proofs.read.Tie as tie
 
-slice-relend-prefix-read-full : tie.Need-slice-relend-prefix-read-full
-slice-relend-prefix-read-full c = search needs
+slice-relend-prefix-read-all : tie.Need-slice-relend-prefix-read-all
+slice-relend-prefix-read-all c = search needs
 
-slice-aggregate-read-full : tie.Need-slice-aggregate-read-full
-slice-aggregate-read-full c = sym (length-take-le _ _ ((c .before .if1) .taken))
+slice-aggregate-read-all : tie.Need-slice-aggregate-read-all
+slice-aggregate-read-all c = sym (length-take-le _ _ (c .before .if1 .taken))
 
-read-full-requires : tie.Need-read-full-requires
-read-full-requires c κs = search needs
+read-all-requires : tie.Need-read-all-requires
+read-all-requires c κs = search needs
 
 same-length : tie.Need-same-length
 same-length c = search needs
@@ -19,8 +20,8 @@ same-length c = search needs
 returns : tie.Need-returns
 returns c = search needs
 
-read-full-requires-2 : tie.Need-read-full-requires-2
-read-full-requires-2 c κs = search needs
+read-all-requires-2 : tie.Need-read-all-requires-2
+read-all-requires-2 c κs = search needs
 
 same-length-2 : tie.Need-same-length-2
 same-length-2 c = search needs
@@ -32,11 +33,11 @@ pub read-spec : {M : Type 1} → statement M
 read-spec =
     tie.close
     (tie.spec
-    slice-relend-prefix-read-full
-    slice-aggregate-read-full
-    read-full-requires
+    slice-relend-prefix-read-all
+    slice-aggregate-read-all
+    read-all-requires
     same-length
     returns
-    read-full-requires-2
+    read-all-requires-2
     same-length-2
     returns-2)

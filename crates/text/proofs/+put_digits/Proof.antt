@@ -30,7 +30,7 @@ put-digits-returns : (t : ℕ) → put-digits-lts.Need-returns (
   put-digits-below t,
   put-digits.Post,
 ) (put-digits-at t) put-digits.Post
-put-digits-returns t c = no-digits _ _ (c .if1 .taken) (omega arith)
+put-digits-returns t c = no-digits _ _ (c .if1 .taken)
 
 put-digits-digit-requires : (t : ℕ) → put-digits-lts.Need-digit-requires (
   digit-reads.Asked,

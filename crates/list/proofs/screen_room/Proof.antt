@@ -1,8 +1,9 @@
+-- A product of a row count and a row's bytes, small enough for the machine.
 use native.Mathlib.Omega.{arith}
 use Rattle.list.proofs.Judging.{small}
 use borrow.Author.Needs.{needs}
-use Rattle.list.proofs.room_asked.Statement.{statement}
-use Rattle.list.proofs.room_asked.Tie as tie
+use Rattle.list.proofs.screen_room.Statement.{statement}
+use Rattle.list.proofs.screen_room.Tie as tie
 
 wide-requires : tie.Need-wide-requires
 wide-requires c κs = search needs
@@ -28,8 +29,8 @@ add-result-3 c = record { fits = omega (arith, small _ ((c .before .wide) .resul
 returns : tie.Need-returns
 returns c = rw ((c .before .wide) .ensures, (c .wide2) .ensures)
 
-pub room-asked-spec : {M : Type 1} → statement M
-room-asked-spec =
+pub screen-room-spec : {M : Type 1} → statement M
+screen-room-spec =
     tie.close
     (tie.spec
     wide-requires

@@ -1,0 +1,1 @@
+// Proofs only: the text of a painted row is the rules' text of it.

@@ -1,0 +1,86 @@
+// What the programs have in common: their tables, the text of a file's bytes, reading to the end. Parts: where a function asks something,
+// the programs have seen to it.
+use listing::file_text;
+ghost use mathlib.Core.Path.{_≡_};
+ghost use Prim.Native.Nat.{_≤_};
+ghost use lib.ListN.{length};
+ghost use Rattle.text_programs.specs.Programs.{rowlist-text, first};
+
+pub mod tables;
+
+use crate::tables::depth_words;
+use crate::tables::fill_words;
+use crate::tables::filter_words;
+use crate::tables::layer_attr_words;
+use crate::tables::layer_words;
+use crate::tables::opacity_words;
+use crate::tables::painting_words;
+use crate::tables::render_words;
+use crate::tables::row_words;
+
+// The text that `rowlist` prints of a file's bytes, put first; how long it is. The room is that of the longest text.
+pub fn rowlist_text(file: &[u8], out: &mut [u8]) -> usize
+    requires { ⌜ 264256 ≤ length (now out) ⌝ }
+    ensures { λ r. ⌜ r ≡ length (rowlist-text (now (file .entry))) ⌝ }
+    ensures { λ r. ⌜ now (out .exit) ≡ first (rowlist-text (now (file .entry))) (now (out .entry)) ⌝ }
+{
+    let mut render = render_words();
+    let mut fills = fill_words();
+    let mut depth = depth_words();
+    let mut rows = row_words();
+    let mut painting = painting_words();
+    let mut layers = layer_words();
+    let mut opacities = opacity_words();
+    let mut paint_attrs = render_words();
+    let mut layer_attrs = layer_attr_words();
+    let mut filter_paints = filter_words();
+    let text = file_text(
+        file,
+        &mut render,
+        &mut fills,
+        &mut depth,
+        &mut rows,
+        &mut painting,
+        &mut layers,
+        &mut opacities,
+        &mut paint_attrs,
+        &mut layer_attrs,
+        &mut filter_paints,
+        out,
+    );
+    text.bytes
+}
+
+// failed: a read failed. count: how many bytes were read before that, or before the end.
+pub struct Input {
+    pub failed: bool,
+    pub count: usize,
+}
+
+// Reads until the bytes are full, the input ends or a read fails.
+pub fn read_all(fd: i32, buf: &mut [u8]) -> Input
+    ensures { λ r. ⌜ r .count ≤ length (now (buf .exit)) ⌝ }
+{
+    let mut done = 0;
+    while done < buf.len() {
+        let got = libc::read(fd, &mut buf[done..]);
+        if got < 0 {
+            return Input {
+                failed: true,
+                count: done,
+            };
+        }
+        let n = io::count(got, &buf[done..]);
+        if n == 0 {
+            return Input {
+                failed: false,
+                count: done,
+            };
+        }
+        done += n;
+    }
+    Input {
+        failed: false,
+        count: done,
+    }
+}

@@ -93,17 +93,17 @@ module _ (s : Screen) (r : ℕ) (a t x y : Bool) (k n : ℕ) (e : x ≡ a) (f : 
   unfolding step-number
   step-refused i = rw (← step-first, ne-eqb n 0 i)
 
-  pub step-layers : n ≡ 0 → (s .layers ≡ 0 → ⊥) → 13 ≡ step-number s r a t
+  pub step-layers : n ≡ 0 → 0 < s .layers → 13 ≡ step-number s r a t
   unfolding step-number
-  step-layers i j = rw (← step-first, eq-eqb n 0 i, ne-eqb (s .layers) 0 j)
+  step-layers i j = rw (← step-first, eq-eqb n 0 i, ne-eqb (s .layers) 0 (λ z. absurd (omega (arith, j, z))))
 
-  pub step-idle : n ≡ 0 → s .layers ≡ 0 → s .painting ≡ false → 13 ≡ step-number s r a t
+  pub step-idle : n ≡ 0 → s .layers ≤ 0 → s .painting ≡ false → 13 ≡ step-number s r a t
   unfolding step-number
-  step-idle i j p = rw (← step-first, eq-eqb n 0 i, eq-eqb (s .layers) 0 j, p)
+  step-idle i j p = rw (← step-first, eq-eqb n 0 i, eq-eqb (s .layers) 0 (omega (arith, j)), p)
 
-  pub step-good : n ≡ 0 → s .layers ≡ 0 → s .painting ≡ true → 0 ≡ step-number s r a t
+  pub step-good : n ≡ 0 → s .layers ≤ 0 → s .painting ≡ true → 0 ≡ step-number s r a t
   unfolding step-number
-  step-good i j p = rw (← step-first, eq-eqb n 0 i, eq-eqb (s .layers) 0 j, p)
+  step-good i j p = rw (← step-first, eq-eqb n 0 i, eq-eqb (s .layers) 0 (omega (arith, j)), p)
 
 module _ (s : Screen) (r k n : ℕ) (h : n ≡ of-row k s r) where
   pub runs-are : (depth : ℕ) (x : Bool) → x ≡ depth-long s depth → k ≡ judged s x true → n ≡ runs-number s r depth

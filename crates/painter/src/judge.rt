@@ -126,7 +126,7 @@ pub fn judge_step(
     if n != 0 {
         return n;
     }
-    if screen.layers != 0 {
+    if 0 < screen.layers {
         return 13;
     }
     if !screen.painting {

@@ -1,17 +1,12 @@
 -- The building calls at a screen and all its words, each by the definition that its contract cites on its part of what is lent, and the step
 -- of the rules that the words of a call say.
 use Prim.Native.Nat.{ℕ}
-use mathlib.Core.Bool.{cond}
 use mathlib.Core.List.{List}
-use lib.Ieee.{binary32, isNan, toBits}
 use Rattle.rules.specs.Answers.{Answer}
-use Rattle.rules.specs.Inputs.{Props}
 use Rattle.rules.specs.Plans.{Step, a-fill, a-pop, a-filter}
-use Rattle.cmd.specs.Blends.{blend-of}
 use Rattle.segments.specs.Segs.{segs-of}
 use Rattle.screen.specs.Tables.{Lent}
 use Rattle.layers.specs.declared.LayerProps.{LayerProps}
-use Rattle.layers.specs.Layers.{clip-of}
 use Rattle.fill.specs.declared.Draw.{Draw}
 use Rattle.fill.specs.Fills.{draw-of, paints-of, filled}
 use Rattle.push.specs.Push.{pushed}
@@ -39,16 +34,6 @@ filter-at p m n l = with-value (filter-into (l .tables)) (filtered (given p m n)
 -- what the words say: a paint's two shift words are read by no rule
 abbrev pub fill-said : List ℕ → List ℕ → Draw → Step
 fill-said ps ss d = a-fill (paints-of ps) (segs-of ss) (draw-of d)
-
--- the opacity: a NaN's pattern, or the bits of any other f32
-abbrev pub props-said : LayerProps → Props
-props-said p =
-    record {
-      blend = blend-of (p .blend);
-      opacity = cond (isNan (p .opacity)) (p .nan) (toBits binary32 (p .opacity));
-      mask = p .mask;
-      clip = clip-of (p .clip);
-    }
 
 abbrev pub pop-said : List ℕ → Step
 pop-said ss = a-pop (segs-of ss)

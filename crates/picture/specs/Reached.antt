@@ -50,7 +50,7 @@ write-at i id t list l = let o = write-out i id t list l in with-canvas l (o .sc
 
 -- The words l of a screen after a done reset to the frame f and calls on it; xs are the steps that its done building calls say, in order.
 -- Demand 3 calls such a screen *built*: nothing but its own calls has written its words, each given what the last one left. A building call
--- is lent any paints and segments, any properties that are a step's (`push-reached`), any placement. Painting
+-- is lent any paints and segments, any properties that are a step's (those of every done push are: `push-says`), any placement. Painting
 -- calls and writing runs may come between, done or refused. A done recording is a reset and steps (`recorded-reached`), a row painted by one
 -- call is painting steps (`row-reached`). The other calls, and refused building calls (`fill-kept`, ..), leave every lent word as it was: they
 -- need no case.

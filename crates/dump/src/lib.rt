@@ -315,14 +315,15 @@ fn is_short_attrs(
         return false;
     }
     let mut none = [0u8; 0];
-    room < put_attrs(
-        &mut none,
-        screen,
-        paint_attrs,
-        layer_attrs,
-        opacities,
-        filter_paints,
-    )
+    room
+        < put_attrs(
+            &mut none,
+            screen,
+            paint_attrs,
+            layer_attrs,
+            opacities,
+            filter_paints,
+        )
 }
 
 // The text of a screen's attributes and filter paints.

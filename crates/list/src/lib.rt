@@ -348,13 +348,7 @@ fn put_screen(out: &mut [u8], screen: Screen, rows: &[u32], render: &[u32], fill
 }
 
 // Whether the text is longer than so many bytes: it is measured only where they are fewer than it can have at most.
-fn is_short(
-    screen: Screen,
-    rows: &[u32],
-    render: &[u32],
-    fills: &[u32],
-    room: usize,
-) -> bool
+fn is_short(screen: Screen, rows: &[u32], render: &[u32], fills: &[u32], room: usize) -> bool
     requires { ⌜ list-number screen (words (now rows) (now render) (now fills)) ≡ 0 ⌝ }
     ensures { λ r. ⌜ r ≡ (ltb room (screen-room screen) && ltb room (length (text-of (screen-lines screen (words (now (rows .entry)) (now (render .entry)) (now (fills .entry))))))) ⌝ }
 {

@@ -14,12 +14,14 @@ use lib.Ieee.{Float, nan, isNan, nanBits, ne, binary32, ofBits, toBits}
 use lib.Ieee.Bits.{nanBits-is, toBits-ofBits}
 use lib.Ieee.Compare.{differs-from-itself}
 use Rattle.rules.specs.Lists.{join}
+use Rattle.rules.specs.Boxes.{buckets-of}
 use Rattle.rules.specs.Rows.{Row}
+use Rattle.rules.specs.Painting.{paint-row}
 use Rattle.rules.specs.Blends.{default-blend}
-use Rattle.rules.specs.Attributes.{PaintAttr, LayerAttr, FilterPaint, paint-attr-words, layer-attr-words}
+use Rattle.rules.specs.Attributes.{PaintAttr, LayerAttr, FilterPaint, Attrs, paint-attr-words}
 use Rattle.rules.specs.Plans.{Layer}
 use Rattle.rules.specs.Steps.{Screen}
-use Rattle.rules.specs.Details.{Detail, paint-attributes, layer-attributes, filter-paints, paint-attr-line, layer-attr-line, filter-paint-line, attr-lines}
+use Rattle.rules.specs.Details.{Detail, paint-attributes, layer-attributes, filter-paints, paint-attr-line, layer-attr-line, filter-paint-line, attr-lines, painted-row, painted-lines, detail-lines}
 use Rattle.screen.specs.Tables.{float-0}
 use Rattle.filter.specs.Filter.{filter-paint-words}
 use Rattle.reading.specs.Reading.{pattern-of}
@@ -192,3 +194,13 @@ attrs-printed s o small b de pa =
     (sym
     (join-append detail-bytes (paint-attributes (length (a .paints)) ∷ map paint-attr-line (a .paints)) _
     ∙ ap (λ (t : List ℕ). details-text (paint-attributes (length (a .paints)) ∷ map paint-attr-line (a .paints)) ++ t) (join-append detail-bytes (layer-attributes (length (a .layers)) ∷ map layer-attr-line (a .layers)) _)))
+
+-- The text of the rules' details: that of the attributes, then that of each row, in their order.
+pub details-parts : (s : Screen Row) → details-text (detail-lines 32 s)
+    ≡ details-text (attr-lines (s .state .attrs)) ++ details-text (painted-lines 32 (s .state .attrs) (buckets-of 32 (s .state .frame .viewport)) 0 (s .rows))
+details-parts s = join-append detail-bytes (attr-lines (s .state .attrs)) _
+
+pub rows-parts : (w : ℕ) (a : Attrs) (n i : ℕ) (r : Row) (rs : List Row)
+    → details-text (painted-lines w a n i (r ∷ rs)) ≡ details-text (painted-row i (paint-row w a n r)) ++ details-text (painted-lines w a n (suc i) rs)
+unfolding painted-lines
+rows-parts w a n i r rs = join-append detail-bytes (painted-row i (paint-row w a n r)) (painted-lines w a n (suc i) rs)

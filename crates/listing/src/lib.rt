@@ -88,8 +88,10 @@ pub fn recording_text(
     filter_paints: &mut [i32],
     out: &mut [u8],
 ) -> FileText
-    ensures { λ r. ⌜ file-out (showed r (now (out .exit))) (tables (now (render .exit)) (now (fills .exit)) (now (depth .exit)) (now (rows .exit)) (now (painting .exit)) (now (layers .exit)) (now (opacities .exit)) (now («paint_attrs» .exit)) (now («layer_attrs» .exit)) (now («filter_paints» .exit)))
-        ≡ recording-text (now (file .entry)) (tables (now (render .entry)) (now (fills .entry)) (now (depth .entry)) (now (rows .entry)) (now (painting .entry)) (now (layers .entry)) (now (opacities .entry)) (now («paint_attrs» .entry)) (now («layer_attrs» .entry)) (now («filter_paints» .entry))) (now (out .entry)) ⌝ }
+    ensures { λ r. ⌜ file-out (showed r (now (out .exit)))
+        (tables (now (render .exit)) (now (fills .exit)) (now (depth .exit)) (now (rows .exit)) (now (painting .exit)) (now (layers .exit)) (now (opacities .exit)) (now («paint_attrs» .exit)) (now («layer_attrs» .exit)) (now («filter_paints» .exit)))
+        ≡ recording-text (now (file .entry))
+        (tables (now (render .entry)) (now (fills .entry)) (now (depth .entry)) (now (rows .entry)) (now (painting .entry)) (now (layers .entry)) (now (opacities .entry)) (now («paint_attrs» .entry)) (now («layer_attrs» .entry)) (now («filter_paints» .entry))) (now (out .entry)) ⌝ }
 {
     let built = bucket_recording(
         no_screen(),
@@ -170,8 +172,10 @@ fn front_text(
     out: &mut [u8],
 ) -> FileText
     requires { ⌜ Roomy (tables (now render) (now fills) (now depth) (now rows) (now painting) (now layers) (now opacities) (now «paint_attrs») (now «layer_attrs») (now «filter_paints»)) × (n ≤ 32) × (b ≤ 32) ⌝ }
-    ensures { λ r. ⌜ file-out (showed r (now (out .exit))) (tables (now (render .exit)) (now (fills .exit)) (now (depth .exit)) (now (rows .exit)) (now (painting .exit)) (now (layers .exit)) (now (opacities .exit)) (now («paint_attrs» .exit)) (now («layer_attrs» .exit)) (now («filter_paints» .exit)))
-        ≡ front-text n b (now (file .entry)) (tables (now (render .entry)) (now (fills .entry)) (now (depth .entry)) (now (rows .entry)) (now (painting .entry)) (now (layers .entry)) (now (opacities .entry)) (now («paint_attrs» .entry)) (now («layer_attrs» .entry)) (now («filter_paints» .entry))) (now (out .entry)) ⌝ }
+    ensures { λ r. ⌜ file-out (showed r (now (out .exit)))
+        (tables (now (render .exit)) (now (fills .exit)) (now (depth .exit)) (now (rows .exit)) (now (painting .exit)) (now (layers .exit)) (now (opacities .exit)) (now («paint_attrs» .exit)) (now («layer_attrs» .exit)) (now («filter_paints» .exit)))
+        ≡ front-text n b (now (file .entry))
+        (tables (now (render .entry)) (now (fills .entry)) (now (depth .entry)) (now (rows .entry)) (now (painting .entry)) (now (layers .entry)) (now (opacities .entry)) (now («paint_attrs» .entry)) (now («layer_attrs» .entry)) (now («filter_paints» .entry))) (now (out .entry)) ⌝ }
 {
     recording_text(
         file,
@@ -223,8 +227,10 @@ fn words_text(
     filter_paints: &mut [i32],
     out: &mut [u8],
 ) -> FileText
-    ensures { λ r. ⌜ file-out (showed r (now (out .exit))) (tables (now (render .exit)) (now (fills .exit)) (now (depth .exit)) (now (rows .exit)) (now (painting .exit)) (now (layers .exit)) (now (opacities .exit)) (now («paint_attrs» .exit)) (now («layer_attrs» .exit)) (now («filter_paints» .exit)))
-        ≡ words-text (now (file .entry)) (tables (now (render .entry)) (now (fills .entry)) (now (depth .entry)) (now (rows .entry)) (now (painting .entry)) (now (layers .entry)) (now (opacities .entry)) (now («paint_attrs» .entry)) (now («layer_attrs» .entry)) (now («filter_paints» .entry))) (now (out .entry)) ⌝ }
+    ensures { λ r. ⌜ file-out (showed r (now (out .exit)))
+        (tables (now (render .exit)) (now (fills .exit)) (now (depth .exit)) (now (rows .exit)) (now (painting .exit)) (now (layers .exit)) (now (opacities .exit)) (now («paint_attrs» .exit)) (now («layer_attrs» .exit)) (now («filter_paints» .exit)))
+        ≡ words-text (now (file .entry))
+        (tables (now (render .entry)) (now (fills .entry)) (now (depth .entry)) (now (rows .entry)) (now (painting .entry)) (now (layers .entry)) (now (opacities .entry)) (now («paint_attrs» .entry)) (now («layer_attrs» .entry)) (now («filter_paints» .entry))) (now (out .entry)) ⌝ }
 {
     let size = size_of(file);
     if size.number != 0 {
@@ -289,8 +295,10 @@ pub fn file_text(
     filter_paints: &mut [i32],
     out: &mut [u8],
 ) -> FileText
-    ensures { λ r. ⌜ file-out (showed r (now (out .exit))) (tables (now (render .exit)) (now (fills .exit)) (now (depth .exit)) (now (rows .exit)) (now (painting .exit)) (now (layers .exit)) (now (opacities .exit)) (now («paint_attrs» .exit)) (now («layer_attrs» .exit)) (now («filter_paints» .exit)))
-        ≡ bytes-text (now (file .entry)) (tables (now (render .entry)) (now (fills .entry)) (now (depth .entry)) (now (rows .entry)) (now (painting .entry)) (now (layers .entry)) (now (opacities .entry)) (now («paint_attrs» .entry)) (now («layer_attrs» .entry)) (now («filter_paints» .entry))) (now (out .entry)) ⌝ }
+    ensures { λ r. ⌜ file-out (showed r (now (out .exit)))
+        (tables (now (render .exit)) (now (fills .exit)) (now (depth .exit)) (now (rows .exit)) (now (painting .exit)) (now (layers .exit)) (now (opacities .exit)) (now («paint_attrs» .exit)) (now («layer_attrs» .exit)) (now («filter_paints» .exit)))
+        ≡ bytes-text (now (file .entry))
+        (tables (now (render .entry)) (now (fills .entry)) (now (depth .entry)) (now (rows .entry)) (now (painting .entry)) (now (layers .entry)) (now (opacities .entry)) (now («paint_attrs» .entry)) (now («layer_attrs» .entry)) (now («filter_paints» .entry))) (now (out .entry)) ⌝ }
 {
     if !is_good_bytes(file.len()) {
         return refuse(3, no_screen(), out);

@@ -3,14 +3,14 @@ use Prim.Native.Nat.{ℕ, zero, suc, _-_, _≤_, _+_, _*_}
 use native.Mathlib.Omega.{arith}
 use mathlib.Core.Path.{_≡_, refl, sym, ap, _∙_}
 use mathlib.Core.Bool.{true, not}
-use mathlib.Core.List.{List}
+use mathlib.Core.List.{List, []}
 use lib.ListN.{getD}
 use lib.Dec.{eqb}
 use borrow.Author.Tests.{eq-eqb, ne-eqb}
 use Rattle.rules.specs.Answers.{Answer, answer}
-use Rattle.rules.specs.Recording.{Recording, LayerRec}
+use Rattle.rules.specs.Recording.{Recording, LayerRec, layer-rec}
 use Rattle.rules.specs.Plans.{a-push, a-pop}
-use Rattle.rules.specs.Walk.{_then_, when, props-of, no-layer, walk-filter, walk-nodes, walk-layer}
+use Rattle.rules.specs.Walk.{_then_, when, props-of, walk-filter, walk-nodes, walk-layer}
 use Rattle.screen.specs.Tables.{Lent}
 use Rattle.form.specs.declared.Layout.{Layout}
 use Rattle.form.specs.Places.{recorded, layer-from}
@@ -81,7 +81,7 @@ module _ (r : Recording) (y : LayerRec) where
 -- the layer that a node names
 module _ (l : Layout) (ws : List ℕ) (d k : ℕ) (s : Lent) where
   abbrev named : Answer Lent
-  named = when (not (eqb k 0)) (walk-layer Lent call-at (recorded l ws) d (getD (recorded l ws .layers) (k - 1) no-layer)) s
+  named = when (not (eqb k 0)) (walk-layer Lent call-at (recorded l ws) d (getD (recorded l ws .layers) (k - 1) (layer-rec []))) s
 
   pub names-none : k ≡ 0 → answer 0 s ≡ named
   unfolding when

@@ -3,13 +3,13 @@ use Prim.Native.Nat.{ℕ, _+_, _-_, _*_, _≤_, _<_}
 use native.Mathlib.Omega.{arith}
 use mathlib.Core.Path.{_≡_, sym, _∙_}
 use mathlib.Core.Bool.{not}
-use mathlib.Core.List.{List}
+use mathlib.Core.List.{List, []}
 use lib.ListN.{length, getD}
 use lib.Dec.{eqb}
 use Rattle.rules.specs.Lists.{slice}
 use Rattle.rules.specs.Answers.{Answer, answer}
-use Rattle.rules.specs.Recording.{Node}
-use Rattle.rules.specs.Walk.{each, when, no-layer, walk-node, walk-nodes, walk-layer}
+use Rattle.rules.specs.Recording.{Node, layer-rec}
+use Rattle.rules.specs.Walk.{each, when, walk-node, walk-nodes, walk-layer}
 use Rattle.screen.specs.Tables.{Tables, Lent}
 use Rattle.form.specs.declared.Layout.{Layout}
 use Rattle.form.specs.Places.{recorded, node-from}
@@ -36,7 +36,7 @@ module _ (l : Layout) (ws : List ℕ) (d : ℕ) where
   draws a b = each (draw-step (recorded l ws)) (slice a b (recorded l ws .draws))
 
   abbrev layer : ℕ → Lent → Answer Lent
-  layer k = when (not (eqb k 0)) (walk-layer Lent call-at (recorded l ws) d (getD (recorded l ws .layers) (k - 1) no-layer))
+  layer k = when (not (eqb k 0)) (walk-layer Lent call-at (recorded l ws) d (getD (recorded l ws .layers) (k - 1) (layer-rec [])))
 
 -- a run of draws, among the words that steps write
 pub draws-work : (l : Layout) (ws : List ℕ) (a b : ℕ) (t : Tables) (n : ℕ) (s u : Screen) (w v : Words) (la : List ℕ) (op : List Float) (pas pbs las : List ℕ) (fps : List ℤ)

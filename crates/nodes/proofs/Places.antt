@@ -3,14 +3,13 @@ use Prim.Native.Nat.{ℕ, _+_, _*_, _≤_, _<_}
 use native.Mathlib.Omega.{arith}
 use mathlib.Core.Path.{_≡_}
 use mathlib.Core.Bool.{true, _&&_, cond}
-use mathlib.Core.List.{List}
+use mathlib.Core.List.{List, []}
 use lib.ListN.{length, getD}
 use lib.Dec.{leb, eqb}
 use borrow.Author.Tests.{leb-true}
 use Rattle.rules.specs.Inputs.{good-range, good-handle, good-filter}
 use Rattle.rules.specs.Blends.{good-blend}
-use Rattle.rules.specs.Recording.{Recording, LayerRec, Node, good-layer-rec, good-clip-rec, zero-clip, zero-filter}
-use Rattle.rules.specs.Walk.{no-layer}
+use Rattle.rules.specs.Recording.{Recording, LayerRec, Node, good-layer-rec, good-clip-rec, zero-clip, zero-filter, layer-rec}
 use Rattle.form.specs.declared.Layout.{Layout}
 use Rattle.form.specs.Places.{recorded, layer-from, node-from}
 use Rattle.form.proofs.Eaches.{both, each-length, each-at}
@@ -60,9 +59,9 @@ module _ (l : Layout) (ws : List ℕ) where
   unfolding recorded
   node-there i h = each-at node-from 3 ws (l .nodes .at) (l .nodes .count) i some-node h
 
-  pub layer-there : (i : ℕ) → i < l .layers .count → getD (recorded l ws .layers) i no-layer ≡ layer-from ws (l .layers .at + 22 * i)
+  pub layer-there : (i : ℕ) → i < l .layers .count → getD (recorded l ws .layers) i (layer-rec []) ≡ layer-from ws (l .layers .at + 22 * i)
   unfolding recorded
-  layer-there i h = each-at layer-from 22 ws (l .layers .at) (l .layers .count) i no-layer h
+  layer-there i h = each-at layer-from 22 ws (l .layers .at) (l .layers .count) i (layer-rec []) h
 
   module _ (g : Ready ws l) where
     -- a node's draws, and the layer that it names
@@ -81,7 +80,7 @@ module _ (l : Layout) (ws : List ℕ) where
 
     module _ (i : ℕ) (h : i < l .layers .count) where
       fit : Walkable (recorded l ws) (layer-from ws (l .layers .at + 22 * i))
-      fit = rw (layer-there i h) at (walkable (recorded l ws) (getD (recorded l ws .layers) i no-layer) (good-layer-at (recorded l ws) (g .good) i no-layer (rw layer-count h)))
+      fit = rw (layer-there i h) at (walkable (recorded l ws) (getD (recorded l ws .layers) i (layer-rec [])) (good-layer-at (recorded l ws) (g .good) i (layer-rec []) (rw layer-count h)))
 
       pub layer-kind : getD ws (l .layers .at + 22 * i) 0 ≤ 1
       unfolding layer-from

@@ -1,12 +1,14 @@
 // The walk over a recording (rule 2): the node-run walk and the layer walk, which call each other. Parts: callers have read the form and judged
 // the records.
+ghost use mathlib.Core.List.{[]};
 ghost use mathlib.Core.Path.{_≡_};
 ghost use mathlib.Core.Bool.{not};
 ghost use Prim.Native.Nat.{_-_, _≤_};
 ghost use lib.Dec.{eqb};
 ghost use lib.ListN.{getD};
 ghost use Rattle.rules.specs.Answers.{answer};
-ghost use Rattle.rules.specs.Walk.{when, walk-layer, walk-nodes, no-layer};
+ghost use Rattle.rules.specs.Recording.{layer-rec};
+ghost use Rattle.rules.specs.Walk.{when, walk-layer, walk-nodes};
 ghost use Rattle.cmd.specs.Answers.{number-of};
 ghost use Rattle.row.specs.Words.{words};
 ghost use Rattle.screen.specs.Tables.{Tables, Lent};
@@ -111,7 +113,7 @@ pub fn walk_layer(
 ) -> Built
     requires { ⌜ Ready (now w) l × (layer ≤ l .layers .count) ⌝ }
     ensures { λ r. ⌜ ((t : Tables) → answer (number-of (r .answer)) (work-into t (work (r .screen) (words (now (rows .exit)) (now (render .exit)) (now (fills .exit))) (now (layers .exit)) (now (opacities .exit)) (now («paint_attrs» .exit)) (now («layer_attrs» .exit)) (now («filter_paints» .exit))))
-        ≡ when (not (eqb layer 0)) (walk-layer Lent call-at (file.recorded l (now (w .entry))) depth (getD (file.recorded l (now (w .entry)) .layers) (layer - 1) no-layer))
+        ≡ when (not (eqb layer 0)) (walk-layer Lent call-at (file.recorded l (now (w .entry))) depth (getD (file.recorded l (now (w .entry)) .layers) (layer - 1) (layer-rec [])))
         (work-into t (work screen (words (now (rows .entry)) (now (render .entry)) (now (fills .entry))) (now (layers .entry)) (now (opacities .entry)) (now («paint_attrs» .entry)) (now («layer_attrs» .entry)) (now («filter_paints» .entry))))) ⌝ }
 {
     if layer == 0 {

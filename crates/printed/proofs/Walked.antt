@@ -11,8 +11,8 @@ use Rattle.rules.specs.Inputs.{Draw, needs-buffer}
 use Rattle.rules.specs.Rows.{Row, row-ops}
 use Rattle.rules.specs.Plans.{Frame, Step, a-fill, a-push, a-pop, a-filter}
 use Rattle.rules.specs.Steps.{Screen, refusal, done, perform, call}
-use Rattle.rules.specs.Recording.{Recording, LayerRec, Node}
-use Rattle.rules.specs.Walk.{go-on, _then_, when, each, props-of, no-layer, walk-filter, walk-node, walk-nodes, walk-layer, walk-all}
+use Rattle.rules.specs.Recording.{Recording, LayerRec, Node, layer-rec}
+use Rattle.rules.specs.Walk.{go-on, _then_, when, each, props-of, walk-filter, walk-node, walk-nodes, walk-layer, walk-all}
 use Rattle.rules.proofs.laws.Maps.{planned}
 use Rattle.refine.specs.Sound.{Sound}
 use Rattle.refine.proofs.Kept.{call-sound}
@@ -76,7 +76,7 @@ module _ {k : Frame} where
       unfolding walk-node
       node-keeps m =
           then-keeps (each-keeps (λ (d : Draw). step-keeps (a-fill (r .paints) (r .segments) d)) (slice (m .start) (m .end) (r .draws)))
-          (when-keeps (not (eqb (m .layer) 0)) (p (getD (r .layers) (m .layer - 1) no-layer)))
+          (when-keeps (not (eqb (m .layer) 0)) (p (getD (r .layers) (m .layer - 1) (layer-rec []))))
 
       nodes-keep : (a b : ℕ) → Keeps k (walk-nodes (Screen Row) step r f a b)
       unfolding walk-nodes

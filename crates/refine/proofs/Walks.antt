@@ -13,8 +13,8 @@ use Rattle.rules.specs.Rows.{Row, row-ops}
 use Rattle.rules.specs.Plans.{Step, a-fill, a-push, a-pop, a-filter}
 use Rattle.rules.specs.Steps as rule
 use Rattle.rules.specs.Steps.{call}
-use Rattle.rules.specs.Recording.{Recording, LayerRec, Node}
-use Rattle.rules.specs.Walk.{go-on, _then_, when, each, props-of, no-layer, walk-filter, walk-node, walk-nodes, walk-layer, walk-all}
+use Rattle.rules.specs.Recording.{Recording, LayerRec, Node, layer-rec}
+use Rattle.rules.specs.Walk.{go-on, _then_, when, each, props-of, walk-filter, walk-node, walk-nodes, walk-layer, walk-all}
 use Rattle.rules.proofs.All.{never}
 use Rattle.screen.specs.Tables.{Lent}
 use Rattle.steps.specs.Steps.{call-at}
@@ -62,7 +62,7 @@ module _ {S T : Type 0} (R : S → T → Type 0) where
       unfolding walk-node
       node-follows m =
           then-follows (each-follows (λ (d : Draw). step-follows (a-fill (r .paints) (r .segments) d)) (slice (m .start) (m .end) (r .draws)))
-          (when-follows (not (eqb (m .layer) 0)) (p (getD (r .layers) (m .layer - 1) no-layer)))
+          (when-follows (not (eqb (m .layer) 0)) (p (getD (r .layers) (m .layer - 1) (layer-rec []))))
 
       nodes-follow : (a b : ℕ) → Follow (walk-nodes S here r f a b) (walk-nodes T there r g a b)
       unfolding walk-nodes

@@ -16,8 +16,8 @@ use Rattle.rules.specs.Attributes.{attrs-full}
 use Rattle.rules.specs.Rows.{Row, RowOps, row-ops}
 use Rattle.rules.specs.Plans.{Layer, State, Step, a-fill, a-push, a-pop, a-filter, Plan, still, box-of, filter-box, draws-nothing, plan-fill, plan-push, plan-pop, plan-filter-in, plan-filter, plan}
 use Rattle.rules.specs.Steps.{Screen, done, passes, refusal, perform, touched, call}
-use Rattle.rules.specs.Recording.{Recording, LayerRec, Node}
-use Rattle.rules.specs.Walk.{_then_, when, each, props-of, no-layer, walk-filter, walk-node, walk-nodes, walk-layer, walk-all}
+use Rattle.rules.specs.Recording.{Recording, LayerRec, Node, layer-rec}
+use Rattle.rules.specs.Walk.{_then_, when, each, props-of, walk-filter, walk-node, walk-nodes, walk-layer, walk-all}
 use Rattle.rules.proofs.Logged.{Logged, logged-call}
 use Rattle.rules.proofs.All.{All, nil, cons, never}
 use Rattle.tiles.specs.Built.{Built, no-step, then}
@@ -308,7 +308,7 @@ module _ (w : ℕ) where
     unfolding walk-nodes walk-node
     nodes-walk ls g f h a b = each-walks (λ (n : Node).
         then-walks (each-walks (λ (d : Draw). fill-walks (r .paints) (r .segments) d ls) (slice (n .start) (n .end) (r .draws)))
-        (when-walks (not (eqb (n .layer) 0)) (h (getD (r .layers) (n .layer - 1) no-layer)))) (slice a b (r .nodes))
+        (when-walks (not (eqb (n .layer) 0)) (h (getD (r .layers) (n .layer - 1) (layer-rec []))))) (slice a b (r .nodes))
 
     layer-walks : (d : ℕ) (ls : List Layer) → length ls + d ≡ 16 → (x : LayerRec) → Walks (Same ls) (Same ls) (walk-layer (Logged Row) G r d x) (walk-layer (Screen Row) F r d x)
     unfolding walk-layer

@@ -17,7 +17,8 @@ is-good-tables-requires c κs = search needs
 returns : tie.Need-returns
 returns c =
     let entry = c .before .before .before .before .before .before in
-    attrs-bad _ (tables (entry .args .paint-attrs .now) (entry .args .layer-attrs .now) (entry .args .opacities .now) (entry .args .filter-paints .now)) _ (sym (c .before .is-good-tables .ensures) ∙ not-true _ (c .if1 .taken))
+    attrs-bad _ (tables (entry .args .paint-attrs .now) (entry .args .layer-attrs .now) (entry .args .opacities .now) (entry .args .filter-paints .now)) _
+    (sym (c .before .is-good-tables .ensures) ∙ not-true _ (c .if1 .taken))
 
 is-short-attrs-requires : tie.Need-is-short-attrs-requires
 is-short-attrs-requires c κs = sym (c .before .is-good-tables .ensures) ∙ not-false _ (c .if1 .left)
@@ -27,7 +28,9 @@ returns-2 c =
     let at-if1 = c .before .before in
     let at-is-good-tables = at-if1 .before in
     let entry = at-is-good-tables .before .before .before .before .before in
-    attrs-full _ (tables (entry .args .paint-attrs .now) (entry .args .layer-attrs .now) (entry .args .opacities .now) (entry .args .filter-paints .now)) _ (sym (at-is-good-tables .is-good-tables .ensures) ∙ not-false _ (at-if1 .if1 .left)) (short-yes _ _ _ (sym (c .before .is-short-attrs .ensures) ∙ c .if2 .taken))
+    let t = tables (entry .args .paint-attrs .now) (entry .args .layer-attrs .now) (entry .args .opacities .now) (entry .args .filter-paints .now) in
+    attrs-full _ t _ (sym (at-is-good-tables .is-good-tables .ensures) ∙ not-false _ (at-if1 .if1 .left))
+    (short-yes _ _ _ (sym (c .before .is-short-attrs .ensures) ∙ c .if2 .taken))
 
 put-attrs-requires : tie.Need-put-attrs-requires
 put-attrs-requires c κs =

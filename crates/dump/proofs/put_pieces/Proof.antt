@@ -1,3 +1,4 @@
+-- So far the lines of the first k pieces are written.
 use mathlib.Core.List.{[], _∷_}
 use Prim.Native.Nat.{ℕ, _*_, _-_, _≤_}
 use native.Mathlib.Omega.{arith}

@@ -27,7 +27,9 @@ returns : tie.Need-returns
 returns c =
     let at-paint-row = c .before .before .before .before .before .before .before .before in
     let entry = at-paint-row .before .before .before .before .before .before .before .before .before .before .before .before .before in
-    row-refused _ _ (attributes (entry .args .paint-attrs .now) (entry .args .layer-attrs .now)) (lent (entry .args .rows .now) (entry .args .render .now) (entry .args .fills .now) (entry .args .depth .now) (entry .args .painting .now) (entry .args .list .now)) (at-paint-row .paint-row .result) (c .before .number .ensures) (at-paint-row .paint-row .ensures) _ (c .if1 .taken)
+    row-refused _ _ (attributes (entry .args .paint-attrs .now) (entry .args .layer-attrs .now))
+    (lent (entry .args .rows .now) (entry .args .render .now) (entry .args .fills .now) (entry .args .depth .now) (entry .args .painting .now) (entry .args .list .now))
+    (at-paint-row .paint-row .result) (c .before .number .ensures) (at-paint-row .paint-row .ensures) _ (c .if1 .taken)
 
 refused-at-requires : tie.Need-refused-at-requires
 refused-at-requires c κs = search needs
@@ -49,14 +51,19 @@ returns-2 c =
     let at-number = at-if1 .before in
     let at-paint-row = at-number .before .before .before .before .before .before .before in
     let entry = at-paint-row .before .before .before .before .before .before .before .before .before .before .before .before .before in
-    row-ended _ _ (attributes (entry .args .paint-attrs .now) (entry .args .layer-attrs .now)) (lent (entry .args .rows .now) (entry .args .render .now) (entry .args .fills .now) (entry .args .depth .now) (entry .args .painting .now) (entry .args .list .now)) (at-paint-row .paint-row .result) (at-number .number .ensures) (at-paint-row .paint-row .ensures) _ (at-if1 .if1 .left) (not-true _ (at-if2 .if2 .taken)) (at-refused-at .refused-at .ensures)
+    row-ended _ _ (attributes (entry .args .paint-attrs .now) (entry .args .layer-attrs .now))
+    (lent (entry .args .rows .now) (entry .args .render .now) (entry .args .fills .now) (entry .args .depth .now) (entry .args .painting .now) (entry .args .list .now))
+    (at-paint-row .paint-row .result) (at-number .number .ensures) (at-paint-row .paint-row .ensures) _ (at-if1 .if1 .left)
+    (not-true _ (at-if2 .if2 .taken)) (at-refused-at .refused-at .ensures)
 
 write-pieces-requires : tie.Need-write-pieces-requires
 write-pieces-requires c κs =
     let at-number = c .before .before .before .before .before in
     let at-paint-row = at-number .before .before .before .before .before .before .before in
     let entry = at-paint-row .before .before .before .before .before .before .before .before .before .before .before .before .before in
-    row-few _ _ (attributes (entry .args .paint-attrs .now) (entry .args .layer-attrs .now)) (lent (entry .args .rows .now) (entry .args .render .now) (entry .args .fills .now) (entry .args .depth .now) (entry .args .painting .now) (entry .args .list .now)) (at-paint-row .paint-row .result) (at-number .number .ensures) (at-paint-row .paint-row .ensures) []
+    row-few _ _ (attributes (entry .args .paint-attrs .now) (entry .args .layer-attrs .now))
+    (lent (entry .args .rows .now) (entry .args .render .now) (entry .args .fills .now) (entry .args .depth .now) (entry .args .painting .now) (entry .args .list .now))
+    (at-paint-row .paint-row .result) (at-number .number .ensures) (at-paint-row .paint-row .ensures) []
 
 same-length-7 : tie.Need-same-length-7
 same-length-7 c = search needs
@@ -78,7 +85,10 @@ returns-3 c =
     let at-number = at-if1 .before in
     let at-paint-row = at-number .before .before .before .before .before .before .before in
     let entry = at-paint-row .before .before .before .before .before .before .before .before .before .before .before .before .before in
-    row-done _ _ (attributes (entry .args .paint-attrs .now) (entry .args .layer-attrs .now)) (lent (entry .args .rows .now) (entry .args .render .now) (entry .args .fills .now) (entry .args .depth .now) (entry .args .painting .now) (entry .args .list .now)) (at-paint-row .paint-row .result) (at-number .number .ensures) (at-paint-row .paint-row .ensures) _ (at-if1 .if1 .left) (not-false _ (at-if2 .if2 .left)) (at-write-pieces .write-pieces .ensures)
+    row-done _ _ (attributes (entry .args .paint-attrs .now) (entry .args .layer-attrs .now))
+    (lent (entry .args .rows .now) (entry .args .render .now) (entry .args .fills .now) (entry .args .depth .now) (entry .args .painting .now) (entry .args .list .now))
+    (at-paint-row .paint-row .result) (at-number .number .ensures) (at-paint-row .paint-row .ensures) _ (at-if1 .if1 .left)
+    (not-false _ (at-if2 .if2 .left)) (at-write-pieces .write-pieces .ensures)
 
 pub row-text-spec : {M : Type 1} → statement M
 row-text-spec =

@@ -1,3 +1,4 @@
+-- A line where words stand for a command, else nothing.
 use native.Mathlib.Omega.{arith}
 use Rattle.list.proofs.Runs.{no-lines, one-line}
 use borrow.Author.Needs.{needs}

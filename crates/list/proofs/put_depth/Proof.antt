@@ -1,3 +1,4 @@
+-- A line where words stand for a depth fill, else nothing.
 use native.Mathlib.Omega.{arith}
 use Rattle.list.proofs.Runs.{no-lines, one-line}
 use borrow.Author.Needs.{needs}

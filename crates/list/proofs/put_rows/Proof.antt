@@ -1,3 +1,4 @@
+-- So far the lines of the first r rows are written.
 use native.Mathlib.Omega.{arith}
 use Prim.Native.Nat.{ℕ, _*_, _-_, _≤_}
 use Rattle.arena.specs.Arena.{sizes}
@@ -19,7 +20,14 @@ loop-holds : tie.Need-loop-holds Inv-loop μ-loop
 loop-holds c = (omega arith, joined-none _ _)
 
 put-row-at-requires : tie.Need-put-row-at-requires Inv-loop μ-loop
-put-row-at-requires c κs = ((c .before .before .before .before .before .before .before .pre) .0, (c .before .loop-test) .taken, (c .before .before .before .before .before .before .before .pre) .1 _ ((c .before .loop-test) .taken), omega (arith, within _ _ (row-room ((c .before .before .before .before .before .before .before .args) .c) ((c .before .before .before .before .before .before .before .args) .d)) ((c .before .loop-test) .taken), (c .before .before .before .before .before .before .before .pre) .2))
+put-row-at-requires c κs =
+    let at-test = c .before in
+    let entry = at-test .before .before .before .before .before .before in (
+      entry .pre .0,
+      at-test .loop-test .taken,
+      entry .pre .1 _ (at-test .loop-test .taken),
+      omega (arith, within _ _ (row-room (entry .args .c) (entry .args .d)) (at-test .loop-test .taken), entry .pre .2),
+    )
 
 add-r : tie.Need-add-r Inv-loop μ-loop
 add-r c = omega arith

@@ -29,7 +29,10 @@ returns c =
     let at-if1 = at-no-screen .before in
     let at-is-good-bytes = at-if1 .before in
     let entry = at-is-good-bytes .before .before .before .before .before .before .before .before .before .before .before .before in
-    bytes-bad (entry .args .file .now) (tables (entry .args .render .now) (entry .args .fills .now) (entry .args .depth .now) (entry .args .rows .now) (entry .args .painting .now) (entry .args .layers .now) (entry .args .opacities .now) (entry .args .paint-attrs .now) (entry .args .layer-attrs .now) (entry .args .filter-paints .now)) (entry .args .out .now) (at-no-screen .no-screen .ensures) (sym (at-is-good-bytes .is-good-bytes .ensures) ∙ not-true _ (at-if1 .if1 .taken)) (at-refuse .refuse .ensures)
+    let a = entry .args in
+    let t = tables (a .render .now) (a .fills .now) (a .depth .now) (a .rows .now) (a .painting .now) (a .layers .now) (a .opacities .now) (a .paint-attrs .now) (a .layer-attrs .now) (a .filter-paints .now) in
+    bytes-bad (entry .args .file .now) t (entry .args .out .now) (at-no-screen .no-screen .ensures)
+    (sym (at-is-good-bytes .is-good-bytes .ensures) ∙ not-true _ (at-if1 .if1 .taken)) (at-refuse .refuse .ensures)
 
 no-words-requires : tie.Need-no-words-requires
 no-words-requires c κs = search needs
@@ -50,7 +53,8 @@ array-share-prefix-words c =
     let at-if1 = at-no-words .before in
     let at-is-good-bytes = at-if1 .before in
     let entry = at-is-good-bytes .before .before .before .before .before .before .before .before .before .before .before .before in
-    filled-in (entry .args .file .now) (at-no-words .no-words .result) (sym (at-is-good-bytes .is-good-bytes .ensures) ∙ not-false _ (at-if1 .if1 .left)) (c .before .words-of-bytes .ensures) (at-no-words .no-words .ensures)
+    filled-in (entry .args .file .now) (at-no-words .no-words .result) (sym (at-is-good-bytes .is-good-bytes .ensures) ∙ not-false _ (at-if1 .if1 .left))
+    (c .before .words-of-bytes .ensures) (at-no-words .no-words .ensures)
 
 slice-aggregate-words-text : tie.Need-slice-aggregate-words-text
 slice-aggregate-words-text c =
@@ -59,7 +63,8 @@ slice-aggregate-words-text c =
     let at-if1 = at-no-words .before in
     let at-is-good-bytes = at-if1 .before in
     let entry = at-is-good-bytes .before .before .before .before .before .before .before .before .before .before .before .before in
-    sym (length-take-le _ _ (filled-in (entry .args .file .now) (at-no-words .no-words .result) (sym (at-is-good-bytes .is-good-bytes .ensures) ∙ not-false _ (at-if1 .if1 .left)) (at-words-of-bytes .words-of-bytes .ensures) (at-no-words .no-words .ensures)))
+    sym
+    (length-take-le _ _ (filled-in (entry .args .file .now) (at-no-words .no-words .result) (sym (at-is-good-bytes .is-good-bytes .ensures) ∙ not-false _ (at-if1 .if1 .left)) (at-words-of-bytes .words-of-bytes .ensures) (at-no-words .no-words .ensures)))
 
 words-text-requires : tie.Need-words-text-requires
 words-text-requires c κs = search needs
@@ -105,8 +110,10 @@ returns-2 c =
     let at-if1 = at-no-words .before in
     let at-is-good-bytes = at-if1 .before in
     let entry = at-is-good-bytes .before .before .before .before .before .before .before .before .before .before .before .before in
+    let a = entry .args in
+    let t = tables (a .render .now) (a .fills .now) (a .depth .now) (a .rows .now) (a .painting .now) (a .layers .now) (a .opacities .now) (a .paint-attrs .now) (a .layer-attrs .now) (a .filter-paints .now) in
     bytes-shown (entry .args .file .now) (at-no-words .no-words .result) (sym (at-is-good-bytes .is-good-bytes .ensures) ∙ not-false _ (at-if1 .if1 .left)) (at-words-of-bytes .words-of-bytes .ensures)
-    (tables (entry .args .render .now) (entry .args .fills .now) (entry .args .depth .now) (entry .args .rows .now) (entry .args .painting .now) (entry .args .layers .now) (entry .args .opacities .now) (entry .args .paint-attrs .now) (entry .args .layer-attrs .now) (entry .args .filter-paints .now)) (entry .args .out .now) (at-words-text .words-text .ensures)
+    t (entry .args .out .now) (at-words-text .words-text .ensures)
 
 pub file-text-spec : {M : Type 1} → statement M
 file-text-spec =

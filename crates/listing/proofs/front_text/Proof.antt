@@ -107,7 +107,9 @@ returns : tie.Need-returns
 returns c =
     let at-recording-text = c .before .before .before .before .before .before .before .before .before .before .before .before .before .before .before .before .before .before .before .before .before in
     let entry = at-recording-text .before .before .before .before .before .before .before .before .before .before .before .before .before .before .before .before .before .before .before .before .before .before .before in
-    front-shown (entry .args .n) (entry .args .b) (entry .args .file .now) (tables (entry .args .render .now) (entry .args .fills .now) (entry .args .depth .now) (entry .args .rows .now) (entry .args .painting .now) (entry .args .layers .now) (entry .args .opacities .now) (entry .args .paint-attrs .now) (entry .args .layer-attrs .now) (entry .args .filter-paints .now)) (entry .args .out .now) (at-recording-text .recording-text .ensures)
+    let a = entry .args in
+    let t = tables (a .render .now) (a .fills .now) (a .depth .now) (a .rows .now) (a .painting .now) (a .layers .now) (a .opacities .now) (a .paint-attrs .now) (a .layer-attrs .now) (a .filter-paints .now) in
+    front-shown (entry .args .n) (entry .args .b) (entry .args .file .now) t (entry .args .out .now) (at-recording-text .recording-text .ensures)
 
 pub front-text-spec : {M : Type 1} → statement M
 front-text-spec =

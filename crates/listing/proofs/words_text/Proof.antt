@@ -27,7 +27,10 @@ returns c =
     let at-if1 = at-no-screen .before in
     let at-size-of = at-if1 .before .before in
     let entry = at-size-of .before .before .before .before .before .before .before .before .before .before .before .before in
-    words-refused (entry .args .file .now) (tables (entry .args .render .now) (entry .args .fills .now) (entry .args .depth .now) (entry .args .rows .now) (entry .args .painting .now) (entry .args .layers .now) (entry .args .opacities .now) (entry .args .paint-attrs .now) (entry .args .layer-attrs .now) (entry .args .filter-paints .now)) (entry .args .out .now) (at-size-of .size-of .ensures .0) (at-no-screen .no-screen .ensures) (at-if1 .if1 .taken) (at-refuse .refuse .ensures)
+    let a = entry .args in
+    let t = tables (a .render .now) (a .fills .now) (a .depth .now) (a .rows .now) (a .painting .now) (a .layers .now) (a .opacities .now) (a .paint-attrs .now) (a .layer-attrs .now) (a .filter-paints .now) in
+    words-refused (entry .args .file .now) t (entry .args .out .now) (at-size-of .size-of .ensures .0) (at-no-screen .no-screen .ensures)
+    (at-if1 .if1 .taken) (at-refuse .refuse .ensures)
 
 is-roomy-requires : tie.Need-is-roomy-requires
 is-roomy-requires c κs = search needs
@@ -50,7 +53,10 @@ returns-2 c =
     let at-if1 = at-is-roomy .before in
     let at-size-of = at-if1 .before .before in
     let entry = at-size-of .before .before .before .before .before .before .before .before .before .before .before .before in
-    words-short (entry .args .file .now) (tables (entry .args .render .now) (entry .args .fills .now) (entry .args .depth .now) (entry .args .rows .now) (entry .args .painting .now) (entry .args .layers .now) (entry .args .opacities .now) (entry .args .paint-attrs .now) (entry .args .layer-attrs .now) (entry .args .filter-paints .now)) (entry .args .out .now) (at-size-of .size-of .ensures .0) (at-no-screen2 .no-screen2 .ensures) (at-if1 .if1 .left) (sym (at-is-roomy .is-roomy .ensures) ∙ not-true _ (at-if2 .if2 .taken)) (at-refuse2 .refuse2 .ensures)
+    let a = entry .args in
+    let t = tables (a .render .now) (a .fills .now) (a .depth .now) (a .rows .now) (a .painting .now) (a .layers .now) (a .opacities .now) (a .paint-attrs .now) (a .layer-attrs .now) (a .filter-paints .now) in
+    words-short (entry .args .file .now) t (entry .args .out .now) (at-size-of .size-of .ensures .0) (at-no-screen2 .no-screen2 .ensures)
+    (at-if1 .if1 .left) (sym (at-is-roomy .is-roomy .ensures) ∙ not-true _ (at-if2 .if2 .taken)) (at-refuse2 .refuse2 .ensures)
 
 front-text-requires : tie.Need-front-text-requires
 front-text-requires c κs =
@@ -58,7 +64,9 @@ front-text-requires c κs =
     let at-is-roomy = at-if2 .before in
     let at-size-of = at-is-roomy .before .before .before in
     let entry = at-size-of .before .before .before .before .before .before .before .before .before .before .before .before in
-    (enough (tables (entry .args .render .now) (entry .args .fills .now) (entry .args .depth .now) (entry .args .rows .now) (entry .args .painting .now) (entry .args .layers .now) (entry .args .opacities .now) (entry .args .paint-attrs .now) (entry .args .layer-attrs .now) (entry .args .filter-paints .now)) (sym (at-is-roomy .is-roomy .ensures) ∙ not-false _ (at-if2 .if2 .left)), at-size-of .size-of .ensures .1 .0, at-size-of .size-of .ensures .1 .1)
+    let a = entry .args in
+    let t = tables (a .render .now) (a .fills .now) (a .depth .now) (a .rows .now) (a .painting .now) (a .layers .now) (a .opacities .now) (a .paint-attrs .now) (a .layer-attrs .now) (a .filter-paints .now) in
+    (enough t (sym (at-is-roomy .is-roomy .ensures) ∙ not-false _ (at-if2 .if2 .left)), at-size-of .size-of .ensures .1 .0, at-size-of .size-of .ensures .1 .1)
 
 same-length-3 : tie.Need-same-length-3
 same-length-3 c = search needs
@@ -101,7 +109,10 @@ returns-3 c =
     let at-if1 = at-is-roomy .before in
     let at-size-of = at-if1 .before .before in
     let entry = at-size-of .before .before .before .before .before .before .before .before .before .before .before .before in
-    words-shown (entry .args .file .now) (tables (entry .args .render .now) (entry .args .fills .now) (entry .args .depth .now) (entry .args .rows .now) (entry .args .painting .now) (entry .args .layers .now) (entry .args .opacities .now) (entry .args .paint-attrs .now) (entry .args .layer-attrs .now) (entry .args .filter-paints .now)) (entry .args .out .now) (at-size-of .size-of .ensures .0) (at-if1 .if1 .left) (sym (at-is-roomy .is-roomy .ensures) ∙ not-false _ (at-if2 .if2 .left)) (at-front-text .front-text .ensures)
+    let a = entry .args in
+    let t = tables (a .render .now) (a .fills .now) (a .depth .now) (a .rows .now) (a .painting .now) (a .layers .now) (a .opacities .now) (a .paint-attrs .now) (a .layer-attrs .now) (a .filter-paints .now) in
+    words-shown (entry .args .file .now) t (entry .args .out .now) (at-size-of .size-of .ensures .0) (at-if1 .if1 .left)
+    (sym (at-is-roomy .is-roomy .ensures) ∙ not-false _ (at-if2 .if2 .left)) (at-front-text .front-text .ensures)
 
 pub words-text-spec : {M : Type 1} → statement M
 words-text-spec =

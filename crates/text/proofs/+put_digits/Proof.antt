@@ -1,3 +1,4 @@
+-- By the number of digits: none, the last alone, or those before it and then it.
 use native.Mathlib.Omega.{arith}
 use Rattle.text.proofs.Digits.{no-digits, one-digit, more-digits}
 use Prim.Native.Nat.{ℕ, _<_}

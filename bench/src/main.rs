@@ -1,80 +1,69 @@
 //! Times the original and the port on the same scenes, in one process.
 
-extern crate alloc;
-
-#[path = "../../oracle/src/coarse.rs"]
-mod coarse;
-#[path = "../../oracle/src/generate/draft.rs"]
-#[allow(dead_code)]
-mod draft;
-#[path = "../../oracle/src/file.rs"]
-#[allow(dead_code)]
-mod file;
-#[path = "../../oracle/src/filter.rs"]
-mod filter;
-mod kurbo {
-    pub(crate) use vello_common::kurbo::*;
-}
-#[path = "../../oracle/src/limits.rs"]
-#[allow(dead_code)]
-mod limits;
-mod original;
-#[path = "../../oracle/src/painting.rs"]
-#[allow(dead_code)]
-mod painting;
-mod peniko {
-    pub(crate) use vello_common::peniko::*;
-}
 mod port;
-#[path = "../../../shared/docs/src/src/record.rs"]
-#[allow(dead_code)]
-mod record;
-#[path = "../../oracle/src/scene.rs"]
-mod scene;
 mod scenes;
-#[path = "../../../shared/docs/src/src/span.rs"]
-#[allow(dead_code)]
-mod span;
-mod steps;
 mod timing;
 
-use coarse::CommandBucketer;
-use coarse::depth::DepthBuffer;
-use draft::Draft;
-use painting::Piece;
+use oracle::file::Recording;
+use oracle::generate::draft::Draft;
+use oracle::original::Original;
+use oracle::painting::Piece;
+use oracle::steps::steps;
 use port::Port;
 use std::hint::black_box;
 use timing::Race;
 
 fn main() {
-    let rounds = std::env::args().nth(1).and_then(|n| n.parse().ok()).unwrap_or(401);
-    println!("{:<14} {:<10} {:>12} {:>12} {:>7}", "scene", "what", "original us", "port us", "ratio");
+    let rounds = std::env::args()
+        .nth(1)
+        .and_then(|n| n.parse().ok())
+        .unwrap_or(401);
+    println!(
+        "{:<14} {:<10} {:>12} {:>12} {:>7}",
+        "scene", "what", "original us", "port us", "ratio"
+    );
     let only = std::env::args().nth(2).unwrap_or_default();
-    for scene in scenes::all().iter().filter(|scene| scene.name.contains(&only)) {
+    for scene in scenes::all()
+        .iter()
+        .filter(|scene| scene.name.contains(&only))
+    {
         race(scene, rounds);
     }
 }
 
-fn recording(draft: &Draft) -> file::Recording {
-    let Draft { viewport, paints, segments, draws, layers, nodes, root } = draft.clone();
-    file::Recording { viewport, paints, segments, draws, layers, nodes, root }
+fn recording(draft: &Draft) -> Recording {
+    let Draft {
+        viewport,
+        paints,
+        segments,
+        draws,
+        layers,
+        nodes,
+        root,
+    } = draft.clone();
+    Recording {
+        viewport,
+        paints,
+        segments,
+        draws,
+        layers,
+        nodes,
+        root,
+    }
 }
 
 fn race(it: &scenes::Scene, rounds: usize) {
-    let theirs = scene::scene(&recording(&it.draft));
-    let steps = steps::steps(&it.draft);
-    let mut bucketer = CommandBucketer::new(theirs.viewport);
+    let mut original = Original::new(&recording(&it.draft));
+    let steps = steps(&it.draft);
     let mut port = Port::new(&it.draft, it.c, it.d);
-    let mut depth = DepthBuffer::new(bucketer.width());
-    let mut list = Vec::new();
     let [mut reset, mut build, mut paint, mut by_steps] = [(); 4].map(|()| Race::new());
     for _ in 0..rounds {
-        reset.original(|| bucketer.reset(theirs.viewport));
+        reset.original(|| original.reset());
         reset.port(|| port.reset());
-        build.original(|| original::build(&mut bucketer, &theirs, &steps));
+        build.original(|| original.build(&steps));
         build.port(|| port.build(&steps));
         for race in [&mut paint, &mut by_steps] {
-            race.original(|| original::paint(&bucketer, &mut depth, &mut list, read));
+            race.original(|| original.paint(read));
         }
         paint.port(|| port.paint(read));
         by_steps.port(|| port.paint_by_steps(read));
@@ -86,22 +75,32 @@ fn race(it: &scenes::Scene, rounds: usize) {
 
     // Both sides have given the same pieces.
     let [mut given, mut listed, mut stepped] = [(); 3].map(|()| Vec::<Piece>::new());
-    original::paint(&bucketer, &mut depth, &mut list, |pieces| given.extend(pieces));
+    original.paint(|pieces| given.extend(pieces));
     port.paint(|pieces| listed.extend(pieces.iter().map(port::piece)));
     port.paint_by_steps(|pieces| stepped.extend(pieces.iter().map(port::piece)));
-    assert!(given == listed && given == stepped, "{}: the pieces differ", it.name);
+    assert!(
+        given == listed && given == stepped,
+        "{}: the pieces differ",
+        it.name
+    );
 
     let file = it.draft.words();
     if port.record(&file) {
         let mut walk = Race::new();
         for _ in 0..rounds {
-            walk.original(|| original::walk(&mut bucketer, &theirs));
+            walk.original(|| original.walk());
             walk.port(|| assert!(port.record(&file)));
         }
         walk.line(it.name, "recording");
     }
-    println!("{:<14} {} steps, {} segments, {} pieces", it.name, steps.len(), it.draft.segments.len(), given.len());
-    words(it, &bucketer, &reset, &build, &paint, given.len(), rounds);
+    println!(
+        "{:<14} {} steps, {} segments, {} pieces",
+        it.name,
+        steps.len(),
+        it.draft.segments.len(),
+        given.len()
+    );
+    words(it, &original, &reset, &build, &paint, given.len(), rounds);
 }
 
 /// Takes what was painted.
@@ -110,13 +109,28 @@ fn read<T>(pieces: &[T]) {
 }
 
 /// Words written each second, beside a plain copy of as many.
-fn words(it: &scenes::Scene, bucketer: &CommandBucketer, reset: &Race, build: &Race, paint: &Race, pieces: usize, rounds: usize) {
+fn words(
+    it: &scenes::Scene,
+    original: &Original,
+    reset: &Race,
+    build: &Race,
+    paint: &Race,
+    pieces: usize,
+    rounds: usize,
+) {
     let [x0, y0, x1, y1] = it.draft.viewport.map(|edge| edge as usize);
     let (rows, buckets) = ((y1 - y0) / 4, ((x1 - x0) / 4).div_ceil(32));
-    let lent = rows * (4 * it.c as usize + 2 * it.d as usize + buckets + 54 + 2) + 256 + 1_040 + 8_192 + 6_144 + 1_024;
-    let commands: usize = bucketer.rows().iter().map(|row| 4 * row.render_cmds.len() + 2 * row.depth_cmds.len()).sum();
-    let built = commands + 8 * bucketer.paint_fill_attrs.len() + 6 * bucketer.layer_fill_attrs.len();
-    for (what, race, words) in [("reset", reset, lent), ("build", build, built), ("paint", paint, 6 * pieces)] {
+    let lent = rows * (4 * it.c as usize + 2 * it.d as usize + buckets + 54 + 2)
+        + 256
+        + 1_040
+        + 8_192
+        + 6_144
+        + 1_024;
+    for (what, race, words) in [
+        ("reset", reset, lent),
+        ("build", build, original.words()),
+        ("paint", paint, 6 * pieces),
+    ] {
         race.words(it.name, what, words, rounds);
     }
 }

@@ -1,9 +1,11 @@
 //! The port, by the wrapper that a host links.
 
-use crate::draft::Draft;
-use crate::painting;
-use crate::steps::Step;
-use coarse::{BlendMode, CommandBucketer, LayerClip, LayerProps, Paint, Piece, RecordedFill, Rect, Segment};
+use coarse::{
+    BlendMode, CommandBucketer, LayerClip, LayerProps, Paint, Piece, RecordedFill, Rect, Segment,
+};
+use oracle::generate::draft::Draft;
+use oracle::painting;
+use oracle::steps::Step;
 
 /// A scene as the wrapper takes it, and its screen.
 pub(crate) struct Port {
@@ -20,7 +22,11 @@ impl Port {
         let viewport = rect(draft.viewport);
         Self {
             viewport,
-            paints: draft.paints.iter().map(|&[opaque, handle, ..]| Paint::new(opaque == 1, handle)).collect(),
+            paints: draft
+                .paints
+                .iter()
+                .map(|&[opaque, handle, ..]| Paint::new(opaque == 1, handle))
+                .collect(),
             segments: draft.segments.iter().map(segment).collect(),
             draws: draft.draws.iter().map(draw).collect(),
             layers: draft.layers.iter().map(layer).collect(),
@@ -40,7 +46,10 @@ impl Port {
     pub(crate) fn build(&mut self, steps: &[Step]) {
         for step in steps {
             match *step {
-                Step::Fill(i) => self.bucketer.generate_fill(&self.paints, &self.segments, &self.draws[i]),
+                Step::Fill(i) => {
+                    self.bucketer
+                        .generate_fill(&self.paints, &self.segments, &self.draws[i])
+                }
                 Step::Push(i) => self.bucketer.push_layer(&self.layers[i]),
                 Step::Pop => self.bucketer.pop_layer(&self.segments),
             }
@@ -72,17 +81,41 @@ fn rect([x0, y0, x1, y1]: [u32; 4]) -> Rect {
 }
 
 fn segment(&[kind, row, first, end, alpha]: &[u32; 5]) -> Segment {
-    Segment { kind, row, first, end, alpha }
+    Segment {
+        kind,
+        row,
+        first,
+        end,
+        alpha,
+    }
 }
 
 fn draw(&[thread_idx, start, end, paint, mix, compose, mask]: &[u32; 7]) -> RecordedFill {
-    RecordedFill { thread_idx, start: start as usize, end: end as usize, paint, blend_mode: BlendMode { mix, compose }, mask }
+    RecordedFill {
+        thread_idx,
+        start: start as usize,
+        end: end as usize,
+        paint,
+        blend_mode: BlendMode { mix, compose },
+        mask,
+    }
 }
 
 fn layer(layer: &[u32; 22]) -> LayerProps {
-    let &[_, _, _, mix, compose, opacity, mask, flag, x0, y0, x1, y1, start, end, thread_idx, ..] = layer;
-    let clip = LayerClip { bbox: Rect::new(x0, y0, x1, y1), start, end, thread_idx };
-    LayerProps { blend_mode: BlendMode { mix, compose }, opacity: f32::from_bits(opacity), mask, clip: (flag == 1).then_some(clip) }
+    let &[_, _, _, mix, compose, opacity, mask, flag, x0, y0, x1, y1, start, end, thread_idx, ..] =
+        layer;
+    let clip = LayerClip {
+        bbox: Rect::new(x0, y0, x1, y1),
+        start,
+        end,
+        thread_idx,
+    };
+    LayerProps {
+        blend_mode: BlendMode { mix, compose },
+        opacity: f32::from_bits(opacity),
+        mask,
+        clip: (flag == 1).then_some(clip),
+    }
 }
 
 /// A piece as the original's side has it.

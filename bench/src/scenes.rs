@@ -1,6 +1,6 @@
 //! The scenes that are timed, each as the records of a recording.
 
-use crate::draft::{Draft, clipped, layer, solid};
+use oracle::generate::draft::{clipped, layer, solid, Draft};
 
 pub(crate) struct Scene {
     pub(crate) name: &'static str,
@@ -29,8 +29,14 @@ fn banner() -> Scene {
     let mut draft = Draft::new(1_024, 768);
     let mut numbers = Numbers(1);
     for _ in 0..400 {
-        let (row, first, width) = (numbers.below(188), numbers.below(200), 6 + numbers.below(50));
-        let list: Vec<_> = (row..row + 4).map(|row| solid(row, first, first + width)).collect();
+        let (row, first, width) = (
+            numbers.below(188),
+            numbers.below(200),
+            6 + numbers.below(50),
+        );
+        let list: Vec<_> = (row..row + 4)
+            .map(|row| solid(row, first, first + width))
+            .collect();
         let range = draft.segments(&list);
         draft.draw(range);
     }
@@ -42,8 +48,14 @@ fn wall() -> Scene {
     let mut draft = Draft::new(4_096, 2_048);
     let mut numbers = Numbers(2);
     for _ in 0..40 {
-        let (row, first, width) = (numbers.below(384), numbers.below(400), 300 + numbers.below(324));
-        let list: Vec<_> = (row..row + 128).map(|row| solid(row, first, first + width)).collect();
+        let (row, first, width) = (
+            numbers.below(384),
+            numbers.below(400),
+            300 + numbers.below(324),
+        );
+        let list: Vec<_> = (row..row + 128)
+            .map(|row| solid(row, first, first + width))
+            .collect();
         let range = draft.segments(&list);
         draft.draw(range);
     }
@@ -80,7 +92,9 @@ fn nested() -> Scene {
     let mut inner = 0;
     for depth in (0..16).rev() {
         let (x, y) = (8 * depth, 2 * depth);
-        let clip: Vec<_> = (y..128 - y).map(|row| [1, row, x / 4, 256 - x / 4, 16 * 256 * row]).collect();
+        let clip: Vec<_> = (y..128 - y)
+            .map(|row| [1, row, x / 4, 256 - x / 4, 16 * 256 * row])
+            .collect();
         let clip = draft.segments(&clip);
         let mut draws = (u32::MAX, 0);
         for _ in 0..2 {
@@ -91,15 +105,30 @@ fn nested() -> Scene {
             draws = (draws.0.min(draw), draw + 1);
         }
         let node = draft.node(draws, inner);
-        inner = draft.layer(clipped(layer(node), [4 * x, 4 * y, 1_024 - 4 * x, 512 - 4 * y], clip, 0));
+        inner = draft.layer(clipped(
+            layer(node),
+            [4 * x, 4 * y, 1_024 - 4 * x, 512 - 4 * y],
+            clip,
+            0,
+        ));
     }
     let root = draft.node((0, 0), inner);
-    Scene { name: "nested layers", draft: draft.rooted(root), c: 256, d: 64 }
+    Scene {
+        name: "nested layers",
+        draft: draft.rooted(root),
+        c: 256,
+        d: 64,
+    }
 }
 
 /// All draws in order, in one node.
 fn finished(name: &'static str, mut draft: Draft, c: u32, d: u32) -> Scene {
     let draws = u32::try_from(draft.draws.len()).expect("few draws");
     let root = draft.node((0, draws), 0);
-    Scene { name, draft: draft.rooted(root), c, d }
+    Scene {
+        name,
+        draft: draft.rooted(root),
+        c,
+        d,
+    }
 }

@@ -22,7 +22,10 @@ fn median(times: &[f64]) -> f64 {
 
 impl Race {
     pub(crate) fn new() -> Self {
-        Self { original: Vec::new(), port: Vec::new() }
+        Self {
+            original: Vec::new(),
+            port: Vec::new(),
+        }
     }
 
     pub(crate) fn original(&mut self, run: impl FnOnce()) {
@@ -35,7 +38,10 @@ impl Race {
 
     pub(crate) fn line(&self, scene: &str, what: &str) {
         let (original, port) = (median(&self.original), median(&self.port));
-        println!("{scene:<14} {what:<10} {original:>12.1} {port:>12.1} {:>7.2}", port / original);
+        println!(
+            "{scene:<14} {what:<10} {original:>12.1} {port:>12.1} {:>7.2}",
+            port / original
+        );
     }
 
     /// How many words the port wrote in its time, and a plain copy of as many.
@@ -50,6 +56,8 @@ impl Race {
 fn copying(words: usize, rounds: usize) -> f64 {
     let from = vec![7_u32; words];
     let mut to = vec![0_u32; words];
-    let times: Vec<f64> = (0..rounds).map(|_| micros(|| black_box(&mut to[..]).copy_from_slice(black_box(&from)))).collect();
+    let times: Vec<f64> = (0..rounds)
+        .map(|_| micros(|| black_box(&mut to[..]).copy_from_slice(black_box(&from))))
+        .collect();
     median(&times)
 }

@@ -252,7 +252,7 @@ impl Piece {
     }
 
     pub fn alpha_idx(self) -> Option<u32> {
-        (self.tag % 2 == 0).then_some(self.alpha)
+        (self.tag & 1 == 0).then_some(self.alpha)
     }
 
     pub fn covers(self, tile: u32) -> bool {
@@ -845,7 +845,7 @@ impl CommandBucketer {
 
     /// How many depth buckets a row has.
     pub fn buckets(&self) -> usize {
-        ((self.width() + 127) / 128) as usize
+        self.width().div_ceil(128) as usize
     }
 
     pub fn next_draw_id(&self) -> u32 {

@@ -94,7 +94,7 @@ fn the_samples() {
     let mut seen = 0;
     for entry in std::fs::read_dir(folder).unwrap() {
         let path = entry.unwrap().path();
-        if path.extension().map_or(true, |e| e != "rec") {
+        if path.extension() != Some("rec".as_ref()) {
             continue;
         }
         let name = path.file_stem().unwrap().to_str().unwrap().to_owned();

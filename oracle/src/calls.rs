@@ -3,11 +3,11 @@
 use crate::coarse::bucketer::RowState;
 use crate::coarse::cmd::{PaintFillAttrs, RenderCmd};
 use crate::coarse::depth::{BucketRange, DepthBuffer};
-use crate::coarse::{CommandBucketer, probe};
+use crate::coarse::{probe, CommandBucketer};
 use crate::file::{good_blend, good_box, good_dest, good_segment, good_viewport, in_order};
 use crate::limits::{
-    self, BAD_ARENA, BAD_ORDER, BAD_RECORD, BAD_RUN, BAD_VIEWPORT, HANDLES, LAST_PIXEL, LAST_TILE, MOST_RECORDS, MOST_ROOM, NO_LAYER, NO_ROOM, OPEN,
-    THREADS,
+    self, BAD_ARENA, BAD_ORDER, BAD_RECORD, BAD_RUN, BAD_VIEWPORT, HANDLES, LAST_PIXEL, LAST_TILE,
+    MOST_RECORDS, MOST_ROOM, NO_LAYER, NO_ROOM, OPEN, THREADS,
 };
 use crate::print::handle;
 use crate::scene::{blend, draw, mask, paint, rect, strip};
@@ -24,39 +24,110 @@ pub(crate) const MARK: u32 = 0xa5a5_a5a5;
 
 /// A call with its arguments.
 #[derive(Clone)]
-pub(crate) enum Call {
-    Reset { viewport: [u32; 4], c: u32, d: u32 },
-    Fill { draw: [u32; 7], paints: Vec<[u32; 4]>, segments: Vec<[u32; 5]> },
-    Push { mix: u32, compose: u32, opacity: u32, mask: u32, flag: u32, clip: [u32; 7] },
-    Pop { segments: Vec<[u32; 5]> },
-    Filter { pixmap: u32, dest: [u32; 4], source: [u32; 2], count: u32 },
+pub enum Call {
+    Reset {
+        viewport: [u32; 4],
+        c: u32,
+        d: u32,
+    },
+    Fill {
+        draw: [u32; 7],
+        paints: Vec<[u32; 4]>,
+        segments: Vec<[u32; 5]>,
+    },
+    Push {
+        mix: u32,
+        compose: u32,
+        opacity: u32,
+        mask: u32,
+        flag: u32,
+        clip: [u32; 7],
+    },
+    Pop {
+        segments: Vec<[u32; 5]>,
+    },
+    Filter {
+        pixmap: u32,
+        dest: [u32; 4],
+        source: [u32; 2],
+        count: u32,
+    },
     Begin,
-    Step { row: u32, words: u32 },
-    Unset { row: u32, tiles: [u32; 2], words: u32 },
-    Visible { row: u32, id: u32, tiles: [u32; 2], words: u32 },
-    Write { row: u32, id: u32, buckets: [u32; 2], words: u32 },
-    CanSkip { row: u32, tiles: [u32; 2], id: u32 },
+    Step {
+        row: u32,
+        words: u32,
+    },
+    Unset {
+        row: u32,
+        tiles: [u32; 2],
+        words: u32,
+    },
+    Visible {
+        row: u32,
+        id: u32,
+        tiles: [u32; 2],
+        words: u32,
+    },
+    Write {
+        row: u32,
+        id: u32,
+        buckets: [u32; 2],
+        words: u32,
+    },
+    CanSkip {
+        row: u32,
+        tiles: [u32; 2],
+        id: u32,
+    },
     NextId(u32),
     Show,
 }
 
 fn list<const N: usize>(records: &[[u32; N]]) -> Vec<u32> {
-    std::iter::once(u32::try_from(records.len()).expect("few")).chain(records.iter().flatten().copied()).collect()
+    std::iter::once(u32::try_from(records.len()).expect("few"))
+        .chain(records.iter().flatten().copied())
+        .collect()
 }
 
 impl Call {
     pub(crate) fn words(&self) -> Vec<u32> {
         match self {
             Self::Reset { viewport, c, d } => [&[0], &viewport[..], &[*c, *d]].concat(),
-            Self::Fill { draw, paints, segments } => [&[1], &draw[..], &list(paints), &list(segments)].concat(),
-            Self::Push { mix, compose, opacity, mask, flag, clip } => [&[2, *mix, *compose, *opacity, *mask, *flag], &clip[..]].concat(),
+            Self::Fill {
+                draw,
+                paints,
+                segments,
+            } => [&[1], &draw[..], &list(paints), &list(segments)].concat(),
+            Self::Push {
+                mix,
+                compose,
+                opacity,
+                mask,
+                flag,
+                clip,
+            } => [&[2, *mix, *compose, *opacity, *mask, *flag], &clip[..]].concat(),
             Self::Pop { segments } => [vec![3], list(segments)].concat(),
-            Self::Filter { pixmap, dest, source, count } => [&[4, *pixmap], &dest[..], &source[..], &[*count]].concat(),
+            Self::Filter {
+                pixmap,
+                dest,
+                source,
+                count,
+            } => [&[4, *pixmap], &dest[..], &source[..], &[*count]].concat(),
             Self::Begin => vec![5],
             Self::Step { row, words } => vec![6, *row, *words],
             Self::Unset { row, tiles, words } => vec![7, *row, tiles[0], tiles[1], *words],
-            Self::Visible { row, id, tiles, words } => vec![8, *row, *id, tiles[0], tiles[1], *words],
-            Self::Write { row, id, buckets, words } => vec![9, *row, *id, buckets[0], buckets[1], *words],
+            Self::Visible {
+                row,
+                id,
+                tiles,
+                words,
+            } => vec![8, *row, *id, tiles[0], tiles[1], *words],
+            Self::Write {
+                row,
+                id,
+                buckets,
+                words,
+            } => vec![9, *row, *id, buckets[0], buckets[1], *words],
             Self::CanSkip { row, tiles, id } => vec![10, *row, tiles[0], tiles[1], *id],
             Self::NextId(id) => vec![11, *id],
             Self::Show => vec![12],
@@ -69,17 +140,39 @@ impl Call {
         Some(match kind {
             0 => {
                 let ([x0, y0, x1, y1, c, d],) = (take(rest)?,);
-                Self::Reset { viewport: [x0, y0, x1, y1], c, d }
+                Self::Reset {
+                    viewport: [x0, y0, x1, y1],
+                    c,
+                    d,
+                }
             }
-            1 => Self::Fill { draw: take(rest)?, paints: records(rest)?, segments: records(rest)? },
+            1 => Self::Fill {
+                draw: take(rest)?,
+                paints: records(rest)?,
+                segments: records(rest)?,
+            },
             2 => {
                 let [mix, compose, opacity, mask, flag] = take(rest)?;
-                Self::Push { mix, compose, opacity, mask, flag, clip: take(rest)? }
+                Self::Push {
+                    mix,
+                    compose,
+                    opacity,
+                    mask,
+                    flag,
+                    clip: take(rest)?,
+                }
             }
-            3 => Self::Pop { segments: records(rest)? },
+            3 => Self::Pop {
+                segments: records(rest)?,
+            },
             4 => {
                 let [pixmap, x0, y0, x1, y1, x, y, count] = take(rest)?;
-                Self::Filter { pixmap, dest: [x0, y0, x1, y1], source: [x, y], count }
+                Self::Filter {
+                    pixmap,
+                    dest: [x0, y0, x1, y1],
+                    source: [x, y],
+                    count,
+                }
             }
             5 => Self::Begin,
             6 => {
@@ -88,19 +181,37 @@ impl Call {
             }
             7 => {
                 let [row, first, end, words] = take(rest)?;
-                Self::Unset { row, tiles: [first, end], words }
+                Self::Unset {
+                    row,
+                    tiles: [first, end],
+                    words,
+                }
             }
             8 => {
                 let [row, id, first, end, words] = take(rest)?;
-                Self::Visible { row, id, tiles: [first, end], words }
+                Self::Visible {
+                    row,
+                    id,
+                    tiles: [first, end],
+                    words,
+                }
             }
             9 => {
                 let [row, id, first, end, words] = take(rest)?;
-                Self::Write { row, id, buckets: [first, end], words }
+                Self::Write {
+                    row,
+                    id,
+                    buckets: [first, end],
+                    words,
+                }
             }
             10 => {
                 let [row, first, end, id] = take(rest)?;
-                Self::CanSkip { row, tiles: [first, end], id }
+                Self::CanSkip {
+                    row,
+                    tiles: [first, end],
+                    id,
+                }
             }
             11 => {
                 let [id] = take(rest)?;
@@ -124,8 +235,11 @@ fn records<const N: usize>(rest: &mut &[u32]) -> Option<Vec<[u32; N]>> {
 }
 
 /// The sequences of a stream, each after its length in words.
-pub(crate) fn sequences(bytes: &[u8]) -> Vec<Vec<Call>> {
-    let words: Vec<u32> = bytes.chunks_exact(4).map(|b| u32::from_le_bytes([b[0], b[1], b[2], b[3]])).collect();
+pub fn sequences(bytes: &[u8]) -> Vec<Vec<Call>> {
+    let words: Vec<u32> = bytes
+        .chunks_exact(4)
+        .map(|b| u32::from_le_bytes([b[0], b[1], b[2], b[3]]))
+        .collect();
     let mut rest = &words[..];
     let mut all = Vec::new();
     while let Some([length]) = take(&mut rest) {
@@ -141,12 +255,16 @@ pub(crate) fn sequences(bytes: &[u8]) -> Vec<Vec<Call>> {
 }
 
 /// A stream: each list of words after its length.
-pub(crate) fn stream(lists: &[Vec<u32>]) -> Vec<u8> {
-    lists.iter().flat_map(|words| [&[u32::try_from(words.len()).expect("short")], &words[..]].concat()).flat_map(u32::to_le_bytes).collect()
+pub fn stream(lists: &[Vec<u32>]) -> Vec<u8> {
+    lists
+        .iter()
+        .flat_map(|words| [&[u32::try_from(words.len()).expect("short")], &words[..]].concat())
+        .flat_map(u32::to_le_bytes)
+        .collect()
 }
 
 /// What a sequence answers, on a screen without rows at first.
-pub(crate) fn answers(calls: &[Call]) -> Vec<u32> {
+pub fn answers(calls: &[Call]) -> Vec<u32> {
     let mut screen = Screen::new();
     calls.iter().flat_map(|call| screen.answer(call)).collect()
 }
@@ -172,13 +290,23 @@ struct Screen {
 impl Screen {
     fn new() -> Self {
         let bucketer = CommandBucketer::from_wh(0, 0);
-        Self { bucketer, viewport: [0; 4], c: 1, d: 1, done: Vec::new(), begun: false, painters: Vec::new() }
+        Self {
+            bucketer,
+            viewport: [0; 4],
+            c: 1,
+            d: 1,
+            done: Vec::new(),
+            begun: false,
+            painters: Vec::new(),
+        }
     }
 
     fn answer(&mut self, call: &Call) -> Vec<u32> {
         match call {
             Call::Reset { viewport, c, d } => vec![self.reset(*viewport, *c, *d)],
-            Call::Fill { .. } | Call::Push { .. } | Call::Pop { .. } | Call::Filter { .. } => vec![self.build(call)],
+            Call::Fill { .. } | Call::Push { .. } | Call::Pop { .. } | Call::Filter { .. } => {
+                vec![self.build(call)]
+            }
             Call::NextId(id) => {
                 probe::set_next_id(&mut self.bucketer, *id);
                 self.done.push(call.clone());
@@ -186,13 +314,29 @@ impl Screen {
             }
             Call::Begin => vec![self.begin()],
             Call::Step { row, words } => self.step(*row, *words),
-            Call::Unset { row, tiles, words } => self.runs(*row, *tiles, *words, |depth, span, runs| {
-                depth.for_each_unset_run(span, |run| runs.push([run.tile_x().into(), run.tile_end().into()]));
+            Call::Unset { row, tiles, words } => {
+                self.runs(*row, *tiles, *words, |depth, span, runs| {
+                    depth.for_each_unset_run(span, |run| {
+                        runs.push([run.tile_x().into(), run.tile_end().into()])
+                    });
+                })
+            }
+            Call::Visible {
+                row,
+                id,
+                tiles,
+                words,
+            } => self.runs(*row, *tiles, *words, |depth, span, runs| {
+                depth.for_each_visible_run(span, *id, |run| {
+                    runs.push([run.tile_x().into(), run.tile_end().into()])
+                });
             }),
-            Call::Visible { row, id, tiles, words } => self.runs(*row, *tiles, *words, |depth, span, runs| {
-                depth.for_each_visible_run(span, *id, |run| runs.push([run.tile_x().into(), run.tile_end().into()]));
-            }),
-            Call::Write { row, id, buckets, words } => self.write(*row, *id, *buckets, *words),
+            Call::Write {
+                row,
+                id,
+                buckets,
+                words,
+            } => self.write(*row, *id, *buckets, *words),
             Call::CanSkip { row, tiles, id } => self.can_skip(*row, *tiles, *id),
             Call::Show => [vec![0], self.show()].concat(),
         }
@@ -216,7 +360,11 @@ impl Screen {
     /// Every row at its first step, its depth words 0.
     fn blank(&mut self) {
         let width = self.bucketer.width();
-        let blank = |_: &RowState| Painter { depth: DepthBuffer::new(width), steps: 0, nesting: 0 };
+        let blank = |_: &RowState| Painter {
+            depth: DepthBuffer::new(width),
+            steps: 0,
+            nesting: 0,
+        };
         self.painters = self.bucketer.rows().iter().map(blank).collect();
     }
 
@@ -242,23 +390,64 @@ impl Screen {
     /// 4, 5 or 7 for what a step is given.
     fn judge(&self, call: &Call) -> u32 {
         match call {
-            Call::Fill { draw: [thread, start, end, paint, mix, compose, mask], paints, segments } => {
-                let good_paint = paints.get(*paint as usize).is_some_and(|&[flag, handle, _, _]| flag <= 1 && handle < HANDLES);
-                let good = *thread < THREADS && good_paint && good_blend(*mix, *compose) && *mask < HANDLES;
-                if good { judge_list(segments, *start, *end) } else { BAD_RECORD }
+            Call::Fill {
+                draw: [thread, start, end, paint, mix, compose, mask],
+                paints,
+                segments,
+            } => {
+                let good_paint = paints
+                    .get(*paint as usize)
+                    .is_some_and(|&[flag, handle, _, _]| flag <= 1 && handle < HANDLES);
+                let good = *thread < THREADS
+                    && good_paint
+                    && good_blend(*mix, *compose)
+                    && *mask < HANDLES;
+                if good {
+                    judge_list(segments, *start, *end)
+                } else {
+                    BAD_RECORD
+                }
             }
-            Call::Push { mix, compose, mask, flag, clip: [x0, y0, x1, y1, start, end, thread], .. } => {
-                let clipped = *flag == 0 || (good_box([*x0, *y0, *x1, *y1]) && start <= end && *thread < THREADS);
-                if good_blend(*mix, *compose) && *mask < HANDLES && clipped { 0 } else { BAD_RECORD }
+            Call::Push {
+                mix,
+                compose,
+                mask,
+                flag,
+                clip: [x0, y0, x1, y1, start, end, thread],
+                ..
+            } => {
+                let clipped = *flag == 0
+                    || (good_box([*x0, *y0, *x1, *y1]) && start <= end && *thread < THREADS);
+                if good_blend(*mix, *compose) && *mask < HANDLES && clipped {
+                    0
+                } else {
+                    BAD_RECORD
+                }
             }
             Call::Pop { segments } => match probe::innermost_clip(&self.bucketer) {
                 None => NO_LAYER,
                 Some(None) => 0,
-                Some(Some(range)) => judge_list(segments, u32::try_from(range.start).expect("a word"), u32::try_from(range.end).expect("a word")),
+                Some(Some(range)) => judge_list(
+                    segments,
+                    u32::try_from(range.start).expect("a word"),
+                    u32::try_from(range.end).expect("a word"),
+                ),
             },
-            Call::Filter { pixmap, dest, source, count } => {
-                let good = *pixmap < HANDLES && good_dest(*dest) && source.iter().all(|edge| *edge <= LAST_PIXEL) && *count <= MOST_RECORDS;
-                if good { 0 } else { BAD_RECORD }
+            Call::Filter {
+                pixmap,
+                dest,
+                source,
+                count,
+            } => {
+                let good = *pixmap < HANDLES
+                    && good_dest(*dest)
+                    && source.iter().all(|edge| *edge <= LAST_PIXEL)
+                    && *count <= MOST_RECORDS;
+                if good {
+                    0
+                } else {
+                    BAD_RECORD
+                }
             }
             _ => 0,
         }
@@ -266,7 +455,11 @@ impl Screen {
 
     fn perform(&mut self, call: &Call) {
         match call {
-            Call::Fill { draw: words, paints, segments } => {
+            Call::Fill {
+                draw: words,
+                paints,
+                segments,
+            } => {
                 let fill = draw(words);
                 let attrs = PaintFillAttrs {
                     paint: fill.paint.clone(),
@@ -277,10 +470,20 @@ impl Screen {
                     origin: (rect(self.viewport).x0, rect(self.viewport).y0),
                 };
                 let paints: Vec<EncodedPaint> = paints.iter().map(paint).collect();
-                let strips: Vec<_> = segments[fill.strip_range.clone()].iter().map(strip).collect();
+                let strips: Vec<_> = segments[fill.strip_range.clone()]
+                    .iter()
+                    .map(strip)
+                    .collect();
                 self.bucketer.generate_fill(&strips, &attrs, &paints);
             }
-            Call::Push { mix, compose, opacity, mask: handle, flag, clip: [x0, y0, x1, y1, start, end, thread] } => {
+            Call::Push {
+                mix,
+                compose,
+                opacity,
+                mask: handle,
+                flag,
+                clip: [x0, y0, x1, y1, start, end, thread],
+            } => {
                 let clip = || LayerClip {
                     bbox: rect([*x0, *y0, *x1, *y1]),
                     strip_range: *start as usize..*end as usize,
@@ -295,18 +498,39 @@ impl Screen {
             }
             Call::Pop { segments } => {
                 // What no clip reads is not judged, and need not be a segment.
-                let range = probe::innermost_clip(&self.bucketer).flatten().unwrap_or(0..0);
-                let read = |(i, segment): (usize, &[u32; 5])| if range.contains(&i) { strip(segment) } else { strip(&[0; 5]) };
+                let range = probe::innermost_clip(&self.bucketer)
+                    .flatten()
+                    .unwrap_or(0..0);
+                let read = |(i, segment): (usize, &[u32; 5])| {
+                    if range.contains(&i) {
+                        strip(segment)
+                    } else {
+                        strip(&[0; 5])
+                    }
+                };
                 let strips: Vec<_> = segments.iter().enumerate().map(read).collect();
                 self.bucketer.pop_layer(&strips);
             }
-            Call::Filter { pixmap, dest, source: [x, y], count } => {
-                // Pixmap 0 says that there is none: nothing is drawn.
-                if *pixmap != 0 {
-                    let source = (u16::try_from(*x).expect("judged"), u16::try_from(*y).expect("judged"));
-                    let placement = FilterLayerPlacement { dest: rect(*dest), source };
-                    self.bucketer.generate_filter_layer_fill(Arc::new(Pixmap::of(*pixmap)), placement, *count as usize);
-                }
+            // Pixmap 0 says that there is none: nothing is drawn.
+            Call::Filter {
+                pixmap,
+                dest,
+                source: [x, y],
+                count,
+            } if *pixmap != 0 => {
+                let source = (
+                    u16::try_from(*x).expect("judged"),
+                    u16::try_from(*y).expect("judged"),
+                );
+                let placement = FilterLayerPlacement {
+                    dest: rect(*dest),
+                    source,
+                };
+                self.bucketer.generate_filter_layer_fill(
+                    Arc::new(Pixmap::of(*pixmap)),
+                    placement,
+                    *count as usize,
+                );
             }
             Call::NextId(id) => probe::set_next_id(&mut self.bucketer, *id),
             _ => {}
@@ -338,17 +562,33 @@ impl Screen {
             let fill = state.depth_cmds[fills - 1 - painter.steps];
             let id = self.bucketer.paint_fill_attrs[fill.attrs_idx as usize].draw_id;
             depth.for_each_unset_run_and_write(fill.bucket_range(), id, |run| {
-                pieces.push([1, fill.attrs_idx, run.span().tile_x().into(), run.span().tile_end().into(), 0, 0]);
+                pieces.push([
+                    1,
+                    fill.attrs_idx,
+                    run.span().tile_x().into(),
+                    run.span().tile_end().into(),
+                    0,
+                    0,
+                ]);
             });
         } else if painter.steps < fills + commands {
-            let mut fill = |layer: u32, attribute: u32, span: TileAlignedSpan, alpha: Option<u32>, id: u32| {
-                depth.for_each_visible_run(span, id, |run| {
-                    let (first, end) = (run.tile_x(), run.tile_end());
-                    let moved = alpha.map(|alpha| alpha + 16 * u32::from(first - span.tile_x()));
-                    let tag = 1 + 2 * layer + u32::from(alpha.is_some());
-                    pieces.push([tag, attribute, first.into(), end.into(), moved.unwrap_or(0), nesting]);
-                });
-            };
+            let mut fill =
+                |layer: u32, attribute: u32, span: TileAlignedSpan, alpha: Option<u32>, id: u32| {
+                    depth.for_each_visible_run(span, id, |run| {
+                        let (first, end) = (run.tile_x(), run.tile_end());
+                        let moved =
+                            alpha.map(|alpha| alpha + 16 * u32::from(first - span.tile_x()));
+                        let tag = 1 + 2 * layer + u32::from(alpha.is_some());
+                        pieces.push([
+                            tag,
+                            attribute,
+                            first.into(),
+                            end.into(),
+                            moved.unwrap_or(0),
+                            nesting,
+                        ]);
+                    });
+                };
             match state.render_cmds[painter.steps - fills] {
                 RenderCmd::PaintFill(of) => {
                     let id = self.bucketer.paint_fill_attrs[of.attrs_idx as usize].draw_id;
@@ -368,11 +608,25 @@ impl Screen {
             return refused(NO_ROOM, 2, words);
         }
         let steps = painter.steps + 1;
-        self.painters[row as usize] = Painter { depth, steps, nesting };
-        [vec![0, 0, u32::try_from(pieces.len()).expect("few")], listed(&pieces, words)].concat()
+        self.painters[row as usize] = Painter {
+            depth,
+            steps,
+            nesting,
+        };
+        [
+            vec![0, 0, u32::try_from(pieces.len()).expect("few")],
+            listed(&pieces, words),
+        ]
+        .concat()
     }
 
-    fn runs(&self, row: u32, [first, end]: [u32; 2], words: u32, of: impl Fn(&DepthBuffer, TileAlignedSpan, &mut Vec<[u32; 2]>)) -> Vec<u32> {
+    fn runs(
+        &self,
+        row: u32,
+        [first, end]: [u32; 2],
+        words: u32,
+        of: impl Fn(&DepthBuffer, TileAlignedSpan, &mut Vec<[u32; 2]>),
+    ) -> Vec<u32> {
         let Some(painter) = self.painters.get(row as usize) else {
             return refused(BAD_RUN, 1, words);
         };
@@ -384,7 +638,11 @@ impl Screen {
         if runs.len() > words as usize / 2 {
             return refused(NO_ROOM, 1, words);
         }
-        [vec![0, u32::try_from(runs.len()).expect("few")], listed(&runs, words)].concat()
+        [
+            vec![0, u32::try_from(runs.len()).expect("few")],
+            listed(&runs, words),
+        ]
+        .concat()
     }
 
     fn write(&mut self, row: u32, id: u32, [first, end]: [u32; 2], words: u32) -> Vec<u32> {
@@ -405,12 +663,18 @@ impl Screen {
         }
         painter.depth = depth;
         self.begun = false;
-        [vec![0, u32::try_from(runs.len()).expect("few")], listed(&runs, words)].concat()
+        [
+            vec![0, u32::try_from(runs.len()).expect("few")],
+            listed(&runs, words),
+        ]
+        .concat()
     }
 
     fn can_skip(&self, row: u32, [first, end]: [u32; 2], id: u32) -> Vec<u32> {
         match self.bucketer.rows().get(row as usize) {
-            Some(state) if first <= end && end <= LAST_TILE => vec![0, state.can_skip_depth(tiles([first, end]), id).into()],
+            Some(state) if first <= end && end <= LAST_TILE => {
+                vec![0, state.can_skip_depth(tiles([first, end]), id).into()]
+            }
             _ => vec![BAD_RUN, 0],
         }
     }
@@ -436,7 +700,10 @@ impl Screen {
             out.extend(row.render_cmds.iter().flat_map(command_words));
             for fill in &row.depth_cmds {
                 let range = fill.bucket_range();
-                out.extend([u32::from(range.start) << 16 | u32::from(range.end), fill.attrs_idx]);
+                out.extend([
+                    u32::from(range.start) << 16 | u32::from(range.end),
+                    fill.attrs_idx,
+                ]);
             }
             out.extend(probe::depth_words(&painter.depth));
             out.extend([count(painter.steps), painter.nesting]);
@@ -445,12 +712,25 @@ impl Screen {
             let Paint::Indexed(paint) = &attrs.paint;
             let (x, y) = attrs.origin;
             let (mix, compose) = (attrs.blend_mode.mix, attrs.blend_mode.compose);
-            out.extend([count(paint.index()), mix.into(), compose.into(), handle(&attrs.mask), attrs.draw_id]);
+            out.extend([
+                count(paint.index()),
+                mix.into(),
+                compose.into(),
+                handle(&attrs.mask),
+                attrs.draw_id,
+            ]);
             out.extend([u32::from(attrs.thread_idx), x.into(), y.into()]);
         }
         for attrs in &screen.layer_fill_attrs {
             let (mix, compose) = (attrs.blend_mode.mix, attrs.blend_mode.compose);
-            out.extend([mix.into(), compose.into(), handle(&attrs.mask), attrs.draw_id, attrs.thread_idx.into(), attrs.opacity.to_bits()]);
+            out.extend([
+                mix.into(),
+                compose.into(),
+                handle(&attrs.mask),
+                attrs.draw_id,
+                attrs.thread_idx.into(),
+                attrs.opacity.to_bits(),
+            ]);
         }
         for EncodedPaint::Image(image) in &screen.filter_paints {
             let ImageSource::Pixmap(pixmap) = &image.source;
@@ -471,7 +751,11 @@ fn judge_list(segments: &[[u32; 5]], start: u32, end: u32) -> u32 {
     if !own.iter().all(good_segment) {
         return BAD_RECORD;
     }
-    if own.windows(2).all(in_order) { 0 } else { BAD_ORDER }
+    if own.windows(2).all(in_order) {
+        0
+    } else {
+        BAD_ORDER
+    }
 }
 
 fn tiles([first, end]: [u32; 2]) -> TileAlignedSpan {
@@ -500,12 +784,18 @@ fn refused(number: u32, zeros: usize, words: u32) -> Vec<u32> {
 fn command_words(cmd: &RenderCmd) -> [u32; 4] {
     let span = |span: TileAlignedSpan| u32::from(span.tile_x()) << 16 | u32::from(span.tile_end());
     match *cmd {
-        RenderCmd::PaintFill(fill) => {
-            [1 + u32::from(fill.alpha_idx().is_some()), span(fill.span), fill.alpha_idx().unwrap_or(0), fill.attrs_idx]
-        }
-        RenderCmd::LayerFill(fill) => {
-            [3 + u32::from(fill.alpha_idx().is_some()), span(fill.span), fill.alpha_idx().unwrap_or(0), fill.attrs_idx]
-        }
+        RenderCmd::PaintFill(fill) => [
+            1 + u32::from(fill.alpha_idx().is_some()),
+            span(fill.span),
+            fill.alpha_idx().unwrap_or(0),
+            fill.attrs_idx,
+        ],
+        RenderCmd::LayerFill(fill) => [
+            3 + u32::from(fill.alpha_idx().is_some()),
+            span(fill.span),
+            fill.alpha_idx().unwrap_or(0),
+            fill.attrs_idx,
+        ],
         RenderCmd::PushBuf(None) => [5, 0, 0, 0],
         RenderCmd::PushBuf(Some(union)) => [6, span(union), 0, 0],
         RenderCmd::PopBuf => [7, 0, 0, 0],

@@ -1,17 +1,7 @@
-//! The coarse stage's own files, unchanged, from the shared documents beside the checkout.
+//! The coarse stage's own files, unchanged.
 
-#[path = "../../../shared/docs/src/src/coarse/bucketer.rs"]
-#[allow(dead_code)]
-pub(crate) mod bucketer;
-#[path = "../../../shared/docs/src/src/coarse/cmd.rs"]
-#[allow(dead_code)]
-pub(crate) mod cmd;
-#[path = "../../../shared/docs/src/src/coarse/depth.rs"]
-#[allow(dead_code)]
-pub(crate) mod depth;
+include!(concat!(env!("OUT_DIR"), "/coarse.rs"));
 
-#[path = "coarse/probe.rs"]
-#[allow(dead_code)]
 pub(crate) mod probe;
 
 pub(crate) use bucketer::CommandBucketer;

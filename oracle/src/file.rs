@@ -1,22 +1,23 @@
 //! The recording file of document 01: its form, its records, and whether they are good.
 
 use crate::limits::{
-    BAD_FORM, BAD_ORDER, BAD_RECORD, BAD_VIEWPORT, HANDLES, HIGHEST, LAST_PIXEL, LAST_TILE, MOST_BYTES, MOST_RECORDS, MOST_ROWS, THREADS, WIDEST,
+    BAD_FORM, BAD_ORDER, BAD_RECORD, BAD_VIEWPORT, HANDLES, HIGHEST, LAST_PIXEL, LAST_TILE,
+    MOST_BYTES, MOST_RECORDS, MOST_ROWS, THREADS, WIDEST,
 };
 
 /// A file's sections, each record as its words.
-pub(crate) struct Recording {
-    pub(crate) viewport: [u32; 4],
-    pub(crate) paints: Vec<[u32; 4]>,
-    pub(crate) segments: Vec<[u32; 5]>,
-    pub(crate) draws: Vec<[u32; 7]>,
-    pub(crate) layers: Vec<[u32; 22]>,
-    pub(crate) nodes: Vec<[u32; 3]>,
-    pub(crate) root: [u32; 2],
+pub struct Recording {
+    pub viewport: [u32; 4],
+    pub paints: Vec<[u32; 4]>,
+    pub segments: Vec<[u32; 5]>,
+    pub draws: Vec<[u32; 7]>,
+    pub layers: Vec<[u32; 22]>,
+    pub nodes: Vec<[u32; 3]>,
+    pub root: [u32; 2],
 }
 
 /// A stream's recordings: each after its length in bytes; the last may be cut short.
-pub(crate) fn stream(mut bytes: &[u8]) -> Vec<&[u8]> {
+pub fn stream(mut bytes: &[u8]) -> Vec<&[u8]> {
     let mut recordings = Vec::new();
     while let Some((length, rest)) = bytes.split_first_chunk::<4>() {
         let length = usize::try_from(u32::from_le_bytes(*length)).expect("a length");
@@ -43,10 +44,13 @@ pub(crate) fn judged(bytes: &[u8]) -> Result<Recording, u32> {
 
 /// The counted sections, with nothing missing and nothing left over.
 fn sections(bytes: &[u8]) -> Option<Recording> {
-    if bytes.len() > MOST_BYTES || bytes.len() % 4 != 0 {
+    if bytes.len() > MOST_BYTES || !bytes.len().is_multiple_of(4) {
         return None;
     }
-    let words: Vec<u32> = bytes.chunks(4).map(|b| u32::from_le_bytes([b[0], b[1], b[2], b[3]])).collect();
+    let words: Vec<u32> = bytes
+        .chunks(4)
+        .map(|b| u32::from_le_bytes([b[0], b[1], b[2], b[3]]))
+        .collect();
     let mut rest = &words[..];
     let recording = Recording {
         viewport: only(&mut rest)?,
@@ -96,7 +100,11 @@ pub(crate) fn good_viewport([x0, y0, x1, y1]: [u32; 4]) -> bool {
 
 /// Multiples of 4, ends not before starts, all on the scene.
 pub(crate) fn good_box([x0, y0, x1, y1]: [u32; 4]) -> bool {
-    [x0, y0, x1, y1].iter().all(|edge| edge % 4 == 0) && x0 <= x1 && y0 <= y1 && x1 <= LAST_PIXEL && y1 <= LAST_PIXEL
+    [x0, y0, x1, y1].iter().all(|edge| edge % 4 == 0)
+        && x0 <= x1
+        && y0 <= y1
+        && x1 <= LAST_PIXEL
+        && y1 <= LAST_PIXEL
 }
 
 fn good_range(start: u32, end: u32, count: usize) -> bool {
@@ -105,7 +113,9 @@ fn good_range(start: u32, end: u32, count: usize) -> bool {
 
 /// Every record, also one that no walk reaches.
 fn good_records(r: &Recording) -> bool {
-    r.paints.iter().all(|&[flag, handle, _, _]| flag <= 1 && handle < HANDLES)
+    r.paints
+        .iter()
+        .all(|&[flag, handle, _, _]| flag <= 1 && handle < HANDLES)
         && r.segments.iter().all(good_segment)
         && r.draws.iter().all(|draw| good_draw(r, draw))
         && r.layers.iter().all(|layer| good_layer(r, layer))
@@ -158,7 +168,10 @@ fn good_clip(r: &Recording, layer: &[u32; 22]) -> bool {
 
 fn good_placement(layer: &[u32; 22]) -> bool {
     let &[.., pixmap, x0, y0, x1, y1, source_x, source_y] = layer;
-    pixmap < HANDLES && good_dest([x0, y0, x1, y1]) && source_x <= LAST_PIXEL && source_y <= LAST_PIXEL
+    pixmap < HANDLES
+        && good_dest([x0, y0, x1, y1])
+        && source_x <= LAST_PIXEL
+        && source_y <= LAST_PIXEL
 }
 
 /// As a clip box, but with y free.
@@ -172,8 +185,15 @@ fn good_node(r: &Recording, &[start, end, layer]: &[u32; 3]) -> bool {
 
 /// A draw's list and a present clip's list, each by itself.
 fn good_order(r: &Recording) -> bool {
-    let ordered = |start: u32, end: u32| r.segments[start as usize..end as usize].windows(2).all(in_order);
-    r.draws.iter().all(|draw| ordered(draw[1], draw[2])) && r.layers.iter().all(|layer| layer[7] == 0 || ordered(layer[12], layer[13]))
+    let ordered = |start: u32, end: u32| {
+        r.segments[start as usize..end as usize]
+            .windows(2)
+            .all(in_order)
+    };
+    r.draws.iter().all(|draw| ordered(draw[1], draw[2]))
+        && r.layers
+            .iter()
+            .all(|layer| layer[7] == 0 || ordered(layer[12], layer[13]))
 }
 
 /// By row, then by tiles without overlap; touching is fine.

@@ -1,26 +1,26 @@
 //! Makes recordings, good and bad, the same for the same seed.
 
-pub(crate) mod calls;
+pub mod calls;
 mod damage;
-mod draft;
+pub mod draft;
 mod edges;
-pub(crate) mod forged;
+pub mod forged;
 mod scenes;
 
 use crate::random::Random;
 
 /// A recording's bytes, and what it was made for.
 #[derive(Clone)]
-pub(crate) struct Made {
-    pub(crate) name: String,
-    pub(crate) bytes: Vec<u8>,
+pub struct Made {
+    pub name: String,
+    pub bytes: Vec<u8>,
 }
 
 /// Kinds of recordings that can be asked for.
 const KINDS: [&str; 6] = ["all", "edges", "scenes", "damaged", "heavy", "ids"];
 
 /// So many recordings: of the kind `all` the edges first, then a mixture.
-pub(crate) fn recordings(seed: u32, count: u32, kind: &str) -> Option<Vec<Made>> {
+pub fn recordings(seed: u32, count: u32, kind: &str) -> Option<Vec<Made>> {
     let mut random = Random::new(seed);
     let mut all = match kind {
         "all" => edges::edges().into_iter().map(|edge| edge.made).collect(),
@@ -39,22 +39,38 @@ pub(crate) fn recordings(seed: u32, count: u32, kind: &str) -> Option<Vec<Made>>
             "damaged" => false,
             _ => random.chance(60),
         };
-        all.push(if scene { good(&mut random) } else { damage::damaged(&mut random) });
+        all.push(if scene {
+            good(&mut random)
+        } else {
+            damage::damaged(&mut random)
+        });
     }
     Some(all)
 }
 
 fn good(random: &mut Random) -> Made {
-    Made { name: "scene".into(), bytes: scenes::scene(random).bytes() }
+    Made {
+        name: "scene".into(),
+        bytes: scenes::scene(random).bytes(),
+    }
 }
 
 /// A stream: each recording after its length.
-pub(crate) fn stream(made: &[Made]) -> Vec<u8> {
-    let length = |made: &Made| u32::try_from(made.bytes.len()).expect("a short recording").to_le_bytes();
-    made.iter().flat_map(|made| length(made).into_iter().chain(made.bytes.iter().copied())).collect()
+pub fn stream(made: &[Made]) -> Vec<u8> {
+    let length = |made: &Made| {
+        u32::try_from(made.bytes.len())
+            .expect("a short recording")
+            .to_le_bytes()
+    };
+    made.iter()
+        .flat_map(|made| length(made).into_iter().chain(made.bytes.iter().copied()))
+        .collect()
 }
 
 /// The names, one to a line.
-pub(crate) fn names(made: &[Made]) -> Vec<u8> {
-    made.iter().map(|made| made.name.clone() + "\n").collect::<String>().into_bytes()
+pub fn names(made: &[Made]) -> Vec<u8> {
+    made.iter()
+        .map(|made| made.name.clone() + "\n")
+        .collect::<String>()
+        .into_bytes()
 }

@@ -1,6 +1,6 @@
 //! Answer numbers and limits of document 01, and which limit a screen passes.
 
-use crate::coarse::{CommandBucketer, probe};
+use crate::coarse::{probe, CommandBucketer};
 
 pub(crate) const BAD_ARENA: u32 = 1;
 pub(crate) const BAD_VIEWPORT: u32 = 2;
@@ -46,13 +46,21 @@ pub(crate) const ROOM: usize = 64;
 /// limit is fine.
 pub(crate) fn within(screen: &CommandBucketer, c: usize, d: usize) -> Result<(), u32> {
     let rows = screen.rows();
-    let attrs = [screen.paint_fill_attrs.len(), screen.layer_fill_attrs.len()].iter().any(|count| *count > MOST_ATTRS);
+    let attrs = [screen.paint_fill_attrs.len(), screen.layer_fill_attrs.len()]
+        .iter()
+        .any(|count| *count > MOST_ATTRS);
     let passed = [
         (DEEP, probe::open_layers(screen) > MOST_LAYERS),
         (IDS, probe::next_id(screen) > LAST_ID + 1),
-        (FULL_ATTRS, attrs || screen.filter_paints.len() > MOST_FILTERS),
+        (
+            FULL_ATTRS,
+            attrs || screen.filter_paints.len() > MOST_FILTERS,
+        ),
         (FULL_ROW, rows.iter().any(|row| row.render_cmds.len() > c)),
         (FULL_DEPTH, rows.iter().any(|row| row.depth_cmds.len() > d)),
     ];
-    passed.iter().find(|(_, yes)| *yes).map_or(Ok(()), |(number, _)| Err(*number))
+    passed
+        .iter()
+        .find(|(_, yes)| *yes)
+        .map_or(Ok(()), |(number, _)| Err(*number))
 }

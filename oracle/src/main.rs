@@ -1,32 +1,6 @@
 //! Answers of the original Rust, to hold the definitions and the port against.
 
-extern crate alloc;
-
-mod calls;
-mod coarse;
-mod file;
-mod filter;
-mod generate;
-mod kurbo {
-    pub(crate) use vello_common::kurbo::*;
-}
-mod leaves;
-mod limits;
-mod painting;
-mod peniko {
-    pub(crate) use vello_common::peniko::*;
-}
-mod print;
-mod random;
-#[path = "../../../shared/docs/src/src/record.rs"]
-#[allow(dead_code)]
-mod record;
-mod scene;
-#[path = "../../../shared/docs/src/src/span.rs"]
-#[allow(dead_code)]
-mod span;
-mod walk;
-
+use oracle::{calls, file, generate, leaves, print, walk};
 use std::io::{Read, Write};
 
 const USAGE: &str = "usage: oracle rowlist [--first-id N] < FILE
@@ -53,10 +27,17 @@ fn main() {
         ["names", seed, count, kind] => generate::names(&made(seed, count, kind)),
         ["leaves", ..] => leaves_of(&words[1..]),
         ["calls", seed, count] => generate::calls::stream(number(seed), number(count), u32::MAX),
-        ["calls", seed, count, most] => generate::calls::stream(number(seed), number(count), number(most)),
+        ["calls", seed, count, most] => {
+            generate::calls::stream(number(seed), number(count), number(most))
+        }
         ["forged"] => generate::forged::words(),
         ["forged", "--text"] => generate::forged::names(),
-        ["answers"] => calls::stream(&calls::sequences(&input()).iter().map(|calls| calls::answers(calls)).collect::<Vec<_>>()),
+        ["answers"] => calls::stream(
+            &calls::sequences(&input())
+                .iter()
+                .map(|calls| calls::answers(calls))
+                .collect::<Vec<_>>(),
+        ),
         ["lines"] => dump(|bytes| print::rowlist(&mut player, bytes)),
         _ => {
             eprintln!("{USAGE}");
@@ -76,16 +57,30 @@ fn made(seed: &str, count: &str, kind: &str) -> Vec<generate::Made> {
 /// Binary or readable, with seed 1 and 2,400 cases unless told otherwise.
 fn leaves_of(words: &[&str]) -> Vec<u8> {
     let plain = words.first() == Some(&"--text");
-    let numbers: Vec<u32> = words[usize::from(plain)..].iter().map(|word| number(word)).collect();
-    let (seed, count) = (numbers.first().copied().unwrap_or(1), numbers.get(1).copied().unwrap_or(2_400));
-    if plain { leaves::text(seed, count) } else { leaves::binary(seed, count) }
+    let numbers: Vec<u32> = words[usize::from(plain)..]
+        .iter()
+        .map(|word| number(word))
+        .collect();
+    let (seed, count) = (
+        numbers.first().copied().unwrap_or(1),
+        numbers.get(1).copied().unwrap_or(2_400),
+    );
+    if plain {
+        leaves::text(seed, count)
+    } else {
+        leaves::binary(seed, count)
+    }
 }
 
 /// Takes `NAME NUMBER` out of the arguments.
 fn option(words: &mut Vec<String>, name: &str) -> Option<u32> {
     let at = words.iter().position(|word| word == name)?;
     words.remove(at);
-    let value = if at < words.len() { words.remove(at) } else { String::new() };
+    let value = if at < words.len() {
+        words.remove(at)
+    } else {
+        String::new()
+    };
     Some(number(&value))
 }
 
@@ -98,7 +93,9 @@ fn number(word: &str) -> u32 {
 
 fn input() -> Vec<u8> {
     let mut bytes = Vec::new();
-    std::io::stdin().read_to_end(&mut bytes).expect("standard input");
+    std::io::stdin()
+        .read_to_end(&mut bytes)
+        .expect("standard input");
     bytes
 }
 

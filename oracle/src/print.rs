@@ -1,10 +1,10 @@
 //! What `rowlist` prints of document 01, and the detail that `rowdump` adds.
 
-use crate::coarse::CommandBucketer;
 use crate::coarse::bucketer::RowState;
 use crate::coarse::cmd::RenderCmd;
 use crate::coarse::probe;
-use crate::painting::{Piece, pieces};
+use crate::coarse::CommandBucketer;
+use crate::painting::{pieces, Piece};
 use crate::walk::Player;
 use std::fmt::Write;
 use vello_common::encode::EncodedPaint;
@@ -17,13 +17,15 @@ macro_rules! line {
 }
 
 /// The lines of `rowlist`.
-pub(crate) fn rowlist(player: &mut Player, bytes: &[u8]) -> String {
+pub fn rowlist(player: &mut Player, bytes: &[u8]) -> String {
     both(player, bytes, screen_lines)
 }
 
 /// The lines of `rowlist`, then attributes and pieces of an accepted recording.
-pub(crate) fn rowdump(player: &mut Player, bytes: &[u8]) -> String {
-    both(player, bytes, |bucketer| screen_lines(bucketer) + &detail(bucketer))
+pub fn rowdump(player: &mut Player, bytes: &[u8]) -> String {
+    both(player, bytes, |bucketer| {
+        screen_lines(bucketer) + &detail(bucketer)
+    })
 }
 
 /// The text of the stepwise walk, which the Rust's own walk must give too.
@@ -33,14 +35,22 @@ fn both(player: &mut Player, bytes: &[u8], text: impl Fn(&CommandBucketer) -> St
         Ok(bucketer) => text(bucketer),
     };
     let whole = text(&player.play_whole(bytes));
-    assert!(steps == whole, "the walk by steps and bucket_commands differ:\n{steps}\nand\n{whole}");
+    assert!(
+        steps == whole,
+        "the walk by steps and bucket_commands differ:\n{steps}\nand\n{whole}"
+    );
     steps
 }
 
 fn screen_lines(bucketer: &CommandBucketer) -> String {
     let mut out = String::new();
     let buckets = bucketer.width().div_ceil(128);
-    line!(out, "rows {} buckets {buckets} ids {}", bucketer.rows().len(), probe::next_id(bucketer) - 1);
+    line!(
+        out,
+        "rows {} buckets {buckets} ids {}",
+        bucketer.rows().len(),
+        probe::next_id(bucketer) - 1
+    );
     for (i, row) in bucketer.rows().iter().enumerate() {
         row_lines(&mut out, i, row);
     }
@@ -48,20 +58,41 @@ fn screen_lines(bucketer: &CommandBucketer) -> String {
 }
 
 fn row_lines(out: &mut String, i: usize, row: &RowState) {
-    line!(out, "row {i} depth {} render {}", row.depth_cmds.len(), row.render_cmds.len());
+    line!(
+        out,
+        "row {i} depth {} render {}",
+        row.depth_cmds.len(),
+        row.render_cmds.len()
+    );
     for fill in &row.depth_cmds {
         let buckets = fill.bucket_range();
-        line!(out, "D {} {} {}", buckets.start, buckets.end, fill.attrs_idx);
+        line!(
+            out,
+            "D {} {} {}",
+            buckets.start,
+            buckets.end,
+            fill.attrs_idx
+        );
     }
     for cmd in &row.render_cmds {
         match *cmd {
             RenderCmd::PaintFill(fill) => {
                 let (first, end) = (fill.span.tile_x(), fill.span.tile_end());
-                line!(out, "P {first} {end} {} {}", or_dash(fill.alpha_idx()), fill.attrs_idx);
+                line!(
+                    out,
+                    "P {first} {end} {} {}",
+                    or_dash(fill.alpha_idx()),
+                    fill.attrs_idx
+                );
             }
             RenderCmd::LayerFill(fill) => {
                 let (first, end) = (fill.span.tile_x(), fill.span.tile_end());
-                line!(out, "L {first} {end} {} {}", or_dash(fill.alpha_idx()), fill.attrs_idx);
+                line!(
+                    out,
+                    "L {first} {end} {} {}",
+                    or_dash(fill.alpha_idx()),
+                    fill.attrs_idx
+                );
             }
             RenderCmd::PushBuf(Some(span)) => line!(out, "B {} {}", span.tile_x(), span.tile_end()),
             RenderCmd::PushBuf(None) => line!(out, "B - -"),
@@ -82,11 +113,27 @@ fn detail(bucketer: &CommandBucketer) -> String {
     for (i, row) in bucketer.rows().iter().enumerate() {
         let searched = pieces(bucketer, row, false);
         // A command that may skip the search must show the same pieces.
-        assert_eq!(searched, pieces(bucketer, row, true), "can_skip_depth changes row {i}");
+        assert_eq!(
+            searched,
+            pieces(bucketer, row, true),
+            "can_skip_depth changes row {i}"
+        );
         line!(out, "painted {i} pieces {}", searched.len());
-        for Piece { layer, attribute, first, end, alpha, nesting } in searched {
+        for Piece {
+            layer,
+            attribute,
+            first,
+            end,
+            alpha,
+            nesting,
+        } in searched
+        {
             let tag = if layer { 'l' } else { 'p' };
-            line!(out, "{tag} {attribute} {first} {end} {} {nesting}", or_dash(alpha));
+            line!(
+                out,
+                "{tag} {attribute} {first} {end} {} {nesting}",
+                or_dash(alpha)
+            );
         }
     }
     out
@@ -102,7 +149,12 @@ fn paint_attributes(out: &mut String, bucketer: &CommandBucketer) {
         let Paint::Indexed(paint) = &attrs.paint;
         let (paint, mask, (x, y)) = (paint.index(), handle(&attrs.mask), attrs.origin);
         let (mix, compose) = (attrs.blend_mode.mix, attrs.blend_mode.compose);
-        line!(out, "A {paint} {mix} {compose} {mask} {} {} {x} {y}", attrs.draw_id, attrs.thread_idx);
+        line!(
+            out,
+            "A {paint} {mix} {compose} {mask} {} {} {x} {y}",
+            attrs.draw_id,
+            attrs.thread_idx
+        );
     }
 }
 
@@ -111,7 +163,12 @@ fn layer_attributes(out: &mut String, bucketer: &CommandBucketer) {
     for attrs in &bucketer.layer_fill_attrs {
         let (mix, compose) = (attrs.blend_mode.mix, attrs.blend_mode.compose);
         let (opacity, mask) = (attrs.opacity.to_bits(), handle(&attrs.mask));
-        line!(out, "Y {mix} {compose} {opacity} {mask} {} {}", attrs.draw_id, attrs.thread_idx);
+        line!(
+            out,
+            "Y {mix} {compose} {opacity} {mask} {} {}",
+            attrs.draw_id,
+            attrs.thread_idx
+        );
     }
 }
 
@@ -119,7 +176,10 @@ fn filter_paints(out: &mut String, bucketer: &CommandBucketer) {
     line!(out, "filter paints {}", bucketer.filter_paints.len());
     for EncodedPaint::Image(image) in &bucketer.filter_paints {
         let ImageSource::Pixmap(pixmap) = &image.source;
-        let (flag, shift) = (u8::from(!image.may_have_transparency), image.transform.shift);
+        let (flag, shift) = (
+            u8::from(!image.may_have_transparency),
+            image.transform.shift,
+        );
         line!(out, "F {flag} {} {} {}", pixmap.handle, shift.x, shift.y);
     }
 }

@@ -55,7 +55,11 @@ pub(crate) fn scene(r: &Recording) -> Scene {
         paints: r.paints.iter().map(paint).collect(),
         strips: r.segments.iter().map(strip).collect(),
         draws: r.draws.iter().map(draw).collect(),
-        layers: r.layers.iter().map(|layer| recorded_layer(layer, &nodes)).collect(),
+        layers: r
+            .layers
+            .iter()
+            .map(|layer| recorded_layer(layer, &nodes))
+            .collect(),
         filters,
         root: nodes[range(r.root[0], r.root[1])].to_vec(),
     }
@@ -79,7 +83,10 @@ pub(crate) fn rect([x0, y0, x1, y1]: [u32; 4]) -> RectU16 {
 }
 
 pub(crate) fn blend(mix: u32, compose: u32) -> BlendMode {
-    BlendMode { mix: byte(mix), compose: byte(compose) }
+    BlendMode {
+        mix: byte(mix),
+        compose: byte(compose),
+    }
 }
 
 /// Handle 0 says none.
@@ -90,7 +97,12 @@ pub(crate) fn mask(handle: u32) -> Option<Mask> {
 pub(crate) fn paint(&[flag, handle, x, y]: &[u32; 4]) -> EncodedPaint {
     EncodedPaint::Image(EncodedImage {
         source: ImageSource::Pixmap(Arc::new(Pixmap::of(handle))),
-        sampler: ImageSampler { x_extend: Extend::Pad, y_extend: Extend::Pad, quality: ImageQuality::Low, alpha: 1.0 },
+        sampler: ImageSampler {
+            x_extend: Extend::Pad,
+            y_extend: Extend::Pad,
+            quality: ImageQuality::Low,
+            alpha: 1.0,
+        },
         may_have_transparency: flag == 0,
         transform: Affine::translate((f64::from(x.cast_signed()), f64::from(y.cast_signed()))),
         x_advance: Vec2::new(1.0, 0.0),
@@ -100,16 +112,31 @@ pub(crate) fn paint(&[flag, handle, x, y]: &[u32; 4]) -> EncodedPaint {
 }
 
 pub(crate) fn strip(&[kind, row, first, end, alpha]: &[u32; 5]) -> Strip {
-    Strip { alpha: kind == 1, row: short(row), first: short(first), end: short(end), alpha_idx: alpha }
+    Strip {
+        alpha: kind == 1,
+        row: short(row),
+        first: short(first),
+        end: short(end),
+        alpha_idx: alpha,
+    }
 }
 
 pub(crate) fn draw(&[thread, start, end, paint, mix, compose, handle]: &[u32; 7]) -> RecordedFill {
     let paint = Paint::Indexed(IndexedPaint::new(paint as usize));
-    RecordedFill::new(byte(thread), range(start, end), paint, blend(mix, compose), mask(handle))
+    RecordedFill::new(
+        byte(thread),
+        range(start, end),
+        paint,
+        blend(mix, compose),
+        mask(handle),
+    )
 }
 
 fn node(&[start, end, layer]: &[u32; 3]) -> Node {
-    Node { draws: range(start, end), layer: layer.checked_sub(1) }
+    Node {
+        draws: range(start, end),
+        layer: layer.checked_sub(1),
+    }
 }
 
 fn recorded_layer(layer: &[u32; 22], nodes: &[Node]) -> RecordedLayer {
@@ -131,6 +158,10 @@ fn recorded_layer(layer: &[u32; 22], nodes: &[Node]) -> RecordedLayer {
             mask: mask(handle),
             clip_path: (flag == 1).then_some(clip),
         },
-        kind: if kind == 0 { RecordedLayerKind::Regular } else { RecordedLayerKind::Filter { placement } },
+        kind: if kind == 0 {
+            RecordedLayerKind::Regular
+        } else {
+            RecordedLayerKind::Filter { placement }
+        },
     }
 }

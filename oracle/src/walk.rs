@@ -1,22 +1,25 @@
 //! A recording walked step by step by the Rust's own calls, with document 01's limits looked at after each step.
 
-use crate::coarse::{CommandBucketer, probe};
+use crate::coarse::{probe, CommandBucketer};
 use crate::file;
-use crate::limits::{ROOM, within};
+use crate::limits::{within, ROOM};
 use crate::peniko::BlendMode;
 use crate::record::RecordedFill;
-use crate::scene::{Scene, scene};
+use crate::scene::{scene, Scene};
 use vello_common::record::{Node, RecordedLayer, RecordedLayerKind};
 
 /// Plays recordings one after another on one screen, reset before each, as the dispatcher does.
-pub(crate) struct Player {
+pub struct Player {
     bucketer: CommandBucketer,
     first_id: u32,
 }
 
 impl Player {
-    pub(crate) fn new(first_id: u32) -> Self {
-        Self { bucketer: CommandBucketer::from_wh(0, 0), first_id }
+    pub fn new(first_id: u32) -> Self {
+        Self {
+            bucketer: CommandBucketer::from_wh(0, 0),
+            first_id,
+        }
     }
 
     /// The screen that a recording ends as, or the number that refuses it.
@@ -33,7 +36,14 @@ impl Player {
         let scene = scene(&file::judged(bytes).expect("an accepted recording"));
         let mut bucketer = CommandBucketer::new(scene.viewport);
         probe::set_next_id(&mut bucketer, self.first_id);
-        bucketer.bucket_commands(&scene.root, &scene.draws, &scene.layers, &scene.strips, &scene.paints, &scene.filters);
+        bucketer.bucket_commands(
+            &scene.root,
+            &scene.draws,
+            &scene.layers,
+            &scene.strips,
+            &scene.paints,
+            &scene.filters,
+        );
         bucketer
     }
 }
@@ -78,12 +88,19 @@ fn walk_layer(bucketer: &mut CommandBucketer, scene: &Scene, id: usize) -> Resul
 /// Whether a filter layer is pushed and popped; a NaN opacity is not 1.0.
 fn needs_buffer(layer: &RecordedLayer) -> bool {
     let props = &layer.props;
-    props.blend_mode != BlendMode::default() || props.opacity != 1.0 || props.mask.is_some() || props.clip_path.is_some()
+    props.blend_mode != BlendMode::default()
+        || props.opacity != 1.0
+        || props.mask.is_some()
+        || props.clip_path.is_some()
 }
 
 fn fill(bucketer: &mut CommandBucketer, scene: &Scene, draw: &RecordedFill) -> Result<(), u32> {
     let attrs = scene.attrs(draw, probe::take_id(bucketer));
-    bucketer.generate_fill(&scene.strips[draw.strip_range.clone()], &attrs, &scene.paints);
+    bucketer.generate_fill(
+        &scene.strips[draw.strip_range.clone()],
+        &attrs,
+        &scene.paints,
+    );
     limits(bucketer)
 }
 

@@ -1,8 +1,8 @@
 //! Reads and sets what only the coarse stage itself may see.
 
-use super::CommandBucketer;
 use super::bucketer::RowState;
 use super::depth::DepthBuffer;
+use super::CommandBucketer;
 use std::ops::Range;
 use vello_common::geometry::RectU16;
 
@@ -29,13 +29,22 @@ pub(crate) fn open_layers(bucketer: &CommandBucketer) -> usize {
 /// The words of a depth buffer, from its Debug text, since they are private.
 pub(crate) fn depth_words(buffer: &DepthBuffer) -> Vec<u32> {
     let text = format!("{buffer:?}");
-    let list = text.split(['[', ']']).nth(1).expect("a list in the Debug text");
-    list.split(", ").filter(|word| !word.is_empty()).map(|word| word.parse().expect("a word")).collect()
+    let list = text
+        .split(['[', ']'])
+        .nth(1)
+        .expect("a list in the Debug text");
+    list.split(", ")
+        .filter(|word| !word.is_empty())
+        .map(|word| word.parse().expect("a word"))
+        .collect()
 }
 
 /// The clip range of the innermost open layer, if one is open and has a clip.
 pub(crate) fn innermost_clip(bucketer: &CommandBucketer) -> Option<Option<Range<usize>>> {
-    bucketer.active_layers.last().map(|layer| layer.clip.as_ref().map(|clip| clip.strip_range.clone()))
+    bucketer
+        .active_layers
+        .last()
+        .map(|layer| layer.clip.as_ref().map(|clip| clip.strip_range.clone()))
 }
 
 /// The box that fills are cut to.
@@ -51,8 +60,18 @@ pub(crate) fn levels(row: &RowState) -> usize {
 /// A row's depth summary from its Debug text, since it is private: first tile, end tile, largest id.
 pub(crate) fn summary(row: &RowState) -> [u32; 3] {
     let text = format!("{row:?}");
-    let state = text.split("depth: DepthState {").nth(1).expect("a summary").split("layer_depth").next().expect("its end");
-    let numbers: Vec<u32> = state.split(|c: char| !c.is_ascii_digit()).filter(|n| !n.is_empty()).map(|n| n.parse().expect("a number")).collect();
+    let state = text
+        .split("depth: DepthState {")
+        .nth(1)
+        .expect("a summary")
+        .split("layer_depth")
+        .next()
+        .expect("its end");
+    let numbers: Vec<u32> = state
+        .split(|c: char| !c.is_ascii_digit())
+        .filter(|n| !n.is_empty())
+        .map(|n| n.parse().expect("a number"))
+        .collect();
     match numbers[..] {
         [largest] => [0, 0, largest],
         [x, width, largest] => [x / 4, (x + width) / 4, largest],

@@ -1,8 +1,8 @@
 //! Sequences of calls: building, painting by turns, runs, with edges and with calls that are refused in between.
 
 use super::damage::WORDS;
-use super::draft::{HALF, ONE, solid};
-use super::scenes::{OPACITIES, blend, bounds, new_list, viewport};
+use super::draft::{solid, HALF, ONE};
+use super::scenes::{blend, bounds, new_list, viewport, OPACITIES};
 use crate::calls::Call;
 use crate::limits::{LAST_ID, MOST_ROOM};
 use crate::random::Random;
@@ -15,9 +15,13 @@ const MOST_RENDER: u32 = 16_384;
 const MOST_FILLS: u32 = 8_192;
 
 /// So many sequences, the edges first, as a stream: those that have at most so many words with their answers.
-pub(crate) fn stream(seed: u32, count: u32, most: u32) -> Vec<u8> {
+pub fn stream(seed: u32, count: u32, most: u32) -> Vec<u8> {
     let mut random = Random::new(seed);
-    let small = |calls: &[Call]| calls.iter().map(|call| call.words().len()).sum::<usize>() + crate::calls::answers(calls).len() <= most as usize;
+    let small = |calls: &[Call]| {
+        calls.iter().map(|call| call.words().len()).sum::<usize>()
+            + crate::calls::answers(calls).len()
+            <= most as usize
+    };
     let mut all = edges();
     all.retain(|calls| small(calls));
     all.truncate(count as usize);
@@ -27,7 +31,10 @@ pub(crate) fn stream(seed: u32, count: u32, most: u32) -> Vec<u8> {
             all.push(calls);
         }
     }
-    let words: Vec<Vec<u32>> = all.iter().map(|calls| calls.iter().flat_map(Call::words).collect()).collect();
+    let words: Vec<Vec<u32>> = all
+        .iter()
+        .map(|calls| calls.iter().flat_map(Call::words).collect())
+        .collect();
     crate::calls::stream(&words)
 }
 
@@ -35,38 +42,74 @@ pub(crate) fn stream(seed: u32, count: u32, most: u32) -> Vec<u8> {
 
 const OPAQUE: [u32; 4] = [1, 7, 0, 0];
 
-pub(super) fn reset(width: u32, height: u32, c: u32, d: u32) -> Call {
-    Call::Reset { viewport: [0, 0, width, height], c, d }
+pub(crate) fn reset(width: u32, height: u32, c: u32, d: u32) -> Call {
+    Call::Reset {
+        viewport: [0, 0, width, height],
+        c,
+        d,
+    }
 }
 
-pub(super) fn fill(segments: &[[u32; 5]]) -> Call {
+pub(crate) fn fill(segments: &[[u32; 5]]) -> Call {
     let end = u32::try_from(segments.len()).expect("few");
-    Call::Fill { draw: [0, 0, end, 0, DEFAULT[0], DEFAULT[1], 0], paints: vec![OPAQUE], segments: segments.to_vec() }
+    Call::Fill {
+        draw: [0, 0, end, 0, DEFAULT[0], DEFAULT[1], 0],
+        paints: vec![OPAQUE],
+        segments: segments.to_vec(),
+    }
 }
 
-pub(super) fn alpha(row: u32, first: u32, end: u32) -> Call {
+pub(crate) fn alpha(row: u32, first: u32, end: u32) -> Call {
     fill(&[[1, row, first, end, 160]])
 }
 
-pub(super) fn push() -> Call {
-    Call::Push { mix: 0, compose: 3, opacity: HALF, mask: 0, flag: 0, clip: [0; 7] }
+pub(crate) fn push() -> Call {
+    Call::Push {
+        mix: 0,
+        compose: 3,
+        opacity: HALF,
+        mask: 0,
+        flag: 0,
+        clip: [0; 7],
+    }
 }
 
 fn destructive() -> Call {
-    Call::Push { mix: 0, compose: 5, opacity: ONE, mask: 0, flag: 0, clip: [0; 7] }
+    Call::Push {
+        mix: 0,
+        compose: 5,
+        opacity: ONE,
+        mask: 0,
+        flag: 0,
+        clip: [0; 7],
+    }
 }
 
 fn clipped(bounds: [u32; 4], start: u32, end: u32) -> Call {
     let [x0, y0, x1, y1] = bounds;
-    Call::Push { mix: 0, compose: 3, opacity: ONE, mask: 0, flag: 1, clip: [x0, y0, x1, y1, start, end, 9] }
+    Call::Push {
+        mix: 0,
+        compose: 3,
+        opacity: ONE,
+        mask: 0,
+        flag: 1,
+        clip: [x0, y0, x1, y1, start, end, 9],
+    }
 }
 
 fn pop(segments: &[[u32; 5]]) -> Call {
-    Call::Pop { segments: segments.to_vec() }
+    Call::Pop {
+        segments: segments.to_vec(),
+    }
 }
 
-pub(super) fn filter(pixmap: u32, dest: [u32; 4]) -> Call {
-    Call::Filter { pixmap, dest, source: [4, 32_768], count: 3 }
+pub(crate) fn filter(pixmap: u32, dest: [u32; 4]) -> Call {
+    Call::Filter {
+        pixmap,
+        dest,
+        source: [4, 32_768],
+        count: 3,
+    }
 }
 
 fn step(row: u32) -> Call {
@@ -77,7 +120,14 @@ fn edges() -> Vec<Vec<Call>> {
     let wide = [solid(0, 0, 64)];
     let mut all = vec![
         // A screen without rows; a pop with no layer open; painting it.
-        vec![Call::Show, pop(&[]), fill(&wide), Call::Begin, step(0), Call::Show],
+        vec![
+            Call::Show,
+            pop(&[]),
+            fill(&wide),
+            Call::Begin,
+            step(0),
+            Call::Show,
+        ],
         // Resets refused by 2 and by 1 leave what was there.
         vec![
             reset(256, 8, 8, 8),
@@ -94,11 +144,36 @@ fn edges() -> Vec<Vec<Call>> {
             Call::Show,
         ],
         // A row exactly full of commands, and one over; a segment list that fits in part is refused whole.
-        vec![reset(256, 8, 3, 8), alpha(0, 0, 4), alpha(0, 0, 4), alpha(0, 0, 4), alpha(0, 0, 4), alpha(1, 0, 4), Call::Show],
-        vec![reset(256, 8, 2, 8), fill(&[solid(0, 0, 1), solid(0, 1, 2), solid(0, 2, 3)]), fill(&[solid(0, 0, 1), solid(0, 1, 2)]), Call::Show],
+        vec![
+            reset(256, 8, 3, 8),
+            alpha(0, 0, 4),
+            alpha(0, 0, 4),
+            alpha(0, 0, 4),
+            alpha(0, 0, 4),
+            alpha(1, 0, 4),
+            Call::Show,
+        ],
+        vec![
+            reset(256, 8, 2, 8),
+            fill(&[solid(0, 0, 1), solid(0, 1, 2), solid(0, 2, 3)]),
+            fill(&[solid(0, 0, 1), solid(0, 1, 2)]),
+            Call::Show,
+        ],
         // Depth fills exactly full, and one over; 10 before 11.
-        vec![reset(256, 4, 8, 2), fill(&wide), fill(&wide), fill(&wide), alpha(0, 0, 4), Call::Show],
-        vec![reset(256, 4, 1, 1), fill(&[solid(0, 0, 40)]), fill(&[solid(0, 0, 40)]), Call::Show],
+        vec![
+            reset(256, 4, 8, 2),
+            fill(&wide),
+            fill(&wide),
+            fill(&wide),
+            alpha(0, 0, 4),
+            Call::Show,
+        ],
+        vec![
+            reset(256, 4, 1, 1),
+            fill(&[solid(0, 0, 40)]),
+            fill(&[solid(0, 0, 40)]),
+            Call::Show,
+        ],
         // The last id: fills, pops and filter fills take one; what draws nothing takes none.
         vec![
             reset(256, 8, 8, 8),
@@ -113,12 +188,30 @@ fn edges() -> Vec<Vec<Call>> {
             filter(5, [512, 0, 516, 8]),
             Call::Show,
         ],
-        vec![reset(256, 8, 8, 8), push(), alpha(0, 0, 4), Call::NextId(LAST_ID), pop(&[]), pop(&[]), fill(&wide), Call::Show],
+        vec![
+            reset(256, 8, 8, 8),
+            push(),
+            alpha(0, 0, 4),
+            Call::NextId(LAST_ID),
+            pop(&[]),
+            pop(&[]),
+            fill(&wide),
+            Call::Show,
+        ],
         // Nothing is touched by segments far outside, and an attribute is taken all the same.
-        vec![reset(256, 8, 8, 8), fill(&[solid(0, 64, 65), solid(2, 0, 8), solid(8_191, 0, 8_192)]), alpha(8_191, 8_191, 8_192), Call::Show],
+        vec![
+            reset(256, 8, 8, 8),
+            fill(&[solid(0, 64, 65), solid(2, 0, 8), solid(8_191, 0, 8_192)]),
+            alpha(8_191, 8_191, 8_192),
+            Call::Show,
+        ],
         // A solid across the whole scene, an alpha that is cut at both sides.
         vec![
-            Call::Reset { viewport: [128, 4, 384, 12], c: 8, d: 8 },
+            Call::Reset {
+                viewport: [128, 4, 384, 12],
+                c: 8,
+                d: 8,
+            },
             fill(&[solid(1, 0, 8_192), [1, 2, 0, 8_192, u32::MAX - 16 * 8_192]]),
             Call::Show,
         ],
@@ -159,15 +252,47 @@ fn edges() -> Vec<Vec<Call>> {
             Call::Show,
         ],
         // Destructive pushes: every row at once, 10 where a row is full, 6 before 10.
-        vec![reset(256, 8, 2, 8), destructive(), destructive(), destructive(), Call::Show, pop(&[]), Call::Show],
+        vec![
+            reset(256, 8, 2, 8),
+            destructive(),
+            destructive(),
+            destructive(),
+            Call::Show,
+            pop(&[]),
+            Call::Show,
+        ],
         // Filter fills: shifts on both sides of 0, rows of a box that ends inside a row.
         vec![
-            Call::Reset { viewport: [32, 8, 288, 24], c: 8, d: 8 },
+            Call::Reset {
+                viewport: [32, 8, 288, 24],
+                c: 8,
+                d: 8,
+            },
             filter(5, [0, 9, 64, 15]),
-            Call::Filter { pixmap: 5, dest: [32_764, 32_768, 32_768, 32_768], source: [0, 0], count: 0 },
-            Call::Filter { pixmap: 5, dest: [0, 0, 32_768, 32_768], source: [0, 0], count: 4_096 },
-            Call::Filter { pixmap: 5, dest: [0, 0, 32_768, 32_768], source: [32_768, 32_768], count: 4_097 },
-            Call::Filter { pixmap: 5, dest: [40, 10, 44, 11], source: [32_768, 0], count: 7 },
+            Call::Filter {
+                pixmap: 5,
+                dest: [32_764, 32_768, 32_768, 32_768],
+                source: [0, 0],
+                count: 0,
+            },
+            Call::Filter {
+                pixmap: 5,
+                dest: [0, 0, 32_768, 32_768],
+                source: [0, 0],
+                count: 4_096,
+            },
+            Call::Filter {
+                pixmap: 5,
+                dest: [0, 0, 32_768, 32_768],
+                source: [32_768, 32_768],
+                count: 4_097,
+            },
+            Call::Filter {
+                pixmap: 5,
+                dest: [40, 10, 44, 11],
+                source: [32_768, 0],
+                count: 7,
+            },
             Call::Show,
         ],
         // Painting: not begun, a layer open, begun, past the end, out of room, ended by a step and by a writing run.
@@ -194,35 +319,131 @@ fn edges() -> Vec<Vec<Call>> {
             filter(0, [0, 0, 4, 4]),
             step(0),
             Call::Begin,
-            Call::Write { row: 0, id: 3, buckets: [0, 1], words: 2 },
+            Call::Write {
+                row: 0,
+                id: 3,
+                buckets: [0, 1],
+                words: 2,
+            },
             step(0),
             Call::Begin,
-            Call::Unset { row: 0, tiles: [0, 64], words: 2 },
+            Call::Unset {
+                row: 0,
+                tiles: [0, 64],
+                words: 2,
+            },
             step(0),
             Call::Show,
         ],
         // Runs: ranges the wrong way round, past tile 8,192, past the buffer, id 0, no room, no such row.
         vec![
             reset(512, 4, 8, 8),
-            Call::Write { row: 0, id: 7, buckets: [1, 2], words: 2 },
-            Call::Unset { row: 0, tiles: [10, 100], words: 4 },
-            Call::Unset { row: 0, tiles: [10, 100], words: 3 },
-            Call::Visible { row: 0, id: 7, tiles: [10, 100], words: 4 },
-            Call::Visible { row: 0, id: 6, tiles: [10, 100], words: 5 },
-            Call::Visible { row: 0, id: 0, tiles: [0, 8_192], words: 6 },
-            Call::Visible { row: 0, id: 6, tiles: [0, 8_193], words: 6 },
-            Call::Visible { row: 1, id: 6, tiles: [0, 8], words: 6 },
-            Call::Unset { row: 0, tiles: [9, 8], words: 6 },
-            Call::Unset { row: 0, tiles: [8, 8], words: 6 },
-            Call::Write { row: 0, id: 0, buckets: [0, 1], words: 6 },
-            Call::Write { row: 0, id: 1, buckets: [0, 5], words: 6 },
-            Call::Write { row: 0, id: 1, buckets: [0, 4], words: 2 },
-            Call::Write { row: 0, id: 1, buckets: [2, 1], words: 2 },
-            Call::Write { row: 0, id: 1, buckets: [0, 4], words: 4 },
-            Call::CanSkip { row: 0, tiles: [0, 8_192], id: 0 },
-            Call::CanSkip { row: 0, tiles: [0, 8_193], id: 0 },
-            Call::CanSkip { row: 0, tiles: [1, 0], id: 0 },
-            Call::CanSkip { row: 1, tiles: [0, 1], id: 0 },
+            Call::Write {
+                row: 0,
+                id: 7,
+                buckets: [1, 2],
+                words: 2,
+            },
+            Call::Unset {
+                row: 0,
+                tiles: [10, 100],
+                words: 4,
+            },
+            Call::Unset {
+                row: 0,
+                tiles: [10, 100],
+                words: 3,
+            },
+            Call::Visible {
+                row: 0,
+                id: 7,
+                tiles: [10, 100],
+                words: 4,
+            },
+            Call::Visible {
+                row: 0,
+                id: 6,
+                tiles: [10, 100],
+                words: 5,
+            },
+            Call::Visible {
+                row: 0,
+                id: 0,
+                tiles: [0, 8_192],
+                words: 6,
+            },
+            Call::Visible {
+                row: 0,
+                id: 6,
+                tiles: [0, 8_193],
+                words: 6,
+            },
+            Call::Visible {
+                row: 1,
+                id: 6,
+                tiles: [0, 8],
+                words: 6,
+            },
+            Call::Unset {
+                row: 0,
+                tiles: [9, 8],
+                words: 6,
+            },
+            Call::Unset {
+                row: 0,
+                tiles: [8, 8],
+                words: 6,
+            },
+            Call::Write {
+                row: 0,
+                id: 0,
+                buckets: [0, 1],
+                words: 6,
+            },
+            Call::Write {
+                row: 0,
+                id: 1,
+                buckets: [0, 5],
+                words: 6,
+            },
+            Call::Write {
+                row: 0,
+                id: 1,
+                buckets: [0, 4],
+                words: 2,
+            },
+            Call::Write {
+                row: 0,
+                id: 1,
+                buckets: [2, 1],
+                words: 2,
+            },
+            Call::Write {
+                row: 0,
+                id: 1,
+                buckets: [0, 4],
+                words: 4,
+            },
+            Call::CanSkip {
+                row: 0,
+                tiles: [0, 8_192],
+                id: 0,
+            },
+            Call::CanSkip {
+                row: 0,
+                tiles: [0, 8_193],
+                id: 0,
+            },
+            Call::CanSkip {
+                row: 0,
+                tiles: [1, 0],
+                id: 0,
+            },
+            Call::CanSkip {
+                row: 1,
+                tiles: [0, 1],
+                id: 0,
+            },
             Call::Show,
         ],
     ];
@@ -236,7 +457,11 @@ fn edges() -> Vec<Vec<Call>> {
 fn layers() -> Vec<Call> {
     let mut calls = vec![reset(128, 8, 64, 8)];
     for depth in 0..17 {
-        calls.push(if depth % 3 == 2 { clipped([0, 0, 124, 8], 0, 1) } else { push() });
+        calls.push(if depth % 3 == 2 {
+            clipped([0, 0, 124, 8], 0, 1)
+        } else {
+            push()
+        });
         if depth % 5 == 0 {
             calls.push(alpha(depth % 2, 0, 16));
         }
@@ -273,9 +498,33 @@ fn filter_paints() -> Vec<Call> {
 
 /// `can_skip` on both sides of the union and of the largest id.
 fn skips() -> Vec<Call> {
-    let mut calls = vec![reset(1_024, 4, 8, 8), Call::CanSkip { row: 0, tiles: [0, 256], id: 0 }, fill(&[solid(0, 64, 96)]), fill(&[solid(0, 128, 160)])];
-    for (first, end) in [(0, 64), (0, 65), (63, 64), (64, 65), (159, 160), (160, 161), (96, 128), (100, 100), (64, 64), (160, 160)] {
-        calls.extend([0, 1, 2, 3].map(|id| Call::CanSkip { row: 0, tiles: [first, end], id }));
+    let mut calls = vec![
+        reset(1_024, 4, 8, 8),
+        Call::CanSkip {
+            row: 0,
+            tiles: [0, 256],
+            id: 0,
+        },
+        fill(&[solid(0, 64, 96)]),
+        fill(&[solid(0, 128, 160)]),
+    ];
+    for (first, end) in [
+        (0, 64),
+        (0, 65),
+        (63, 64),
+        (64, 65),
+        (159, 160),
+        (160, 161),
+        (96, 128),
+        (100, 100),
+        (64, 64),
+        (160, 160),
+    ] {
+        calls.extend([0, 1, 2, 3].map(|id| Call::CanSkip {
+            row: 0,
+            tiles: [first, end],
+            id,
+        }));
     }
     calls
 }
@@ -298,8 +547,16 @@ fn sequence(random: &mut Random) -> Vec<Call> {
         room.min(most / rows.max(1))
     };
     let (c, d) = (room(random, MOST_RENDER / 4), room(random, MOST_FILLS / 2));
-    let d = if random.chance(30) { random.from(1, 3) } else { d };
-    let mut sketch = Sketch { viewport, open: Vec::new(), calls: vec![Call::Reset { viewport, c, d }] };
+    let d = if random.chance(30) {
+        random.from(1, 3)
+    } else {
+        d
+    };
+    let mut sketch = Sketch {
+        viewport,
+        open: Vec::new(),
+        calls: vec![Call::Reset { viewport, c, d }],
+    };
     if random.chance(3) {
         sketch.calls.push(Call::NextId(LAST_ID - random.below(4)));
     }
@@ -343,8 +600,16 @@ fn build(sketch: &mut Sketch, random: &mut Random) {
 /// A list of segments with, at times, others around the range that is read.
 fn lent(sketch: &Sketch, random: &mut Random) -> (Vec<[u32; 5]>, (u32, u32)) {
     let own = new_list(sketch.viewport, random);
-    let before = if random.chance(20) { new_list(sketch.viewport, random) } else { Vec::new() };
-    let after = if random.chance(20) { new_list(sketch.viewport, random) } else { Vec::new() };
+    let before = if random.chance(20) {
+        new_list(sketch.viewport, random)
+    } else {
+        Vec::new()
+    };
+    let after = if random.chance(20) {
+        new_list(sketch.viewport, random)
+    } else {
+        Vec::new()
+    };
     let count = |list: &[[u32; 5]]| u32::try_from(list.len()).expect("few");
     let range = (count(&before), count(&before) + count(&own));
     ([before, own, after].concat(), range)
@@ -353,26 +618,66 @@ fn lent(sketch: &Sketch, random: &mut Random) -> (Vec<[u32; 5]>, (u32, u32)) {
 fn any_fill(sketch: &Sketch, random: &mut Random) -> Call {
     let (segments, (start, end)) = lent(sketch, random);
     let end = if random.chance(5) { start } else { end };
-    let paints: Vec<[u32; 4]> = (0..random.from(1, 3)).map(|_| [u32::from(random.chance(75)), random.below(9), random.word(), 0]).collect();
+    let paints: Vec<[u32; 4]> = (0..random.from(1, 3))
+        .map(|_| {
+            [
+                u32::from(random.chance(75)),
+                random.below(9),
+                random.word(),
+                0,
+            ]
+        })
+        .collect();
     let paint = random.below(u32::try_from(paints.len()).expect("few"));
     let (mix, compose) = blend(random, 85);
-    let mask = if random.chance(10) { random.word() % (1 << 31) } else { 0 };
-    Call::Fill { draw: [random.below(256) * random.below(2), start, end, paint, mix, compose, mask], paints, segments }
+    let mask = if random.chance(10) {
+        random.word() % (1 << 31)
+    } else {
+        0
+    };
+    Call::Fill {
+        draw: [
+            random.below(256) * random.below(2),
+            start,
+            end,
+            paint,
+            mix,
+            compose,
+            mask,
+        ],
+        paints,
+        segments,
+    }
 }
 
 fn open(sketch: &mut Sketch, random: &mut Random) {
     let (mix, compose) = blend(random, 60);
     let opacity = random.pick(&OPACITIES);
-    let mask = if random.chance(15) { random.from(1, (1 << 31) - 1) } else { 0 };
+    let mask = if random.chance(15) {
+        random.from(1, (1 << 31) - 1)
+    } else {
+        0
+    };
     let (flag, clip, range) = if random.chance(50) {
         let [x0, y0, x1, y1] = bounds(random, sketch.viewport, 4);
         let (start, end) = (random.below(3), 3 + random.below(3));
-        (1, [x0, y0, x1, y1, start, end, random.below(256)], Some((start, end)))
+        (
+            1,
+            [x0, y0, x1, y1, start, end, random.below(256)],
+            Some((start, end)),
+        )
     } else {
         (0, [0; 7], None)
     };
     sketch.open.push(range);
-    sketch.calls.push(Call::Push { mix, compose, opacity, mask, flag, clip });
+    sketch.calls.push(Call::Push {
+        mix,
+        compose,
+        opacity,
+        mask,
+        flag,
+        clip,
+    });
 }
 
 /// A pop, lent a list with room for its clip's range; at times one too many.
@@ -380,17 +685,28 @@ fn close(sketch: &mut Sketch, random: &mut Random) {
     let end = sketch.open.pop().flatten().map_or(0, |(_, end)| end);
     let mut segments = new_list(sketch.viewport, random);
     while segments.len() < end as usize {
-        let row = segments.last().map_or(0, |segment| (segment[1] + 1).min(8_191));
+        let row = segments
+            .last()
+            .map_or(0, |segment| (segment[1] + 1).min(8_191));
         segments.push(solid(row, 0, random.from(1, 300)));
     }
     sketch.calls.push(Call::Pop { segments });
 }
 
 fn any_filter(sketch: &Sketch, random: &mut Random) -> Call {
-    let pixmap = if random.chance(15) { 0 } else { random.from(1, (1 << 31) - 1) };
+    let pixmap = if random.chance(15) {
+        0
+    } else {
+        random.from(1, (1 << 31) - 1)
+    };
     let dest = bounds(random, sketch.viewport, 1);
     let source = [0, 1].map(|_| random.pick(&[0, 1, 4, 100, 32_768]));
-    Call::Filter { pixmap, dest, source, count: random.pick(&[0, 1, 3, 4_096]) }
+    Call::Filter {
+        pixmap,
+        dest,
+        source,
+        count: random.pick(&[0, 1, 3, 4_096]),
+    }
 }
 
 /// A word at some bound, or near what was there.
@@ -412,7 +728,14 @@ fn change(random: &mut Random, words: &mut [u32]) {
 fn damaged(sketch: &mut Sketch, random: &mut Random) -> Call {
     match random.below(4) {
         0 | 1 => {
-            let Call::Fill { mut draw, mut paints, mut segments } = any_fill(sketch, random) else { unreachable!() };
+            let Call::Fill {
+                mut draw,
+                mut paints,
+                mut segments,
+            } = any_fill(sketch, random)
+            else {
+                unreachable!()
+            };
             match random.below(4) {
                 0 if !paints.is_empty() => change(random, &mut paints[0]),
                 1 | 2 if !segments.is_empty() => {
@@ -421,7 +744,11 @@ fn damaged(sketch: &mut Sketch, random: &mut Random) -> Call {
                 }
                 _ => change(random, &mut draw),
             }
-            Call::Fill { draw, paints, segments }
+            Call::Fill {
+                draw,
+                paints,
+                segments,
+            }
         }
         2 => {
             let mut words = [0, 3, ONE, 0, 0];
@@ -435,16 +762,40 @@ fn damaged(sketch: &mut Sketch, random: &mut Random) -> Call {
                 change(random, &mut words[..4]);
             }
             // A push that is done all the same stands open.
-            sketch.open.push(if words[4] == 1 { Some((clip[4], clip[5].min(64))) } else { None });
+            sketch.open.push(if words[4] == 1 {
+                Some((clip[4], clip[5].min(64)))
+            } else {
+                None
+            });
             let [mix, compose, opacity, mask, flag] = words;
-            Call::Push { mix, compose, opacity, mask, flag, clip }
+            Call::Push {
+                mix,
+                compose,
+                opacity,
+                mask,
+                flag,
+                clip,
+            }
         }
         _ => {
-            let Call::Filter { pixmap, dest: [x0, y0, x1, y1], source: [x, y], count } = any_filter(sketch, random) else { unreachable!() };
+            let Call::Filter {
+                pixmap,
+                dest: [x0, y0, x1, y1],
+                source: [x, y],
+                count,
+            } = any_filter(sketch, random)
+            else {
+                unreachable!()
+            };
             let mut words = [pixmap, x0, y0, x1, y1, x, y, count];
             change(random, &mut words);
             let [pixmap, x0, y0, x1, y1, x, y, count] = words;
-            Call::Filter { pixmap, dest: [x0, y0, x1, y1], source: [x, y], count }
+            Call::Filter {
+                pixmap,
+                dest: [x0, y0, x1, y1],
+                source: [x, y],
+                count,
+            }
         }
     }
 }
@@ -456,11 +807,17 @@ fn damaged_reset(sketch: &mut Sketch, random: &mut Random) -> Call {
     change(random, &mut words);
     let [x0, y0, x1, y1, c, d] = words;
     let rows = y1.saturating_sub(y0).div_ceil(4);
-    let fits = rows <= MOST_ROWS && rows * 4 * c.min(MOST_ROOM) <= MOST_RENDER && rows * 2 * d.min(MOST_ROOM) <= MOST_FILLS;
+    let fits = rows <= MOST_ROWS
+        && rows * 4 * c.min(MOST_ROOM) <= MOST_RENDER
+        && rows * 2 * d.min(MOST_ROOM) <= MOST_FILLS;
     let (c, d) = if fits { (c, d) } else { (0, 0) };
     // Known only as a guess: pops that come later may be refused.
     sketch.open.clear();
-    Call::Reset { viewport: [x0, y0, x1, y1], c, d }
+    Call::Reset {
+        viewport: [x0, y0, x1, y1],
+        c,
+        d,
+    }
 }
 
 /// Painting by turns, and runs in between.
@@ -472,18 +829,44 @@ fn paint(sketch: &mut Sketch, random: &mut Random) {
     }
     let words = random.pick(&[48, 48, 48, 60, 7, 6, 0]);
     for _ in 0..random.from(1, 6 * rows.clamp(1, 8)) {
-        let row = if random.chance(3) { rows } else { random.below(rows.max(1)) };
+        let row = if random.chance(3) {
+            rows
+        } else {
+            random.below(rows.max(1))
+        };
         let range = |random: &mut Random, most: u32| {
             let (a, b) = (random.below(most + 1), random.below(most + 1));
-            if random.chance(4) { [a.max(b), a.min(b)] } else { [a.min(b), a.max(b)] }
+            if random.chance(4) {
+                [a.max(b), a.min(b)]
+            } else {
+                [a.min(b), a.max(b)]
+            }
         };
         let id = random.below(12);
         let call = match random.below(100) {
             0..88 => Call::Step { row, words },
-            88..91 => Call::Unset { row, tiles: range(random, tiles + 40), words },
-            91..94 => Call::Visible { row, id, tiles: range(random, tiles + 40), words },
-            94..96 => Call::Write { row, id, buckets: range(random, tiles.div_ceil(32)), words },
-            _ => Call::CanSkip { row, tiles: range(random, tiles + 40), id },
+            88..91 => Call::Unset {
+                row,
+                tiles: range(random, tiles + 40),
+                words,
+            },
+            91..94 => Call::Visible {
+                row,
+                id,
+                tiles: range(random, tiles + 40),
+                words,
+            },
+            94..96 => Call::Write {
+                row,
+                id,
+                buckets: range(random, tiles.div_ceil(32)),
+                words,
+            },
+            _ => Call::CanSkip {
+                row,
+                tiles: range(random, tiles + 40),
+                id,
+            },
         };
         let ended = matches!(call, Call::Write { .. });
         sketch.calls.push(call);

@@ -1,16 +1,37 @@
 //! Recordings with something wrong: a field changed, a bit turned, words missing or added.
 
-use super::Made;
-use super::draft::{Draft, bytes};
+use super::draft::{bytes, Draft};
 use super::scenes::scene;
+use super::Made;
 use crate::random::Random;
 
 /// Words that stand at some bound.
-pub(super) const WORDS: [u32; 22] = [
-    0, 1, 2, 3, 4, 8, 13, 14, 15, 16, 255, 256, 4_096, 8_191, 8_192, 8_193, 32_768, 32_772, 65_536, 0x7fff_ffff, 0x8000_0000, u32::MAX,
+pub(crate) const WORDS: [u32; 22] = [
+    0,
+    1,
+    2,
+    3,
+    4,
+    8,
+    13,
+    14,
+    15,
+    16,
+    255,
+    256,
+    4_096,
+    8_191,
+    8_192,
+    8_193,
+    32_768,
+    32_772,
+    65_536,
+    0x7fff_ffff,
+    0x8000_0000,
+    u32::MAX,
 ];
 
-pub(super) fn damaged(random: &mut Random) -> Made {
+pub(crate) fn damaged(random: &mut Random) -> Made {
     let draft = scene(random);
     let (name, bytes) = match random.below(8) {
         0 => ("bit turned", bit(random, draft.bytes())),
@@ -20,7 +41,10 @@ pub(super) fn damaged(random: &mut Random) -> Made {
         4 => ("segments swapped", swapped(random, draft)),
         _ => ("field changed", field(random, &draft)),
     };
-    Made { name: name.into(), bytes }
+    Made {
+        name: name.into(),
+        bytes,
+    }
 }
 
 fn below(random: &mut Random, n: usize) -> usize {

@@ -1,10 +1,13 @@
 //! Both sides of every edge: what is just accepted, and what is just refused, with the number it must have.
 
+use super::draft::{
+    bytes, clipped, filter, layer, solid, Draft, Range, CLIP_BOX, CLIP_FLAG, DEST, HALF, ONE,
+    PIXMAP, SOURCE,
+};
 use super::Made;
-use super::draft::{CLIP_BOX, CLIP_FLAG, DEST, Draft, HALF, ONE, PIXMAP, Range, SOURCE, bytes, clipped, filter, layer, solid};
 
 #[derive(Clone)]
-pub(super) struct Edge {
+pub(crate) struct Edge {
     pub(super) made: Made,
     /// Document 01's number, 0 for done. Only the test reads it.
     #[cfg_attr(not(test), allow(dead_code))]
@@ -12,21 +15,38 @@ pub(super) struct Edge {
 }
 
 fn edge(name: &str, answer: u32, bytes: Vec<u8>) -> Edge {
-    Edge { made: Made { name: format!("edge: {name}"), bytes }, answer }
+    Edge {
+        made: Made {
+            name: format!("edge: {name}"),
+            bytes,
+        },
+        answer,
+    }
 }
 
 /// The small ones.
-pub(super) fn edges() -> Vec<Edge> {
-    [vec![edge("worked example", 0, worked().bytes())], form(), viewports(), records(), orders(), deep(), full_rows(), full_depth(), places()].concat()
+pub(crate) fn edges() -> Vec<Edge> {
+    [
+        vec![edge("worked example", 0, worked().bytes())],
+        form(),
+        viewports(),
+        records(),
+        orders(),
+        deep(),
+        full_rows(),
+        full_depth(),
+        places(),
+    ]
+    .concat()
 }
 
 /// Those with many words or many steps.
-pub(super) fn heavy() -> Vec<Edge> {
+pub(crate) fn heavy() -> Vec<Edge> {
     [counts(), full_attrs()].concat()
 }
 
 /// Recordings that use up all ids, and one id more.
-pub(super) fn ids() -> Vec<Edge> {
+pub(crate) fn ids() -> Vec<Edge> {
     let all = |extra: u32| {
         let mut draft = Draft::new(256, 8);
         for _ in 0..1_024 {
@@ -38,7 +58,10 @@ pub(super) fn ids() -> Vec<Edge> {
         let (_, end) = draft.node((0, extra), 0);
         draft.rooted((0, end)).bytes()
     };
-    vec![edge("all ids taken", 0, all(0)), edge("one id too many", 8, all(1))]
+    vec![
+        edge("all ids taken", 0, all(0)),
+        edge("one id too many", 8, all(1)),
+    ]
 }
 
 /// Document 01's worked example.
@@ -68,14 +91,21 @@ fn form() -> Vec<Edge> {
         edge("a byte too few", 3, whole[..whole.len() - 1].to_vec()),
     ];
     // Every section may be empty but the viewport and the root.
-    let empty = Draft { viewport: [0, 0, 64, 4], ..Draft::default() };
+    let empty = Draft {
+        viewport: [0, 0, 64, 4],
+        ..Draft::default()
+    };
     all.push(edge("empty sections", 0, empty.bytes()));
     for section in 0..7 {
         let at = worked().place(section, 0, 0) - 1;
         for count in [0, words[at] + 1, 4_097, 1 << 30, 1 << 31, u32::MAX] {
             let mut changed = words.clone();
             changed[at] = count;
-            all.push(edge(&format!("section {section} says {count}"), 3, bytes(&changed)));
+            all.push(edge(
+                &format!("section {section} says {count}"),
+                3,
+                bytes(&changed),
+            ));
         }
     }
     // A second viewport or root with its words is no good form either.
@@ -86,7 +116,11 @@ fn form() -> Vec<Edge> {
     // 3 before 2.
     let mut bad = words;
     bad[1] = 1;
-    all.push(edge("bad viewport and a word too few", 3, bytes(&bad[..bad.len() - 1])));
+    all.push(edge(
+        "bad viewport and a word too few",
+        3,
+        bytes(&bad[..bad.len() - 1]),
+    ));
     all
 }
 
@@ -125,11 +159,21 @@ fn viewports() -> Vec<Edge> {
         ([0, 4_294_967_292, 256, 8], 2),
         ([0, 0, 1 << 31, 8], 2),
     ] {
-        let draft = Draft { viewport, ..worked() };
-        all.push(edge(&format!("viewport {viewport:?}"), answer, draft.bytes()));
+        let draft = Draft {
+            viewport,
+            ..worked()
+        };
+        all.push(edge(
+            &format!("viewport {viewport:?}"),
+            answer,
+            draft.bytes(),
+        ));
     }
     // 2 before 4 and 5: 33 rows and a bad paint.
-    let mut draft = Draft { viewport: [0, 0, 256, 132], ..worked() };
+    let mut draft = Draft {
+        viewport: [0, 0, 256, 132],
+        ..worked()
+    };
     draft.paints[0][0] = 2;
     all.push(edge("33 rows and a bad record", 2, draft.bytes()));
     all
@@ -149,7 +193,12 @@ fn base() -> Draft {
     draft.layer(inner);
     draft.layer(layer((0, 0)));
     draft.layer(filter(layer((0, 1)), 9, [4, 3, 80, 14], [2, 1]));
-    draft.layer(filter(clipped(layer((0, 0)), [0, 0, 64, 16], one, 255), 5, [0, 0, 64, 16], [0, 0]));
+    draft.layer(filter(
+        clipped(layer((0, 0)), [0, 0, 64, 16], one, 255),
+        5,
+        [0, 0, 64, 16],
+        [0, 0],
+    ));
     // The third node is out of reach of the root, the fourth is reached by it below.
     draft.rooted((0, 1))
 }
@@ -274,12 +323,20 @@ fn records() -> Vec<Edge> {
     let change = |(section, record, field, word, answer): (usize, usize, usize, u32, u32)| {
         let mut words = base().words();
         words[base().place(section, record, field)] = word;
-        edge(&format!("section {section} record {record} field {field} is {word}"), answer, bytes(&words))
+        edge(
+            &format!("section {section} record {record} field {field} is {word}"),
+            answer,
+            bytes(&words),
+        )
     };
     let mut all: Vec<Edge> = changes.into_iter().map(change).collect();
     all.push(edge("every kind of record", 0, base().bytes()));
     all.push(edge("all of it reached", 0, base().rooted((0, 4)).bytes()));
-    all.push(edge("root empty at the end", 0, base().rooted((4, 4)).bytes()));
+    all.push(edge(
+        "root empty at the end",
+        0,
+        base().rooted((4, 4)).bytes(),
+    ));
     // A pixmap of 0 does not excuse the box.
     let mut draft = base();
     (draft.layers[2][PIXMAP], draft.layers[2][DEST]) = (0, 2);
@@ -298,15 +355,40 @@ fn records() -> Vec<Edge> {
 fn orders() -> Vec<Edge> {
     let lists: [(&str, Vec<[u32; 5]>, u32); 10] = [
         ("touching", vec![solid(0, 0, 8), solid(0, 8, 16)], 0),
-        ("overlapping by one", vec![solid(0, 0, 8), solid(0, 7, 16)], 5),
+        (
+            "overlapping by one",
+            vec![solid(0, 0, 8), solid(0, 7, 16)],
+            5,
+        ),
         ("the same twice", vec![solid(0, 0, 8), solid(0, 0, 8)], 5),
-        ("from right to left", vec![solid(0, 8, 16), solid(0, 0, 8)], 5),
+        (
+            "from right to left",
+            vec![solid(0, 8, 16), solid(0, 0, 8)],
+            5,
+        ),
         ("the next row", vec![solid(0, 8, 16), solid(1, 0, 8)], 0),
         ("a row before", vec![solid(1, 0, 8), solid(0, 8, 16)], 5),
         ("inside another", vec![solid(0, 0, 16), solid(0, 4, 8)], 5),
-        ("alpha touching", vec![[1, 0, 0, 8, 16], [1, 0, 8, 16, 0]], 0),
-        ("alpha overlapping", vec![[1, 0, 0, 8, 16], solid(0, 7, 16)], 5),
-        ("only the last pair", vec![solid(0, 0, 8), solid(0, 8, 16), solid(1, 4, 9), solid(1, 8, 12)], 5),
+        (
+            "alpha touching",
+            vec![[1, 0, 0, 8, 16], [1, 0, 8, 16, 0]],
+            0,
+        ),
+        (
+            "alpha overlapping",
+            vec![[1, 0, 0, 8, 16], solid(0, 7, 16)],
+            5,
+        ),
+        (
+            "only the last pair",
+            vec![
+                solid(0, 0, 8),
+                solid(0, 8, 16),
+                solid(1, 4, 9),
+                solid(1, 8, 12),
+            ],
+            5,
+        ),
     ];
     let mut all = Vec::new();
     for (name, list, answer) in &lists {
@@ -314,10 +396,22 @@ fn orders() -> Vec<Edge> {
         let range = draft.segments(list);
         let number = draft.draw(range);
         let node = draft.node((number, number + 1), 0);
-        all.push(edge(&format!("draw's list {name}"), *answer, draft.rooted(node).bytes()));
-        all.push(edge(&format!("clip's list {name}"), *answer, in_clip(list, false).bytes()));
+        all.push(edge(
+            &format!("draw's list {name}"),
+            *answer,
+            draft.rooted(node).bytes(),
+        ));
+        all.push(edge(
+            &format!("clip's list {name}"),
+            *answer,
+            in_clip(list, false).bytes(),
+        ));
     }
-    all.push(edge("clip of a filter layer out of order", 5, in_clip(&lists[1].1, true).bytes()));
+    all.push(edge(
+        "clip of a filter layer out of order",
+        5,
+        in_clip(&lists[1].1, true).bytes(),
+    ));
     // The section has no order of its own, and ranges may be shared.
     let mut draft = Draft::new(256, 8);
     draft.segments(&[solid(1, 0, 8), solid(0, 8, 40), solid(0, 4, 9)]);
@@ -325,9 +419,17 @@ fn orders() -> Vec<Edge> {
         draft.draw(range);
     }
     let node = draft.node((0, 4), 0);
-    all.push(edge("three lists in no order", 0, draft.clone().rooted(node).bytes()));
+    all.push(edge(
+        "three lists in no order",
+        0,
+        draft.clone().rooted(node).bytes(),
+    ));
     draft.draw((1, 3));
-    all.push(edge("out of reach and out of order", 5, draft.clone().rooted(node).bytes()));
+    all.push(edge(
+        "out of reach and out of order",
+        5,
+        draft.clone().rooted(node).bytes(),
+    ));
     draft.draws[0][3] = 9;
     all.push(edge("4 before 5", 4, draft.rooted(node).bytes()));
     // 5 before 6.
@@ -360,7 +462,11 @@ fn nest(depth: u32, innermost: impl Fn(Range) -> [u32; 22]) -> Draft {
     draft.draw(list);
     let mut node = draft.node((0, 1), 0);
     for level in 0..depth {
-        let number = draft.layer(if level == 0 { innermost(node) } else { layer(node) });
+        let number = draft.layer(if level == 0 {
+            innermost(node)
+        } else {
+            layer(node)
+        });
         node = draft.node((0, 0), number);
     }
     draft.rooted(node)
@@ -383,13 +489,29 @@ fn deep() -> Vec<Edge> {
     let mut all = vec![
         edge("16 layers", 0, nest(16, layer).bytes()),
         edge("17 layers", 6, nest(17, layer).bytes()),
-        edge("16 layers, the last destructive", 0, nest(16, destructive).bytes()),
-        edge("17 layers, the last destructive", 6, nest(17, destructive).bytes()),
+        edge(
+            "16 layers, the last destructive",
+            0,
+            nest(16, destructive).bytes(),
+        ),
+        edge(
+            "17 layers, the last destructive",
+            6,
+            nest(17, destructive).bytes(),
+        ),
         edge("16 layers, the last empty", 0, nest(16, empty).bytes()),
         edge("17 layers, the last empty", 6, nest(17, empty).bytes()),
         edge("a filter layer in 16", 0, nest(17, placed).bytes()),
-        edge("a filter layer with a buffer in 15", 0, nest(16, buffered).bytes()),
-        edge("a filter layer with a buffer in 16", 6, nest(17, buffered).bytes()),
+        edge(
+            "a filter layer with a buffer in 15",
+            0,
+            nest(16, buffered).bytes(),
+        ),
+        edge(
+            "a filter layer with a buffer in 16",
+            6,
+            nest(17, buffered).bytes(),
+        ),
     ];
     // A layer that reaches itself, at once, by another, or out of reach.
     let cycle = |root: Range| {
@@ -407,7 +529,11 @@ fn deep() -> Vec<Edge> {
     let mut draft = Draft::new(256, 8);
     let own = draft.node((0, 0), 1);
     draft.layer(filter(layer(own), 4, [0, 0, 64, 8], [0, 0]));
-    all.push(edge("a filter layer in itself", 0, draft.rooted(own).bytes()));
+    all.push(edge(
+        "a filter layer in itself",
+        0,
+        draft.rooted(own).bytes(),
+    ));
     // 6 before 10: the 17th push would give a full row its 65th command.
     let mut draft = nest(17, destructive);
     let number = many(&mut draft, 0, 48);
@@ -449,7 +575,9 @@ fn full_rows() -> Vec<Edge> {
     };
     let clip = |parts: u32| {
         move |draft: &mut Draft| {
-            let list: Vec<[u32; 5]> = (0..parts).map(|i| [1, 0, 2 * i, 2 * i + 1, 16 * i]).collect();
+            let list: Vec<[u32; 5]> = (0..parts)
+                .map(|i| [1, 0, 2 * i, 2 * i + 1, 16 * i])
+                .collect();
             let range = draft.segments(&list);
             draft.layers[0] = clipped(draft.layers[0], [0, 0, 512, 4], range, 0);
         }
@@ -490,7 +618,11 @@ fn full_rows() -> Vec<Edge> {
         edge("62, then a destructive layer", 0, destructive(62, 0)),
         edge("63, then a destructive layer", 10, destructive(63, 0)),
         edge("64, then a destructive layer", 10, destructive(64, 0)),
-        edge("64 on another row, then a destructive layer", 0, destructive(64, 1)),
+        edge(
+            "64 on another row, then a destructive layer",
+            0,
+            destructive(64, 1),
+        ),
         edge("64 filter fills", 0, filters(64)),
         edge("65 filter fills", 10, filters(65)),
     ]
@@ -524,11 +656,31 @@ fn full_depth() -> Vec<Edge> {
         edge("65 depth fills", 11, fills(65, 0, 32)),
         edge("64 depth fills of several buckets", 0, fills(64, 32, 128)),
         edge("65 depth fills of several buckets", 11, fills(65, 32, 128)),
-        edge("64 depth fills with an edge piece each", 0, fills(64, 31, 96)),
-        edge("65 depth fills with an edge piece each: 10 before 11", 10, fills(65, 31, 96)),
-        edge("64 depth fills and 64 commands in the last step", 0, last(63, 64)),
-        edge("65 depth fills and 64 commands in the last step", 11, last(64, 64)),
-        edge("65 depth fills and 65 commands in the last step", 10, last(64, 65)),
+        edge(
+            "64 depth fills with an edge piece each",
+            0,
+            fills(64, 31, 96),
+        ),
+        edge(
+            "65 depth fills with an edge piece each: 10 before 11",
+            10,
+            fills(65, 31, 96),
+        ),
+        edge(
+            "64 depth fills and 64 commands in the last step",
+            0,
+            last(63, 64),
+        ),
+        edge(
+            "65 depth fills and 64 commands in the last step",
+            11,
+            last(64, 64),
+        ),
+        edge(
+            "65 depth fills and 65 commands in the last step",
+            10,
+            last(64, 65),
+        ),
     ]
 }
 
@@ -540,9 +692,18 @@ fn places() -> Vec<Edge> {
     let most = u32::MAX - 16 * 72;
     let list = draft.segments(&[solid(8_190, 8_100, 8_192), [1, 8_191, 8_120, 8_192, most]]);
     draft.draw(list);
-    let number = draft.layer(filter(layer((0, 0)), 2, [32_508, 32_755, 32_768, 32_768], [0, 32_768]));
+    let number = draft.layer(filter(
+        layer((0, 0)),
+        2,
+        [32_508, 32_755, 32_768, 32_768],
+        [0, 32_768],
+    ));
     let node = draft.node((0, 1), number);
-    all.push(edge("the scene's last corner", 0, draft.rooted(node).bytes()));
+    all.push(edge(
+        "the scene's last corner",
+        0,
+        draft.rooted(node).bytes(),
+    ));
     for (name, dest, source) in [
         ("left and up", [64, 9, 128, 15], [0, 0]),
         ("right and down", [0, 0, 64, 4], [32_768, 32_768]),
@@ -552,14 +713,25 @@ fn places() -> Vec<Edge> {
         ("the farthest left", [32_768, 0, 32_768, 8], [0, 0]),
         ("an empty dest box", [8, 4, 8, 12], [0, 0]),
         ("a dest box of one line", [0, 3, 256, 4], [0, 0]),
-        ("a dest box that ends a line into a row", [0, 3, 256, 5], [0, 0]),
+        (
+            "a dest box that ends a line into a row",
+            [0, 3, 256, 5],
+            [0, 0],
+        ),
         ("a dest box off the screen", [256, 0, 300, 16], [0, 0]),
     ] {
         for viewport in [[0, 0, 256, 16], [16, 4, 272, 20]] {
-            let mut draft = Draft { viewport, ..Draft::new(0, 0) };
+            let mut draft = Draft {
+                viewport,
+                ..Draft::new(0, 0)
+            };
             let node = draft.node((0, 0), 1);
             draft.layer(filter(layer((0, 0)), 2, dest, source));
-            all.push(edge(&format!("shifted {name} in {viewport:?}"), 0, draft.rooted(node).bytes()));
+            all.push(edge(
+                &format!("shifted {name} in {viewport:?}"),
+                0,
+                draft.rooted(node).bytes(),
+            ));
         }
     }
     // Opacities that are and aren't 1.0, and the other reasons for a buffer.
@@ -584,7 +756,11 @@ fn places() -> Vec<Edge> {
             let mut words = filter(layer((0, 0)), pixmap, [0, 0, 64, 8], [0, 0]);
             words[field] = word;
             draft.layer(words);
-            all.push(edge(&format!("filter layer {name}, pixmap {pixmap}"), 0, draft.rooted(node).bytes()));
+            all.push(edge(
+                &format!("filter layer {name}, pixmap {pixmap}"),
+                0,
+                draft.rooted(node).bytes(),
+            ));
         }
     }
     all.extend(blends());
@@ -598,13 +774,25 @@ fn blends() -> Vec<Edge> {
         for with_clip in [false, true] {
             let mut draft = Draft::new(256, 12);
             let fill = draft.segments(&[solid(0, 0, 40)]);
-            let clip = draft.segments(&[solid(0, 0, 8), [1, 0, 8, 20, 32], solid(1, 4, 50), solid(2, 0, 9)]);
+            let clip = draft.segments(&[
+                solid(0, 0, 8),
+                [1, 0, 8, 20, 32],
+                solid(1, 4, 50),
+                solid(2, 0, 9),
+            ]);
             draft.draw(fill);
             draft.nodes(&[[0, 1, 0], [0, 0, 1]]);
             let mut words = layer((0, 1));
             words[4] = compose;
-            draft.layer(if with_clip { clipped(words, [16, 0, 160, 8], clip, 9) } else { words });
-            let name = format!("compose {compose}{}", if with_clip { " in a clip" } else { "" });
+            draft.layer(if with_clip {
+                clipped(words, [16, 0, 160, 8], clip, 9)
+            } else {
+                words
+            });
+            let name = format!(
+                "compose {compose}{}",
+                if with_clip { " in a clip" } else { "" }
+            );
             all.push(edge(&name, 0, draft.rooted((1, 2)).bytes()));
         }
     }
@@ -618,7 +806,9 @@ fn counts() -> Vec<Edge> {
         draft.paints = vec![[1, 7, 0, 0]; paints];
         draft.draws = vec![[0, 0, 0, 0, 0, 3, 0]; draws];
         draft.nodes = vec![[0, 0, 0]; nodes];
-        draft.rooted((0, u32::try_from(nodes).expect("few"))).bytes()
+        draft
+            .rooted((0, u32::try_from(nodes).expect("few")))
+            .bytes()
     };
     vec![
         edge("4,096 nodes", 0, with(1, 0, 4_096)),
@@ -659,7 +849,12 @@ fn full_attrs() -> Vec<Edge> {
     let filters = |more: usize, top: u32| {
         let mut draft = Draft::new(256, 36);
         for row in 0..8 {
-            draft.layer(filter(layer((0, 0)), 1, [0, 4 * row, 64, 4 * row + 4], [0, 0]));
+            draft.layer(filter(
+                layer((0, 0)),
+                1,
+                [0, 4 * row, 64, 4 * row + 4],
+                [0, 0],
+            ));
         }
         let last = draft.layer(filter(layer((0, 0)), 1, [0, top, 64, top + 4], [0, 0]));
         let eight: Vec<[u32; 3]> = (1..9).map(|number| [0, 0, number]).collect();
@@ -671,13 +866,25 @@ fn full_attrs() -> Vec<Edge> {
     vec![
         edge("1,024 paint attributes", 0, paints(0, 0, 1)),
         edge("1,025 paint attributes", 9, paints(1, 0, 1)),
-        edge("1,025 paint attributes, the last off the screen", 9, paints(1, 9, 1)),
-        edge("1,025 paint attributes and 65 commands: 9 before 10", 9, paints(1, 0, 65)),
+        edge(
+            "1,025 paint attributes, the last off the screen",
+            9,
+            paints(1, 9, 1),
+        ),
+        edge(
+            "1,025 paint attributes and 65 commands: 9 before 10",
+            9,
+            paints(1, 0, 65),
+        ),
         edge("1,024 layer attributes", 0, layers(1)),
         edge("1,025 layer attributes", 9, layers(2)),
         edge("256 filter paints", 0, filters(0, 32)),
         edge("257 filter paints", 9, filters(1, 32)),
-        edge("256 filter paints and one off the screen", 0, filters(1, 64)),
+        edge(
+            "256 filter paints and one off the screen",
+            0,
+            filters(1, 64),
+        ),
     ]
 }
 

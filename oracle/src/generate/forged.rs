@@ -11,21 +11,64 @@ struct Forging {
 }
 
 const TABLES: [&str; 11] = [
-    "screen", "render", "depth fills", "depth", "rows", "painting", "layers", "paint attributes", "layer attributes", "opacities", "filter paints",
+    "screen",
+    "render",
+    "depth fills",
+    "depth",
+    "rows",
+    "painting",
+    "layers",
+    "paint attributes",
+    "layer attributes",
+    "opacities",
+    "filter paints",
 ];
 const NUMBERS: [&str; 15] = [
-    "viewport x0", "viewport y0", "viewport x1", "viewport y1", "clip x0", "clip y0", "clip x1", "clip y1", "C", "D", "next id", "paint attributes",
-    "layer attributes", "filter paints", "open layers",
+    "viewport x0",
+    "viewport y0",
+    "viewport x1",
+    "viewport y1",
+    "clip x0",
+    "clip y0",
+    "clip x1",
+    "clip y1",
+    "C",
+    "D",
+    "next id",
+    "paint attributes",
+    "layer attributes",
+    "filter paints",
+    "open layers",
 ];
 
 fn forgings() -> Vec<Forging> {
     let mut all = Vec::new();
     let mut set = |table: u32, place: u32, word: u32, what: &str| {
-        all.push(Forging { name: format!("{what} is {word}"), words: vec![14, 0, 13, table, place, word] });
+        all.push(Forging {
+            name: format!("{what} is {word}"),
+            words: vec![14, 0, 13, table, place, word],
+        });
     };
     for (number, word) in [
-        (0, 2), (2, 258), (2, 4_100), (3, 2_052), (1, 12), (3, 32_772), (8, 0), (8, 1_025), (9, 0), (9, 1_025), (4, 2), (6, 260), (7, 12),
-        (10, 0), (10, 1_048_578), (11, 1_025), (12, 1_025), (13, 257), (14, 17),
+        (0, 2),
+        (2, 258),
+        (2, 4_100),
+        (3, 2_052),
+        (1, 12),
+        (3, 32_772),
+        (8, 0),
+        (8, 1_025),
+        (9, 0),
+        (9, 1_025),
+        (4, 2),
+        (6, 260),
+        (7, 12),
+        (10, 0),
+        (10, 1_048_578),
+        (11, 1_025),
+        (12, 1_025),
+        (13, 257),
+        (14, 17),
     ] {
         set(0, number, word, NUMBERS[number as usize]);
     }
@@ -67,7 +110,11 @@ fn forgings() -> Vec<Forging> {
     ] {
         set(1, place, word, what);
     }
-    for (place, word, what) in [(0, 65_536, "row 0's depth fill's buckets"), (0, 3, "row 0's depth fill's buckets"), (1, 9, "row 0's depth fill's attribute")] {
+    for (place, word, what) in [
+        (0, 65_536, "row 0's depth fill's buckets"),
+        (0, 3, "row 0's depth fill's buckets"),
+        (1, 9, "row 0's depth fill's attribute"),
+    ] {
         set(2, place, word, what);
     }
     for (place, word, what) in [(0, 99, "row 0's steps"), (1, 17, "row 0's nesting")] {
@@ -77,22 +124,43 @@ fn forgings() -> Vec<Forging> {
         set(7, place, word, "the first paint attribute's id");
     }
     for table in 1..11 {
-        all.push(Forging { name: format!("{} lent one word short", TABLES[table as usize]), words: vec![14, table, 13, 99, 0, 0] });
+        all.push(Forging {
+            name: format!("{} lent one word short", TABLES[table as usize]),
+            words: vec![14, table, 13, 99, 0, 0],
+        });
     }
-    all.push(Forging { name: "nothing".into(), words: vec![14, 0, 13, 99, 0, 0] });
+    all.push(Forging {
+        name: "nothing".into(),
+        words: vec![14, 0, 13, 99, 0, 0],
+    });
     all
 }
 
 /// The screen that is forged: depth fills and a command on row 0, a layer open with a command on row 1.
 fn built() -> Vec<Call> {
-    vec![reset(256, 8, 8, 8), fill(&[solid(0, 0, 64)]), alpha(0, 0, 4), push(), alpha(1, 0, 16)]
+    vec![
+        reset(256, 8, 8, 8),
+        fill(&[solid(0, 0, 64)]),
+        alpha(0, 0, 4),
+        push(),
+        alpha(1, 0, 16),
+    ]
 }
 
 /// Four calls on it with the layer open, seven with the layer closed and painting begun: a step that takes a depth fill, and one that takes a command.
 fn calls() -> Vec<(Vec<Call>, Call)> {
-    let pop = || Call::Pop { segments: Vec::new() };
+    let pop = || Call::Pop {
+        segments: Vec::new(),
+    };
     let painting = || [built(), vec![pop(), Call::Begin]].concat();
-    let destructive = Call::Push { mix: 0, compose: 5, opacity: 0, mask: 0, flag: 0, clip: [0; 7] };
+    let destructive = Call::Push {
+        mix: 0,
+        compose: 5,
+        opacity: 0,
+        mask: 0,
+        flag: 0,
+        clip: [0; 7],
+    };
     let both = [[1, 0, 8, 12, 160], [1, 1, 8, 12, 160]];
     vec![
         (built(), fill(&both)),
@@ -101,21 +169,61 @@ fn calls() -> Vec<(Vec<Call>, Call)> {
         (built(), filter(5, [0, 0, 64, 8])),
         (painting(), Call::Begin),
         (painting(), Call::Step { row: 0, words: 12 }),
-        ([painting(), vec![Call::Step { row: 0, words: 12 }]].concat(), Call::Step { row: 0, words: 12 }),
-        (painting(), Call::Unset { row: 0, tiles: [0, 64], words: 8 }),
-        (painting(), Call::Visible { row: 0, id: 5, tiles: [0, 64], words: 8 }),
-        (painting(), Call::Write { row: 0, id: 7, buckets: [0, 1], words: 8 }),
-        (painting(), Call::CanSkip { row: 0, tiles: [0, 64], id: 1 }),
+        (
+            [painting(), vec![Call::Step { row: 0, words: 12 }]].concat(),
+            Call::Step { row: 0, words: 12 },
+        ),
+        (
+            painting(),
+            Call::Unset {
+                row: 0,
+                tiles: [0, 64],
+                words: 8,
+            },
+        ),
+        (
+            painting(),
+            Call::Visible {
+                row: 0,
+                id: 5,
+                tiles: [0, 64],
+                words: 8,
+            },
+        ),
+        (
+            painting(),
+            Call::Write {
+                row: 0,
+                id: 7,
+                buckets: [0, 1],
+                words: 8,
+            },
+        ),
+        (
+            painting(),
+            Call::CanSkip {
+                row: 0,
+                tiles: [0, 64],
+                id: 1,
+            },
+        ),
     ]
 }
 
 /// Each sequence after the place of its forged answer and its length.
-pub(crate) fn words() -> Vec<u8> {
+pub fn words() -> Vec<u8> {
     let mut out: Vec<u32> = Vec::new();
     for forging in forgings() {
         for (before, call) in calls() {
             let place = u32::try_from(crate::calls::answers(&before).len() + 3).expect("few");
-            let sequence = [before.iter().flat_map(Call::words).collect(), forging.words.clone(), vec![15], call.words(), vec![15]].concat();
+            let sequence = [
+                before.iter().flat_map(Call::words).collect(),
+                forging.words.clone(),
+                vec![15],
+                call.words(),
+                vec![15],
+            ]
+            .concat();
             out.extend([place, u32::try_from(sequence.len()).expect("short")]);
             out.extend(sequence);
         }
@@ -124,6 +232,10 @@ pub(crate) fn words() -> Vec<u8> {
 }
 
 /// What is forged, one to a line.
-pub(crate) fn names() -> Vec<u8> {
-    forgings().into_iter().map(|forging| forging.name + "\n").collect::<String>().into_bytes()
+pub fn names() -> Vec<u8> {
+    forgings()
+        .into_iter()
+        .map(|forging| forging.name + "\n")
+        .collect::<String>()
+        .into_bytes()
 }

@@ -1,23 +1,40 @@
 //! Small good recordings of every sort: fills, layers, clips, filter layers, viewports anywhere.
 
-use super::draft::{Draft, HALF, ONE, Range, clipped, filter, layer};
+use super::draft::{clipped, filter, layer, Draft, Range, HALF, ONE};
 use crate::random::Random;
 
 /// A layer nests at most so deep here; the limit itself is among the edges.
 const DEPTH: u32 = 4;
 /// Some opacities: 1.0 and its neighbours, NaN patterns, both zeros.
-pub(super) const OPACITIES: [u32; 10] =
-    [ONE, ONE, HALF, ONE + 1, ONE - 1, 0, 0x8000_0000, 0x7fc0_0000, 0x7f80_0001, 0xffff_ffff];
+pub(crate) const OPACITIES: [u32; 10] = [
+    ONE,
+    ONE,
+    HALF,
+    ONE + 1,
+    ONE - 1,
+    0,
+    0x8000_0000,
+    0x7fc0_0000,
+    0x7f80_0001,
+    0xffff_ffff,
+];
 
-pub(super) fn scene(random: &mut Random) -> Draft {
-    if random.chance(25) { stack(random) } else { tree(random) }
+pub(crate) fn scene(random: &mut Random) -> Draft {
+    if random.chance(25) {
+        stack(random)
+    } else {
+        tree(random)
+    }
 }
 
 /// Many wide fills on few rows: depth fills that hide one another and other fills.
 fn stack(random: &mut Random) -> Draft {
     let width = random.pick(&[256, 260, 384, 500, 512, 1_020, 1_024]);
     let x = 4 * random.pick(&[0, 0, 3, 40]);
-    let mut draft = Draft { viewport: [x, 0, x + width, 4 * random.from(1, 2)], ..Draft::default() };
+    let mut draft = Draft {
+        viewport: [x, 0, x + width, 4 * random.from(1, 2)],
+        ..Draft::default()
+    };
     draft.paints = vec![[1, 1, 0, 0], [0, 2, 0, 0]];
     let count = random.from(3, 9);
     for _ in 0..count {
@@ -25,14 +42,22 @@ fn stack(random: &mut Random) -> Draft {
         let (a, b) = (place(random, left, right), place(random, left, right));
         let (first, end) = (a.min(b), a.max(b).max(a.min(b) + 1));
         let row = random.below(2);
-        let list = if random.chance(70) { [0, row, first, end, 0] } else { segment(random, row, first, end) };
+        let list = if random.chance(70) {
+            [0, row, first, end, 0]
+        } else {
+            segment(random, row, first, end)
+        };
         let range = draft.segments(&[list]);
         let number = draft.draw(range) as usize;
         draft.draws[number][3] = u32::from(random.chance(15));
         (draft.draws[number][4], draft.draws[number][5]) = blend(random, 92);
     }
     // At times the last draws stand in a layer.
-    let cut = if random.chance(40) { random.from(0, count) } else { count };
+    let cut = if random.chance(40) {
+        random.from(0, count)
+    } else {
+        count
+    };
     draft.nodes(&[[0, cut, u32::from(cut < count)], [cut, count, 0]]);
     if cut < count {
         draft.layer(layer((1, 2)));
@@ -41,10 +66,15 @@ fn stack(random: &mut Random) -> Draft {
 }
 
 fn tree(random: &mut Random) -> Draft {
-    let mut draft = Draft { viewport: viewport(random), ..Draft::default() };
+    let mut draft = Draft {
+        viewport: viewport(random),
+        ..Draft::default()
+    };
     for _ in 0..random.from(1, 3) {
         let flag = u32::from(random.chance(75));
-        draft.paints.push([flag, random.below(9), random.word(), random.below(9)]);
+        draft
+            .paints
+            .push([flag, random.below(9), random.word(), random.below(9)]);
     }
     let root = run(&mut draft, random, 0);
     if random.chance(20) {
@@ -60,8 +90,10 @@ fn tree(random: &mut Random) -> Draft {
     draft.rooted(root)
 }
 
-pub(super) fn viewport(random: &mut Random) -> [u32; 4] {
-    let width = random.pick(&[4, 64, 124, 128, 132, 252, 256, 260, 384, 512, 516, 640, 1_024]);
+pub(crate) fn viewport(random: &mut Random) -> [u32; 4] {
+    let width = random.pick(&[
+        4, 64, 124, 128, 132, 252, 256, 260, 384, 512, 516, 640, 1_024,
+    ]);
     let height = 4 * random.pick(&[1, 2, 2, 3, 3, 4, 5, 6, 9]);
     let (width, height) = match random.below(40) {
         0 => (0, height),
@@ -83,7 +115,11 @@ fn run(draft: &mut Draft, random: &mut Random, depth: u32) -> Range {
     let mut nodes = Vec::new();
     for _ in 0..random.from(1, 3) {
         let draws = draws(draft, random);
-        let layer = if random.chance(if depth < DEPTH { 55 - 12 * depth } else { 0 }) { a_layer(draft, random, depth) } else { 0 };
+        let layer = if random.chance(if depth < DEPTH { 55 - 12 * depth } else { 0 }) {
+            a_layer(draft, random, depth)
+        } else {
+            0
+        };
         nodes.push([draws.0, draws.1, layer]);
     }
     draft.nodes(&nodes)
@@ -101,14 +137,26 @@ fn draws(draft: &mut Draft, random: &mut Random) -> Range {
         let (from, to) = list(draft, random);
         let paint = random.below(u32::try_from(draft.paints.len()).expect("few paints"));
         let (mix, compose) = blend(random, 85);
-        let mask = if random.chance(10) { random.word() % (1 << 31) } else { 0 };
-        draft.draws.push([random.below(256) * random.below(2), from, to, paint, mix, compose, mask]);
+        let mask = if random.chance(10) {
+            random.word() % (1 << 31)
+        } else {
+            0
+        };
+        draft.draws.push([
+            random.below(256) * random.below(2),
+            from,
+            to,
+            paint,
+            mix,
+            compose,
+            mask,
+        ]);
     }
     (start, start + new)
 }
 
 /// The default in so many of a hundred cases.
-pub(super) fn blend(random: &mut Random, default: u32) -> (u32, u32) {
+pub(crate) fn blend(random: &mut Random, default: u32) -> (u32, u32) {
     if random.chance(default) {
         (0, 3)
     } else {
@@ -134,11 +182,13 @@ fn list(draft: &mut Draft, random: &mut Random) -> Range {
 }
 
 fn ordered(list: &[[u32; 5]]) -> bool {
-    list.windows(2).all(|pair| pair[0][1] < pair[1][1] || (pair[0][1] == pair[1][1] && pair[0][3] <= pair[1][2]))
+    list.windows(2).all(|pair| {
+        pair[0][1] < pair[1][1] || (pair[0][1] == pair[1][1] && pair[0][3] <= pair[1][2])
+    })
 }
 
 /// One to five segments on and around the viewport.
-pub(super) fn new_list([x0, y0, x1, y1]: [u32; 4], random: &mut Random) -> Vec<[u32; 5]> {
+pub(crate) fn new_list([x0, y0, x1, y1]: [u32; 4], random: &mut Random) -> Vec<[u32; 5]> {
     let (left, right, top, bottom) = (x0 / 4, x1 / 4, y0 / 4, y1 / 4);
     let mut row = random.from(top.saturating_sub(1), (bottom + 1).max(top));
     let mut from = 0;
@@ -147,7 +197,11 @@ pub(super) fn new_list([x0, y0, x1, y1]: [u32; 4], random: &mut Random) -> Vec<[
         let (a, b) = (place(random, left, right), place(random, left, right));
         let (first, end) = (a.min(b), (a.max(b)).max(a.min(b) + 1));
         // Touching the one before, at times.
-        let first = if from > 0 && random.chance(30) { from } else { first.max(from) };
+        let first = if from > 0 && random.chance(30) {
+            from
+        } else {
+            first.max(from)
+        };
         if first < end && end <= 8_192 && row < 8_192 {
             list.push(segment(random, row, first, end));
             from = end;
@@ -165,7 +219,17 @@ fn segment(random: &mut Random, row: u32, first: u32, end: u32) -> [u32; 5] {
         return [0, row, first, end, 0];
     }
     let most = u32::MAX - 16 * (end - first);
-    [1, row, first, end, if random.chance(10) { most } else { 16 * random.below(500) }]
+    [
+        1,
+        row,
+        first,
+        end,
+        if random.chance(10) {
+            most
+        } else {
+            16 * random.below(500)
+        },
+    ]
 }
 
 /// A tile on or near the viewport, often at a bucket's edge as seen from it.
@@ -188,18 +252,34 @@ fn a_layer(draft: &mut Draft, random: &mut Random, depth: u32) -> u32 {
         return random.from(1, count);
     }
     let is_filter = random.chance(30);
-    let nodes = if is_filter { (0, u32::try_from(draft.nodes.len()).expect("few nodes")) } else { run(draft, random, depth + 1) };
+    let nodes = if is_filter {
+        (0, u32::try_from(draft.nodes.len()).expect("few nodes"))
+    } else {
+        run(draft, random, depth + 1)
+    };
     let mut words = layer(nodes);
     (words[3], words[4]) = blend(random, 60);
-    words[5] = if random.chance(50) { ONE } else { random.pick(&OPACITIES) };
-    words[6] = if random.chance(15) { random.from(1, (1 << 31) - 1) } else { 0 };
+    words[5] = if random.chance(50) {
+        ONE
+    } else {
+        random.pick(&OPACITIES)
+    };
+    words[6] = if random.chance(15) {
+        random.from(1, (1 << 31) - 1)
+    } else {
+        0
+    };
     if random.chance(if is_filter { 30 } else { 50 }) {
         let bounds = bounds(random, draft.viewport, 4);
         let list = list(draft, random);
         words = clipped(words, bounds, list, random.below(256));
     }
     if is_filter {
-        let pixmap = if random.chance(20) { 0 } else { random.from(1, (1 << 31) - 1) };
+        let pixmap = if random.chance(20) {
+            0
+        } else {
+            random.from(1, (1 << 31) - 1)
+        };
         let dest = bounds(random, draft.viewport, 1);
         let source = [0, 1].map(|_| random.pick(&[0, 1, 4, 100, 32_768]));
         words = filter(words, pixmap, dest, source);
@@ -208,7 +288,7 @@ fn a_layer(draft: &mut Draft, random: &mut Random, depth: u32) -> u32 {
 }
 
 /// A box on or near the viewport: x in fours, y in steps. It may be empty, or off the viewport.
-pub(super) fn bounds(random: &mut Random, [x0, y0, x1, y1]: [u32; 4], step: u32) -> [u32; 4] {
+pub(crate) fn bounds(random: &mut Random, [x0, y0, x1, y1]: [u32; 4], step: u32) -> [u32; 4] {
     if random.chance(15) {
         return [x0, y0, x1, y1];
     }
@@ -218,7 +298,9 @@ pub(super) fn bounds(random: &mut Random, [x0, y0, x1, y1]: [u32; 4], step: u32)
 }
 
 fn edge(random: &mut Random, low: u32, high: u32, step: u32) -> u32 {
-    let near = (low + random.below(high - low + 24)).saturating_sub(12).min(32_768);
+    let near = (low + random.below(high - low + 24))
+        .saturating_sub(12)
+        .min(32_768);
     let edge = random.pick(&[low, high, near, near, near]);
     edge - edge % step
 }

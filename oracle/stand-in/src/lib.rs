@@ -69,7 +69,9 @@ pub mod kurbo {
 
     impl Affine {
         pub fn translate(by: (f64, f64)) -> Self {
-            Self { shift: Vec2::new(by.0, by.1) }
+            Self {
+                shift: Vec2::new(by.0, by.1),
+            }
         }
     }
 }
@@ -143,11 +145,17 @@ pub mod pixmap {
 
     impl Pixmap {
         pub fn of(handle: u32) -> Self {
-            Self { handle, size: (0, 0) }
+            Self {
+                handle,
+                size: (0, 0),
+            }
         }
 
         pub fn new(width: u16, height: u16) -> Self {
-            Self { handle: 0, size: (width, height) }
+            Self {
+                handle: 0,
+                size: (width, height),
+            }
         }
 
         pub fn width(&self) -> u16 {
@@ -351,8 +359,17 @@ pub mod strip {
             if strip.row < tile_bounds.y0 || strip.row >= tile_bounds.y1 || tile_x0 >= tile_x1 {
                 continue;
             }
-            let moved = if strip.alpha { 16 * u32::from(tile_x0 - strip.first) } else { 0 };
-            let left = FillSegment { tile_y: strip.row, tile_x0, tile_x1, alpha_idx: strip.alpha_idx + moved };
+            let moved = if strip.alpha {
+                16 * u32::from(tile_x0 - strip.first)
+            } else {
+                0
+            };
+            let left = FillSegment {
+                tile_y: strip.row,
+                tile_x0,
+                tile_x1,
+                alpha_idx: strip.alpha_idx + moved,
+            };
             if strip.alpha {
                 alpha_fill(state, left);
             } else {
@@ -370,8 +387,17 @@ pub mod util {
 
     /// The hull of segments in pixels; record.rs names it, no run uses it.
     pub fn strip_bbox(strips: &[Strip]) -> Option<RectU16> {
-        let hull = |a: RectU16, b: RectU16| RectU16::new(a.x0.min(b.x0), a.y0.min(b.y0), a.x1.max(b.x1), a.y1.max(b.y1));
-        let boxes = strips.iter().map(|s| RectU16::new(4 * s.first, 4 * s.row, 4 * s.end, 4 * s.row + 4));
+        let hull = |a: RectU16, b: RectU16| {
+            RectU16::new(
+                a.x0.min(b.x0),
+                a.y0.min(b.y0),
+                a.x1.max(b.x1),
+                a.y1.max(b.y1),
+            )
+        };
+        let boxes = strips
+            .iter()
+            .map(|s| RectU16::new(4 * s.first, 4 * s.row, 4 * s.end, 4 * s.row + 4));
         boxes.reduce(hull)
     }
 
@@ -412,7 +438,10 @@ pub mod util {
 
     impl<T: Clear> RetainVec<T> {
         pub fn with_len(len: usize, make: impl FnMut() -> T) -> Self {
-            Self { items: std::iter::repeat_with(make).take(len).collect(), len }
+            Self {
+                items: std::iter::repeat_with(make).take(len).collect(),
+                len,
+            }
         }
 
         pub fn as_slice(&self) -> &[T] {
@@ -433,9 +462,12 @@ pub mod util {
         }
 
         pub fn resize_with(&mut self, len: usize, make: impl FnMut() -> T) {
-            self.items[len.min(self.len)..self.len].iter_mut().for_each(T::clear);
+            self.items[len.min(self.len)..self.len]
+                .iter_mut()
+                .for_each(T::clear);
             let missing = len.saturating_sub(self.items.len());
-            self.items.extend(std::iter::repeat_with(make).take(missing));
+            self.items
+                .extend(std::iter::repeat_with(make).take(missing));
             self.len = len;
         }
     }

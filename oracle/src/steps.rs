@@ -1,15 +1,15 @@
 //! The building steps that a recording's walk takes.
 
-use crate::draft::Draft;
+use crate::generate::draft::Draft;
 
 #[derive(Clone, Copy)]
-pub(crate) enum Step {
+pub enum Step {
     Fill(usize),
     Push(usize),
     Pop,
 }
 
-pub(crate) fn steps(draft: &Draft) -> Vec<Step> {
+pub fn steps(draft: &Draft) -> Vec<Step> {
     let mut steps = Vec::new();
     nodes(draft, draft.root[0], draft.root[1], &mut steps);
     steps

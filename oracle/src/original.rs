@@ -1,0 +1,89 @@
+//! The original as one who links it uses it: a scene built by its calls, and painted by its depth buffer.
+
+use crate::coarse::depth::DepthBuffer;
+use crate::coarse::{probe, CommandBucketer};
+use crate::file::Recording;
+use crate::painting::{self, Piece};
+use crate::scene::{scene, Scene};
+use crate::steps::Step;
+
+/// A recording's screen, and what painting needs beside it.
+pub struct Original {
+    scene: Scene,
+    bucketer: CommandBucketer,
+    depth: DepthBuffer,
+    pieces: Vec<Piece>,
+}
+
+impl Original {
+    pub fn new(recording: &Recording) -> Self {
+        let scene = scene(recording);
+        let bucketer = CommandBucketer::new(scene.viewport);
+        let depth = DepthBuffer::new(bucketer.width());
+        Self {
+            scene,
+            bucketer,
+            depth,
+            pieces: Vec::new(),
+        }
+    }
+
+    pub fn reset(&mut self) {
+        self.bucketer.reset(self.scene.viewport);
+    }
+
+    /// The steps of the scene, on a screen that is reset.
+    pub fn build(&mut self, steps: &[Step]) {
+        let (bucketer, scene) = (&mut self.bucketer, &self.scene);
+        for step in steps {
+            match *step {
+                Step::Fill(i) => {
+                    let draw = &scene.draws[i];
+                    let attrs = scene.attrs(draw, probe::take_id(bucketer));
+                    bucketer.generate_fill(
+                        &scene.strips[draw.strip_range.clone()],
+                        &attrs,
+                        &scene.paints,
+                    );
+                }
+                Step::Push(i) => bucketer.push_layer(&scene.layers[i].props),
+                Step::Pop => bucketer.pop_layer(&scene.strips),
+            }
+        }
+    }
+
+    /// The walk of the whole recording.
+    pub fn walk(&mut self) {
+        let scene = &self.scene;
+        self.bucketer.reset(scene.viewport);
+        self.bucketer.bucket_commands(
+            &scene.root,
+            &scene.draws,
+            &scene.layers,
+            &scene.strips,
+            &scene.paints,
+            &scene.filters,
+        );
+    }
+
+    /// Every row painted into a list, which is handed to `give`; the search is left out where it can be.
+    pub fn paint(&mut self, mut give: impl FnMut(&[Piece])) {
+        for row in self.bucketer.rows() {
+            self.depth.clear();
+            self.pieces.clear();
+            painting::paint(&self.bucketer, row, true, &mut self.depth, &mut self.pieces);
+            give(&self.pieces);
+        }
+    }
+
+    /// Words that stand on the screen, as the port has them: commands, depth fills and attributes.
+    pub fn words(&self) -> usize {
+        let rows = self.bucketer.rows().iter();
+        let commands: usize = rows
+            .map(|row| 4 * row.render_cmds.len() + 2 * row.depth_cmds.len())
+            .sum();
+        commands
+            + 8 * self.bucketer.paint_fill_attrs.len()
+            + 6 * self.bucketer.layer_fill_attrs.len()
+    }
+}

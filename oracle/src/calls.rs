@@ -399,6 +399,7 @@ impl Screen {
                     .get(*paint as usize)
                     .is_some_and(|&[flag, handle, _, _]| flag <= 1 && handle < HANDLES);
                 let good = *thread < THREADS
+                    && paints.len() <= MOST_RECORDS as usize
                     && good_paint
                     && good_blend(*mix, *compose)
                     && *mask < HANDLES;

@@ -66,11 +66,14 @@ fill-refused ps ss d st w pas q =
     unchanged {T = Words × List ℕ} {F = List ℕ × Words × List ℕ} (λ (ws : List ℕ) (t : Words × List ℕ). (ws, t .0, t .1)) (λ (l : fills.Lent). l .screen) (λ (l : fills.Lent). (l .words, l .paint-attrs)) true st (w, pas) (λ (s : Screen). fills.lent s w pas) (λ (s : Screen). filled (fills.lent s w pas) ps ss d)
     (λ (s : Screen). (refl, refl)) (λ (s : Screen). settled (fills.fill-number (fills.lent s w pas) ps ss d) (fills.lent s w pas) (fills.fill-done (fills.lent s w pas) ps ss d)) (screen-of true st) refl q
 
-pub push-refused : (flag : ℕ) (p : LayerProps) (st : List ℕ) (w : Words) (ls : List ℕ) (os : List Float) → Refused (push-call flag p st w ls os) → push-call flag p st w ls os .value ≡ (st, w, ls, os)
+pub push-refused : (flag : ℕ) (p : LayerProps) (st : List ℕ) (w : Words) (ls : List ℕ) (os : List Float) → Refused (push-call flag p st w ls os)
+    → push-call flag p st w ls os .value ≡ (st, w, ls, os)
 unfolding push-call pushed
 push-refused flag p st w ls os q =
-    unchanged {T = Words × List ℕ × List Float} {F = List ℕ × Words × List ℕ × List Float} (λ (ws : List ℕ) (t : Words × List ℕ × List Float). (ws, t .0, t .1, t .2)) (λ (l : push.Lent). l .screen) (λ (l : push.Lent). (l .words, l .layers, l .opacities)) (leb flag 1) st (w, ls, os) (λ (s : Screen). push.lent s w ls os)
-    (λ (s : Screen). pushed p (push.lent s w ls os)) (λ (s : Screen). (refl, refl)) (λ (s : Screen). settled (push.push-number p (push.lent s w ls os)) (push.lent s w ls os) (push.after p (push.lent s w ls os))) (screen-of (leb flag 1) st) refl q
+    unchanged {T = Words × List ℕ × List Float} {F = List ℕ × Words × List ℕ × List Float} (λ (ws : List ℕ) (t : Words × List ℕ × List Float). (ws, t .0, t .1, t .2))
+    (λ (l : push.Lent). l .screen) (λ (l : push.Lent). (l .words, l .layers, l .opacities)) (leb flag 1) st (w, ls, os) (λ (s : Screen). push.lent s w ls os)
+    (λ (s : Screen). pushed p (push.lent s w ls os)) (λ (s : Screen). (refl, refl))
+    (λ (s : Screen). settled (push.push-number p (push.lent s w ls os)) (push.lent s w ls os) (push.after p (push.lent s w ls os))) (screen-of (leb flag 1) st) refl q
 
 pub filter-refused : (p : Placement) (pixmap n : ℕ) (st : List ℕ) (w : Words) (pas : List ℕ) (fps : List ℤ) → Refused (filter-call p pixmap n st w pas fps)
     → filter-call p pixmap n st w pas fps .value ≡ (st, w, pas, fps)

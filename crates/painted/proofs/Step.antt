@@ -8,7 +8,7 @@ use native.Mathlib.Omega.{arith}
 use lib.Dec.{leb, ltb, eqb}
 use lib.ListN.{length, getD, set}
 use lib.Seq.{take-at, drop-at}
-use borrow.Author.Tests.{eq-eqb, lt-leb, leb-false, ltb-false}
+use borrow.Author.Tests.{ne-eqb, eq-eqb, lt-leb, leb-false, ltb-false}
 use Rattle.rules.specs.Lists.{join, is-empty}
 use Rattle.rules.specs.Answers.{Done, BadRun, Open, NoRoom}
 use Rattle.rules.specs.Boxes.{buckets-of}
@@ -79,7 +79,7 @@ row-number false false = refl
 -- no open layer, by their number
 none-open : (ls : List Layer) → eqb (length ls) 0 ≡ is-empty ls
 none-open [] = refl
-none-open (x ∷ ls) = refl
+none-open (x ∷ ls) = ne-eqb (suc (length ls)) 0 (λ e. omega arith)
 
 module _ (k : calls.Canvas) (w : Whole k) (i : ℕ) (l : List ℕ) where
   abbrev s : rule.Screen Row

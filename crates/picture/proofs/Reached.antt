@@ -13,7 +13,7 @@ use Rattle.rules.specs.Boxes.{rows-of, buckets-of}
 use Rattle.rules.specs.Rows.{Row, fresh-row, row-ops}
 use Rattle.rules.specs.Plans.{Frame, Step, a-fill, a-push, a-pop, a-filter}
 use Rattle.rules.specs.Steps.{Screen, reset, call}
-use Rattle.rules.specs.Recording as recording
+use Rattle.rules.proofs.Words as words-of
 use Rattle.rules.specs.Walk.{good-room}
 use Rattle.rules.specs.Calls.{Canvas, fresh-canvas, step-call, begin-call, paint-call, write-call, blank}
 use Rattle.rules.proofs.All.{both}
@@ -156,8 +156,8 @@ reached (by-write i id t list r) = write-stands (reached r) i id t list
 pub step-reached : {f : Frame} {xs : List Step} {l : Lent} (x : Step) → Reached f xs l → call-at x l .number ≡ Done → Reached f (xs ++ (x ∷ [])) (call-at x l .value)
 unfolding call-at fill-at push-at pop-at filter-at
 step-reached (a-fill ps ss d) r e =
-    let h = by-fill (join recording.paint-words ps) (join recording.segment-words ss) (draw-in d) r e in
+    let h = by-fill (join words-of.paint-words ps) (join words-of.segment-words ss) (draw-in d) r e in
     rw (paints-said ps, segments-said ss) at h
 step-reached (a-push p) r e = by-push (props-in p) p refl r e
-step-reached (a-pop ss) r e = let h = by-pop (join recording.segment-words ss) r e in rw (segments-said ss) at h
+step-reached (a-pop ss) r e = let h = by-pop (join words-of.segment-words ss) r e in rw (segments-said ss) at h
 step-reached (a-filter n f) r e = by-filter (placement-in f) (f .pixmap) n r e

@@ -10,7 +10,7 @@ use lib.ListN.{getD}
 use Rattle.rules.specs.Answers.{Done}
 use Rattle.rules.specs.Painting.{Entry, received}
 use Rattle.rules.specs.Plain.{plain}
-use Rattle.rules.specs.Computing.{computing}
+use Rattle.rules.proofs.Computing.{computing}
 use Rattle.tiles.specs.Turns.{from}
 use Rattle.theorem_border.specs.Hosted.{Hosted, by-reset, by-fill, Call}
 use Rattle.theorem_border.specs.Border.{log, finished}

@@ -1,4 +1,5 @@
 -- All that has to unfold to compute with a host's calls of reset, fill and painting: a theorem by computation says `unfolding on-words computing`.
+use Rattle.cmd.specs.Reading.{command-of, depth-fill-of}
 use Rattle.segments.specs.Segs.{seg-at, segs}
 use Rattle.screen.specs.Judging as screens
 use Rattle.screen.specs.Judging.{judged-reset}
@@ -27,7 +28,7 @@ use Rattle.theorem_border.specs.Border.{painted, log}
 
 -- reset and fill
 unfoldable pub on-fills : Unit {0}
-unfolding seg-at segs screens.judged judged-reset good-clip good-screen state-of screen-after zeros reset-to cut lay hull-word include-span put-command put-depth building.step-number good-row good-rows paints first-number fill-number fill-done reset-call fill-call reset-at fill-at
+unfolding command-of depth-fill-of seg-at segs screens.judged judged-reset good-clip good-screen state-of screen-after zeros reset-to cut lay hull-word include-span put-command put-depth building.step-number good-row good-rows paints first-number fill-number fill-done reset-call fill-call reset-at fill-at
 on-fills = tt
 
 -- painting

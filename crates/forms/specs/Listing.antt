@@ -15,9 +15,13 @@ pub record Out : Type 0 where
   pub count : ℕ
   pub spans : List TileSpan
 
+-- how many runs a result lists
+abbrev pub counted : Runs → ℕ
+counted r = words.out r [] .count
+
 -- what a call gives: as over tile numbers, with spans for the list
 abbrev pub out : Runs → List TileSpan → Out
-out r l = record { number = words.out r [] .number; count = words.out r [] .count; spans = l }
+out r l = record { number = words.out r [] .number; count = counted r; spans = l }
 
 -- what an answer leaves: its runs at the list's start; what stands after them stays
 unfoldable pub listing : Answer (List Span) → List TileSpan → Out

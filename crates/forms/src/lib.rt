@@ -1,8 +1,10 @@
 // Forms over references to structs that document 01 names, each beside its covered form in `depth`.
+pub mod listed;
 pub mod runs;
 pub mod spans;
 pub mod summary;
 
+pub use listed::list_visible_spans;
 pub use runs::run_at;
 pub use runs::runs_of;
 pub use runs::write_runs;

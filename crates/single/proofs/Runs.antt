@@ -41,6 +41,7 @@ use Rattle.depth.proofs.runs.unset_runs_and_write as write-call
 use Rattle.forms.proofs.summary.included_span as included-call
 use Rattle.forms.proofs.summary.include_span as there-call
 use Rattle.forms.proofs.spans.visible_spans as spans-call
+use Rattle.forms.proofs.listed.list_visible_spans as list-call
 
 -- `split_opaque_span`
 module _ (span : TileSpan) where
@@ -115,18 +116,27 @@ runs-once (runs.Refused a) (runs.Listed m) n c = numbers-once n c
 runs-once (runs.Listed m) (runs.Refused b) n c = numbers-once n c
 runs-once (runs.Listed m) (runs.Listed k) n c = numbers-once n c
 
+-- what a result and its spans say together gives both
+spans-once : (r q : Runs) (l m : List TileSpan) → spans.out r l ≡ spans.out q m → (r ≡ q) × (l ≡ m)
+spans-once r q l m h =
+    let o = out-once r q [] [] (runs-once r q (ap (λ (x : spans.Out). x .number) h) (ap (λ (x : spans.Out). x .count) h)) in
+    (o .0, ap (λ (x : spans.Out). x .spans) h)
+
 -- `forms::visible_spans`
 module _ (depth : List ℕ) (span : TileSpan) (id : ℕ) where
   abbrev pub ListsSpans : Visible → Type 0
   ListsSpans r = spans.out (r .runs) (r .spans) ≡ spans.listing (visible-answer 32 depth id (tiles span) 16) (replicate 16 no-span)
 
   pub one-spans : (r q : Visible) → ListsSpans r → ListsSpans q → r ≡ q
-  one-spans r q e f =
-      let h = e ∙ sym f in
-      let o = out-once (r .runs) (q .runs) [] []
-      (runs-once (r .runs) (q .runs) (ap (λ (x : spans.Out). x .number) h) (ap (λ (x : spans.Out). x .count) h)) in
-      let l : r .spans ≡ q .spans = ap (λ (x : spans.Out). x .spans) h in
-      rw (o .0, l)
+  one-spans r q e f = let o = spans-once (r .runs) (q .runs) (r .spans) (q .spans) (e ∙ sym f) in rw (o .0, o .1)
+
+-- `forms::list_visible_spans`: the result, and every entry of the lent list
+module _ (depth : List ℕ) (span : TileSpan) (id : ℕ) (list : List TileSpan) where
+  abbrev pub ListsThere : Runs → List TileSpan → Type 0
+  ListsThere r l = spans.out r l ≡ spans.listing (visible-answer 32 depth id (tiles span) (length list)) list
+
+  pub one-listed : (r q : Runs) (l m : List TileSpan) → ListsThere r l → ListsThere q m → (r ≡ q) × (l ≡ m)
+  one-listed r q l m e f = spans-once r q l m (e ∙ sym f)
 
 -- No call asks anything, and the promises are the sources' clauses: at the arguments a, the result r and the arguments at exit e.
 module _ {M : Type 1} (𝓤 : URA M) (H : Heap 𝓤) (A : Atoms 𝓤) (mem : Memory → SProp 𝓤) (run : Routine → Fun 𝓤) where
@@ -179,3 +189,8 @@ module _ {M : Type 1} (𝓤 : URA M) (H : Heap 𝓤) (A : Atoms 𝓤) (mem : Mem
       → (spans-call.clauses 𝓤 H A mem run κs a .requires tt ≡ emp 𝓤)
       × (spans-call.clauses 𝓤 H A mem run κs a .ensures tt r e ≡ fact 𝓤 (ListsSpans (now (a .0)) (a .1 .0) (a .1 .1 .0) r))
   spans-source κs a r e = (refl, refl)
+
+  list-source : (κs : Lfts (list-call.signature .lifetimes)) (a : Args list-call.signature κs) (r : Runs) (e : AtExit list-call.ended κs)
+      → (list-call.clauses 𝓤 H A mem run κs a .requires tt ≡ emp 𝓤)
+      × (list-call.clauses 𝓤 H A mem run κs a .ensures tt r e ≡ fact 𝓤 (ListsThere (now (a .0)) (a .1 .0) (a .1 .1 .0) (now (a .1 .1 .1 .0)) r (now (e .1 .1 .1 .0))))
+  list-source κs a r e = (refl, refl)

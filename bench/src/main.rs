@@ -4,8 +4,6 @@ mod port;
 mod scenes;
 mod timing;
 
-use oracle::file::Recording;
-use oracle::generate::draft::Draft;
 use oracle::original::Original;
 use oracle::painting::Piece;
 use oracle::steps::steps;
@@ -31,29 +29,8 @@ fn main() {
     }
 }
 
-fn recording(draft: &Draft) -> Recording {
-    let Draft {
-        viewport,
-        paints,
-        segments,
-        draws,
-        layers,
-        nodes,
-        root,
-    } = draft.clone();
-    Recording {
-        viewport,
-        paints,
-        segments,
-        draws,
-        layers,
-        nodes,
-        root,
-    }
-}
-
 fn race(it: &scenes::Scene, rounds: usize) {
-    let mut original = Original::new(&recording(&it.draft));
+    let mut original = Original::new(&it.draft);
     let steps = steps(&it.draft);
     let mut port = Port::new(&it.draft, it.c, it.d);
     let [mut reset, mut build, mut paint, mut by_steps] = [(); 4].map(|()| Race::new());

@@ -6,6 +6,7 @@ use crate::limits::{
 };
 
 /// A file's sections, each record as its words.
+#[derive(Clone, Default)]
 pub struct Recording {
     pub viewport: [u32; 4],
     pub paints: Vec<[u32; 4]>,

@@ -54,16 +54,8 @@ impl Original {
 
     /// The walk of the whole recording.
     pub fn walk(&mut self) {
-        let scene = &self.scene;
-        self.bucketer.reset(scene.viewport);
-        self.bucketer.bucket_commands(
-            &scene.root,
-            &scene.draws,
-            &scene.layers,
-            &scene.strips,
-            &scene.paints,
-            &scene.filters,
-        );
+        self.bucketer.reset(self.scene.viewport);
+        self.scene.walk(&mut self.bucketer);
     }
 
     /// Every row painted into a list, which is handed to `give`; the search is left out where it can be.

@@ -1,6 +1,7 @@
 //! A good recording as the values that the Rust takes.
 
 use crate::coarse::cmd::PaintFillAttrs;
+use crate::coarse::CommandBucketer;
 use crate::file::Recording;
 use crate::filter::context::FilterContext;
 use crate::kurbo::{Affine, Vec2};
@@ -28,6 +29,18 @@ pub(crate) struct Scene {
 }
 
 impl Scene {
+    /// The Rust's own walk of the whole recording, on a screen of its viewport.
+    pub(crate) fn walk(&self, bucketer: &mut CommandBucketer) {
+        bucketer.bucket_commands(
+            &self.root,
+            &self.draws,
+            &self.layers,
+            &self.strips,
+            &self.paints,
+            &self.filters,
+        );
+    }
+
     /// A draw's attributes, as the walk of a node makes them.
     pub(crate) fn attrs(&self, draw: &RecordedFill, draw_id: u32) -> PaintFillAttrs {
         PaintFillAttrs {

@@ -36,14 +36,7 @@ impl Player {
         let scene = scene(&file::judged(bytes).expect("an accepted recording"));
         let mut bucketer = CommandBucketer::new(scene.viewport);
         probe::set_next_id(&mut bucketer, self.first_id);
-        bucketer.bucket_commands(
-            &scene.root,
-            &scene.draws,
-            &scene.layers,
-            &scene.strips,
-            &scene.paints,
-            &scene.filters,
-        );
+        scene.walk(&mut bucketer);
         bucketer
     }
 }

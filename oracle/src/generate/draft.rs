@@ -1,5 +1,7 @@
 //! A recording under construction.
 
+use crate::file::Recording;
+
 /// 1.0 and 0.5 as bits.
 pub(crate) const ONE: u32 = 0x3f80_0000;
 pub(crate) const HALF: u32 = 0x3f00_0000;
@@ -16,16 +18,8 @@ pub(crate) const SOURCE: usize = 20;
 /// First and end of records.
 pub type Range = (u32, u32);
 
-#[derive(Clone, Default)]
-pub struct Draft {
-    pub viewport: [u32; 4],
-    pub paints: Vec<[u32; 4]>,
-    pub segments: Vec<[u32; 5]>,
-    pub draws: Vec<[u32; 7]>,
-    pub layers: Vec<[u32; 22]>,
-    pub nodes: Vec<[u32; 3]>,
-    pub root: [u32; 2],
-}
+/// The records of a file, which need not be good.
+pub type Draft = Recording;
 
 /// A solid segment.
 pub fn solid(row: u32, first: u32, end: u32) -> [u32; 5] {

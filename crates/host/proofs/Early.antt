@@ -22,46 +22,46 @@ use Rattle.rules.specs.Walk.{go-on, _then_, walk-all}
 use Rattle.rules.proofs.Logged.{Logged, logged-call}
 use Rattle.rules.specs.Painting as rules
 use Rattle.rules.proofs.All.{nil, cons}
-use Rattle.tiles.proofs.Cases.{by}
-use Rattle.tiles.proofs.Walked.{Late, late-done, first-late, plan-late, refusal-late, all-walks}
+use Rattle.rules_picture.proofs.Cases.{by}
+use Rattle.rules_picture.proofs.Walked.{Late, late-done, first-late, plan-late, refusal-late, all-walks}
 use Rattle.rules.specs.Boxes.{good-viewport, rows-of}
 use Rattle.rules.specs.Walk.{good-arenas}
 use Rattle.rect.specs.declared.Rect.{Rect}
 use Rattle.rect.specs.Rects.{box-of}
 use Rattle.row.specs.Words.{Words, word-ops}
-use Rattle.building.specs.Building.{step-number}
+use Rattle.row_judge.specs.Building.{step-number}
 use Rattle.screen.specs.declared.Screen.{Screen}
 use Rattle.screen.specs.Screens.{rect-of, frame}
 use Rattle.screen.specs.declared.Lengths.{Lengths}
 use Rattle.screen.specs.Judging as judging
 use Rattle.screen.specs.Judging.{judged, good-tables, judged-reset}
 use Rattle.screen.specs.Tables.{Tables, lengths, Lent, lent, reset-to}
-use Rattle.fill.specs.declared.Draw.{Draw}
-use Rattle.fill.specs.Fills as fills
-use Rattle.fill.specs.Fills.{filled}
-use Rattle.layers.specs.declared.LayerProps.{LayerProps}
-use Rattle.layers.specs.Layers.{good-pattern}
-use Rattle.push.specs.Push as push
-use Rattle.push.specs.Push.{pushed}
-use Rattle.pop.specs.Pop as pop
-use Rattle.pop.specs.Pop.{popped}
-use Rattle.filter.specs.Filter as filter
-use Rattle.filter.specs.Filter.{filtered}
-use Rattle.recording.specs.Judging as records
-use Rattle.steps.specs.Steps.{call-at}
-use Rattle.walk.specs.Recorded.{or-fresh, played, recorded-in, of-sections, recorded}
-use Rattle.refine.proofs.Refined.{reset-refines}
-use Rattle.refine.proofs.Walks.{walk-refines}
-use Rattle.paint.specs.Painting as paint
-use Rattle.painter.specs.Judging as painter
-use Rattle.painter.specs.Judging.{wide, begin-number, runs-number, skip-number}
-use Rattle.painter.specs.Beginning.{Canvas, canvas, beginning}
-use Rattle.painter.specs.Stepping.{Attributes, part, own, number, row-step, stepped}
-use Rattle.painter.specs.Rows.{Wrote, or-runs, write-in-place, record-skip, unset-of, visible-of, write-of, skip-of-row}
-use Rattle.rowpaint.specs.Running.{goes-on, ended, one-more, run, standing, call-step, row-painted}
+use Rattle.step_fill.specs.declared.Draw.{Draw}
+use Rattle.step_fill.specs.Fills as fills
+use Rattle.step_fill.specs.Fills.{filled}
+use Rattle.screen_layers.specs.declared.LayerProps.{LayerProps}
+use Rattle.screen_layers.specs.Layers.{good-pattern}
+use Rattle.step_push.specs.Push as push
+use Rattle.step_push.specs.Push.{pushed}
+use Rattle.step_pop.specs.Pop as pop
+use Rattle.step_pop.specs.Pop.{popped}
+use Rattle.step_filter.specs.Filter as filter
+use Rattle.step_filter.specs.Filter.{filtered}
+use Rattle.file_judge.specs.Judging as records
+use Rattle.file_steps.specs.Steps.{call-at}
+use Rattle.file_call.specs.Recorded.{or-fresh, played, recorded-in, of-sections, recorded}
+use Rattle.refine_steps.proofs.Refined.{reset-refines}
+use Rattle.refine_steps.proofs.Walks.{walk-refines}
+use Rattle.paint_command.specs.Painting as paint
+use Rattle.paint_screen.specs.Judging as painter
+use Rattle.paint_screen.specs.Judging.{wide, begin-number, runs-number, skip-number}
+use Rattle.paint_screen.specs.Beginning.{Canvas, canvas, beginning}
+use Rattle.paint_screen.specs.Stepping.{Attributes, part, own, number, row-step, stepped}
+use Rattle.paint_screen.specs.Rows.{Wrote, or-runs, write-in-place, record-skip, unset-of, visible-of, write-of, skip-of-row}
+use Rattle.paint_whole.specs.Running.{goes-on, ended, one-more, run, standing, call-step, row-painted}
 use Rattle.depth.specs.Listing.{listing, writing}
-use Rattle.shown.specs.Summaries.{good-summary, summary-at}
-use Rattle.held.specs.State.{before-4}
+use Rattle.paint_runs.specs.Summaries.{good-summary, summary-at}
+use Rattle.host_screen.specs.State.{before-4}
 use Rattle.host.specs.Border.{arenas-number, in-sections, file-number}
 use Rattle.host.proofs.Kept.{on-done, gone-on}
 

@@ -17,15 +17,15 @@ use Rattle.rules.specs.Depth.{listed, unset-runs, visible-runs, write-runs, uns
 use Rattle.cmd.proofs.Tests.{and-left}
 use Rattle.screen.specs.declared.Screen.{Screen}
 use Rattle.depth.specs.Listing.{numbers, listing, writing}
-use Rattle.paint.specs.Painting as paint
-use Rattle.painter.specs.Judging.{wide, runs-number}
-use Rattle.painter.specs.Stepping.{Attributes, part, own, in-place, number, row-step, stepped}
-use Rattle.rowpaint.specs.Running.{goes-on, ended, one-more, run, most, standing, call-step, row-painted}
-use Rattle.painter.specs.Rows.{Wrote, or-runs, unset-of, visible-of, write-of, write-in-place, skip-of-row}
-use Rattle.held.specs.declared.Held.{Held}
-use Rattle.held.specs.declared.Held.the-variants as held
-use Rattle.held.specs.State.{screen-words, screen-of, at-held, on}
-use Rattle.held.proofs.Words.{written-back}
+use Rattle.paint_command.specs.Painting as paint
+use Rattle.paint_screen.specs.Judging.{wide, runs-number}
+use Rattle.paint_screen.specs.Stepping.{Attributes, part, own, in-place, number, row-step, stepped}
+use Rattle.paint_whole.specs.Running.{goes-on, ended, one-more, run, most, standing, call-step, row-painted}
+use Rattle.paint_screen.specs.Rows.{Wrote, or-runs, unset-of, visible-of, write-of, write-in-place, skip-of-row}
+use Rattle.host_screen.specs.declared.Held.{Held}
+use Rattle.host_screen.specs.declared.Held.the-variants as held
+use Rattle.host_screen.specs.State.{screen-words, screen-of, at-held, on}
+use Rattle.host_screen.proofs.Words.{written-back}
 use Rattle.host.specs.Painting.{with-room, step-left, step-call, row-call, runs-left, unset-call, visible-call, write-left, write-call, skip-left, skip-call, split-left, split-call}
 use Rattle.host.proofs.Refused.{Refused, settled}
 

@@ -14,25 +14,25 @@ use Rattle.screen.specs.declared.Screen.{Screen}
 use Rattle.screen.specs.Screens.{fresh-screen}
 use Rattle.screen.specs.Judging.{judged-reset}
 use Rattle.screen.specs.Tables.{Tables, Lent, lent, lengths, zeros, zeroed, reset-to}
-use Rattle.fill.specs.declared.Draw.{Draw}
-use Rattle.fill.specs.Fills as fills
-use Rattle.fill.specs.Fills.{filled}
-use Rattle.layers.specs.declared.LayerProps.{LayerProps}
-use Rattle.push.specs.Push as push
-use Rattle.push.specs.Push.{pushed}
-use Rattle.pop.specs.Pop as pop
-use Rattle.pop.specs.Pop.{popped}
-use Rattle.filter.specs.declared.Placement.{Placement}
-use Rattle.filter.specs.Filter as filter
-use Rattle.filter.specs.Filter.{given, filtered}
-use Rattle.painter.specs.Judging.{begin-number}
-use Rattle.painter.specs.Beginning.{Canvas, canvas, begun, beginning}
-use Rattle.held.specs.declared.Held.{Held}
-use Rattle.held.specs.declared.Held.the-variants as held
-use Rattle.held.specs.State.{screen-words, screen-of, at-held}
+use Rattle.step_fill.specs.declared.Draw.{Draw}
+use Rattle.step_fill.specs.Fills as fills
+use Rattle.step_fill.specs.Fills.{filled}
+use Rattle.screen_layers.specs.declared.LayerProps.{LayerProps}
+use Rattle.step_push.specs.Push as push
+use Rattle.step_push.specs.Push.{pushed}
+use Rattle.step_pop.specs.Pop as pop
+use Rattle.step_pop.specs.Pop.{popped}
+use Rattle.step_filter.specs.declared.Placement.{Placement}
+use Rattle.step_filter.specs.Filter as filter
+use Rattle.step_filter.specs.Filter.{given, filtered}
+use Rattle.paint_screen.specs.Judging.{begin-number}
+use Rattle.paint_screen.specs.Beginning.{Canvas, canvas, begun, beginning}
+use Rattle.host_screen.specs.declared.Held.{Held}
+use Rattle.host_screen.specs.declared.Held.the-variants as held
+use Rattle.host_screen.specs.State.{screen-words, screen-of, at-held}
 use Rattle.host.specs.Building.{reset-call, fill-call, push-call, pop-call, filter-call}
 use Rattle.host.specs.Painting.{begin-call}
-use Rattle.held.proofs.Words.{written-back}
+use Rattle.host_screen.proofs.Words.{written-back}
 
 abbrev pub Refused : {A : Type 0} → Answer A → Type 0
 Refused a = a .number ≡ 0 → ⊥

@@ -10,15 +10,15 @@ use Rattle.rules.specs.Spans.{Span}
 use Rattle.rules.specs.Split.{Part, regular, buckets, split-answer}
 use Rattle.screen.specs.declared.Screen.{Screen}
 use Rattle.depth.specs.Listing.{Out}
-use Rattle.paint.specs.declared.Painted.{Painted}
-use Rattle.paint.specs.Painting as paint
-use Rattle.painter.specs.Beginning.{Canvas, canvas, beginning}
-use Rattle.painter.specs.Stepping.{Attributes, stepped}
-use Rattle.painter.specs.Rows.{Wrote, unset-of, visible-of, write-of, skip-of-row}
-use Rattle.rowpaint.specs.Running.{row-painted}
+use Rattle.paint_command.specs.declared.Painted.{Painted}
+use Rattle.paint_command.specs.Painting as paint
+use Rattle.paint_screen.specs.Beginning.{Canvas, canvas, beginning}
+use Rattle.paint_screen.specs.Stepping.{Attributes, stepped}
+use Rattle.paint_screen.specs.Rows.{Wrote, unset-of, visible-of, write-of, skip-of-row}
+use Rattle.paint_whole.specs.Running.{row-painted}
 use Rattle.host.specs.declared.painting.Slot.{Slot}
 use Rattle.host.specs.declared.painting.Slots.{Slots}
-use Rattle.held.specs.State.{bit, screen-words, on}
+use Rattle.host_screen.specs.State.{bit, screen-words, on}
 
 -- the split has no screen: n result words ws, or 4 where another number of them is lent
 abbrev pub with-room : {T : Type 0} → ℕ → List ℕ → T → Answer T → Answer T

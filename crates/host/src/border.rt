@@ -1,14 +1,14 @@
 // What a call answers where the host's own words are refused by 4: a state that is no screen's, a clip flag, a result of a wrong length.
 // Each asks the judge that the call itself asks first, so that 3, 2 and 1 come before that 4. Parts of the calls.
-use form::Form;
-use form::read_form;
-use held::before_4;
-use held::screen_at;
-use painter::judge::judge_begin;
-use painter::judge::judge_runs;
-use painter::judge::judge_skip;
-use painter::judge::judge_step;
-use recording::box_at;
+use file_form::Form;
+use file_form::read_form;
+use host_screen::before_4;
+use host_screen::screen_at;
+use paint_screen::judge::judge_begin;
+use paint_screen::judge::judge_runs;
+use paint_screen::judge::judge_skip;
+use paint_screen::judge::judge_step;
+use file_judge::box_at;
 use rect::Rect;
 use screen::fresh;
 use screen::is_good_rooms;
@@ -17,8 +17,8 @@ ghost use mathlib.Core.Path.{_≡_};
 ghost use lib.ListN.{length};
 ghost use Rattle.screen.specs.declared.Screen.{Screen as Numbers};
 ghost use Rattle.screen.specs.Judging.{judged};
-ghost use Rattle.painter.specs.Judging.{arenas-long, tables-long, begin-number, step-number, runs-number, skip-number};
-ghost use Rattle.held.specs.State.{refused-at};
+ghost use Rattle.paint_screen.specs.Judging.{arenas-long, tables-long, begin-number, step-number, runs-number, skip-number};
+ghost use Rattle.host_screen.specs.State.{refused-at};
 ghost use Rattle.host.specs.Border.{arenas, arenas-number, file-number};
 
 // 2, then 1, or 0: what a reset says of a viewport, C, D and the three arenas.

@@ -6,7 +6,7 @@ ghost use mathlib.Core.Path.{_≡_};
 ghost use mathlib.Core.List.{_∷_};
 ghost use lib.ListN.{length};
 ghost use Rattle.rules.specs.Answers.{answer};
-ghost use Rattle.held.specs.State.{rect};
+ghost use Rattle.host_screen.specs.State.{rect};
 ghost use Rattle.host.specs.Sizes.{fixed, size-call};
 
 // The words of ten tables: five that the screen decides, five that are always the same.

@@ -1,13 +1,13 @@
 // Prints what `rowlist` prints of each recording of a stream on standard input, and the attributes and painted pieces of those that are not
 // refused. Each recording stands after its length in bytes, a little-endian u32; a length past the stream's end takes what is left. A read or
 // a write that fails is told on standard error, and nothing else goes there.
-use dump::attrs_text;
-use dump::row_text;
+use text_row::attrs_text;
+use text_row::row_text;
 use libc::STDERR_FILENO;
 use libc::STDIN_FILENO;
 use libc::STDOUT_FILENO;
-use listing::file_text;
-use painter::begin::begin_painting;
+use text_file::file_text;
+use paint_screen::begin::begin_painting;
 use screen::Screen;
 use text_programs::Input;
 use text_programs::read_all;

@@ -13,18 +13,18 @@ use Rattle.rules.specs.Plans.{Frame, Step}
 use Rattle.rules.specs.Painting.{received}
 use Rattle.rules.proofs.All.{both}
 use Rattle.screen.specs.Tables.{Lent}
-use Rattle.paint.specs.Painting as paint
-use Rattle.tiles.specs.Turns.{Gave, from, said-finished}
-use Rattle.tiles.proofs.Cases.{by}
-use Rattle.painter.specs.Rows.{skip-of-row}
-use Rattle.held.specs.State.{bit}
+use Rattle.paint_command.specs.Painting as paint
+use Rattle.rules_picture.specs.Turns.{Gave, from, said-finished}
+use Rattle.rules_picture.proofs.Cases.{by}
+use Rattle.paint_screen.specs.Rows.{skip-of-row}
+use Rattle.host_screen.specs.State.{bit}
 use Rattle.host.specs.Painting.{step-left, skip-left}
-use Rattle.picture.specs.Turns as turns
-use Rattle.picture.specs.Reached as reached
-use Rattle.picture.specs.Rows as rows
-use Rattle.picture.proofs.Rows.{rows-picture}
-use Rattle.picture.proofs.Skip as picture
-use Rattle.picture.specs.Skip as lent
+use Rattle.theorem_picture.specs.Turns as turns
+use Rattle.theorem_picture.specs.Reached as reached
+use Rattle.theorem_picture.specs.Rows as rows
+use Rattle.theorem_picture.proofs.Rows.{rows-picture}
+use Rattle.theorem_picture.proofs.Skip as picture
+use Rattle.theorem_picture.specs.Skip as lent
 use Rattle.theorem_border.specs.Hosted.{Host, Hosted, Call, one-step, whole-row, turn-in, begin-at, paint-out}
 use Rattle.theorem_border.specs.Border.{gave-words, painted, log, finished-at, finished, Demand-3, Clear}
 use Rattle.theorem_border.proofs.Words.{host-of, hosted, begin-on, call-of, paint-on, paint-done, paint-kept, skip-on}

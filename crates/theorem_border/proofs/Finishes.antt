@@ -14,13 +14,13 @@ use Rattle.rules.specs.Painting as rules
 use Rattle.rules.proofs.All.{never}
 use Rattle.screen.specs.declared.Screen.{Screen}
 use Rattle.screen.specs.Tables.{Lent}
-use Rattle.paint.specs.Painting as paint
-use Rattle.painter.specs.Stepping.{Attributes, own, number, row-step, stepped}
-use Rattle.tiles.specs.Turns.{Gave, said-finished}
-use Rattle.held.specs.State.{screen-words}
-use Rattle.picture.specs.Turns as turns
-use Rattle.picture.specs.Reached as reached
-use Rattle.picture.proofs.Finishes.{finishes}
+use Rattle.paint_command.specs.Painting as paint
+use Rattle.paint_screen.specs.Stepping.{Attributes, own, number, row-step, stepped}
+use Rattle.rules_picture.specs.Turns.{Gave, said-finished}
+use Rattle.host_screen.specs.State.{screen-words}
+use Rattle.theorem_picture.specs.Turns as turns
+use Rattle.theorem_picture.specs.Reached as reached
+use Rattle.theorem_picture.proofs.Finishes.{finishes}
 use Rattle.theorem_border.specs.Hosted.{Host, host, with-painting, Hosted, Call, one-step, begin-at, paint-out, paint-at}
 use Rattle.theorem_border.specs.Border.{gave-words, painted, log, finished-at, finished}
 use Rattle.theorem_border.proofs.Words.{host-of, hosted, begin-on, paint-lent}

@@ -5,9 +5,9 @@ use mathlib.Core.Path.{_≡_, sym, ap, _∙_}
 use mathlib.Core.List.{List}
 use Rattle.rules.specs.Answers.{Answer, Done}
 use Rattle.screen.specs.Tables.{Lent}
-use Rattle.walk.specs.Recorded.{recorded}
-use Rattle.picture.specs.Recorded as lent
-use Rattle.picture.proofs.Recorded.{recorded-reached, recorded-refused}
+use Rattle.file_call.specs.Recorded.{recorded}
+use Rattle.theorem_picture.specs.Recorded as lent
+use Rattle.theorem_picture.proofs.Recorded.{recorded-reached, recorded-refused}
 use Rattle.theorem_border.specs.Hosted.{Host, by-recording, recording-at, begin-at}
 use Rattle.theorem_border.specs.Border.{Accepted, Refused, kept, emptied}
 use Rattle.theorem_border.proofs.Words.{host-of, hosted, reset-on, recording-on, begin-on, Known, nothing, these, known, recording-never, recording-left}

@@ -18,30 +18,30 @@ use Rattle.rect.specs.declared.Rect.{Rect}
 use Rattle.row.specs.Words.{Words}
 use Rattle.screen.specs.declared.Screen.{Screen}
 use Rattle.screen.specs.Tables.{Tables, Lent, lent, reset-to}
-use Rattle.fill.specs.declared.Draw.{Draw}
-use Rattle.fill.specs.Fills as fills
-use Rattle.fill.specs.Fills.{filled}
-use Rattle.push.specs.Push as push
-use Rattle.push.specs.Push.{pushed}
-use Rattle.pop.specs.Pop as pop
-use Rattle.pop.specs.Pop.{popped}
-use Rattle.filter.specs.declared.Placement.{Placement}
-use Rattle.filter.specs.Filter as filter
-use Rattle.filter.specs.Filter.{given, filtered}
-use Rattle.painter.specs.Beginning.{canvas, beginning}
-use Rattle.painter.specs.Rows.{skip-of-row}
-use Rattle.walk.specs.Recorded.{recorded}
-use Rattle.steps.specs.Steps.{rows-words, pop-part}
-use Rattle.held.specs.declared.Held.{Held}
-use Rattle.held.specs.declared.Held.the-variants as held
-use Rattle.held.specs.State.{screen-words, screen-at, screen-of, before-4, refused-at, at-held, on}
-use Rattle.held.proofs.Words.{read-back, written-back}
+use Rattle.step_fill.specs.declared.Draw.{Draw}
+use Rattle.step_fill.specs.Fills as fills
+use Rattle.step_fill.specs.Fills.{filled}
+use Rattle.step_push.specs.Push as push
+use Rattle.step_push.specs.Push.{pushed}
+use Rattle.step_pop.specs.Pop as pop
+use Rattle.step_pop.specs.Pop.{popped}
+use Rattle.step_filter.specs.declared.Placement.{Placement}
+use Rattle.step_filter.specs.Filter as filter
+use Rattle.step_filter.specs.Filter.{given, filtered}
+use Rattle.paint_screen.specs.Beginning.{canvas, beginning}
+use Rattle.paint_screen.specs.Rows.{skip-of-row}
+use Rattle.file_call.specs.Recorded.{recorded}
+use Rattle.file_steps.specs.Steps.{rows-words, pop-part}
+use Rattle.host_screen.specs.declared.Held.{Held}
+use Rattle.host_screen.specs.declared.Held.the-variants as held
+use Rattle.host_screen.specs.State.{screen-words, screen-at, screen-of, before-4, refused-at, at-held, on}
+use Rattle.host_screen.proofs.Words.{read-back, written-back}
 use Rattle.host.specs.Building.{tables-left, reset-call, recording-call, fill-left, fill-call, props, push-left, push-call, pop-left, pop-call, filter-left, filter-call}
 use Rattle.host.specs.Painting.{begin-left, begin-call, step-left, step-call, row-call, write-call, skip-left, skip-call}
 use Rattle.host.proofs.Kept.{step-refused, row-refused, write-refused}
-use Rattle.picture.specs.Calls as calls
-use Rattle.picture.specs.Reached as reached
-use Rattle.picture.specs.Rows as rows
+use Rattle.theorem_picture.specs.Calls as calls
+use Rattle.theorem_picture.specs.Reached as reached
+use Rattle.theorem_picture.specs.Rows as rows
 use Rattle.theorem_border.specs.Hosted.{Host, host, with-rows, with-painting, reset-at, recording-at, fill-at, push-at, pop-at, filter-at, begin-at, Turn, Call, one-step, whole-row, turn-in, paint-out, paint-at, write-at}
 
 -- the words of a screen and its tables

@@ -13,12 +13,12 @@ use Rattle.rules.specs.Painting.{received}
 use Rattle.rules.specs.Plain.{plain}
 use Rattle.rules.specs.Walk.{frame-of}
 use Rattle.screen.specs.Screens.{rect-of}
-use Rattle.painter.specs.Judging.{wide}
-use Rattle.painter.specs.Stepping.{part}
-use Rattle.tiles.specs.Turns.{Gave, from, said-finished}
-use Rattle.tiles.specs.Recorded.{history, Readable, said}
-use Rattle.picture.specs.Turns.{pieces-in}
-use Rattle.held.specs.State.{screen-at}
+use Rattle.paint_screen.specs.Judging.{wide}
+use Rattle.paint_screen.specs.Stepping.{part}
+use Rattle.rules_picture.specs.Turns.{Gave, from, said-finished}
+use Rattle.rules_picture.specs.Recorded.{history, Readable, said}
+use Rattle.theorem_picture.specs.Turns.{pieces-in}
+use Rattle.host_screen.specs.State.{screen-at}
 use Rattle.host.specs.Painting.{skip-call}
 use Rattle.theorem_border.specs.Hosted.{Host, Hosted, Call, one-step, turn-in, paint-out, paint-at, place, reset-at, recording-at, begin-at}
 

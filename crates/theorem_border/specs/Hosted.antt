@@ -17,14 +17,14 @@ use Rattle.row.specs.Words.{Words}
 use Rattle.screen.specs.Screens.{frame}
 use Rattle.screen.specs.Judging.{arenas}
 use Rattle.screen.specs.Tables.{Tables, tables, lengths}
-use Rattle.fill.specs.declared.Draw.{Draw}
-use Rattle.pop.specs.Pop as pop
-use Rattle.filter.specs.declared.Placement.{Placement}
-use Rattle.paint.specs.Painting as paint
-use Rattle.painter.specs.Stepping.{Attributes, attributes}
-use Rattle.steps.specs.Steps.{rows-words}
-use Rattle.tiles.specs.Recorded.{history, Readable, said}
-use Rattle.picture.specs.Calls.{fill-said, pop-said, filter-said}
+use Rattle.step_fill.specs.declared.Draw.{Draw}
+use Rattle.step_pop.specs.Pop as pop
+use Rattle.step_filter.specs.declared.Placement.{Placement}
+use Rattle.paint_command.specs.Painting as paint
+use Rattle.paint_screen.specs.Stepping.{Attributes, attributes}
+use Rattle.file_steps.specs.Steps.{rows-words}
+use Rattle.rules_picture.specs.Recorded.{history, Readable, said}
+use Rattle.theorem_picture.specs.Calls.{fill-said, pop-said, filter-said}
 use Rattle.host.specs.Building.{reset-call, recording-call, fill-call, props, push-call, pop-call, filter-call}
 use Rattle.host.specs.Painting.{begin-call, step-call, row-call, write-call}
 

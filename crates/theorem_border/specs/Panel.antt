@@ -8,9 +8,9 @@ use Rattle.rules.specs.Plans.{Frame, Step}
 use Rattle.rect.specs.declared.Rect.{Rect}
 use Rattle.screen.specs.Screens.{frame}
 use Rattle.screen.specs.Tables.{tables, float-0}
-use Rattle.fill.specs.declared.Draw.{Draw}
-use Rattle.picture.specs.Calls.{fill-said}
-use Rattle.held.specs.State.{rect}
+use Rattle.step_fill.specs.declared.Draw.{Draw}
+use Rattle.theorem_picture.specs.Calls.{fill-said}
+use Rattle.host_screen.specs.State.{rect}
 use Rattle.host.specs.Building.{draw}
 use Rattle.theorem_border.specs.Hosted.{Host, host, reset-at, fill-at, begin-at, Call, one-step, whole-row}
 

@@ -1,7 +1,7 @@
 use mathlib.Core.Path.{sym}
 use native.Mathlib.Omega.{arith}
 use lib.Seq.{length-take-le}
-use Rattle.listing.proofs.Texts.{small}
+use Rattle.text_file.proofs.Texts.{small}
 use borrow.Author.Needs.{needs}
 use Rattle.rowdump.proofs.print_screen.Statement.{statement}
 use Rattle.rowdump.proofs.print_screen.Tie as tie

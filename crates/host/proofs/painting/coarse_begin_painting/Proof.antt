@@ -1,6 +1,6 @@
 -- Where the words stand for no screen the border answers; else the call's own equation, carried over to the words.
 use mathlib.Core.Path.{sym, _∙_}
-use Rattle.held.proofs.Words.{long}
+use Rattle.host_screen.proofs.Words.{long}
 use Rattle.host.proofs.Built.{begin-built}
 use Rattle.host.proofs.Unheld.{begin-unheld}
 use borrow.Author.Needs.{needs}

@@ -1,0 +1,83 @@
+use mathlib.Core.Path.{sym}
+use Rattle.paint_command.proofs.Listing.{lent-length}
+use Rattle.paint_command.proofs.Filling.{depth-refused, depth-ready, depth-done}
+use borrow.Author.Needs.{needs}
+use Rattle.paint_command.proofs.fills.paint_depth.Statement.{statement}
+use Rattle.paint_command.proofs.fills.paint_depth.Tie as tie
+
+mul-unset-runs-and-write : tie.Need-mul-unset-runs-and-write
+mul-unset-runs-and-write c = search needs
+
+slice-relend-prefix-unset-runs-and-write : tie.Need-slice-relend-prefix-unset-runs-and-write
+slice-relend-prefix-unset-runs-and-write c = search needs
+
+slice-aggregate-unset-runs-and-write : tie.Need-slice-aggregate-unset-runs-and-write
+slice-aggregate-unset-runs-and-write c = sym (lent-length (c .before .before .before .before .before .before .args .list .now))
+
+unset-runs-and-write-requires : tie.Need-unset-runs-and-write-requires
+unset-runs-and-write-requires c κs = search needs
+
+enum-known-answer : tie.Need-enum-known-answer
+enum-known-answer c = search needs
+
+number-requires : tie.Need-number-requires
+number-requires c κs = search needs
+
+refused-requires : tie.Need-refused-requires
+refused-requires c κs = search needs
+
+enum-known-n : tie.Need-enum-known-n
+enum-known-n c = search needs
+
+spread-requires : tie.Need-spread-requires
+spread-requires c κs = depth-ready _ (c .before .before .before .before .before .before .before .before .before .before .before .before .before .before .before .args .painting .now) (c .before .before .before .before .before .before .before .before .before .before .before .before .before .before .before .args .list .now) _ _ _ (c .before .before .before .before .before .before .before .before .before .before .before .before .before .before .before .args .fill .«attrs_idx») (c .before .before .before .before .before .before .before .before .before .before .before .before .before .before .before .args .fill .buckets) (c .before .before .before .before .before .before .before .before .before .before .before .before .before .before .before .pre .0 .0) (c .before .before .before .before .before .before .before .before .before .before .before .before .before .before .before .pre .0 .1) (c .before .before .before .before .before .before .before .before .before .before .before .before .before .before .before .pre .0 .3) _ (c .before .before .before .before .before .before .before .before .unset-runs-and-write .ensures) _ (c .before .before .n .given .1) (c .before .before .before .before .before .before .before .before .before .before .before .before .before .before .before .pre .0 .2)
+
+slice-read-nesting : tie.Need-slice-read-nesting
+slice-read-nesting c = search needs
+
+advance-requires : tie.Need-advance-requires
+advance-requires c κs = search needs
+
+same-length : tie.Need-same-length
+same-length c = search needs
+
+same-length-2 : tie.Need-same-length-2
+same-length-2 c = search needs
+
+returns : tie.Need-returns
+returns c = depth-refused _ _ (c .before .before .before .before .before .before .before .before .before .before .before .before .before .before .before .before .args .list .now) _ _ _ _ (c .before .before .before .before .before .before .before .before .before .before .before .before .before .before .before .before .args .fill .buckets) (c .before .before .before .before .before .before .before .before .before .before .before .before .before .before .before .before .pre .0 .0) (c .before .before .before .before .before .before .before .before .before .before .before .before .before .before .before .before .pre .0 .1) (c .before .before .before .before .before .before .before .before .before .before .before .before .before .before .before .before .pre .0 .3) _ (c .before .before .before .before .before .before .before .before .before .unset-runs-and-write .ensures) _ _ _ (c .before .before .before .answer .given .1) (c .before .number .ensures) (c .refused .ensures)
+
+same-length-3 : tie.Need-same-length-3
+same-length-3 c = search needs
+
+same-length-4 : tie.Need-same-length-4
+same-length-4 c = search needs
+
+same-length-5 : tie.Need-same-length-5
+same-length-5 c = search needs
+
+returns-2 : tie.Need-returns-2
+returns-2 c = depth-done _ (c .before .before .before .before .before .before .before .before .before .before .before .before .before .before .before .before .before .before .before .before .before .before .before .args .painting .now) (c .before .before .before .before .before .before .before .before .before .before .before .before .before .before .before .before .before .before .before .before .before .before .before .args .list .now) _ _ _ _ (c .before .before .before .before .before .before .before .before .before .before .before .before .before .before .before .before .before .before .before .before .before .before .before .args .fill .buckets) (c .before .before .before .before .before .before .before .before .before .before .before .before .before .before .before .before .before .before .before .before .before .before .before .pre .0 .0) (c .before .before .before .before .before .before .before .before .before .before .before .before .before .before .before .before .before .before .before .before .before .before .before .pre .0 .1) (c .before .before .before .before .before .before .before .before .before .before .before .before .before .before .before .before .before .before .before .before .before .before .before .pre .0 .3) _ (c .before .before .before .before .before .before .before .before .before .before .before .before .before .before .before .before .unset-runs-and-write .ensures) _ (c .before .before .before .before .before .before .before .before .before .before .n .given .1) _ _ _ (c .before .before .advance .ensures) (c .before .before .before .before .before .before .before .spread .ensures)
+
+pub paint-depth-spec : {M : Type 1} → statement M
+paint-depth-spec =
+    tie.close
+    (tie.spec
+    mul-unset-runs-and-write
+    slice-relend-prefix-unset-runs-and-write
+    slice-aggregate-unset-runs-and-write
+    unset-runs-and-write-requires
+    enum-known-answer
+    number-requires
+    refused-requires
+    enum-known-n
+    spread-requires
+    slice-read-nesting
+    advance-requires
+    same-length
+    same-length-2
+    returns
+    same-length-3
+    same-length-4
+    same-length-5
+    returns-2)

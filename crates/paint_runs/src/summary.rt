@@ -1,0 +1,40 @@
+// A row's depth summary as its record has it: the union's first tile and end, and the largest id, in words 2 to 4.
+use depth::Bounds;
+use depth::DepthState;
+use span::TileSpan;
+ghost use mathlib.Core.Path.{_≡_};
+ghost use lib.ListN.{length};
+ghost use Rattle.depth.specs.Answers.{summary};
+ghost use Rattle.paint_runs.specs.Summaries.{good-summary, summary-at};
+
+// In order, up to tile 8,192, the id one that a draw can have taken.
+pub fn is_good_summary(state: &[u32]) -> bool
+    requires { ⌜ length (now state) ≡ 54 ⌝ }
+    ensures { λ r. ⌜ r ≡ good-summary (now (state .entry)) ⌝ }
+{
+    if state[3] < state[2] {
+        return false;
+    }
+    if 8192 < state[3] {
+        return false;
+    }
+    state[4] <= 1048576
+}
+
+// A largest id of 0 says that there is no union.
+pub fn summary_of(state: &[u32]) -> DepthState
+    requires { ⌜ length (now state) ≡ 54 ⌝ }
+    ensures { λ r. ⌜ summary r ≡ summary-at (now (state .entry)) ⌝ }
+{
+    let id = state[4];
+    if id == 0 {
+        return DepthState::new();
+    }
+    DepthState {
+        bounds: Bounds::Tiles(TileSpan {
+            first: state[2],
+            end: state[3],
+        }),
+        max_draw_id: id,
+    }
+}

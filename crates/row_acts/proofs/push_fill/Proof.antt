@@ -1,0 +1,83 @@
+use Rattle.span.specs.Spans.{tiles}
+use Rattle.row_acts.specs.Acts.{alpha-of}
+use Rattle.row_acts.proofs.Laws.{first-room, layers-then, drawn-alpha, drawn-parts, drawn-plain}
+use borrow.Author.Needs.{needs}
+use Rattle.row_acts.proofs.push_fill.Statement.{statement}
+use Rattle.row_acts.proofs.push_fill.Tie as tie
+
+ensure-row-layers-requires : tie.Need-ensure-row-layers-requires
+ensure-row-layers-requires c κs = (c .before .before .before .before .before .before .pre .1, first-room _ _ _ (tiles (c .before .before .before .before .before .before .args .span)) _ (c .before .before .before .before .before .before .pre .2 .state) (c .before .before .before .before .before .before .pre .2 .levels) (c .before .before .before .before .before .before .pre .1) (c .before .before .before .before .before .before .args .eligible) (alpha-of (c .before .before .before .before .before .before .args .alpha)) (c .before .before .before .before .before .before .pre .2))
+
+enum-told : tie.Need-enum-told
+enum-told c = search needs
+
+push-opaque-requires : tie.Need-push-opaque-requires
+push-opaque-requires c κs = (c .before .before .before .before .before .before .before .before .before .before .before .before .before .before .before .before .before .before .before .pre .0, rw (← c .before .before .before .before .before .before .before .before .before .before .before .before .ensure-row-layers .ensures) at (layers-then _ (c .before .before .before .before .before .before .before .before .before .before .before .before .before .before .before .before .before .before .before .pre .1) (c .before .before .before .before .before .before .before .before .before .before .before .before .ensure-row-layers .ensures) (rw (c .before .before .before .before .enum-told .given .1, c .before .before .before .if1 .taken, drawn-parts) at (c .before .before .before .before .before .before .before .before .before .before .before .before .before .before .before .before .before .before .before .pre .2))))
+
+same-length : tie.Need-same-length
+same-length c = search needs
+
+same-length-2 : tie.Need-same-length-2
+same-length-2 c = search needs
+
+same-length-3 : tie.Need-same-length-3
+same-length-3 c = search needs
+
+returns : tie.Need-returns
+returns c = rw (c .before .before .before .before .before .before .before .before .before .before .before .enum-told .given .1, c .before .before .before .before .before .before .before .before .before .before .if1 .taken, drawn-parts, ← c .before .before .before .before .before .before .before .before .before .before .before .before .before .before .before .before .before .before .before .ensure-row-layers .ensures) (c .before .before .before .before .before .before .push-opaque .ensures)
+
+push-paint-requires : tie.Need-push-paint-requires
+push-paint-requires c κs = (c .before .before .before .before .before .before .before .before .before .before .before .before .before .before .before .before .before .before .before .pre .0, rw (← c .before .before .before .before .before .before .before .before .before .before .before .before .ensure-row-layers .ensures) at (layers-then _ (c .before .before .before .before .before .before .before .before .before .before .before .before .before .before .before .before .before .before .before .pre .1) (c .before .before .before .before .before .before .before .before .before .before .before .before .ensure-row-layers .ensures) (rw (c .before .before .before .before .enum-told .given .1, c .before .before .before .if1 .left, drawn-plain) at (c .before .before .before .before .before .before .before .before .before .before .before .before .before .before .before .before .before .before .before .pre .2))))
+
+enum-known-alpha : tie.Need-enum-known-alpha
+enum-known-alpha c = search needs
+
+push-paint-requires-2 : tie.Need-push-paint-requires-2
+push-paint-requires-2 c κs = (c .before .before .before .before .before .before .before .before .before .before .before .before .before .before .before .before .before .before .before .pre .0, rw (← c .before .before .before .before .before .before .before .before .before .before .before .before .ensure-row-layers .ensures) at (layers-then _ (c .before .before .before .before .before .before .before .before .before .before .before .before .before .before .before .before .before .before .before .pre .1) (c .before .before .before .before .before .before .before .before .before .before .before .before .ensure-row-layers .ensures) (rw (c .before .before .before .before .alpha .given .1, drawn-alpha) at (c .before .before .before .before .before .before .before .before .before .before .before .before .before .before .before .before .before .before .before .pre .2))))
+
+same-length-4 : tie.Need-same-length-4
+same-length-4 c = search needs
+
+same-length-5 : tie.Need-same-length-5
+same-length-5 c = search needs
+
+same-length-6 : tie.Need-same-length-6
+same-length-6 c = search needs
+
+returns-2 : tie.Need-returns-2
+returns-2 c = rw (c .before .before .before .before .before .before .before .before .before .before .before .enum-told .given .1, c .before .before .before .before .before .before .before .before .before .before .if1 .left, drawn-plain, ← c .before .before .before .before .before .before .before .before .before .before .before .before .before .before .before .before .before .before .before .ensure-row-layers .ensures) (c .before .before .before .before .before .before .push-paint .ensures)
+
+same-length-7 : tie.Need-same-length-7
+same-length-7 c = search needs
+
+same-length-8 : tie.Need-same-length-8
+same-length-8 c = search needs
+
+same-length-9 : tie.Need-same-length-9
+same-length-9 c = search needs
+
+returns-3 : tie.Need-returns-3
+returns-3 c = rw (c .before .before .before .before .before .before .before .before .before .before .before .alpha .given .1, drawn-alpha, ← c .before .before .before .before .before .before .before .before .before .before .before .before .before .before .before .before .before .before .before .ensure-row-layers .ensures) (c .before .before .before .before .before .before .push-paint2 .ensures)
+
+pub push-fill-spec : {M : Type 1} → statement M
+push-fill-spec =
+    tie.close
+    (tie.spec
+    ensure-row-layers-requires
+    enum-told
+    push-opaque-requires
+    same-length
+    same-length-2
+    same-length-3
+    returns
+    push-paint-requires
+    enum-known-alpha
+    push-paint-requires-2
+    same-length-4
+    same-length-5
+    same-length-6
+    returns-2
+    same-length-7
+    same-length-8
+    same-length-9
+    returns-3)

@@ -1,0 +1,66 @@
+use Rattle.row.specs.Words.{words}
+use mathlib.Core.Path.{sym, _∙_}
+use Rattle.span.specs.Spans.{tiles}
+use Rattle.row_acts.specs.Acts.{alpha-of}
+use Rattle.step_fill_rows.proofs.Laws.{drawn-once}
+use borrow.Author.Needs.{needs}
+use Rattle.step_fill_rows.proofs.push_row.Statement.{statement}
+use Rattle.step_fill_rows.proofs.push_row.Tie as tie
+use Rattle.step_fill_rows.proofs.push_row.Reads as reads
+use Rattle.step_fill_rows.proofs.push_row.Lts as lts
+use Rattle.row_acts.proofs.push_fill.Reads as push-fill-reads
+use Rattle.step_fill_rows.proofs.is_unsplit.Reads as is-unsplit-reads
+use Rattle.row.proofs.push_paint.Reads as push-paint-reads
+
+slice-read-levels : tie.Need-slice-read-levels
+slice-read-levels c = search needs
+
+is-unsplit-requires : tie.Need-is-unsplit-requires
+is-unsplit-requires c κs = search needs
+
+push-paint-requires : tie.Need-push-paint-requires
+push-paint-requires c κs = (c .before .before .before .before .before .before .before .before .before .before .pre .0, rw (drawn-once (c .before .before .before .before .before .before .before .before .before .before .args .n) (tiles (c .before .before .before .before .before .before .before .before .before .before .args .span)) (c .before .before .before .before .before .before .before .before .before .before .args .attrs-idx) (c .before .before .before .before .before .before .before .before .before .before .args .draw-id) (words (c .before .before .before .before .before .before .before .before .before .before .args .state .now) (c .before .before .before .before .before .before .before .before .before .before .args .render .now) (c .before .before .before .before .before .before .before .before .before .before .args .fills .now)) (c .before .before .before .before .before .if1 .taken) (c .before .before .before .before .before .before .before .before .before .before .args .eligible) (alpha-of (c .before .before .before .before .before .before .before .before .before .before .args .alpha)) (sym (c .before .before .before .before .is-unsplit .ensures) ∙ c .before .before .before .if2 .taken)) at (c .before .before .before .before .before .before .before .before .before .before .pre .2))
+
+same-length : tie.Need-same-length
+same-length c = search needs
+
+same-length-2 : tie.Need-same-length-2
+same-length-2 c = search needs
+
+same-length-3 : tie.Need-same-length-3
+same-length-3 c = search needs
+
+returns : tie.Need-returns
+returns c = c .before .before .before .before .before .before .push-paint .ensures ∙ sym (drawn-once (c .before .before .before .before .before .before .before .before .before .before .before .before .before .before .before .before .before .args .n) (tiles (c .before .before .before .before .before .before .before .before .before .before .before .before .before .before .before .before .before .args .span)) (c .before .before .before .before .before .before .before .before .before .before .before .before .before .before .before .before .before .args .attrs-idx) (c .before .before .before .before .before .before .before .before .before .before .before .before .before .before .before .before .before .args .draw-id) _ (c .before .before .before .before .before .before .before .before .before .before .before .before .if1 .taken) (c .before .before .before .before .before .before .before .before .before .before .before .before .before .before .before .before .before .args .eligible) (alpha-of (c .before .before .before .before .before .before .before .before .before .before .before .before .before .before .before .before .before .args .alpha)) (sym (c .before .before .before .before .before .before .before .before .before .before .before .is-unsplit .ensures) ∙ c .before .before .before .before .before .before .before .before .before .before .if2 .taken))
+
+push-fill-requires : tie.Need-push-fill-requires
+push-fill-requires c κs = search needs
+
+same-length-4 : tie.Need-same-length-4
+same-length-4 c = search needs
+
+same-length-5 : tie.Need-same-length-5
+same-length-5 c = search needs
+
+same-length-6 : tie.Need-same-length-6
+same-length-6 c = search needs
+
+returns-2 : tie.Need-returns-2
+returns-2 c = search needs
+
+pub push-row-spec : {M : Type 1} → statement M
+push-row-spec =
+    tie.close
+    (tie.spec
+    slice-read-levels
+    is-unsplit-requires
+    push-paint-requires
+    same-length
+    same-length-2
+    same-length-3
+    returns
+    push-fill-requires
+    same-length-4
+    same-length-5
+    same-length-6
+    returns-2)

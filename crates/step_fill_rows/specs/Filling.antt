@@ -1,0 +1,72 @@
+-- The doing half of a fill: the rules' puts at rows of words, and what the judging half has shown.
+use Prim.Native.Nat.{ℕ, _+_, _-_, _*_, _/_, _≤_}
+use mathlib.Core.Path.{_≡_}
+use mathlib.Core.Bool.{Bool, true, not}
+use mathlib.Core.List.{List, [], _∷_}
+use mathlib.Core.Option.{Option, none, some}
+use lib.ListN.{getD, length}
+use Rattle.rules.specs.Lists.{join, every}
+use Rattle.rules.specs.Spans.{Span}
+use Rattle.rules.specs.Segments.{Cut, cut-in, good-segment}
+use Rattle.rules.specs.Plans.{Put, draw-puts}
+use Rattle.rules.specs.Steps.{do-puts}
+use Rattle.row.specs.Words.{Words, word-ops, Room}
+use Rattle.row_acts.specs.Acts.{drawn}
+use Rattle.row_screen.specs.Arena.{nowhere, sizes, cut, Long}
+use Rattle.segments.specs.Segs.{seg-at, segs, origin, bounds, Starts}
+use Rattle.step_fill_rows.specs.declared.Job.{Job}
+
+-- how many rows have their records in these words
+abbrev pub count-rows : List ℕ → ℕ
+count-rows s = length s / 54
+
+-- n rows of a whole screen's words
+abbrev pub rows-of : Job → ℕ → Words → List Words
+rows-of j n w = cut (sizes (j .c) (j .d)) n w
+
+-- rules 5 to 7 on one row
+abbrev pub draws : Job → Span → Option ℕ → Words → Words
+draws j s a w = drawn (j .layers) (j .eligible) s a (j .attr) (j .id) w
+
+-- rule 6: a stretch with alpha index a becomes one command; e says that the draw is eligible
+abbrev pub unsplit : Bool → Option ℕ → Bool
+unsplit e none = not e
+unsplit e (some a) = true
+
+-- rule 4: a cut segment's acts
+abbrev pub puts-of : Job → List Cut → List Put
+puts-of j ks = draw-puts (j .eligible) (j .attr) (j .id) ks
+
+-- what segment i puts on rows
+abbrev pub one-put : Job → List ℕ → ℕ → List Put
+one-put j ws i = puts-of j (cut-in (origin (j .scene)) (bounds (j .scene)) (seg-at ws i))
+
+-- what k segments from i on put on rows
+abbrev pub puts : Job → List ℕ → ℕ → ℕ → List Put
+puts j ws i k = puts-of j (join (cut-in (origin (j .scene)) (bounds (j .scene))) (segs ws i k))
+
+abbrev pub done : Job → List Put → List Words → List Words
+done j ps rs = do-puts Words word-ops 32 (j .layers) ps rs
+
+-- each row that is put on has room for what the whole makes of it
+pub data Roomy : List Put → List Words → List Words → Type 0 where
+  none-put : {rs ts : List Words} → Roomy [] rs ts
+  one-more : {rs ts : List Words} {p : Put} {ps : List Put} → Room (getD rs (p .row) nowhere) (getD ts (p .row) nowhere) → Roomy ps rs ts → Roomy (p ∷ ps) rs ts
+
+-- the job's numbers, and n rows of words
+pub record Whole (j : Job) (n : ℕ) (w : Words) : Type 0 where
+  pub rows : n ≤ 512
+  pub c : j .c ≤ 1024
+  pub d : j .d ≤ 1024
+  pub layers : j .layers ≤ 16
+  pub starts : Starts (origin (j .scene)) (bounds (j .scene))
+  pub bottom : j .scene .rows .end ≤ j .scene .y / 4 + n
+  pub long : Long (sizes (j .c) (j .d)) n w
+
+-- what the judging half has shown of the segments from a to b
+pub record Ready (j : Job) (n : ℕ) (ws : List ℕ) (a b : ℕ) (w : Words) : Type 0 where
+  pub whole : Whole j n w
+  pub before : a ≤ b
+  pub within : 5 * b ≤ length ws
+  pub good : every good-segment (segs ws a (b - a)) ≡ true
+  pub room : Roomy (puts j ws a (b - a)) (rows-of j n w) (done j (puts j ws a (b - a)) (rows-of j n w))

@@ -1,0 +1,159 @@
+// The doing half of a fill (rules 3 to 7), over a whole screen's words. Parts: each has a `requires`, which `fill` has judged.
+use row_acts::push_fill;
+use row::push_paint;
+use segments::Placed;
+use segments::Scene;
+use segments::place;
+use segments::segment_at;
+use span::Alpha;
+use span::Stretch;
+use span::TileSpan;
+ghost use mathlib.Core.Path.{_≡_};
+ghost use mathlib.Core.Bool.{true};
+ghost use Prim.Native.Nat.{_+_, _*_, _-_, _≤_, _<_};
+ghost use lib.ListN.{length, getD};
+ghost use Rattle.rules.specs.Lists.{change};
+ghost use Rattle.rules.specs.Segments.{good-segment};
+ghost use Rattle.span.specs.Spans.{tiles, alpha};
+ghost use Rattle.row.specs.Words.{words, Room};
+ghost use Rattle.row.specs.Cmds.{Short};
+ghost use Rattle.row_acts.specs.Acts.{alpha-of, drawn};
+ghost use Rattle.row_screen.specs.Arena.{nowhere, lay};
+ghost use Rattle.segments.specs.Segs.{seg-at};
+ghost use Rattle.step_fill_rows.specs.Filling.{count-rows, rows-of, draws, one-put, puts, done, unsplit, Roomy, Whole, Ready};
+
+// What stays the same over all the segments of a fill: the scene, room for commands and depth fills in a row, open layers, whether
+// solid segments are eligible, attribute and id.
+pub struct Job {
+    pub scene: Scene,
+    pub c: u32,
+    pub d: u32,
+    pub layers: u32,
+    pub eligible: bool,
+    pub attr: u32,
+    pub id: u32,
+}
+
+// One command comes of it.
+fn is_unsplit(eligible: bool, alpha: Alpha) -> bool
+    ensures { λ r. ⌜ r ≡ unsplit eligible (alpha-of alpha) ⌝ }
+{
+    match alpha {
+        Alpha::At(_) => true,
+        Alpha::Solid => !eligible,
+    }
+}
+
+// `push_fill`, with a short way for one command on a row that has its layers.
+fn push_row(
+    state: &mut [u32],
+    render: &mut [u32],
+    fills: &mut [u32],
+    n: u32,
+    eligible: bool,
+    span: TileSpan,
+    alpha: Alpha,
+    attrs_idx: u32,
+    draw_id: u32,
+)
+    requires { ⌜ Short (tiles span) × (n ≤ 16) × Room (words (now state) (now render) (now fills)) (drawn n eligible (tiles span) (alpha-of alpha) «attrs_idx» «draw_id» (words (now state) (now render) (now fills))) ⌝ }
+    ensures { λ _. ⌜ words (now (state .exit)) (now (render .exit)) (now (fills .exit)) ≡ drawn n eligible (tiles span) (alpha-of alpha) «attrs_idx» «draw_id» (words (now (state .entry)) (now (render .entry)) (now (fills .entry))) ⌝ }
+{
+    let levels = state[5];
+    if levels == n {
+        if is_unsplit(eligible, alpha) {
+            push_paint(state, render, fills, span, alpha, attrs_idx);
+            return;
+        }
+    }
+    push_fill(
+        state,
+        render,
+        fills,
+        n,
+        eligible,
+        span,
+        alpha,
+        attrs_idx,
+        draw_id,
+    );
+}
+
+// What is left of a segment, on row r.
+fn fill_row(
+    rows: &mut [u32],
+    render: &mut [u32],
+    fills: &mut [u32],
+    job: Job,
+    r: u32,
+    stretch: Stretch,
+)
+    requires { ⌜ Whole job (count-rows (now rows)) (words (now rows) (now render) (now fills)) × (r < count-rows (now rows)) × Short (tiles (stretch .tiles))
+        × Room (getD (rows-of job (count-rows (now rows)) (words (now rows) (now render) (now fills))) r nowhere) (draws job (tiles (stretch .tiles)) (alpha (stretch .alpha)) (getD (rows-of job (count-rows (now rows)) (words (now rows) (now render) (now fills))) r nowhere)) ⌝ }
+    ensures { λ _. ⌜ rows-of job (count-rows (now (rows .entry))) (words (now (rows .exit)) (now (render .exit)) (now (fills .exit)))
+        ≡ change (draws job (tiles (stretch .tiles)) (alpha (stretch .alpha))) r (rows-of job (count-rows (now (rows .entry))) (words (now (rows .entry)) (now (render .entry)) (now (fills .entry)))) ⌝ }
+{
+    let c = 4 * (job.c as usize);
+    let d = 2 * (job.d as usize);
+    let x = (r as usize) * 54;
+    let y = (r as usize) * c;
+    let z = (r as usize) * d;
+    let tiles = stretch.tiles;
+    let alpha = stretch.alpha;
+    push_row(
+        &mut rows[x..x + 54],
+        &mut render[y..y + c],
+        &mut fills[z..z + d],
+        job.layers,
+        job.eligible,
+        tiles,
+        alpha,
+        job.attr,
+        job.id,
+    );
+}
+
+// One segment of the list.
+fn fill_segment(
+    rows: &mut [u32],
+    render: &mut [u32],
+    fills: &mut [u32],
+    segs: &[u32],
+    i: usize,
+    job: Job,
+)
+    requires { ⌜ Whole job (count-rows (now rows)) (words (now rows) (now render) (now fills)) × (5 * i + 5 ≤ length (now segs)) × (good-segment (seg-at (now segs) i) ≡ true)
+        × Roomy (one-put job (now segs) i) (rows-of job (count-rows (now rows)) (words (now rows) (now render) (now fills))) (done job (one-put job (now segs) i) (rows-of job (count-rows (now rows)) (words (now rows) (now render) (now fills)))) ⌝ }
+    ensures { λ _. ⌜ rows-of job (count-rows (now (rows .entry))) (words (now (rows .exit)) (now (render .exit)) (now (fills .exit)))
+        ≡ done job (one-put job (now (segs .entry)) i) (rows-of job (count-rows (now (rows .entry))) (words (now (rows .entry)) (now (render .entry)) (now (fills .entry)))) ⌝ }
+{
+    let scene = job.scene;
+    let placed = place(segment_at(segs, i), scene);
+    match placed {
+        Placed::Nothing => {}
+        Placed::On(r, stretch) => {
+            fill_row(rows, render, fills, job, r, stretch);
+        }
+    }
+}
+
+// The segments from start to end of a list that is judged.
+pub fn fill_rows(
+    rows: &mut [u32],
+    render: &mut [u32],
+    fills: &mut [u32],
+    segs: &[u32],
+    start: usize,
+    end: usize,
+    job: Job,
+)
+    requires { ⌜ Ready job (count-rows (now rows)) (now segs) start «end» (words (now rows) (now render) (now fills)) ⌝ }
+    ensures { λ _. ⌜ words (now (rows .exit)) (now (render .exit)) (now (fills .exit))
+        ≡ lay (done job (puts job (now (segs .entry)) start («end» - start)) (rows-of job (count-rows (now (rows .entry))) (words (now (rows .entry)) (now (render .entry)) (now (fills .entry))))) ⌝ }
+{
+    let mut i = start;
+    while i < end {
+        fill_segment(rows, render, fills, segs, i, job);
+        i += 1;
+    }
+}

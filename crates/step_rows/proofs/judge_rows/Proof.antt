@@ -1,0 +1,75 @@
+use mathlib.Core.Path.{_≡_, sym, _∙_}
+use mathlib.Core.Logic.{⊎-elim}
+use Prim.Native.Nat.{_-_, _*_}
+use native.Mathlib.Omega.{arith}
+use Rattle.rules.specs.Lists.{range}
+use Rattle.step_rows.proofs.Judging.{going, going-all, going-end, going-bad, going-full, going-fine, record-long}
+use Rattle.step_rows.specs.Band.{band-number}
+use borrow.Author.Needs.{needs}
+use Rattle.step_rows.proofs.judge_rows.Statement.{statement}
+use Rattle.step_rows.proofs.judge_rows.Tie as tie
+
+abbrev Inv-loop : tie.InvT-loop
+Inv-loop screen rows a b number₀ r₀ number r = going (screen .c) (screen .d) (screen .layers) rows number (range r b) ≡ band-number (screen .c) (screen .d) (screen .layers) rows (range a b)
+
+abbrev μ-loop : tie.MeasureT-loop
+μ-loop screen rows a b number₀ r₀ number r = b - r
+
+loop-holds : tie.Need-loop-holds Inv-loop μ-loop
+loop-holds c = going-all _ _ _ _ _
+
+mul-at : tie.Need-mul-at Inv-loop μ-loop
+mul-at c = record { fits = omega arith }
+
+add-judge-row : tie.Need-add-judge-row Inv-loop μ-loop
+add-judge-row c = record { fits = omega arith }
+
+mul-judge-row : tie.Need-mul-judge-row Inv-loop μ-loop
+mul-judge-row c = record { fits = omega arith }
+
+sub-judge-row : tie.Need-sub-judge-row Inv-loop μ-loop
+sub-judge-row c = omega arith
+
+part-judge-row-start : tie.Need-part-judge-row-start Inv-loop μ-loop
+part-judge-row-start c = omega arith
+
+part-judge-row-end : tie.Need-part-judge-row-end Inv-loop μ-loop
+part-judge-row-end c = omega arith
+
+judge-row-requires : tie.Need-judge-row-requires Inv-loop μ-loop
+judge-row-requires c κs = (record-long (c .before .before .before .before .args .rows .now) _ (c .before .before .before .before .args .b) (c .before .loop-test .taken) (c .before .before .before .before .pre .3), c .before .before .before .before .pre .0, c .before .before .before .before .pre .1)
+
+returns : tie.Need-returns Inv-loop μ-loop
+returns c = going-bad _ _ _ _ _ _ _ _ (c .before .before .before .loop-test .taken) (c .before .judge-row .ensures) (c .if1 .taken) ∙ c .before .before .before .before .loop .inv
+
+add-r : tie.Need-add-r Inv-loop μ-loop
+add-r c = record { fits = omega arith }
+
+loop-less : tie.Need-loop-less Inv-loop μ-loop
+loop-less c = omega arith
+
+loop-again : tie.Need-loop-again Inv-loop μ-loop
+loop-again c = ⊎-elim (λ w. rw (w .1) (going-full _ _ _ _ _ _ _ _ (c .before .before .before .before .loop-test .taken) (c .before .before .judge-row .ensures) (w .0 .taken) ∙ c .before .before .before .before .before .loop .inv)) (λ w. rw (w .1) (going-fine _ _ _ _ _ _ _ _ (c .before .before .before .before .loop-test .taken) (c .before .before .judge-row .ensures) (c .before .if1 .left) (w .0 .left) ∙ c .before .before .before .before .before .loop .inv)) (c .if2 .came)
+
+returns-2 : tie.Need-returns-2 Inv-loop μ-loop
+returns-2 c = sym (going-end _ _ _ _ _ _ _ (c .loop-test .left)) ∙ c .before .loop .inv
+
+pub judge-rows-spec : {M : Type 1} → statement M
+judge-rows-spec =
+    tie.close
+    (tie.spec
+    Inv-loop
+    μ-loop
+    loop-holds
+    mul-at
+    add-judge-row
+    mul-judge-row
+    sub-judge-row
+    part-judge-row-start
+    part-judge-row-end
+    judge-row-requires
+    returns
+    add-r
+    loop-less
+    loop-again
+    returns-2)

@@ -1,0 +1,40 @@
+use mathlib.Core.Bool.{false}
+use mathlib.Core.Option.{none}
+use Rattle.span.specs.Spans.{tiles}
+use Rattle.row_acts.proofs.Laws.{first-room, layers-then, drawn-plain}
+use borrow.Author.Needs.{needs}
+use Rattle.step_rows.proofs.push_plain.Statement.{statement}
+use Rattle.step_rows.proofs.push_plain.Tie as tie
+use Rattle.step_rows.proofs.push_plain.Reads as reads
+use Rattle.step_rows.proofs.push_plain.Lts as lts
+use Rattle.row_acts.proofs.ensure_row_layers.Reads as ensure-row-layers-reads
+use Rattle.row.proofs.push_paint.Reads as push-paint-reads
+
+ensure-row-layers-requires : tie.Need-ensure-row-layers-requires
+ensure-row-layers-requires c κs = (c .before .before .before .before .before .before .pre .1, first-room _ _ 0 (tiles (c .before .before .before .before .before .before .args .span)) _ (c .before .before .before .before .before .before .pre .2 .state) (c .before .before .before .before .before .before .pre .2 .levels) (c .before .before .before .before .before .before .pre .1) false none (c .before .before .before .before .before .before .pre .2))
+
+push-paint-requires : tie.Need-push-paint-requires
+push-paint-requires c κs = (c .before .before .before .before .before .before .before .before .before .before .before .before .before .before .before .before .pre .0, rw (← c .before .before .before .before .before .before .before .before .before .ensure-row-layers .ensures) at (layers-then _ (c .before .before .before .before .before .before .before .before .before .before .before .before .before .before .before .before .pre .1) (c .before .before .before .before .before .before .before .before .before .ensure-row-layers .ensures) (rw drawn-plain at (c .before .before .before .before .before .before .before .before .before .before .before .before .before .before .before .before .pre .2))))
+
+same-length : tie.Need-same-length
+same-length c = search needs
+
+same-length-2 : tie.Need-same-length-2
+same-length-2 c = search needs
+
+same-length-3 : tie.Need-same-length-3
+same-length-3 c = search needs
+
+returns : tie.Need-returns
+returns c = rw (drawn-plain, ← c .before .before .before .before .before .before .before .before .before .before .before .before .before .before .before .before .ensure-row-layers .ensures) (c .before .before .before .before .before .before .push-paint .ensures)
+
+pub push-plain-spec : {M : Type 1} → statement M
+push-plain-spec =
+    tie.close
+    (tie.spec
+    ensure-row-layers-requires
+    push-paint-requires
+    same-length
+    same-length-2
+    same-length-3
+    returns)

@@ -1,0 +1,63 @@
+-- A run of rows: what is judged of their records, and something done on each.
+use Prim.Native.Nat.{ℕ, _≤_, _<_, _+_, _-_, _*_}
+use mathlib.Core.Bool.{Bool, cond}
+use mathlib.Core.List.{List, [], _∷_}
+use lib.ListN.{getD, take, drop}
+use lib.Dec.{ltb}
+use Rattle.rules.specs.Lists.{every, some-of, change}
+use Rattle.rules.specs.Answers.{Done, BadRecord, FullRow}
+use Rattle.rules.specs.Boxes.{rows-of}
+use Rattle.row.specs.Words.{Words, Room}
+use Rattle.row_screen.specs.Arena.{nowhere, sizes, Long}
+use Rattle.row_judge.specs.Building.{rows-at, good-row}
+use Rattle.rect.specs.Rects.{box-of}
+use Rattle.screen.specs.declared.Screen.{Screen}
+use Rattle.screen.specs.Screens.{frame-of}
+
+-- row r's record among all
+abbrev pub record-of : List ℕ → ℕ → List ℕ
+record-of ws r = take 54 (drop (r * 54) ws)
+
+-- one more command, with what the row lacks of n open layers, passes c
+abbrev pub is-full : ℕ → ℕ → List ℕ → Bool
+is-full c n s = ltb c (getD s 0 0 + (n + 1 - getD s 5 0))
+
+-- 4 for a record, then 10
+abbrev pub row-number : ℕ → ℕ → ℕ → List ℕ → ℕ
+row-number c d n s = cond (good-row c d n s) (cond (is-full c n s) FullRow Done) BadRecord
+
+-- the same of the rows rs
+unfoldable pub band-number : ℕ → ℕ → ℕ → List ℕ → List ℕ → ℕ
+band-number c d n ws rs =
+    cond (every (λ (r : ℕ). good-row c d n (record-of ws r)) rs)
+    (cond (some-of (λ (r : ℕ). is-full c n (record-of ws r)) rs) FullRow Done) BadRecord
+
+-- f done on each of the rows rs
+unfoldable pub each : (Words → Words) → List ℕ → List Words → List Words
+each f [] ws = ws
+each f (r ∷ rs) ws = each f rs (change f r ws)
+
+-- the rows of a screen's words
+abbrev pub rows-on : Screen → Words → List Words
+rows-on s w = rows-at (frame-of s) w
+
+-- the words of a screen, as many as its numbers say
+pub record Whole (s : Screen) (w : Words) : Type 0 where
+  pub rows : rows-of (box-of (s .viewport)) ≤ 512
+  pub c : s .c ≤ 1024
+  pub d : s .d ≤ 1024
+  pub long : Long (sizes (s .c) (s .d)) (rows-of (box-of (s .viewport))) w
+
+-- row r has room for f, which is done with n layers open
+pub record OnRow (s : Screen) (n : ℕ) (f : Words → Words) (r : ℕ) (w : Words) : Type 0 where
+  pub whole : Whole s w
+  pub layers : n ≤ 16
+  pub within : r < rows-of (box-of (s .viewport))
+  pub room : Room (getD (rows-on s w) r nowhere) (f (getD (rows-on s w) r nowhere))
+
+-- each of the rows a to b has
+pub record OnRows (s : Screen) (n : ℕ) (f : Words → Words) (a b : ℕ) (w : Words) : Type 0 where
+  pub whole : Whole s w
+  pub layers : n ≤ 16
+  pub within : b ≤ rows-of (box-of (s .viewport))
+  pub room : (i : ℕ) → a ≤ i → i < b → Room (getD (rows-on s w) i nowhere) (f (getD (rows-on s w) i nowhere))

@@ -1,0 +1,168 @@
+// A run of rows, a to b: judged, and the same act done on each. Parts: each has a `requires`, which the steps have judged.
+ghost use mathlib.Core.Path.{_≡_};
+ghost use mathlib.Core.Bool.{false};
+ghost use mathlib.Core.Option.{none};
+ghost use Prim.Native.Nat.{_≤_, _*_};
+ghost use lib.ListN.{length};
+ghost use Rattle.rules.specs.Lists.{range, change};
+ghost use Rattle.rules.specs.Plans.{touch, paint};
+ghost use Rattle.span.specs.Spans.{tiles};
+ghost use Rattle.row.specs.Words.{words, Room};
+ghost use Rattle.row.specs.Cmds.{Short};
+ghost use Rattle.row_screen.specs.Arena.{lay};
+ghost use Rattle.row_acts.specs.Acts.{acted, drawn};
+ghost use Rattle.step_rows.specs.Band.{row-number, band-number, rows-on, OnRow, OnRows, each};
+use row_acts::ensure_row_layers;
+use row_judge::is_good_row;
+use row::push_paint;
+use screen::ROW;
+use screen::Screen;
+use span::Alpha;
+use span::TileSpan;
+
+// A row's record: 4 if it is not good; 10 if one more command, with what the row lacks of the open layers, passes C; or 0.
+fn judge_row(state: &[u32], c: u32, d: u32, open: u32) -> u32
+    requires { ⌜ (length (now state) ≡ 54) × («open» ≤ 16) × (c ≤ 1024) ⌝ }
+    ensures { λ r. ⌜ r ≡ row-number c d «open» (now (state .entry)) ⌝ }
+{
+    if !is_good_row(state, c, d, open) {
+        return 4;
+    }
+    if c < state[0] + (open + 1 - state[5]) {
+        return 10;
+    }
+    0
+}
+
+// The rows a to b: 4 for the record of one of them, then 10.
+pub fn judge_rows(screen: Screen, rows: &[u32], a: usize, b: usize) -> u32
+    requires { ⌜ (screen .layers ≤ 16) × (screen .c ≤ 1024) × (b ≤ 512) × (b * 54 ≤ length (now rows)) ⌝ }
+    ensures { λ r. ⌜ r ≡ band-number (screen .c) (screen .d) (screen .layers) (now (rows .entry)) (range a b) ⌝ }
+{
+    let mut number: u32 = 0;
+    let mut r = a;
+    while r < b {
+        let at = r * ROW;
+        let k = judge_row(&rows[at..at + ROW], screen.c, screen.d, screen.layers);
+        if k == 4 {
+            return 4;
+        }
+        if k == 10 {
+            number = 10;
+        }
+        r += 1;
+    }
+    number
+}
+
+// Rule 5 on row r, with n layers open.
+fn touch_row(
+    screen: Screen,
+    rows: &mut [u32],
+    render: &mut [u32],
+    fills: &mut [u32],
+    r: usize,
+    n: u32,
+)
+    requires { ⌜ OnRow screen n (acted n touch) r (words (now rows) (now render) (now fills)) ⌝ }
+    ensures { λ _. ⌜ rows-on screen (words (now (rows .exit)) (now (render .exit)) (now (fills .exit))) ≡ change (acted n touch) r (rows-on screen (words (now (rows .entry)) (now (render .entry)) (now (fills .entry)))) ⌝ }
+{
+    let cw = 4 * (screen.c as usize);
+    let dw = 2 * (screen.d as usize);
+    let x = r * ROW;
+    let y = r * cw;
+    let z = r * dw;
+    ensure_row_layers(
+        &mut rows[x..x + ROW],
+        &mut render[y..y + cw],
+        &mut fills[z..z + dw],
+        n,
+    );
+}
+
+// Rule 8: rule 5 on the rows a to b.
+pub fn touch_rows(
+    screen: Screen,
+    rows: &mut [u32],
+    render: &mut [u32],
+    fills: &mut [u32],
+    a: usize,
+    b: usize,
+    n: u32,
+)
+    requires { ⌜ OnRows screen n (acted n touch) a b (words (now rows) (now render) (now fills)) ⌝ }
+    ensures { λ _. ⌜ words (now (rows .exit)) (now (render .exit)) (now (fills .exit)) ≡ lay (each (acted n touch) (range a b) (rows-on screen (words (now (rows .entry)) (now (render .entry)) (now (fills .entry))))) ⌝ }
+{
+    let mut r = a;
+    while r < b {
+        touch_row(screen, rows, render, fills, r, n);
+        r += 1;
+    }
+}
+
+// Rules 5 to 7 on one row, for a solid fill that is no depth fill.
+fn push_plain(
+    state: &mut [u32],
+    render: &mut [u32],
+    fills: &mut [u32],
+    n: u32,
+    span: TileSpan,
+    attrs_idx: u32,
+)
+    requires { ⌜ Short (tiles span) × (n ≤ 16) × Room (words (now state) (now render) (now fills)) (drawn n false (tiles span) none «attrs_idx» 0 (words (now state) (now render) (now fills))) ⌝ }
+    ensures { λ _. ⌜ words (now (state .exit)) (now (render .exit)) (now (fills .exit)) ≡ drawn n false (tiles span) none «attrs_idx» 0 (words (now (state .entry)) (now (render .entry)) (now (fills .entry))) ⌝ }
+{
+    ensure_row_layers(state, render, fills, n);
+    push_paint(state, render, fills, span, Alpha::Solid, attrs_idx);
+}
+
+// A solid fill on row r that is no depth fill, with n layers open.
+fn paint_row(
+    screen: Screen,
+    rows: &mut [u32],
+    render: &mut [u32],
+    fills: &mut [u32],
+    r: usize,
+    n: u32,
+    span: TileSpan,
+    attrs_idx: u32,
+)
+    requires { ⌜ Short (tiles span) × OnRow screen n (acted n (paint (tiles span) none «attrs_idx»)) r (words (now rows) (now render) (now fills)) ⌝ }
+    ensures { λ _. ⌜ rows-on screen (words (now (rows .exit)) (now (render .exit)) (now (fills .exit))) ≡ change (acted n (paint (tiles span) none «attrs_idx»)) r (rows-on screen (words (now (rows .entry)) (now (render .entry)) (now (fills .entry)))) ⌝ }
+{
+    let cw = 4 * (screen.c as usize);
+    let dw = 2 * (screen.d as usize);
+    let x = r * ROW;
+    let y = r * cw;
+    let z = r * dw;
+    push_plain(
+        &mut rows[x..x + ROW],
+        &mut render[y..y + cw],
+        &mut fills[z..z + dw],
+        n,
+        span,
+        attrs_idx,
+    );
+}
+
+// Rule 11: such a fill on each of the rows a to b.
+pub fn paint_rows(
+    screen: Screen,
+    rows: &mut [u32],
+    render: &mut [u32],
+    fills: &mut [u32],
+    a: usize,
+    b: usize,
+    n: u32,
+    span: TileSpan,
+    attrs_idx: u32,
+)
+    requires { ⌜ Short (tiles span) × OnRows screen n (acted n (paint (tiles span) none «attrs_idx»)) a b (words (now rows) (now render) (now fills)) ⌝ }
+    ensures { λ _. ⌜ words (now (rows .exit)) (now (render .exit)) (now (fills .exit)) ≡ lay (each (acted n (paint (tiles span) none «attrs_idx»)) (range a b) (rows-on screen (words (now (rows .entry)) (now (render .entry)) (now (fills .entry))))) ⌝ }
+{
+    let mut r = a;
+    while r < b {
+        paint_row(screen, rows, render, fills, r, n, span, attrs_idx);
+        r += 1;
+    }
+}

@@ -1,0 +1,48 @@
+use Rattle.text_screen.proofs.Runs.{row-written}
+use Rattle.row.specs.Words.{words}
+use Rattle.text_screen.specs.Listed.{row-lines}
+use borrow.Author.Needs.{needs}
+use Rattle.text_screen.proofs.put_row.Statement.{statement}
+use Rattle.text_screen.proofs.put_row.Tie as tie
+
+shared-slice-read-renders : tie.Need-shared-slice-read-renders
+shared-slice-read-renders c = search needs
+
+shared-slice-read-depths : tie.Need-shared-slice-read-depths
+shared-slice-read-depths c = search needs
+
+put-row-line-requires : tie.Need-put-row-line-requires
+put-row-line-requires c κs = search needs
+
+wide-requires : tie.Need-wide-requires
+wide-requires c κs = search needs
+
+put-depths-requires : tie.Need-put-depths-requires
+put-depths-requires c κs = search needs
+
+wide-requires-2 : tie.Need-wide-requires-2
+wide-requires-2 c κs = search needs
+
+put-commands-requires : tie.Need-put-commands-requires
+put-commands-requires c κs = search needs
+
+same-length : tie.Need-same-length
+same-length c = search needs
+
+returns : tie.Need-returns
+unfolding row-lines
+returns c = row-written _ _ (words ((c .before .before .before .before .before .before .before .before .before .before .before .before .before .before .before .before .before .before .before .before .args) .state .now) ((c .before .before .before .before .before .before .before .before .before .before .before .before .before .before .before .before .before .before .before .before .args) .render .now) ((c .before .before .before .before .before .before .before .before .before .before .before .before .before .before .before .before .before .before .before .before .args) .fills .now)) ((c .before .before .before .before .before .before .before .before .wide) .ensures) ((c .before .before .before .wide2) .ensures) ((c .before .before .before .before .before .before .before .before .before .before .before .before .put-row-line) .ensures) ((c .before .before .before .before .before .before .before .put-depths) .ensures) ((c .before .before .put-commands) .ensures)
+
+pub put-row-spec : {M : Type 1} → statement M
+put-row-spec =
+    tie.close
+    (tie.spec
+    shared-slice-read-renders
+    shared-slice-read-depths
+    put-row-line-requires
+    wide-requires
+    put-depths-requires
+    wide-requires-2
+    put-commands-requires
+    same-length
+    returns)

@@ -2,11 +2,11 @@
 use mathlib.Core.Path.{_≡_, refl, ap}
 use mathlib.Core.Bool.{Bool, true, false, cond}
 use mathlib.Core.List.{List, [], _∷_, map}
-use Prim.Native.Nat.{ℕ, _+_, _*_, _/_, _<_, _≤_}
+use Prim.Native.Nat.{ℕ, _+_, _*_, _/_, _<_, _≤_, min}
 use native.Mathlib.Omega.{arith}
 use lib.ListN.{length, length-map}
 use lib.Dec.{ltb}
-use borrow.Author.Tests.{lt-ltb, le-ltb, ltb-false}
+use borrow.Author.Tests.{lt-ltb, le-ltb, ltb-true, ltb-false}
 use Rattle.rules.specs.Answers as rules
 use Rattle.rules.specs.Spans.{Span, span, common, bad-range}
 use Rattle.rules.proofs.All.{neither}
@@ -29,7 +29,7 @@ refuses : (a : Answer) → refusal a ≡ 0 → ⊥
 refuses a e = let n = refused-number a 0 e (omega arith) in omega (arith, rw n at e)
 
 -- tiles end at 8,192, in 256 buckets, and two runs have a bucket between them
-few : (bs : List ℕ) (id : ℕ) (s : Span) → bad-range 8192 s ≡ false → length (visible-runs 32 bs id s) ≤ 128
+pub few : (bs : List ℕ) (id : ℕ) (s : Span) → bad-range 8192 s ≡ false → length (visible-runs 32 bs id s) ≤ 128
 unfolding visible-runs runs
 few bs id s e = go (ltb (s .first) (s .end))
   where
@@ -38,6 +38,27 @@ few bs id s e = go (ltb (s .first) (s .end))
         let last : s .end ≤ 8192 = ltb-false 8192 (s .end) (neither (ltb (s .end) (s .first)) (ltb 8192 (s .end)) e .1) in
         rw length-map (omega (arith, last, runs-few (is-visible id) bs (s .first / 32) ((s .end + 31) / 32)))
     go false = omega arith
+
+same-test : (n m : ℕ) → m ≤ 128 → ltb (min n 128) m ≡ ltb n m
+same-test n m h = go (ltb n m) refl
+  where
+    go : (t : Bool) → ltb n m ≡ t → ltb (min n 128) m ≡ t
+    go true e = let l : n < m = ltb-true n m e in lt-ltb (min n 128) m (omega arith)
+    go false e = let l : m ≤ n = ltb-false n m e in le-ltb (min n 128) m (omega arith)
+
+-- so that more room than for 128 runs changes no answer
+pub roomy : (bs : List ℕ) (id : ℕ) (s : Span) (n : ℕ) → visible-answer 32 bs id s (min n 128) ≡ visible-answer 32 bs id s n
+unfolding visible-answer
+roomy bs id s n = go (bad-range 8192 s) refl
+  where
+    rs : List Span
+    rs = visible-runs 32 bs id s
+
+    go : (bad : Bool) → bad-range 8192 s ≡ bad → listed bad (min n 128) rs ≡ listed bad n rs
+    go true e = refl
+    go false e =
+        ap (λ (short : Bool). rules.settle (rules.first-of ((false, rules.BadRun) ∷ (short, rules.NoRoom) ∷ [])) [] rs)
+        (same-test n (length rs) (few bs id s e))
 
 -- an answer lists no more than there is room for
 pub in-room : (w : ℕ) (bs : List ℕ) (id : ℕ) (s : Span) (n : ℕ) → length (visible-answer w bs id s n .value) ≤ n

@@ -4,3 +4,4 @@ mod border;
 pub mod build;
 pub mod painting;
 pub mod sizes;
+pub mod spans;

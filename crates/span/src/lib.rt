@@ -6,7 +6,8 @@ ghost use Rattle.rules.specs.Depth.{tiles-of};
 ghost use mathlib.Core.Option.{some};
 ghost use Rattle.span.specs.Spans.{tiles, buckets, meeting-of, alpha, Moves, stretch, cut-of};
 
-// From a first tile to an end tile, which is not among them.
+// From a first tile to an end tile, which is not among them. Laid out as in C: a host lends slices of it.
+#[repr(C)]
 pub struct TileSpan {
     pub first: u32,
     pub end: u32,

@@ -18,6 +18,7 @@ use denote.Triple.Entry.{Args}
 use denote.Triple.Clauses.{AtExit}
 use Rattle.rules.specs.Answers.{Answer, answer}
 use Rattle.rules.specs.Spans.{Span, span}
+use Rattle.span.specs.declared.TileSpan.{TileSpan}
 use Rattle.rect.specs.declared.Rect.{Rect}
 use Rattle.row.specs.Words.{Words, words}
 use Rattle.screen.specs.Tables.{Tables, tables}
@@ -31,6 +32,7 @@ use Rattle.host_screen.specs.State.{rect}
 use Rattle.host.specs.Building.{reset-call, recording-call, draw, fill-call, clip, props, push-call, pop-call, placement, filter-call}
 use Rattle.host.specs.Painting.{begin-call, step-call, row-call, unset-call, visible-call, write-call, skip-call, split-call}
 use Rattle.host.specs.Sizes.{size-call}
+use Rattle.host.specs.Spans.{spans-call}
 use Rattle.host.proofs.build.coarse_reset as coarse-reset
 use Rattle.host.proofs.build.coarse_bucket_recording as coarse-recording
 use Rattle.host.proofs.build.coarse_fill as coarse-fill
@@ -42,6 +44,7 @@ use Rattle.host.proofs.painting.coarse_paint_step as coarse-step
 use Rattle.host.proofs.painting.coarse_paint_row as coarse-row
 use Rattle.host.proofs.painting.coarse_unset_runs as coarse-unset
 use Rattle.host.proofs.painting.coarse_visible_runs as coarse-visible
+use Rattle.host.proofs.spans.coarse_visible_spans as coarse-spans
 use Rattle.host.proofs.painting.coarse_unset_runs_and_write as coarse-written
 use Rattle.host.proofs.painting.coarse_can_skip as coarse-skip
 use Rattle.host.proofs.painting.coarse_split_opaque_span as coarse-split
@@ -138,6 +141,14 @@ module _ (row : ℕ) (given : Span) (id : ℕ) (state depth list count : List �
 
   pub one-visible : (r q : ℕ) (x y : List ℕ × List ℕ) → ListsVisible r x → ListsVisible q y → (r ≡ q) × (x ≡ y)
   one-visible = once (visible-call row given id state depth list count)
+
+-- `coarse_visible_spans`: the list of spans and the count
+module _ (row : ℕ) (given : Span) (id : ℕ) (state depth : List ℕ) (list : List TileSpan) (count : List ℕ) where
+  abbrev pub ListsSpans : ℕ → List TileSpan × List ℕ → Type 0
+  ListsSpans r x = answer r x ≡ spans-call row given id state depth list count
+
+  pub one-spans : (r q : ℕ) (x y : List TileSpan × List ℕ) → ListsSpans r x → ListsSpans q y → (r ≡ q) × (x ≡ y)
+  one-spans = once (spans-call row given id state depth list count)
 
 -- `coarse_unset_runs_and_write`: the depth words, the list and the count
 module _ (row : ℕ) (given : Span) (id : ℕ) (state depth list count : List ℕ) where
@@ -307,6 +318,16 @@ module _ {M : Type 1} (𝓤 : URA M) (H : Heap 𝓤) (A : Atoms 𝓤) (mem : Mem
       (ListsVisible (a .1 .0) (span (a .1 .1 .1 .0) (a .1 .1 .1 .1 .0)) (a5 .0) (now (a .0)) (now (a .1 .1 .0)) (now (a5 .1 .0)) (now (a5 .1 .1 .0)) r
       (now (e5 .1 .0), now (e5 .1 .1 .0))))
   visible-source κs a r e = (refl, refl)
+
+  spans-source : (κs : Lfts (coarse-spans.signature .lifetimes)) (a : Args coarse-spans.signature κs) (r : ℕ) (e : AtExit coarse-spans.ended κs)
+      → let a5 = a .1 .1 .1 .1 .1 in
+      let e5 = e .1 .1 .1 .1 .1 in
+      (coarse-spans.clauses 𝓤 H A mem run κs a .requires tt ≡ emp 𝓤)
+      × (coarse-spans.clauses 𝓤 H A mem run κs a .ensures tt r e
+      ≡ fact 𝓤
+      (ListsSpans (a .1 .0) (span (a .1 .1 .1 .0) (a .1 .1 .1 .1 .0)) (a5 .0) (now (a .0)) (now (a .1 .1 .0)) (now (a5 .1 .0)) (now (a5 .1 .1 .0)) r
+      (now (e5 .1 .0), now (e5 .1 .1 .0))))
+  spans-source κs a r e = (refl, refl)
 
   written-source : (κs : Lfts (coarse-written.signature .lifetimes)) (a : Args coarse-written.signature κs) (r : ℕ) (e : AtExit coarse-written.ended κs)
       → let a5 = a .1 .1 .1 .1 .1 in

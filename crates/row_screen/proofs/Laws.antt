@@ -10,7 +10,7 @@ use borrow.Rule.Slice.PartMut.{putMid, same-len-mid}
 use Rattle.rules.specs.Lists.{change}
 use Rattle.rules.proofs.All.{All, nil, cons}
 use Rattle.rules.proofs.laws.Changes.{change-set}
-use Rattle.row.specs.Words.{Words, words, Grown}
+use Rattle.row.specs.Words.{Words, words, Room, Grown}
 use Rattle.row_screen.specs.declared.Place.{Place}
 use Rattle.row_screen.specs.Arena.{nowhere, Sizes, Sized, sizes, head-of, tail-of, cut, lay, row-at, with-row, Long, count-rows, Arenas, Stands}
 
@@ -171,6 +171,9 @@ module _ {c d n r : ℕ} {w : Words} (a : Arenas c d n w) (h : r < n) {p : Place
 
   pub lent : out ≡ getD (cut (sizes c d) n w) r nowhere
   lent = rw (x-size, y-size, z-size, s .x0, s .y0, s .z0) (sym (cut-at (sizes c d) n r w nowhere h))
+
+  pub roomy : (f : Words → Words) → Room (getD (cut (sizes c d) n w) r nowhere) (f (getD (cut (sizes c d) n w) r nowhere)) → Room out (f out)
+  roomy f o = rw lent o
 
   pub back : (f : Words → Words) (x y z : List ℕ) → Grown out (f out) → words x y z ≡ f out
       → cut (sizes c d) n (words (putMid (p .x0) (p .x1 - p .x0) (w .state) x) (putMid (p .y0) (p .y1 - p .y0) (w .render) y) (putMid (p .z0) (p .z1 - p .z0) (w .fills) z))

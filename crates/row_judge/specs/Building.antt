@@ -11,11 +11,15 @@ use Rattle.cmd.specs.Reading.{good-span-word}
 use Rattle.rules.specs.Plans.{Frame, State, Put, Plan}
 use Rattle.rules.specs.Steps.{Screen, done, refusal}
 use Rattle.row.specs.Words.{Words, word-ops}
-use Rattle.row_screen.specs.Arena.{sizes, cut}
+use Rattle.row_screen.specs.Arena.{sizes, cut, Arenas}
 
 -- the rows of a whole screen's words
 abbrev pub rows-at : Frame → Words → List Words
 rows-at f w = cut (sizes (f .c) (f .d)) (rows-of (f .viewport)) w
+
+-- as many words as the frame's numbers say
+abbrev pub Whole : Frame → Words → Type 0
+Whole f w = Arenas (f .c) (f .d) (rows-of (f .viewport)) w
 
 -- the rules' screen of a state and a whole screen's words
 abbrev pub screen-at : State → Words → Screen Words

@@ -10,8 +10,9 @@ use borrow.Rule.Slice.PartMut.{putMid, same-len-mid}
 use Rattle.rules.specs.Lists.{change}
 use Rattle.rules.proofs.All.{All, nil, cons}
 use Rattle.rules.proofs.laws.Changes.{change-set}
-use Rattle.row.specs.Words.{Words, words, Grown}
-use Rattle.row_screen.specs.Arena.{nowhere, Sizes, Sized, head-of, tail-of, cut, lay, row-at, with-row, Long}
+use Rattle.row.specs.Words.{Words, words, Room, Grown}
+use Rattle.row_screen.specs.declared.Place.{Place}
+use Rattle.row_screen.specs.Arena.{nowhere, Sizes, Sized, sizes, head-of, tail-of, cut, lay, row-at, with-row, Long, count-rows, Arenas, Stands}
 
 -- one slice: what stands in row r of k words, counted from the second row on, and in the whole
 pub one-more : (r k : ℕ) → suc r * k ≡ k + r * k
@@ -138,29 +139,53 @@ module _ (k : Sizes) (n r : ℕ) (w : Words) (l : Long k n w) (h : r < n) where
   pub at-fills : length (row-at k r w .fills) ≡ k .fills
   at-fills = part-long n r (k .fills) (w .fills) h (l .fills)
 
-  as-long : (a j : ℕ) → a + j - a ≡ j
-  as-long a j = omega arith
+-- n rows have n records
+pub rows-counted : (s : List ℕ) (n : ℕ) → length s ≡ n * 54 → count-rows s ≡ n
+rows-counted s n e = omega arith
 
-  -- row r as code cuts it out to lend it to a call
-  pub lent : words (take (r * k .state + k .state - r * k .state) (drop (r * k .state) (w .state)))
-      (take (r * k .render + k .render - r * k .render) (drop (r * k .render) (w .render)))
-      (take (r * k .fills + k .fills - r * k .fills) (drop (r * k .fills) (w .fills)))
-      ≡ getD (cut k n w) r nowhere
-  lent = rw (as-long (r * k .state) (k .state), as-long (r * k .render) (k .render), as-long (r * k .fills) (k .fills)) (sym (cut-at k n r w nowhere h))
+pub as-long : (a j : ℕ) → a + j - a ≡ j
+as-long a j = omega arith
 
-  -- .. and as it comes back from a call that does f to it
-  pub back : (f : Words → Words) (x y z : List ℕ) → Grown (getD (cut k n w) r nowhere) (f (getD (cut k n w) r nowhere)) → words x y z ≡ f (getD (cut k n w) r nowhere)
-      → cut k n (words (putMid (r * k .state) (r * k .state + k .state - r * k .state) (w .state) x)
-      (putMid (r * k .render) (r * k .render + k .render - r * k .render) (w .render) y)
-      (putMid (r * k .fills) (r * k .fills + k .fills - r * k .fills) (w .fills) z))
-      ≡ change f r (cut k n w)
+-- by its place, row r is lent to a call, which does f to it, and comes back
+module _ {c d n r : ℕ} {w : Words} (a : Arenas c d n w) (h : r < n) {p : Place} (s : Stands c d r p) where
+  pub x-end : p .x1 ≤ length (w .state)
+  x-end = omega (arith, within r n 54 h, s .x0, s .x1, a .long .state)
+
+  pub y-end : p .y1 ≤ length (w .render)
+  y-end = omega (arith, within r n (4 * c) h, s .y0, s .y1, a .long .render)
+
+  pub z-end : p .z1 ≤ length (w .fills)
+  z-end = omega (arith, within r n (2 * d) h, s .z0, s .z1, a .long .fills)
+
+  x-size : p .x1 - p .x0 ≡ 54
+  x-size = omega (arith, s .x1)
+
+  y-size : p .y1 - p .y0 ≡ 4 * c
+  y-size = omega (arith, s .y1)
+
+  z-size : p .z1 - p .z0 ≡ 2 * d
+  z-size = omega (arith, s .z1)
+
+  abbrev out : Words
+  out = words (take (p .x1 - p .x0) (drop (p .x0) (w .state))) (take (p .y1 - p .y0) (drop (p .y0) (w .render))) (take (p .z1 - p .z0) (drop (p .z0) (w .fills)))
+
+  pub lent : out ≡ getD (cut (sizes c d) n w) r nowhere
+  lent = rw (x-size, y-size, z-size, s .x0, s .y0, s .z0) (sym (cut-at (sizes c d) n r w nowhere h))
+
+  pub roomy : (f : Words → Words) → Room (getD (cut (sizes c d) n w) r nowhere) (f (getD (cut (sizes c d) n w) r nowhere)) → Room out (f out)
+  roomy f o = rw lent o
+
+  pub back : (f : Words → Words) (x y z : List ℕ) → Grown out (f out) → words x y z ≡ f out
+      → cut (sizes c d) n (words (putMid (p .x0) (p .x1 - p .x0) (w .state) x) (putMid (p .y0) (p .y1 - p .y0) (w .render) y) (putMid (p .z0) (p .z1 - p .z0) (w .fills) z))
+      ≡ change f r (cut (sizes c d) n w)
   back f x y z g e =
-      let i : getD (cut k n w) r nowhere ≡ row-at k r w = cut-at k n r w nowhere h in
-      let s : length x ≡ k .state = ap (λ (u : Words). length (u .state)) e ∙ g .state ∙ ap (λ (u : Words). length (u .state)) i ∙ at-state in
-      let t : length y ≡ k .render = ap (λ (u : Words). length (u .render)) e ∙ g .render ∙ ap (λ (u : Words). length (u .render)) i ∙ at-render in
-      let v : length z ≡ k .fills = ap (λ (u : Words). length (u .fills)) e ∙ g .fills ∙ ap (λ (u : Words). length (u .fills)) i ∙ at-fills in
-      rw (as-long (r * k .state) (k .state), as-long (r * k .render) (k .render), as-long (r * k .fills) (k .fills))
-      (cut-with k (words x y z) s t v n r w l h ∙ ap (λ (u : Words). set (cut k n w) r u) e ∙ sym (change-set f r (cut k n w) nowhere (rw (cut-length k n w) h)))
+      let i : out ≡ row-at (sizes c d) r w = lent ∙ cut-at (sizes c d) n r w nowhere h in
+      let u : length x ≡ 54 = ap (λ (t : Words). length (t .state)) e ∙ g .state ∙ ap (λ (t : Words). length (t .state)) i ∙ at-state (sizes c d) n r w (a .long) h in
+      let v : length y ≡ 4 * c = ap (λ (t : Words). length (t .render)) e ∙ g .render ∙ ap (λ (t : Words). length (t .render)) i ∙ at-render (sizes c d) n r w (a .long) h in
+      let t : length z ≡ 2 * d = ap (λ (t : Words). length (t .fills)) e ∙ g .fills ∙ ap (λ (t : Words). length (t .fills)) i ∙ at-fills (sizes c d) n r w (a .long) h in
+      rw (x-size, y-size, z-size, s .x0, s .y0, s .z0)
+      (cut-with (sizes c d) (words x y z) u v t n r w (a .long) h ∙ ap (λ (t : Words). set (cut (sizes c d) n w) r t) (e ∙ ap f lent)
+      ∙ sym (change-set f r (cut (sizes c d) n w) nowhere (rw (cut-length (sizes c d) n w) h)))
 
 -- what is laid and cut is as it was
 module _ (k : Sizes) where

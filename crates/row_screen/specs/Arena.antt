@@ -1,10 +1,11 @@
 -- A screen's lent words as a list of rows, and back. A whole arena is a `Words` too.
-use Prim.Native.Nat.{ℕ, zero, suc, _*_}
+use Prim.Native.Nat.{ℕ, zero, suc, _+_, _*_, _/_, _≤_}
 use mathlib.Core.Path.{_≡_}
 use mathlib.Core.List.{List, [], _∷_, _++_}
 use lib.ListN.{length, take, drop}
 use borrow.Rule.Slice.PartMut.{putMid}
 use Rattle.row.specs.Words.{Words, words}
+use Rattle.row_screen.specs.declared.Place.{Place}
 
 -- a row past the last
 abbrev pub nowhere : Words
@@ -54,3 +55,24 @@ pub record Sized (k : Sizes) (u : Words) : Type 0 where
   pub state : length (u .state) ≡ k .state
   pub render : length (u .render) ≡ k .render
   pub fills : length (u .fills) ≡ k .fills
+
+-- how many rows have their records in these words
+abbrev pub count-rows : List ℕ → ℕ
+count-rows s = length s / 54
+
+-- the words of n rows, with room for i commands and j depth fills in each
+pub record Arenas (i j n : ℕ) (w : Words) : Type 0 where
+  pub rows : n ≤ 512
+  pub c : i ≤ 1024
+  pub d : j ≤ 1024
+  pub long : Long (sizes i j) n w
+
+-- where row r stands
+pub record Stands (c d r : ℕ) (p : Place) : Type 0 where
+  pub x0 : p .x0 ≡ r * 54
+  pub x1 : p .x1 ≡ p .x0 + 54
+  pub y0 : p .y0 ≡ r * (4 * c)
+  pub y1 : p .y1 ≡ p .y0 + 4 * c
+  pub z0 : p .z0 ≡ r * (2 * d)
+  pub z1 : p .z1 ≡ p .z0 + 2 * d
+  pub low : (p .x1 ≤ 27648) × (p .y1 ≤ 2097152) × (p .z1 ≤ 1048576)

@@ -193,7 +193,7 @@ module _ (l : Lent) (ps ss : List ℕ) (d : Draw) where
         attrs = t .2;
         ready =
             record {
-              whole = record { rows = n; c = o .c; d = o .d; layers = o .layers; starts = o .starts; bottom = o .bottom; long = long l ps ss d (a .0) };
+              fits = record { arenas = record { rows = n; c = o .c; d = o .d; long = long l ps ss d (a .0) }; layers = o .layers; starts = o .starts; bottom = o .bottom };
               before = g .range;
               within = omega (arith, g .ends);
               good = j .good;

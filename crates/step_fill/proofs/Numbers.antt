@@ -17,7 +17,7 @@ use Rattle.rules.specs.Attributes.{attrs-full}
 use Rattle.rules.specs.Steps.{done, passes, refusal}
 use Rattle.rules.proofs.All.{both}
 use Rattle.row.specs.Words.{Words, word, word-ops}
-use Rattle.row_screen.specs.Arena.{sizes, Long}
+use Rattle.row_screen.specs.Arena.{sizes, Long, count-rows}
 use Rattle.row_judge.specs.Building.{screen-at, good-rows, step-number}
 use Rattle.rect.specs.Rects.{box-of}
 use Rattle.screen.specs.Screens.{frame-of, state-of}
@@ -31,8 +31,8 @@ use Rattle.segments.specs.Segs.{segs-of}
 use Rattle.segments.proofs.Laws as listed
 use Rattle.segments.proofs.Laws.{scene-starts}
 use Rattle.step_fill_rows.specs.Filling as filling
-use Rattle.step_fill_rows.specs.Filling.{count-rows, puts-of}
-use Rattle.step_fill_rows.proofs.Laws.{rows-counted}
+use Rattle.row_screen.proofs.Laws.{rows-counted}
+use Rattle.step_fill_rows.specs.Filling.{puts-of}
 use Rattle.step_fill_judge.specs.Tallies.{Tally, tally-cuts, verdict, cuts-of, none-yet, Rowed, list-number}
 use Rattle.step_fill_judge.proofs.Hands.{bad-either}
 use Rattle.step_fill_judge.proofs.Rising.{rising}

@@ -17,14 +17,14 @@ use Rattle.rules.proofs.All.{All, nil, cons, both, all-map, all-join, every-all
 use Rattle.rules.proofs.laws.Maps.{ActOk, paints, splits, follows-act}
 use Rattle.rules.proofs.laws.Changes.{change-length, change-same, change-else}
 use Rattle.row.specs.Words.{Words, word, word-ops, Room}
-use Rattle.row_screen.specs.Arena.{nowhere, sizes, Long}
+use Rattle.row_screen.specs.Arena.{nowhere, sizes, cut, Long}
 use Rattle.row_screen.proofs.Laws.{cut-length, cut-at, at-state, at-render, at-fills}
 use Rattle.row_counts.specs.Counts.{count}
 use Rattle.row_counts.proofs.Laws.{Sane, any, counted}
 use Rattle.row_judge.specs.Building.{good-row, good-at, good-rows}
 use Rattle.segments.specs.Segs.{origin, bounds}
 use Rattle.step_fill_rows.specs.declared.Job.{Job}
-use Rattle.step_fill_rows.specs.Filling.{rows-of, draws, puts-of, done, Roomy, none-put, one-more}
+use Rattle.step_fill_rows.specs.Filling.{draws, puts-of, done, Roomy, none-put, one-more}
 use Rattle.step_fill_judge.specs.Tallies.{Tally, stored, known, drawn-counts, tally-of, tallied, record-at, tally-cuts, verdict, none-yet, Rowed}
 use Rattle.step_fill_judge.proofs.Laws.{good-small, at-most-one, lands}
 use Rattle.step_fill_judge.proofs.Running.{full-at, running, SaneAt, sane-after, runs, passes-are}
@@ -115,7 +115,7 @@ module _ (j : Job) (n : ℕ) (rows : List ℕ) (m : j .layers ≤ 16) where
 
 -- rows of words
 module _ (j : Job) (v : Box) (n : ℕ) (w : Words) (m : j .layers ≤ 16) (l : Long (sizes (j .c) (j .d)) n w) where
-  state-is : (x : ℕ) → x < n → getD (rows-of j n w) x nowhere .state ≡ record-at (w .state) x
+  state-is : (x : ℕ) → x < n → getD (cut (sizes (j .c) (j .d)) n w) x nowhere .state ≡ record-at (w .state) x
   state-is x h = ap (λ (u : Words). u .state) (cut-at (sizes (j .c) (j .d)) n x w nowhere h)
 
   good-there : (f : Frame) (o i : ℕ) (rs : List Words) → i < length rs → good-at f o i rs ≡ good-row (f .c) (f .d) o (getD rs i nowhere .state)
@@ -123,9 +123,9 @@ module _ (j : Job) (v : Box) (n : ℕ) (w : Words) (m : j .layers ≤ 16) (l : L
   good-there f o zero (r ∷ rs) h = refl
   good-there f o (suc i) (r ∷ rs) h = good-there f o i rs (omega arith)
 
-  good-here : (x : ℕ) → x < n → good-at (record { viewport = v; c = j .c; d = j .d }) (j .layers) x (rows-of j n w) ≡ good-row (j .c) (j .d) (j .layers) (record-at (w .state) x)
+  good-here : (x : ℕ) → x < n → good-at (record { viewport = v; c = j .c; d = j .d }) (j .layers) x (cut (sizes (j .c) (j .d)) n w) ≡ good-row (j .c) (j .d) (j .layers) (record-at (w .state) x)
   good-here x h =
-      good-there (record { viewport = v; c = j .c; d = j .d }) (j .layers) x (rows-of j n w) (rw (cut-length (sizes (j .c) (j .d)) n w) h)
+      good-there (record { viewport = v; c = j .c; d = j .d }) (j .layers) x (cut (sizes (j .c) (j .d)) n w) (rw (cut-length (sizes (j .c) (j .d)) n w) h)
       ∙ ap (good-row (j .c) (j .d) (j .layers)) (state-is x h)
 
   if-both : (a b : Bool) (t : Tally) → cond a (cond b (some t) none) none ≡ cond (a && b) (some t) none
@@ -134,26 +134,26 @@ module _ (j : Job) (v : Box) (n : ℕ) (w : Words) (m : j .layers ≤ 16) (l : L
 
   -- whatever the order: 4 exactly if a record is bad
   pub tally-is : (t : Tally) {ks : List Cut} → All (λ (k : Cut). k .row < n) ks
-      → tally-cuts j (w .state) t ks ≡ cond (good-rows (record { viewport = v; c = j .c; d = j .d }) (j .layers) (puts-of j ks) (rows-of j n w)) (some (run j (w .state) t ks)) none
+      → tally-cuts j (w .state) t ks ≡ cond (good-rows (record { viewport = v; c = j .c; d = j .d }) (j .layers) (puts-of j ks) (cut (sizes (j .c) (j .d)) n w)) (some (run j (w .state) t ks)) none
   unfolding tally-cuts good-rows draw-puts
   tally-is t nil = refl
   tally-is t (cons {x = k} {xs = ks} h a) =
       rw (tally-is (tallied j (record-at (w .state) (k .row)) t k) a, ← good-here (k .row) h)
-      (if-both (good-at (record { viewport = v; c = j .c; d = j .d }) (j .layers) (k .row) (rows-of j n w))
-      (every (λ (p : Put). good-at (record { viewport = v; c = j .c; d = j .d }) (j .layers) (p .row) (rows-of j n w)) (puts-of j ks))
+      (if-both (good-at (record { viewport = v; c = j .c; d = j .d }) (j .layers) (k .row) (cut (sizes (j .c) (j .d)) n w))
+      (every (λ (p : Put). good-at (record { viewport = v; c = j .c; d = j .d }) (j .layers) (p .row) (cut (sizes (j .c) (j .d)) n w)) (puts-of j ks))
       (run j (w .state) (tallied j (record-at (w .state) (k .row)) t k) ks))
 
   -- 4 first, then what the flags say
   pub verdict-any : {ks : List Cut} → All (λ (k : Cut). k .row < n) ks
-      → verdict (tally-cuts j (w .state) none-yet ks) ≡ cond (good-rows (record { viewport = v; c = j .c; d = j .d }) (j .layers) (puts-of j ks) (rows-of j n w)) (flags (run j (w .state) none-yet ks)) 4
-  verdict-any {ks} a = ap verdict (tally-is none-yet a) ∙ either (good-rows (record { viewport = v; c = j .c; d = j .d }) (j .layers) (puts-of j ks) (rows-of j n w)) (run j (w .state) none-yet ks)
+      → verdict (tally-cuts j (w .state) none-yet ks) ≡ cond (good-rows (record { viewport = v; c = j .c; d = j .d }) (j .layers) (puts-of j ks) (cut (sizes (j .c) (j .d)) n w)) (flags (run j (w .state) none-yet ks)) 4
+  verdict-any {ks} a = ap verdict (tally-is none-yet a) ∙ either (good-rows (record { viewport = v; c = j .c; d = j .d }) (j .layers) (puts-of j ks) (cut (sizes (j .c) (j .d)) n w)) (run j (w .state) none-yet ks)
     where
       either : (b : Bool) (t : Tally) → verdict (cond b (some t) none) ≡ cond b (flags t) 4
       either true t = refl
       either false t = refl
 
   -- what good records say
-  sane-at : (x : ℕ) → x < n → good-row (j .c) (j .d) (j .layers) (record-at (w .state) x) ≡ true → Sane (getD (rows-of j n w) x nowhere)
+  sane-at : (x : ℕ) → x < n → good-row (j .c) (j .d) (j .layers) (record-at (w .state) x) ≡ true → Sane (getD (cut (sizes (j .c) (j .d)) n w) x nowhere)
   sane-at x h g =
       let e = cut-at (sizes (j .c) (j .d)) n x w nowhere h in
       let s = good-small (j .c) (j .d) (j .layers) (record-at (w .state) x) g in
@@ -162,11 +162,11 @@ module _ (j : Job) (v : Box) (n : ℕ) (w : Words) (m : j .layers ≤ 16) (l : L
         levels = omega (arith, s .levels, m, ap (λ (y : List ℕ). getD y 5 0) (state-is x h));
       }
 
-  all-fine : {ks : List Cut} → All (λ (k : Cut). k .row < n) ks → good-rows (record { viewport = v; c = j .c; d = j .d }) (j .layers) (puts-of j ks) (rows-of j n w) ≡ true → All (Fine n (rows-of j n w)) ks
+  all-fine : {ks : List Cut} → All (λ (k : Cut). k .row < n) ks → good-rows (record { viewport = v; c = j .c; d = j .d }) (j .layers) (puts-of j ks) (cut (sizes (j .c) (j .d)) n w) ≡ true → All (Fine n (cut (sizes (j .c) (j .d)) n w)) ks
   unfolding good-rows draw-puts
   all-fine nil e = nil
   all-fine (cons {x = k} {xs = ks} h a) e =
-      let b = both (good-at (record { viewport = v; c = j .c; d = j .d }) (j .layers) (k .row) (rows-of j n w)) (every (λ (p : Put). good-at (record { viewport = v; c = j .c; d = j .d }) (j .layers) (p .row) (rows-of j n w)) (puts-of j ks)) e in
+      let b = both (good-at (record { viewport = v; c = j .c; d = j .d }) (j .layers) (k .row) (cut (sizes (j .c) (j .d)) n w)) (every (λ (p : Put). good-at (record { viewport = v; c = j .c; d = j .d }) (j .layers) (p .row) (cut (sizes (j .c) (j .d)) n w)) (puts-of j ks)) e in
       cons (h, sane-at (k .row) h (sym (good-here (k .row) h) ∙ b .0)) (all-fine a (b .1))
 
   puts-sane : (us : List Words) {ks : List Cut} → All (Fine n us) ks → All (SaneAt us) (puts-of j ks)
@@ -175,7 +175,7 @@ module _ (j : Job) (v : Box) (n : ℕ) (w : Words) (m : j .layers ≤ 16) (l : L
   puts-sane us (cons {x = k} f a) = cons (f .1) (puts-sane us a)
 
   -- at the start every row's counts are those of its record
-  first-knows : n ≤ 512 → Knows n (w .state) none-yet (rows-of j n w) 0
+  first-knows : n ≤ 512 → Knows n (w .state) none-yet (cut (sizes (j .c) (j .d)) n w) 0
   unfolding known
   first-knows q =
       record {
@@ -184,36 +184,36 @@ module _ (j : Job) (v : Box) (n : ℕ) (w : Words) (m : j .layers ≤ 16) (l : L
       }
 
   module _ (q : n ≤ 512) {ks : List Cut} (a : All (λ (k : Cut). k .row < n) ks) (r : Rising 0 ks)
-      (g : good-rows (record { viewport = v; c = j .c; d = j .d }) (j .layers) (puts-of j ks) (rows-of j n w) ≡ true) where
-    fine : All (Fine n (rows-of j n w)) ks
+      (g : good-rows (record { viewport = v; c = j .c; d = j .d }) (j .layers) (puts-of j ks) (cut (sizes (j .c) (j .d)) n w) ≡ true) where
+    fine : All (Fine n (cut (sizes (j .c) (j .d)) n w)) ks
     fine = all-fine a g
 
-    both-flags : (run j (w .state) none-yet ks .full ≡ running j (word 0) (j .c) (puts-of j ks) (rows-of j n w)) × (run j (w .state) none-yet ks .deep ≡ running j (word 1) (j .d) (puts-of j ks) (rows-of j n w))
-    both-flags = goes j n (w .state) m ks none-yet (rows-of j n w) 0 (cut-length (sizes (j .c) (j .d)) n w) r fine (first-knows q)
+    both-flags : (run j (w .state) none-yet ks .full ≡ running j (word 0) (j .c) (puts-of j ks) (cut (sizes (j .c) (j .d)) n w)) × (run j (w .state) none-yet ks .deep ≡ running j (word 1) (j .d) (puts-of j ks) (cut (sizes (j .c) (j .d)) n w))
+    both-flags = goes j n (w .state) m ks none-yet (cut (sizes (j .c) (j .d)) n w) 0 (cut-length (sizes (j .c) (j .d)) n w) r fine (first-knows q)
 
-    full-is : run j (w .state) none-yet ks .full ≡ passes Words word-ops 32 (word 0) (j .c) (puts-of j ks) (done j (puts-of j ks) (rows-of j n w))
+    full-is : run j (w .state) none-yet ks .full ≡ passes Words word-ops 32 (word 0) (j .c) (puts-of j ks) (done j (puts-of j ks) (cut (sizes (j .c) (j .d)) n w))
     full-is =
-        both-flags .0 ∙ sym (runs j m (word 0) (j .c) (λ u u′ s. s .commands) (puts-of j ks) (rows-of j n w) (puts-sane (rows-of j n w) fine))
-        ∙ sym (passes-are j m (word 0) (j .c) refl (puts-of j ks) (done j (puts-of j ks) (rows-of j n w)))
+        both-flags .0 ∙ sym (runs j m (word 0) (j .c) (λ u u′ s. s .commands) (puts-of j ks) (cut (sizes (j .c) (j .d)) n w) (puts-sane (cut (sizes (j .c) (j .d)) n w) fine))
+        ∙ sym (passes-are j m (word 0) (j .c) refl (puts-of j ks) (done j (puts-of j ks) (cut (sizes (j .c) (j .d)) n w)))
 
-    deep-is : run j (w .state) none-yet ks .deep ≡ passes Words word-ops 32 (word 1) (j .d) (puts-of j ks) (done j (puts-of j ks) (rows-of j n w))
+    deep-is : run j (w .state) none-yet ks .deep ≡ passes Words word-ops 32 (word 1) (j .d) (puts-of j ks) (done j (puts-of j ks) (cut (sizes (j .c) (j .d)) n w))
     deep-is =
-        both-flags .1 ∙ sym (runs j m (word 1) (j .d) (λ u u′ s. s .depths) (puts-of j ks) (rows-of j n w) (puts-sane (rows-of j n w) fine))
-        ∙ sym (passes-are j m (word 1) (j .d) refl (puts-of j ks) (done j (puts-of j ks) (rows-of j n w)))
+        both-flags .1 ∙ sym (runs j m (word 1) (j .d) (λ u u′ s. s .depths) (puts-of j ks) (cut (sizes (j .c) (j .d)) n w) (puts-sane (cut (sizes (j .c) (j .d)) n w) fine))
+        ∙ sym (passes-are j m (word 1) (j .d) refl (puts-of j ks) (done j (puts-of j ks) (cut (sizes (j .c) (j .d)) n w)))
 
     -- the flags are the rules' tests on the rows after
     pub flags-are : flags (run j (w .state) none-yet ks)
-        ≡ cond (passes Words word-ops 32 (word 0) (j .c) (puts-of j ks) (done j (puts-of j ks) (rows-of j n w))) 10
-        (cond (passes Words word-ops 32 (word 1) (j .d) (puts-of j ks) (done j (puts-of j ks) (rows-of j n w))) 11 0)
+        ≡ cond (passes Words word-ops 32 (word 0) (j .c) (puts-of j ks) (done j (puts-of j ks) (cut (sizes (j .c) (j .d)) n w))) 10
+        (cond (passes Words word-ops 32 (word 1) (j .d) (puts-of j ks) (done j (puts-of j ks) (cut (sizes (j .c) (j .d)) n w))) 11 0)
     flags-are = rw (full-is, deep-is)
 
     -- a row within its room
-    room-at : (x : ℕ) → x < n → j .c ≤ 1024 → j .d ≤ 1024 → Sane (getD (rows-of j n w) x nowhere) → (ts : List Words)
-        → full-at (word 0) (j .c) ts x ≡ false → full-at (word 1) (j .d) ts x ≡ false → Room (getD (rows-of j n w) x nowhere) (getD ts x nowhere)
+    room-at : (x : ℕ) → x < n → j .c ≤ 1024 → j .d ≤ 1024 → Sane (getD (cut (sizes (j .c) (j .d)) n w) x nowhere) → (ts : List Words)
+        → full-at (word 0) (j .c) ts x ≡ false → full-at (word 1) (j .d) ts x ≡ false → Room (getD (cut (sizes (j .c) (j .d)) n w) x nowhere) (getD ts x nowhere)
     room-at x h c d s ts e f =
         let i = cut-at (sizes (j .c) (j .d)) n x w nowhere h in
-        let t : length (getD (rows-of j n w) x nowhere .render) ≡ 4 * j .c = ap (λ (u : Words). length (u .render)) i ∙ at-render (sizes (j .c) (j .d)) n x w l h in
-        let u : length (getD (rows-of j n w) x nowhere .fills) ≡ 2 * j .d = ap (λ (u : Words). length (u .fills)) i ∙ at-fills (sizes (j .c) (j .d)) n x w l h in
+        let t : length (getD (cut (sizes (j .c) (j .d)) n w) x nowhere .render) ≡ 4 * j .c = ap (λ (u : Words). length (u .render)) i ∙ at-render (sizes (j .c) (j .d)) n x w l h in
+        let u : length (getD (cut (sizes (j .c) (j .d)) n w) x nowhere .fills) ≡ 2 * j .d = ap (λ (u : Words). length (u .fills)) i ∙ at-fills (sizes (j .c) (j .d)) n x w l h in
         record {
           state = s .state;
           render = omega arith;
@@ -223,36 +223,36 @@ module _ (j : Job) (v : Box) (n : ℕ) (w : Words) (m : j .layers ≤ 16) (l : L
           depths = omega (arith, ltb-false (j .d) (word 1 (getD ts x nowhere)) f);
         }
 
-    roomy-by : (ts : List Words) {ls : List Cut} → j .c ≤ 1024 → j .d ≤ 1024 → All (Fine n (rows-of j n w)) ls
-        → All (λ (p : Put). full-at (word 0) (j .c) ts (p .row) ≡ false) (puts-of j ls) → All (λ (p : Put). full-at (word 1) (j .d) ts (p .row) ≡ false) (puts-of j ls) → Roomy (puts-of j ls) (rows-of j n w) ts
+    roomy-by : (ts : List Words) {ls : List Cut} → j .c ≤ 1024 → j .d ≤ 1024 → All (Fine n (cut (sizes (j .c) (j .d)) n w)) ls
+        → All (λ (p : Put). full-at (word 0) (j .c) ts (p .row) ≡ false) (puts-of j ls) → All (λ (p : Put). full-at (word 1) (j .d) ts (p .row) ≡ false) (puts-of j ls) → Roomy (puts-of j ls) (cut (sizes (j .c) (j .d)) n w) ts
     unfolding draw-puts
     roomy-by ts c d nil e f = none-put
     roomy-by ts c d (cons {x = k} o b) (cons e es) (cons f fs) = one-more (room-at (k .row) (o .0) c d (o .1) ts e f) (roomy-by ts c d b es fs)
 
     -- what is not refused has room
     pub roomy-judged : j .c ≤ 1024 → j .d ≤ 1024
-        → passes Words word-ops 32 (word 0) (j .c) (puts-of j ks) (done j (puts-of j ks) (rows-of j n w)) ≡ false
-        → passes Words word-ops 32 (word 1) (j .d) (puts-of j ks) (done j (puts-of j ks) (rows-of j n w)) ≡ false
-        → Roomy (puts-of j ks) (rows-of j n w) (done j (puts-of j ks) (rows-of j n w))
+        → passes Words word-ops 32 (word 0) (j .c) (puts-of j ks) (done j (puts-of j ks) (cut (sizes (j .c) (j .d)) n w)) ≡ false
+        → passes Words word-ops 32 (word 1) (j .d) (puts-of j ks) (done j (puts-of j ks) (cut (sizes (j .c) (j .d)) n w)) ≡ false
+        → Roomy (puts-of j ks) (cut (sizes (j .c) (j .d)) n w) (done j (puts-of j ks) (cut (sizes (j .c) (j .d)) n w))
     roomy-judged c d e f =
-        roomy-by (done j (puts-of j ks) (rows-of j n w)) c d fine
-        (none-of (λ (p : Put). full-at (word 0) (j .c) (done j (puts-of j ks) (rows-of j n w)) (p .row)) (puts-of j ks) (sym (passes-are j m (word 0) (j .c) refl (puts-of j ks) (done j (puts-of j ks) (rows-of j n w))) ∙ e))
-        (none-of (λ (p : Put). full-at (word 1) (j .d) (done j (puts-of j ks) (rows-of j n w)) (p .row)) (puts-of j ks) (sym (passes-are j m (word 1) (j .d) refl (puts-of j ks) (done j (puts-of j ks) (rows-of j n w))) ∙ f))
+        roomy-by (done j (puts-of j ks) (cut (sizes (j .c) (j .d)) n w)) c d fine
+        (none-of (λ (p : Put). full-at (word 0) (j .c) (done j (puts-of j ks) (cut (sizes (j .c) (j .d)) n w)) (p .row)) (puts-of j ks) (sym (passes-are j m (word 0) (j .c) refl (puts-of j ks) (done j (puts-of j ks) (cut (sizes (j .c) (j .d)) n w))) ∙ e))
+        (none-of (λ (p : Put). full-at (word 1) (j .d) (done j (puts-of j ks) (cut (sizes (j .c) (j .d)) n w)) (p .row)) (puts-of j ks) (sym (passes-are j m (word 1) (j .d) refl (puts-of j ks) (done j (puts-of j ks) (cut (sizes (j .c) (j .d)) n w))) ∙ f))
 
   -- the law: on an ordered list the verdict is 4 for a bad record, then the rules' 10 and 11
   pub verdict-is : n ≤ 512 → {ks : List Cut} → All (λ (k : Cut). k .row < n) ks → Rising 0 ks
       → verdict (tally-cuts j (w .state) none-yet ks)
-      ≡ cond (good-rows (record { viewport = v; c = j .c; d = j .d }) (j .layers) (puts-of j ks) (rows-of j n w))
-      (cond (passes Words word-ops 32 (word 0) (j .c) (puts-of j ks) (done j (puts-of j ks) (rows-of j n w))) 10
-      (cond (passes Words word-ops 32 (word 1) (j .d) (puts-of j ks) (done j (puts-of j ks) (rows-of j n w))) 11 0))
+      ≡ cond (good-rows (record { viewport = v; c = j .c; d = j .d }) (j .layers) (puts-of j ks) (cut (sizes (j .c) (j .d)) n w))
+      (cond (passes Words word-ops 32 (word 0) (j .c) (puts-of j ks) (done j (puts-of j ks) (cut (sizes (j .c) (j .d)) n w))) 10
+      (cond (passes Words word-ops 32 (word 1) (j .d) (puts-of j ks) (done j (puts-of j ks) (cut (sizes (j .c) (j .d)) n w))) 11 0))
       4
-  verdict-is q {ks} a r = verdict-any a ∙ go (good-rows (record { viewport = v; c = j .c; d = j .d }) (j .layers) (puts-of j ks) (rows-of j n w)) refl
+  verdict-is q {ks} a r = verdict-any a ∙ go (good-rows (record { viewport = v; c = j .c; d = j .d }) (j .layers) (puts-of j ks) (cut (sizes (j .c) (j .d)) n w)) refl
     where
-      go : (b : Bool) → good-rows (record { viewport = v; c = j .c; d = j .d }) (j .layers) (puts-of j ks) (rows-of j n w) ≡ b
+      go : (b : Bool) → good-rows (record { viewport = v; c = j .c; d = j .d }) (j .layers) (puts-of j ks) (cut (sizes (j .c) (j .d)) n w) ≡ b
           → cond b (flags (run j (w .state) none-yet ks)) 4
           ≡ cond b
-          (cond (passes Words word-ops 32 (word 0) (j .c) (puts-of j ks) (done j (puts-of j ks) (rows-of j n w))) 10
-          (cond (passes Words word-ops 32 (word 1) (j .d) (puts-of j ks) (done j (puts-of j ks) (rows-of j n w))) 11 0))
+          (cond (passes Words word-ops 32 (word 0) (j .c) (puts-of j ks) (done j (puts-of j ks) (cut (sizes (j .c) (j .d)) n w))) 10
+          (cond (passes Words word-ops 32 (word 1) (j .d) (puts-of j ks) (done j (puts-of j ks) (cut (sizes (j .c) (j .d)) n w))) 11 0))
           4
       go true e = flags-are q a r e
       go false e = refl

@@ -17,7 +17,7 @@ ghost use Rattle.rules.specs.Segments.{cut-in, good-segment, judge-segments};
 ghost use Rattle.span.specs.Spans.{tiles, alpha};
 ghost use Rattle.row_counts.specs.Counts.{counts};
 ghost use Rattle.segments.specs.Segs.{segs, segment-of, origin, bounds};
-ghost use Rattle.step_fill_rows.specs.Filling.{count-rows};
+ghost use Rattle.row_screen.specs.Arena.{count-rows};
 ghost use Rattle.step_fill_judge.specs.Tallies.{edge-count, added, record-at, tally-cuts, verdict, cuts-of, none-yet, noted, marked-by, turned-to, stretched, hand-cuts, list-number, Low, Rowed};
 
 // Commands and depth fills.

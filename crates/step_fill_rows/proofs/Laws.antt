@@ -14,11 +14,11 @@ use Rattle.rules.proofs.laws.Changes.{change-same, change-at, puts-append}
 use Rattle.rules.specs.Spans.{Span}
 use Rattle.rules.specs.Commands.{paint-fill}
 use Rattle.rules.proofs.All.{never}
-use Rattle.row.specs.Words.{Words, words, word, put-command, word-ops, Room}
+use Rattle.row.specs.Words.{Words, words, word, put-command, word-ops, Room, Grown}
 use Rattle.row.proofs.Laws.{room-first, grown-refl}
 use Rattle.row_acts.specs.Acts.{ensured, acted, drawn}
-use Rattle.row_acts.proofs.Laws.{drawn-alpha, drawn-plain, Sound, sound-trans, room-after, acted-sound}
-use Rattle.row_screen.specs.Arena.{nowhere, Sizes, sizes, lay, Long}
+use Rattle.row_acts.proofs.Laws.{drawn-alpha, drawn-plain, drawn-sound, Sound, sound-trans, room-after, acted-sound}
+use Rattle.row_screen.specs.Arena.{nowhere, Sizes, sizes, cut, lay, Long}
 use Rattle.row_screen.proofs.Laws.{cut-length, lay-cut}
 use Rattle.row.specs.Cmds.{Short}
 use Rattle.segments.specs.declared.Scene.{Scene}
@@ -26,11 +26,7 @@ use Rattle.segments.specs.declared.Placed.{Placed}
 use Rattle.segments.specs.Segs.{seg-at, segs, origin, bounds, placed-of}
 use Rattle.segments.proofs.Laws.{segs-end, segs-first, good-first, good-rest, landed}
 use Rattle.step_fill_rows.specs.declared.Job.{Job}
-use Rattle.step_fill_rows.specs.Filling.{count-rows, rows-of, draws, puts-of, one-put, puts, done, unsplit, Roomy, none-put, one-more, Whole, Ready}
-
--- n rows have n records
-pub rows-counted : (s : List ℕ) (n : ℕ) → length s ≡ n * 54 → count-rows s ≡ n
-rows-counted s n e = omega arith
+use Rattle.step_fill_rows.specs.Filling.{draws, puts-of, one-put, puts, done, unsplit, Roomy, none-put, one-more, Fits, Ready}
 
 -- one command, on a row that has its layers
 module _ (n : ℕ) (s : Span) (i id : ℕ) (w : Words) (h : word 5 w ≡ n) where
@@ -41,6 +37,10 @@ module _ (n : ℕ) (s : Span) (i id : ℕ) (w : Words) (h : word 5 w ≡ n) wher
   drawn-once e (some a) u = drawn-alpha n s i id w e a ∙ ap (put-command (paint-fill s (some a) i)) all-there
   drawn-once false none u = drawn-plain n s i id w ∙ ap (put-command (paint-fill s none i)) all-there
   drawn-once true none u = never (sym u)
+
+-- drawing grows a row that has room for it
+pub draws-grow : (j : Job) (s : Span) (a : Option ℕ) (w : Words) → j .layers ≤ 16 → Room w (draws j s a w) → Grown w (draws j s a w)
+draws-grow j s a w m r = drawn-sound (j .layers) (j .attr) (j .id) s w (r .state) (r .levels) m (j .eligible) a .grown
 
 -- one segment
 module _ (j : Job) (g : Segment) (rs : List Words) where
@@ -67,13 +67,13 @@ pub placed-at : (s : Scene) {p q : Placed} {g h : Segment} → p ≡ q → place
 placed-at s e a b = rw (← e, ← b) a
 
 -- what is left of a good segment lies on a row, which has room for it
-pub on-its-row : (j : Job) (n : ℕ) (w : Words) (g : Segment) (k : Cut) → Whole j n w → k ∷ [] ≡ cut-in (origin (j .scene)) (bounds (j .scene)) g → good-segment g ≡ true
-    → Roomy (puts-of j (cut-in (origin (j .scene)) (bounds (j .scene)) g)) (rows-of j n w) (done j (puts-of j (cut-in (origin (j .scene)) (bounds (j .scene)) g)) (rows-of j n w))
-    → Whole j n w × (k .row < n) × Short (k .tiles) × Room (getD (rows-of j n w) (k .row) nowhere) (draws j (k .tiles) (k .alpha) (getD (rows-of j n w) (k .row) nowhere))
+pub on-its-row : (j : Job) (n : ℕ) (w : Words) (g : Segment) (k : Cut) → Fits j n w → k ∷ [] ≡ cut-in (origin (j .scene)) (bounds (j .scene)) g → good-segment g ≡ true
+    → Roomy (puts-of j (cut-in (origin (j .scene)) (bounds (j .scene)) g)) (cut (sizes (j .c) (j .d)) n w) (done j (puts-of j (cut-in (origin (j .scene)) (bounds (j .scene)) g)) (cut (sizes (j .c) (j .d)) n w))
+    → Fits j n w × (k .row < n) × Short (k .tiles) × Room (getD (cut (sizes (j .c) (j .d)) n w) (k .row) nowhere) (draws j (k .tiles) (k .alpha) (getD (cut (sizes (j .c) (j .d)) n w) (k .row) nowhere))
 on-its-row j n w g k o e t m =
     let l = landed (origin (j .scene)) (bounds (j .scene)) g k t (o .starts) e in
     let h : k .row < n = omega (arith, l .row, o .bottom) in
-    (o, h, (omega (arith, l .order, l .ends), l .ends), one-room j g (rows-of j n w) k e (rw (cut-length (sizes (j .c) (j .d)) n w) h) m)
+    (o, h, (omega (arith, l .order, l .ends), l .ends), one-room j g (cut (sizes (j .c) (j .d)) n w) k e (rw (cut-length (sizes (j .c) (j .d)) n w) h) m)
 
 -- many segments
 roomy-first : (ps qs : List Put) {rs ts : List Words} → Roomy (ps ++ qs) rs ts → Roomy ps rs ts
@@ -126,44 +126,44 @@ module _ (j : Job) (m : j .layers ≤ 16) where
 -- the loop over the segments from a to b, at segment i, on its way from the words w₀
 pub record Filling (j : Job) (n : ℕ) (ws : List ℕ) (a b : ℕ) (w₀ : Words) (i : ℕ) (w : Words) : Type 0 where
   pub rest : Ready j n ws i b w
-  pub all : done j (puts j ws i (b - i)) (rows-of j n w) ≡ done j (puts j ws a (b - a)) (rows-of j n w₀)
+  pub all : done j (puts j ws i (b - i)) (cut (sizes (j .c) (j .d)) n w) ≡ done j (puts j ws a (b - a)) (cut (sizes (j .c) (j .d)) n w₀)
 
 pub begun : {j : Job} {n : ℕ} {ws : List ℕ} {a b : ℕ} {w : Words} → Ready j n ws a b w → Filling j n ws a b w a w
 begun r = record { rest = r; all = refl }
 
 module _ {j : Job} {n : ℕ} {ws : List ℕ} {a b : ℕ} {w₀ : Words} {i : ℕ} {w : Words} (v : Filling j n ws a b w₀ i w) where
-  pub filled : b ≤ i → w ≡ lay (done j (puts j ws a (b - a)) (rows-of j n w₀))
+  pub filled : b ≤ i → w ≡ lay (done j (puts j ws a (b - a)) (cut (sizes (j .c) (j .d)) n w₀))
   unfolding do-puts draw-puts
   filled h =
-      let e : rows-of j n w ≡ done j (puts j ws a (b - a)) (rows-of j n w₀) = rw (segs-end ws i b h) at (v .all) in
-      sym (lay-cut (sizes (j .c) (j .d)) n w (v .rest .whole .long)) ∙ ap lay e
+      let e : cut (sizes (j .c) (j .d)) n w ≡ done j (puts j ws a (b - a)) (cut (sizes (j .c) (j .d)) n w₀) = rw (segs-end ws i b h) at (v .all) in
+      sym (lay-cut (sizes (j .c) (j .d)) n w (v .rest .fits .arenas .long)) ∙ ap lay e
 
   module _ (h : i < b) where
     split-puts : puts j ws i (b - i) ≡ one-put j ws i ++ puts j ws (i + 1) (b - (i + 1))
     split-puts = rw (segs-first ws i b h) (puts-join j (cut-in (origin (j .scene)) (bounds (j .scene)) (seg-at ws i)) (join (cut-in (origin (j .scene)) (bounds (j .scene))) (segs ws (i + 1) (b - (i + 1)))))
 
-    split-room : Roomy (one-put j ws i ++ puts j ws (i + 1) (b - (i + 1))) (rows-of j n w) (done j (one-put j ws i ++ puts j ws (i + 1) (b - (i + 1))) (rows-of j n w))
+    split-room : Roomy (one-put j ws i ++ puts j ws (i + 1) (b - (i + 1))) (cut (sizes (j .c) (j .d)) n w) (done j (one-put j ws i ++ puts j ws (i + 1) (b - (i + 1))) (cut (sizes (j .c) (j .d)) n w))
     split-room = rw split-puts at (v .rest .room)
 
     pub good-here : good-segment (seg-at ws i) ≡ true
     good-here = good-first ws i b h (v .rest .good)
 
-    pub room-here : Roomy (one-put j ws i) (rows-of j n w) (done j (one-put j ws i) (rows-of j n w))
-    room-here = room-one j (v .rest .whole .layers) (one-put j ws i) (puts j ws (i + 1) (b - (i + 1))) (rows-of j n w) split-room
+    pub room-here : Roomy (one-put j ws i) (cut (sizes (j .c) (j .d)) n w) (done j (one-put j ws i) (cut (sizes (j .c) (j .d)) n w))
+    room-here = room-one j (v .rest .fits .layers) (one-put j ws i) (puts j ws (i + 1) (b - (i + 1))) (cut (sizes (j .c) (j .d)) n w) split-room
 
-    pub again : (u : Words) → Long (sizes (j .c) (j .d)) n u → rows-of j n u ≡ done j (one-put j ws i) (rows-of j n w) → Filling j n ws a b w₀ (i + 1) u
+    pub again : (u : Words) → Long (sizes (j .c) (j .d)) n u → cut (sizes (j .c) (j .d)) n u ≡ done j (one-put j ws i) (cut (sizes (j .c) (j .d)) n w) → Filling j n ws a b w₀ (i + 1) u
     again u l e =
-        let o = v .rest .whole in
+        let o = v .rest .fits in
         record {
           rest =
               record {
-                whole = record { rows = o .rows; c = o .c; d = o .d; layers = o .layers; starts = o .starts; bottom = o .bottom; long = l };
+                fits = record { arenas = record { rows = o .arenas .rows; c = o .arenas .c; d = o .arenas .d; long = l }; layers = o .layers; starts = o .starts; bottom = o .bottom };
                 before = omega arith;
                 within = v .rest .within;
                 good = good-rest ws i b h (v .rest .good);
-                room = rw e (room-more j (o .layers) (one-put j ws i) (puts j ws (i + 1) (b - (i + 1))) (rows-of j n w) split-room);
+                room = rw e (room-more j (o .layers) (one-put j ws i) (puts j ws (i + 1) (b - (i + 1))) (cut (sizes (j .c) (j .d)) n w) split-room);
               };
-          all = rw e (sym (done-append j (o .layers) (one-put j ws i) (puts j ws (i + 1) (b - (i + 1))) (rows-of j n w)) ∙ (rw split-puts at (v .all)));
+          all = rw e (sym (done-append j (o .layers) (one-put j ws i) (puts j ws (i + 1) (b - (i + 1))) (cut (sizes (j .c) (j .d)) n w)) ∙ (rw split-puts at (v .all)));
         }
 
 pub long-after : {k : Sizes} {n : ℕ} {w : Words} (x y z : List ℕ) → Long k n w → length x ≡ length (w .state) → length y ≡ length (w .render) → length z ≡ length (w .fills) → Long k n (words x y z)

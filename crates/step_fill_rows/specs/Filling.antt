@@ -12,17 +12,9 @@ use Rattle.rules.specs.Plans.{Put, draw-puts}
 use Rattle.rules.specs.Steps.{do-puts}
 use Rattle.row.specs.Words.{Words, word-ops, Room}
 use Rattle.row_acts.specs.Acts.{drawn}
-use Rattle.row_screen.specs.Arena.{nowhere, sizes, cut, Long}
+use Rattle.row_screen.specs.Arena.{nowhere, sizes, cut, Arenas}
 use Rattle.segments.specs.Segs.{seg-at, segs, origin, bounds, Starts}
 use Rattle.step_fill_rows.specs.declared.Job.{Job}
-
--- how many rows have their records in these words
-abbrev pub count-rows : List ℕ → ℕ
-count-rows s = length s / 54
-
--- n rows of a whole screen's words
-abbrev pub rows-of : Job → ℕ → Words → List Words
-rows-of j n w = cut (sizes (j .c) (j .d)) n w
 
 -- rules 5 to 7 on one row
 abbrev pub draws : Job → Span → Option ℕ → Words → Words
@@ -53,20 +45,17 @@ pub data Roomy : List Put → List Words → List Words → Type 0 where
   none-put : {rs ts : List Words} → Roomy [] rs ts
   one-more : {rs ts : List Words} {p : Put} {ps : List Put} → Room (getD rs (p .row) nowhere) (getD ts (p .row) nowhere) → Roomy ps rs ts → Roomy (p ∷ ps) rs ts
 
--- the job's numbers, and n rows of words
-pub record Whole (j : Job) (n : ℕ) (w : Words) : Type 0 where
-  pub rows : n ≤ 512
-  pub c : j .c ≤ 1024
-  pub d : j .d ≤ 1024
+-- n rows of words, and the job's other numbers
+pub record Fits (j : Job) (n : ℕ) (w : Words) : Type 0 where
+  pub arenas : Arenas (j .c) (j .d) n w
   pub layers : j .layers ≤ 16
   pub starts : Starts (origin (j .scene)) (bounds (j .scene))
   pub bottom : j .scene .rows .end ≤ j .scene .y / 4 + n
-  pub long : Long (sizes (j .c) (j .d)) n w
 
 -- what the judging half has shown of the segments from a to b
 pub record Ready (j : Job) (n : ℕ) (ws : List ℕ) (a b : ℕ) (w : Words) : Type 0 where
-  pub whole : Whole j n w
+  pub fits : Fits j n w
   pub before : a ≤ b
   pub within : 5 * b ≤ length ws
   pub good : every good-segment (segs ws a (b - a)) ≡ true
-  pub room : Roomy (puts j ws a (b - a)) (rows-of j n w) (done j (puts j ws a (b - a)) (rows-of j n w))
+  pub room : Roomy (puts j ws a (b - a)) (cut (sizes (j .c) (j .d)) n w) (done j (puts j ws a (b - a)) (cut (sizes (j .c) (j .d)) n w))

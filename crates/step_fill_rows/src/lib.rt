@@ -1,5 +1,6 @@
 // The doing half of a fill (rules 3 to 7), over a whole screen's words. Parts: each has a `requires`, which `fill` has judged.
 use row_acts::push_fill;
+use row_screen::place_of;
 use row::push_paint;
 use segments::Placed;
 use segments::Scene;
@@ -18,9 +19,9 @@ ghost use Rattle.span.specs.Spans.{tiles, alpha};
 ghost use Rattle.row.specs.Words.{words, Room};
 ghost use Rattle.row.specs.Cmds.{Short};
 ghost use Rattle.row_acts.specs.Acts.{alpha-of, drawn};
-ghost use Rattle.row_screen.specs.Arena.{nowhere, lay};
+ghost use Rattle.row_screen.specs.Arena.{nowhere, sizes, cut, lay, count-rows};
 ghost use Rattle.segments.specs.Segs.{seg-at};
-ghost use Rattle.step_fill_rows.specs.Filling.{count-rows, rows-of, draws, one-put, puts, done, unsplit, Roomy, Whole, Ready};
+ghost use Rattle.step_fill_rows.specs.Filling.{draws, one-put, puts, done, unsplit, Roomy, Fits, Ready};
 
 // What stays the same over all the segments of a fill: the scene, room for commands and depth fills in a row, open layers, whether
 // solid segments are eligible, attribute and id.
@@ -88,22 +89,24 @@ fn fill_row(
     r: u32,
     stretch: Stretch,
 )
-    requires { ⌜ Whole job (count-rows (now rows)) (words (now rows) (now render) (now fills)) × (r < count-rows (now rows)) × Short (tiles (stretch .tiles))
-        × Room (getD (rows-of job (count-rows (now rows)) (words (now rows) (now render) (now fills))) r nowhere) (draws job (tiles (stretch .tiles)) (alpha (stretch .alpha)) (getD (rows-of job (count-rows (now rows)) (words (now rows) (now render) (now fills))) r nowhere)) ⌝ }
-    ensures { λ _. ⌜ rows-of job (count-rows (now (rows .entry))) (words (now (rows .exit)) (now (render .exit)) (now (fills .exit)))
-        ≡ change (draws job (tiles (stretch .tiles)) (alpha (stretch .alpha))) r (rows-of job (count-rows (now (rows .entry))) (words (now (rows .entry)) (now (render .entry)) (now (fills .entry)))) ⌝ }
+    requires { ⌜ Fits job (count-rows (now rows)) (words (now rows) (now render) (now fills)) × (r < count-rows (now rows)) × Short (tiles (stretch .tiles))
+        × Room (getD (cut (sizes (job .c) (job .d)) (count-rows (now rows)) (words (now rows) (now render) (now fills))) r nowhere) (draws job (tiles (stretch .tiles)) (alpha (stretch .alpha)) (getD (cut (sizes (job .c) (job .d)) (count-rows (now rows)) (words (now rows) (now render) (now fills))) r nowhere)) ⌝ }
+    ensures { λ _. ⌜ cut (sizes (job .c) (job .d)) (count-rows (now (rows .entry))) (words (now (rows .exit)) (now (render .exit)) (now (fills .exit)))
+        ≡ change (draws job (tiles (stretch .tiles)) (alpha (stretch .alpha))) r (cut (sizes (job .c) (job .d)) (count-rows (now (rows .entry))) (words (now (rows .entry)) (now (render .entry)) (now (fills .entry)))) ⌝ }
 {
-    let c = 4 * (job.c as usize);
-    let d = 2 * (job.d as usize);
-    let x = (r as usize) * 54;
-    let y = (r as usize) * c;
-    let z = (r as usize) * d;
+    let p = place_of(job.c, job.d, r as usize);
+    let x0 = p.x0;
+    let x1 = p.x1;
+    let y0 = p.y0;
+    let y1 = p.y1;
+    let z0 = p.z0;
+    let z1 = p.z1;
     let tiles = stretch.tiles;
     let alpha = stretch.alpha;
     push_row(
-        &mut rows[x..x + 54],
-        &mut render[y..y + c],
-        &mut fills[z..z + d],
+        &mut rows[x0..x1],
+        &mut render[y0..y1],
+        &mut fills[z0..z1],
         job.layers,
         job.eligible,
         tiles,
@@ -122,10 +125,10 @@ fn fill_segment(
     i: usize,
     job: Job,
 )
-    requires { ⌜ Whole job (count-rows (now rows)) (words (now rows) (now render) (now fills)) × (5 * i + 5 ≤ length (now segs)) × (good-segment (seg-at (now segs) i) ≡ true)
-        × Roomy (one-put job (now segs) i) (rows-of job (count-rows (now rows)) (words (now rows) (now render) (now fills))) (done job (one-put job (now segs) i) (rows-of job (count-rows (now rows)) (words (now rows) (now render) (now fills)))) ⌝ }
-    ensures { λ _. ⌜ rows-of job (count-rows (now (rows .entry))) (words (now (rows .exit)) (now (render .exit)) (now (fills .exit)))
-        ≡ done job (one-put job (now (segs .entry)) i) (rows-of job (count-rows (now (rows .entry))) (words (now (rows .entry)) (now (render .entry)) (now (fills .entry)))) ⌝ }
+    requires { ⌜ Fits job (count-rows (now rows)) (words (now rows) (now render) (now fills)) × (5 * i + 5 ≤ length (now segs)) × (good-segment (seg-at (now segs) i) ≡ true)
+        × Roomy (one-put job (now segs) i) (cut (sizes (job .c) (job .d)) (count-rows (now rows)) (words (now rows) (now render) (now fills))) (done job (one-put job (now segs) i) (cut (sizes (job .c) (job .d)) (count-rows (now rows)) (words (now rows) (now render) (now fills)))) ⌝ }
+    ensures { λ _. ⌜ cut (sizes (job .c) (job .d)) (count-rows (now (rows .entry))) (words (now (rows .exit)) (now (render .exit)) (now (fills .exit)))
+        ≡ done job (one-put job (now (segs .entry)) i) (cut (sizes (job .c) (job .d)) (count-rows (now (rows .entry))) (words (now (rows .entry)) (now (render .entry)) (now (fills .entry)))) ⌝ }
 {
     let scene = job.scene;
     let placed = place(segment_at(segs, i), scene);
@@ -149,7 +152,7 @@ pub fn fill_rows(
 )
     requires { ⌜ Ready job (count-rows (now rows)) (now segs) start «end» (words (now rows) (now render) (now fills)) ⌝ }
     ensures { λ _. ⌜ words (now (rows .exit)) (now (render .exit)) (now (fills .exit))
-        ≡ lay (done job (puts job (now (segs .entry)) start («end» - start)) (rows-of job (count-rows (now (rows .entry))) (words (now (rows .entry)) (now (render .entry)) (now (fills .entry))))) ⌝ }
+        ≡ lay (done job (puts job (now (segs .entry)) start («end» - start)) (cut (sizes (job .c) (job .d)) (count-rows (now (rows .entry))) (words (now (rows .entry)) (now (render .entry)) (now (fills .entry))))) ⌝ }
 {
     let mut i = start;
     while i < end {

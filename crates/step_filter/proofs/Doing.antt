@@ -19,9 +19,10 @@ use Rattle.row_acts.specs.Acts.{acted}
 use Rattle.rect.specs.declared.Rect.{Rect}
 use Rattle.rect.specs.Rects.{box-of}
 use Rattle.screen.specs.declared.Screen.{Screen}
-use Rattle.screen.specs.Screens.{counted}
+use Rattle.screen.specs.Screens.{frame-of, counted}
 use Rattle.screen.proofs.Laws.{bounds}
-use Rattle.step_rows.specs.Band.{each, rows-on, OnRows}
+use Rattle.row_judge.specs.Building.{rows-at}
+use Rattle.step_rows.specs.Band.{each, OnRows}
 use Rattle.step_filter.specs.Filter.{Given, filter-of, paint-from, attrs-of, lent, filter-number, after, own-box, Drawing}
 use Rattle.step_filter.proofs.Laws.{told-by, Sound, sound, Ready, ready, Free, free, bottom-small, paint-asked, after-drawn, after-nothing, fit}
 
@@ -62,7 +63,7 @@ module _ {g : Given} {s : Screen} {w : Words} {ps : List ℕ} {fs : List ℤ} {b
 
   pub leaves : (x : Screen) (ws : Words) (t : Span) → t ≡ span-of (box-of b)
       → x ≡ counted s (s .«next_draw_id» + 1) (s .«paint_attrs» + 1) (s .«layer_attrs») (s .«filter_paints» + 1)
-      → ws ≡ lay (each (acted (s .layers) (paint t none (s .«paint_attrs»))) (range (b .y0 / 4) ((b .y1 + 3) / 4)) (rows-on s w))
+      → ws ≡ lay (each (acted (s .layers) (paint t none (s .«paint_attrs»))) (range (b .y0 / 4) ((b .y1 + 3) / 4)) (rows-at (frame-of s) w))
       → lent x ws (put-paint ps (s .«paint_attrs») (attrs-of s (g .count))) (put-filter fs (s .«filter_paints») (paint-from (g .placement .dest) (g .placement .«source_x») (g .placement .«source_y») (g .pixmap))) ≡ after g (lent s w ps fs)
   leaves x ws t = after-drawn g s w ps fs able draws x ws t b (q .bounds)
 

@@ -28,7 +28,7 @@ use Rattle.row.specs.Cmds.{Short}
 use Rattle.row_screen.specs.Arena.{sizes, lay}
 use Rattle.row_screen.proofs.Laws.{lay-cut}
 use Rattle.row_acts.specs.Acts.{acted}
-use Rattle.row_judge.specs.Building.{rows-at, screen-at, good-rows, step-number}
+use Rattle.row_judge.specs.Building.{Whole, rows-at, screen-at, good-rows, step-number}
 use Rattle.rect.specs.declared.Rect.{Rect}
 use Rattle.rect.specs.Rects.{box-of}
 use Rattle.screen.specs.declared.Screen.{Screen}
@@ -37,7 +37,7 @@ use Rattle.screen.specs.Judging.{judged}
 use Rattle.rect.proofs.Boxes.{view}
 use Rattle.screen.proofs.Laws.{bounds, clip, good-clip-of, clip-of, same-layers, paint-count, layer-attr-count, filter-count, layer-count}
 use Rattle.screen.proofs.Passed.{Passed, passed}
-use Rattle.step_rows.specs.Band.{band-number, each, rows-on, Whole, OnRows}
+use Rattle.step_rows.specs.Band.{band-number, each, OnRows}
 use Rattle.step_rows.proofs.Laws.{puts-each}
 use Rattle.step_rows.proofs.Numbers.{band-answer, band-step, band-room, paint-adds, run-told}
 use Rattle.step_rows.proofs.Passing.{passed-whole, rows-within, judged-small, if-small, step-small, decide, surely, below}
@@ -150,7 +150,7 @@ module _ (g : Given) (s : Screen) (w : Words) (ps : List ℕ) (fs : List ℤ) wh
     pub fit : Passed s (length (w .state)) (length (w .render)) (length (w .fills)) (rows-of (box-of (s .viewport)))
     fit = passed s (length (w .state)) (length (w .render)) (length (w .fills)) z
 
-    pub whole : Whole s w
+    pub whole : Whole (frame-of s) w
     whole = passed-whole s w fit
 
     module _ (e : length ps ≡ 8192) (f : length fs ≡ 1024) where
@@ -386,7 +386,7 @@ module _ (g : Given) (s : Screen) (w : Words) (ps : List ℕ) (fs : List ℤ) (y
   still-screen : screen-after s (still 0 (state-of s)) ≡ counted s (s .«next_draw_id») (s .«paint_attrs») (s .«layer_attrs») (s .«filter_paints»)
   still-screen = same-layers s ok-screen (still 0 (state-of s)) refl ∙ rw (next-is s, paint-count s, layer-attr-count s, filter-count s)
 
-  still-rows : done Words word-ops 32 (still 0 (state-of s)) (screen-at (state-of s) w) .rows ≡ rows-on s w
+  still-rows : done Words word-ops 32 (still 0 (state-of s)) (screen-at (state-of s) w) .rows ≡ rows-at (frame-of s) w
   unfolding done do-puts
   still-rows = rw (frame-is s)
 
@@ -418,11 +418,11 @@ module _ (g : Given) (s : Screen) (w : Words) (ps : List ℕ) (fs : List ℤ) (y
     drawn-screen = same-layers s ok-screen drawn same-open ∙ rw (drawn-next s ok-screen g, drawn-paints s ok-screen g, drawn-layers s ok-screen g, drawn-filters s ok-screen g)
 
     drawn-rows : done Words word-ops 32 drawn (screen-at (state-of s) w) .rows
-        ≡ each (acted (s .layers) (own-act g s)) (range (own-box g s .y0 / 4) ((own-box g s .y1 + 3) / 4)) (rows-on s w)
+        ≡ each (acted (s .layers) (own-act g s)) (range (own-box g s .y0 / 4) ((own-box g s .y1 + 3) / 4)) (rows-at (frame-of s) w)
     unfolding done
     drawn-rows =
         rw (drawn-open s ok-screen g, drawn-puts s ok-screen g, frame-is s)
-        (puts-each (s .layers) (own-act g s) (range (own-box g s .y0 / 4) ((own-box g s .y1 + 3) / 4)) (rows-on s w))
+        (puts-each (s .layers) (own-act g s) (range (own-box g s .y0 / 4) ((own-box g s .y1 + 3) / 4)) (rows-at (frame-of s) w))
 
     drawn-attr : join paint-attr-words (drop (s .«paint_attrs») (drawn .attrs .paints))
         ≡ (g .count + s .«filter_paints») ∷ 0 ∷ 3 ∷ 0 ∷ s .«next_draw_id» ∷ 0 ∷ s .viewport .x0 ∷ s .viewport .y0 ∷ []
@@ -436,7 +436,7 @@ module _ (g : Given) (s : Screen) (w : Words) (ps : List ℕ) (fs : List ℤ) (y
 
     pub after-drawn : (x : Screen) (ws : Words) (t : Span) (b : Rect) → box-of b ≡ own-box g s → t ≡ span-of (box-of b)
         → x ≡ counted s (s .«next_draw_id» + 1) (s .«paint_attrs» + 1) (s .«layer_attrs») (s .«filter_paints» + 1)
-        → ws ≡ lay (each (acted (s .layers) (paint t none (s .«paint_attrs»))) (range (b .y0 / 4) ((b .y1 + 3) / 4)) (rows-on s w))
+        → ws ≡ lay (each (acted (s .layers) (paint t none (s .«paint_attrs»))) (range (b .y0 / 4) ((b .y1 + 3) / 4)) (rows-at (frame-of s) w))
         → lent x ws (put-paint ps (s .«paint_attrs») (attrs-of s (g .count))) (put-filter fs (s .«filter_paints») (paint-from (g .placement .dest) (g .placement .«source_x») (g .placement .«source_y») (g .pixmap))) ≡ after g (lent s w ps fs)
     unfolding after
     after-drawn x ws t b e f h i =

@@ -29,11 +29,11 @@ use Rattle.screen.specs.Screens.{frame-of}
 use Rattle.segments.specs.declared.Scene.{Scene}
 use Rattle.segments.specs.Segs.{segs, segs-of, origin, bounds, SceneOf, Starts}
 use Rattle.segments.proofs.Laws.{scene-starts, judged as judged-list}
-use Rattle.row_judge.specs.Building.{rows-at, screen-at}
+use Rattle.row_judge.specs.Building.{rows-at, Whole, screen-at}
 use Rattle.screen_layers.specs.declared.OpenLayer.{OpenLayer}
 use Rattle.screen_layers.specs.Layers.{layer-at, clip-in, open-at, good-layer, good-own-box}
 use Rattle.screen_layers.proofs.Laws.{without-clip, has-clip}
-use Rattle.step_pop_rows.specs.Closing.{row-of, touched-in, good-pops, full-by, runs-full, done-puts, clip-puts, Roomy, Whole, Fillable, Poppable, Each, Clips}
+use Rattle.step_pop_rows.specs.Closing.{row-of, touched-in, good-pops, full-by, runs-full, done-puts, clip-puts, Roomy, Fillable, Poppable, Each, Clips}
 use Rattle.step_pop_rows.proofs.Running.{cuts-sorted}
 use Rattle.step_pop.specs.Pop.{Lent, lent, layers-in, good-open, late, state-in, pop-plan, number-after, Judged, closing-puts, words-after}
 use Rattle.step_pop.proofs.Ready.{Closeable, Fits, fits, full-plain, full-clip, full-test, ready-fill, ready-puts, ready-pop, closed-words}

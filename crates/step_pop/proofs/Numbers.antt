@@ -30,9 +30,9 @@ use Rattle.screen.proofs.Laws.{Bounds, bounds, few-rows, paint-count, layer-att
 use Rattle.segments.specs.declared.Scene.{Scene}
 use Rattle.segments.specs.Segs.{segs, segs-of, origin, bounds as scene-bounds, SceneOf}
 use Rattle.segments.proofs.Laws.{segs-slice, segs-count, cut-in-scene, judged as judged-list}
-use Rattle.row_judge.specs.Building.{rows-at, screen-at, step-number}
+use Rattle.row_judge.specs.Building.{rows-at, Whole, screen-at, step-number}
 use Rattle.screen_layers.specs.Layers.{layer-at, open-at, good-layer, good-own-box}
-use Rattle.step_pop_rows.specs.Closing.{row-of, touched-in, good-pops, full-by, runs-full, done-puts, Whole}
+use Rattle.step_pop_rows.specs.Closing.{row-of, touched-in, good-pops, full-by, runs-full, done-puts}
 use Rattle.step_pop_rows.proofs.Closed.{Close, Closing, closing as a-closing, members}
 use Rattle.step_pop_rows.proofs.Running.{Sorted, cuts-sorted}
 use Rattle.step_pop_rows.proofs.Rooms.{touched-inside}

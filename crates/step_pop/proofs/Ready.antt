@@ -19,10 +19,10 @@ use Rattle.rules.proofs.All.{All, nil, cons, all-map, all-both, every-all, none
 use Rattle.rules.proofs.laws.Changes.{puts-append, puts-length}
 use Rattle.row.specs.Words.{Words, word, put-command, ended, end-buf, word-ops, Room, Ends}
 use Rattle.row.proofs.Laws.{cmd-renders, cmd-depths, end-renders, ended-depths}
-use Rattle.row_screen.specs.Arena.{nowhere, sizes, lay}
+use Rattle.row_screen.specs.Arena.{nowhere, sizes, lay, cut, Arenas}
 use Rattle.row_screen.proofs.Laws.{cut-at, at-render, at-fills, lay-cut}
-use Rattle.row_judge.specs.Building.{rows-at, good-row}
-use Rattle.step_pop_rows.specs.Closing.{row-of, touched-in, good-pop, good-pops, full-by, runs-full, done-puts, Roomy, Whole, Fillable, Poppable, Each}
+use Rattle.row_judge.specs.Building.{rows-at, Whole, good-row}
+use Rattle.step_pop_rows.specs.Closing.{row-of, touched-in, good-pop, good-pops, full-by, runs-full, done-puts, Roomy, Fillable, Poppable, Each}
 use Rattle.step_pop_rows.proofs.Touched.{all-range, all-touched, touched-same}
 use Rattle.step_pop_rows.proofs.Closed.{Records, count-on, Closed, Popped, Closing, closing, Close, closes-row, closes-records, pops-row, count-touched, members, some-equal, passes-touched}
 use Rattle.step_pop_rows.proofs.Running.{Sorted, at-found, some-none, running-is}
@@ -51,22 +51,22 @@ module _ (c d n : ℕ) (low : 1 ≤ n) where
       (all-touched n rs (every-all (λ (i : ℕ). good-pop c d n (row-of rs i)) is g))
 
 -- a row's words
-module _ {f : Frame} {w : Words} (o : Whole f w) (x : ℕ) (h : x < rows-of (f .viewport)) where
-  row-render : length (row-of (rows-at f w) x .render) ≡ 4 * f .c
+module _ {cs ds rows : ℕ} {w : Words} (o : Arenas cs ds rows w) (x : ℕ) (h : x < rows) where
+  row-render : length (row-of (cut (sizes cs ds) rows w) x .render) ≡ 4 * cs
   row-render =
-      ap (λ (u : Words). length (u .render)) (cut-at (sizes (f .c) (f .d)) (rows-of (f .viewport)) x w nowhere h)
-      ∙ at-render (sizes (f .c) (f .d)) (rows-of (f .viewport)) x w (o .long) h
+      ap (λ (u : Words). length (u .render)) (cut-at (sizes cs ds) rows x w nowhere h)
+      ∙ at-render (sizes cs ds) rows x w (o .long) h
 
-  row-fills : length (row-of (rows-at f w) x .fills) ≡ 2 * f .d
+  row-fills : length (row-of (cut (sizes cs ds) rows w) x .fills) ≡ 2 * ds
   row-fills =
-      ap (λ (u : Words). length (u .fills)) (cut-at (sizes (f .c) (f .d)) (rows-of (f .viewport)) x w nowhere h)
-      ∙ at-fills (sizes (f .c) (f .d)) (rows-of (f .viewport)) x w (o .long) h
+      ap (λ (u : Words). length (u .fills)) (cut-at (sizes cs ds) rows x w nowhere h)
+      ∙ at-fills (sizes cs ds) rows x w (o .long) h
 
-  row-state : length (row-of (rows-at f w) x .state) ≡ 54
+  row-state : length (row-of (cut (sizes cs ds) rows w) x .state) ≡ 54
   row-state = records o x (rw (rows-count o) h)
 
   -- room for what its counts say
-  room-by : (v : Words) → word 5 (row-of (rows-at f w) x) ≤ 16 → word 0 v ≤ f .c → word 1 v ≤ f .d → Room (row-of (rows-at f w) x) v
+  room-by : (v : Words) → word 5 (row-of (cut (sizes cs ds) rows w) x) ≤ 16 → word 0 v ≤ cs → word 1 v ≤ ds → Room (row-of (cut (sizes cs ds) rows w) x) v
   room-by v l p q =
       record {
         state = row-state;
@@ -77,24 +77,24 @@ module _ {f : Frame} {w : Words} (o : Whole f w) (x : ℕ) (h : x < rows-of (f .
         depths = omega (arith, row-fills, q);
       }
 
-  fillable : (s : Span) (a : Option ℕ) (i : ℕ) → word 5 (row-of (rows-at f w) x) ≤ 16 → word 0 (row-of (rows-at f w) x) + 1 ≤ f .c → word 1 (row-of (rows-at f w) x) ≤ f .d
-      → Fillable s a i (row-of (rows-at f w) x)
+  fillable : (s : Span) (a : Option ℕ) (i : ℕ) → word 5 (row-of (cut (sizes cs ds) rows w) x) ≤ 16 → word 0 (row-of (cut (sizes cs ds) rows w) x) + 1 ≤ cs → word 1 (row-of (cut (sizes cs ds) rows w) x) ≤ ds
+      → Fillable s a i (row-of (cut (sizes cs ds) rows w) x)
   fillable s a i l p q =
-      room-by (put-command (layer-fill s a i) (row-of (rows-at f w) x)) l
-      (omega (arith, cmd-renders (row-of (rows-at f w) x) row-state (layer-fill s a i), p))
-      (omega (arith, cmd-depths (row-of (rows-at f w) x) row-state (layer-fill s a i), q))
+      room-by (put-command (layer-fill s a i) (row-of (cut (sizes cs ds) rows w) x)) l
+      (omega (arith, cmd-renders (row-of (cut (sizes cs ds) rows w) x) row-state (layer-fill s a i), p))
+      (omega (arith, cmd-depths (row-of (cut (sizes cs ds) rows w) x) row-state (layer-fill s a i), q))
 
   end-depths : (u : Words) → length (u .state) ≡ 54 → 0 < word 5 u → word 1 (end-buf u) ≡ word 1 u
   unfolding end-buf
   end-depths u l k = rw (ne-eqb (word 5 u) 0 (λ (z : word 5 u ≡ 0). omega arith)) (ended-depths u l)
 
-  poppable : Ends (row-of (rows-at f w) x) → word 5 (row-of (rows-at f w) x) ≤ 16 → word 0 (row-of (rows-at f w) x) + 1 ≤ f .c → word 1 (row-of (rows-at f w) x) ≤ f .d
-      → Poppable (row-of (rows-at f w) x)
+  poppable : Ends (row-of (cut (sizes cs ds) rows w) x) → word 5 (row-of (cut (sizes cs ds) rows w) x) ≤ 16 → word 0 (row-of (cut (sizes cs ds) rows w) x) + 1 ≤ cs → word 1 (row-of (cut (sizes cs ds) rows w) x) ≤ ds
+      → Poppable (row-of (cut (sizes cs ds) rows w) x)
   poppable e l p q = (
     e,
-    room-by (end-buf (row-of (rows-at f w) x)) l
-        (omega (arith, end-renders (row-of (rows-at f w) x) row-state (e .levels), p))
-        (omega (arith, end-depths (row-of (rows-at f w) x) row-state (e .levels), q)),
+    room-by (end-buf (row-of (cut (sizes cs ds) rows w) x)) l
+        (omega (arith, end-renders (row-of (cut (sizes cs ds) rows w) x) row-state (e .levels), p))
+        (omega (arith, end-depths (row-of (cut (sizes cs ds) rows w) x) row-state (e .levels), q)),
   )
 
 -- what closing by the puts ps, then popping, asks of the rows from a to b

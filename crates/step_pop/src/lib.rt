@@ -46,9 +46,9 @@ ghost use Rattle.segments.specs.Segs.{segs, origin, bounds, Starts};
 ghost use Rattle.row.specs.Words.{words};
 ghost use Rattle.row.specs.Cmds.{Short};
 ghost use Rattle.row_screen.specs.Arena.{nowhere};
-ghost use Rattle.row_judge.specs.Building.{rows-at};
+ghost use Rattle.row_judge.specs.Building.{rows-at, Whole};
 ghost use Rattle.screen_layers.specs.Layers.{open-at, no-words, good-layer, good-own-box};
-ghost use Rattle.step_pop_rows.specs.Closing.{touched-in, good-pops, full-by, runs-full, done-puts, clip-puts, Whole, Clips, Fillable, Each};
+ghost use Rattle.step_pop_rows.specs.Closing.{touched-in, good-pops, full-by, runs-full, done-puts, clip-puts, Clips, Fillable, Each};
 ghost use Rattle.step_pop.specs.Pop.{lent, out, layers-in, good-open, good-lengths, late, number-after, number, popped, Judged, closing-puts, words-after, tables-after};
 
 // The rows of a box, from the first to the end.

@@ -18,13 +18,13 @@ use Rattle.rules.proofs.laws.Changes.{change-same, puts-append}
 use Rattle.row.specs.Words.{Words, words, word, word-ops, put-command, Room}
 use Rattle.row.specs.Cmds.{Short}
 use Rattle.row_screen.specs.Arena.{nowhere}
-use Rattle.row_judge.specs.Building.{rows-at}
+use Rattle.row_judge.specs.Building.{rows-at, Whole}
 use Rattle.segments.specs.declared.Scene.{Scene}
 use Rattle.segments.specs.declared.Placed.{Placed}
 use Rattle.segments.specs.Segs.{seg-at, segs, origin, bounds, placed-of, Starts}
 use Rattle.segments.proofs.Laws.{segs-end, segs-first, good-first, good-rest, landed}
 use Rattle.step_pop_rows.specs.declared.Count.{Count}
-use Rattle.step_pop_rows.specs.Closing.{row-of, touched-in, so-far, runs-full, done-puts, Roomy, Whole, Fillable, clip-puts, Clips, Counted}
+use Rattle.step_pop_rows.specs.Closing.{row-of, touched-in, so-far, runs-full, done-puts, Roomy, Fillable, clip-puts, Clips, Counted}
 use Rattle.step_pop_rows.proofs.Touched.{touched-same}
 use Rattle.step_pop_rows.proofs.Closed.{Records, Closing, closing, Close, closes-row}
 use Rattle.step_pop_rows.proofs.Running.{at-found}

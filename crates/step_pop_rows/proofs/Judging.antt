@@ -9,21 +9,21 @@ use lib.Dec.{leb, ltb, eqb}
 use lib.ListN.{length, getD}
 use borrow.Author.Tests.{eq-eqb, ne-eqb, leb-true, ltb-true}
 use Rattle.rules.specs.Lists.{some-of, every, keep, change, range}
-use Rattle.rules.specs.Boxes.{rows-of}
 use Rattle.rules.specs.Spans.{Span}
 use Rattle.rules.specs.Commands.{layer-fill}
 use Rattle.rules.specs.Segments.{Segment, good-segment, Cut, cut-in}
-use Rattle.rules.specs.Plans.{Frame, Act, close, pop, on, close-puts}
+use Rattle.rules.specs.Plans.{Act, close, pop, on, close-puts}
 use Rattle.rules.specs.Steps.{do-act, do-puts}
 use Rattle.rules.proofs.All.{All, nil, cons, head, both, all-map, never}
 use Rattle.row.specs.Words.{Words, word, put-command, end-buf}
 use Rattle.row.specs.Cmds.{Short}
+use Rattle.row_screen.specs.Arena.{sizes, cut, Arenas}
 use Rattle.row_screen.proofs.Laws.{within}
 use Rattle.row_acts.specs.Acts.{acted}
-use Rattle.row_judge.specs.Building.{rows-at, good-union, good-level, good-top, good-summary, good-row}
+use Rattle.row_judge.specs.Building.{good-union, good-level, good-top, good-summary, good-row}
 use Rattle.segments.specs.declared.Scene.{Scene}
 use Rattle.segments.specs.Segs.{origin, bounds, Starts}
-use Rattle.step_pop_rows.specs.Closing.{row-of, touched-in, good-pop, good-pops, full-by, so-far, done-puts, Roomy, Whole, Fillable, Each, touched-word}
+use Rattle.step_pop_rows.specs.Closing.{row-of, touched-in, good-pop, good-pops, full-by, so-far, done-puts, Roomy, Fillable, Each, touched-word}
 use Rattle.step_pop_rows.proofs.Touched.{range-first, range-end, all-range, all-touched, touched-none, touched-cons}
 use Rattle.step_pop_rows.proofs.Running.{at-found}
 use Rattle.step_pop_rows.proofs.Rooms.{rows-count, row-word, row-word-0, touched-is, touched-inside}
@@ -115,42 +115,42 @@ module _ (n : ℕ) (rs : List Words) (r : ℕ) where
   not-here : (word 5 (row-of rs r) ≡ n → ⊥) → touched-in n rs (r ∷ []) ≡ []
   not-here h = one-touched ∙ rw (ne-eqb (word 5 (row-of rs r)) n h)
 
-module _ {f : Frame} {w : Words} (o : Whole f w) (n r : ℕ) (i : r < rows-of (f .viewport)) where
-  level : word 5 (row-of (rows-at f w) r) ≡ getD (w .state) (r * 54 + 5) 0
+module _ {cs ds rows : ℕ} {w : Words} (o : Arenas cs ds rows w) (n r : ℕ) (i : r < rows) where
+  level : word 5 (row-of (cut (sizes cs ds) rows w) r) ≡ getD (w .state) (r * 54 + 5) 0
   level = sym (row-word o r 5 i (omega arith))
 
   module _ (h : getD (w .state) (r * 54 + 5) 0 ≡ n → ⊥) where
-    out-here : touched-in n (rows-at f w) (r ∷ []) ≡ []
-    out-here = not-here n (rows-at f w) r (λ (e : word 5 (row-of (rows-at f w) r) ≡ n). h (sym level ∙ e))
+    out-here : touched-in n (cut (sizes cs ds) rows w) (r ∷ []) ≡ []
+    out-here = not-here n (cut (sizes cs ds) rows w) r (λ (e : word 5 (row-of (cut (sizes cs ds) rows w) r) ≡ n). h (sym level ∙ e))
 
-    pub full-other : (c k : ℕ) → false ≡ full-by c k (rows-at f w) (touched-in n (rows-at f w) (r ∷ []))
+    pub full-other : (c k : ℕ) → false ≡ full-by c k (cut (sizes cs ds) rows w) (touched-in n (cut (sizes cs ds) rows w) (r ∷ []))
     unfolding full-by
     full-other c k = rw out-here
 
-    pub act-other : (m : ℕ) (t : Act) → rows-at f w ≡ done-puts m (map (on t) (touched-in n (rows-at f w) (r ∷ []))) (rows-at f w)
+    pub act-other : (m : ℕ) (t : Act) → cut (sizes cs ds) rows w ≡ done-puts m (map (on t) (touched-in n (cut (sizes cs ds) rows w) (r ∷ []))) (cut (sizes cs ds) rows w)
     unfolding do-puts
     act-other m t = rw out-here
 
   module _ (h : getD (w .state) (r * 54 + 5) 0 ≡ n) where
-    in-here : touched-in n (rows-at f w) (r ∷ []) ≡ r ∷ []
-    in-here = is-here n (rows-at f w) r (level ∙ h)
+    in-here : touched-in n (cut (sizes cs ds) rows w) (r ∷ []) ≡ r ∷ []
+    in-here = is-here n (cut (sizes cs ds) rows w) r (level ∙ h)
 
-    pub full-here : (c k q : ℕ) → q ≡ getD (w .state) (r * 54) 0 → ltb c (q + k) ≡ full-by c k (rows-at f w) (touched-in n (rows-at f w) (r ∷ []))
+    pub full-here : (c k q : ℕ) → q ≡ getD (w .state) (r * 54) 0 → ltb c (q + k) ≡ full-by c k (cut (sizes cs ds) rows w) (touched-in n (cut (sizes cs ds) rows w) (r ∷ []))
     unfolding full-by
     full-here c k q e =
-        let z : q ≡ word 0 (row-of (rows-at f w) r) = e ∙ row-word-0 o r i in
-        rw (in-here, z) (or-none (ltb c (word 0 (row-of (rows-at f w) r) + k)))
+        let z : q ≡ word 0 (row-of (cut (sizes cs ds) rows w) r) = e ∙ row-word-0 o r i in
+        rw (in-here, z) (or-none (ltb c (word 0 (row-of (cut (sizes cs ds) rows w) r) + k)))
 
-    pub close-here : (m : ℕ) (s : Span) (j : ℕ) → change (put-command (layer-fill s none j)) r (rows-at f w) ≡ done-puts m (map (on (close s none j)) (touched-in n (rows-at f w) (r ∷ []))) (rows-at f w)
+    pub close-here : (m : ℕ) (s : Span) (j : ℕ) → change (put-command (layer-fill s none j)) r (cut (sizes cs ds) rows w) ≡ done-puts m (map (on (close s none j)) (touched-in n (cut (sizes cs ds) rows w) (r ∷ []))) (cut (sizes cs ds) rows w)
     unfolding do-puts do-act
     close-here m s j = rw in-here
 
-    pub pop-here : (m : ℕ) → change end-buf r (rows-at f w) ≡ done-puts m (map (on pop) (touched-in n (rows-at f w) (r ∷ []))) (rows-at f w)
+    pub pop-here : (m : ℕ) → change end-buf r (cut (sizes cs ds) rows w) ≡ done-puts m (map (on pop) (touched-in n (cut (sizes cs ds) rows w) (r ∷ []))) (cut (sizes cs ds) rows w)
     unfolding do-puts do-act
     pop-here m = rw in-here
 
-    pub each-here : (P : Words → Type 0) → Each P (rows-at f w) (touched-in n (rows-at f w) (r ∷ [])) → P (row-of (rows-at f w) r)
-    each-here P a = let b : All (λ (x : ℕ). P (row-of (rows-at f w) x)) (r ∷ []) = rw in-here at a in head b
+    pub each-here : (P : Words → Type 0) → Each P (cut (sizes cs ds) rows w) (touched-in n (cut (sizes cs ds) rows w) (r ∷ [])) → P (row-of (cut (sizes cs ds) rows w) r)
+    each-here P a = let b : All (λ (x : ℕ). P (row-of (cut (sizes cs ds) rows w) x)) (r ∷ []) = rw in-here at a in head b
 
 -- the touched rows from r on, and k commands more
 module _ (c k n : ℕ) (rs : List Words) (r b : ℕ) where
@@ -178,34 +178,34 @@ module _ (c k n : ℕ) (rs : List Words) (r b : ℕ) where
     full-on {x} {t} e p v = let q : full-by c k rs (touched-in n rs (r ∷ [])) ≡ false = sym e ∙ p in rw (full-step, q) at v
 
 -- a cut segment's row, as the code tests it
-module _ {f : Frame} {w : Words} (o : Whole f w) (a b n : ℕ) (h : b ≤ rows-of (f .viewport)) (k : ℕ) where
-  pub touched-no : {r : ℕ} {t : Bool} → t ≡ touched-word a b n (w .state) r → r ≡ k → not t ≡ true → some-of (eqb k) (touched-in n (rows-at f w) (range a b)) ≡ false
+module _ {cs ds rows : ℕ} {w : Words} (o : Arenas cs ds rows w) (a b n : ℕ) (h : b ≤ rows) (k : ℕ) where
+  pub touched-no : {r : ℕ} {t : Bool} → t ≡ touched-word a b n (w .state) r → r ≡ k → not t ≡ true → some-of (eqb k) (touched-in n (cut (sizes cs ds) rows w) (range a b)) ≡ false
   touched-no {r} {t} e p q = sym (touched-is o a b n k h) ∙ ap (touched-word a b n (w .state)) (sym p) ∙ sym e ∙ not-true t q
 
-  pub touched-yes : {r : ℕ} {t : Bool} → t ≡ touched-word a b n (w .state) r → r ≡ k → not t ≡ false → some-of (eqb k) (touched-in n (rows-at f w) (range a b)) ≡ true
+  pub touched-yes : {r : ℕ} {t : Bool} → t ≡ touched-word a b n (w .state) r → r ≡ k → not t ≡ false → some-of (eqb k) (touched-in n (cut (sizes cs ds) rows w) (range a b)) ≡ true
   touched-yes {r} {t} e p q = sym (touched-is o a b n k h) ∙ ap (touched-word a b n (w .state)) (sym p) ∙ sym e ∙ not-false t q
 
-  module _ (g : some-of (eqb k) (touched-in n (rows-at f w) (range a b)) ≡ true) where
-    pub touched-row : k < rows-of (f .viewport)
+  module _ (g : some-of (eqb k) (touched-in n (cut (sizes cs ds) rows w) (range a b)) ≡ true) where
+    pub touched-row : k < rows
     touched-row = rw (rows-count o) at (at-found (touched-inside o a b n h) k g)
 
     pub touched-few : k < 512
     touched-few = omega (arith, touched-row, o .rows)
 
     pub touched-long : k * 54 < length (w .state)
-    touched-long = omega (arith, within k (rows-of (f .viewport)) 54 touched-row, o .long .state)
+    touched-long = omega (arith, within k rows 54 touched-row, o .long .state)
 
-    pub touched-so-far : (q next m : ℕ) → q ≡ cond (eqb (k + 1) next) m (getD (w .state) (k * 54) 0) → q ≡ so-far (rows-at f w) next m k
+    pub touched-so-far : (q next m : ℕ) → q ≡ cond (eqb (k + 1) next) m (getD (w .state) (k * 54) 0) → q ≡ so-far (cut (sizes cs ds) rows w) next m k
     touched-so-far q next m e = e ∙ ap (λ (z : ℕ). cond (eqb (k + 1) next) m z) (row-word-0 o k touched-row)
 
 -- what closing by a cut segment asks
-pub clip-here : {f : Frame} {w : Words} (o : Whole f w) (a b n m i : ℕ) (e : Scene) (g : Segment) (k : Cut) → b ≤ rows-of (f .viewport) → good-segment g ≡ true → Starts (origin e) (bounds e)
-    → k ∷ [] ≡ cut-in (origin e) (bounds e) g → some-of (eqb (k .row)) (touched-in n (rows-at f w) (range a b)) ≡ true
-    → Roomy m (close-puts i (touched-in n (rows-at f w) (range a b)) (cut-in (origin e) (bounds e) g)) (rows-at f w)
-    → Whole f w × (k .row < rows-of (f .viewport)) × Short (k .tiles) × Fillable (k .tiles) (k .alpha) i (row-of (rows-at f w) (k .row))
-clip-here {f} {w} o a b n m i e g k h t s p q r = (
+pub clip-here : {cs ds rows : ℕ} {w : Words} (o : Arenas cs ds rows w) (a b n m i : ℕ) (e : Scene) (g : Segment) (k : Cut) → b ≤ rows → good-segment g ≡ true → Starts (origin e) (bounds e)
+    → k ∷ [] ≡ cut-in (origin e) (bounds e) g → some-of (eqb (k .row)) (touched-in n (cut (sizes cs ds) rows w) (range a b)) ≡ true
+    → Roomy m (close-puts i (touched-in n (cut (sizes cs ds) rows w) (range a b)) (cut-in (origin e) (bounds e) g)) (cut (sizes cs ds) rows w)
+    → Arenas cs ds rows w × (k .row < rows) × Short (k .tiles) × Fillable (k .tiles) (k .alpha) i (row-of (cut (sizes cs ds) rows w) (k .row))
+clip-here {cs} {ds} {rows} {w} o a b n m i e g k h t s p q r = (
   o,
   touched-row o a b n h (k .row) q,
   placed-short e g k t s p,
-  one-fillable m i (touched-in n (rows-at f w) (range a b)) (rows-at f w) (cut-in (origin e) (bounds e) g) k p q (at-found (touched-inside o a b n h) (k .row) q) r,
+  one-fillable m i (touched-in n (cut (sizes cs ds) rows w) (range a b)) (cut (sizes cs ds) rows w) (cut-in (origin e) (bounds e) g) k p q (at-found (touched-inside o a b n h) (k .row) q) r,
 )

@@ -15,8 +15,8 @@ use Rattle.rules.specs.Plans.{Frame, Put, close-puts}
 use Rattle.rules.specs.Steps.{do-puts}
 use Rattle.rules.proofs.All.{All}
 use Rattle.row.specs.Words.{Words, word, word-ops, put-command, end-buf, Room, Ends}
-use Rattle.row_screen.specs.Arena.{nowhere, sizes, Long}
-use Rattle.row_judge.specs.Building.{rows-at, good-row}
+use Rattle.row_screen.specs.Arena.{nowhere}
+use Rattle.row_judge.specs.Building.{rows-at, Whole, good-row}
 use Rattle.segments.specs.declared.Scene.{Scene}
 use Rattle.segments.specs.Segs.{segs, origin, bounds, Starts}
 use Rattle.step_pop_rows.specs.declared.Count.{Count}
@@ -62,13 +62,6 @@ done-puts m ps rs = do-puts Words word-ops 32 m ps rs
 -- each row that is put on has room for what all the puts make of it
 abbrev pub Roomy : ℕ → List Put → List Words → Type 0
 Roomy m ps rs = All (λ (p : Put). Room (row-of rs (p .row)) (row-of (done-puts m ps rs) (p .row))) ps
-
--- a screen's words
-pub record Whole (f : Frame) (w : Words) : Type 0 where
-  pub rows : rows-of (f .viewport) ≤ 512
-  pub c : f .c ≤ 1024
-  pub d : f .d ≤ 1024
-  pub long : Long (sizes (f .c) (f .d)) (rows-of (f .viewport)) w
 
 -- a row with room for a LayerFill, and one with a level to end and room for its PopBuf
 abbrev pub Fillable : Span → Option ℕ → ℕ → Words → Type 0

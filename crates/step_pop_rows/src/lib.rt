@@ -1,6 +1,8 @@
 // The rows of a closing layer (bucketer.rs, pop_layer; rules 9 and 10): judging them, the closing LayerFills, the PopBufs. These are parts:
 // each has a `requires`, which its callers have judged. The layer that closes is the innermost of `screen.layers`; a to b are its box's rows.
 use row_judge::is_good_row;
+use row_screen::part;
+use row_screen::place_of;
 use cmd::command::Fill;
 use row::pop_buf;
 use row::push_closing;
@@ -31,8 +33,8 @@ ghost use Rattle.screen.specs.Screens.{frame-of};
 ghost use Rattle.segments.specs.Segs.{seg-at, segs, origin, bounds, Starts};
 ghost use Rattle.row.specs.Words.{words, put-command, end-buf, Room};
 ghost use Rattle.row.specs.Cmds.{Short};
-ghost use Rattle.row_judge.specs.Building.{rows-at};
-ghost use Rattle.step_pop_rows.specs.Closing.{row-of, touched-in, good-pop, good-pops, full-by, so-far, runs-full, done-puts, Roomy, Whole, Fillable, Poppable, Each, touched-word, clip-puts, Clips, Counted};
+ghost use Rattle.row_judge.specs.Building.{rows-at, Whole};
+ghost use Rattle.step_pop_rows.specs.Closing.{row-of, touched-in, good-pop, good-pops, full-by, so-far, runs-full, done-puts, Roomy, Fillable, Poppable, Each, touched-word, clip-puts, Clips, Counted};
 
 // Answer 4: a row of the layer's box, by its words.
 fn is_good_pop(state: &[u32], render: &[u32], fills: &[u32], c: u32, d: u32, open: u32) -> bool
@@ -55,15 +57,10 @@ fn judge_pop_row(screen: Screen, rows: &[u32], render: &[u32], fills: &[u32], r:
     requires { ⌜ Whole (frame-of screen) (words (now rows) (now render) (now fills)) × (r < rows-of (box-of (screen .viewport))) × (1 ≤ screen .layers) × (screen .layers ≤ 16) ⌝ }
     ensures { λ b. ⌜ b ≡ good-pop (screen .c) (screen .d) (screen .layers) (row-of (rows-at (frame-of screen) (words (now (rows .entry)) (now (render .entry)) (now (fills .entry)))) r) ⌝ }
 {
-    let cw = 4 * (screen.c as usize);
-    let dw = 2 * (screen.d as usize);
-    let x = r * ROW;
-    let y = r * cw;
-    let z = r * dw;
     is_good_pop(
-        &rows[x..x + ROW],
-        &render[y..y + cw],
-        &fills[z..z + dw],
+        part(rows, ROW, r),
+        part(render, 4 * (screen.c as usize), r),
+        part(fills, 2 * (screen.d as usize), r),
         screen.c,
         screen.d,
         screen.layers,
@@ -254,17 +251,19 @@ fn close_at(
     ensures { λ _. ⌜ rows-at (frame-of screen) (words (now (rows .exit)) (now (render .exit)) (now (fills .exit)))
         ≡ change (put-command (layer-fill (tiles (fill .span)) (alpha (fill .alpha)) (fill .«attrs_idx»))) r (rows-at (frame-of screen) (words (now (rows .entry)) (now (render .entry)) (now (fills .entry)))) ⌝ }
 {
-    let cw = 4 * (screen.c as usize);
-    let dw = 2 * (screen.d as usize);
-    let x = r * ROW;
-    let y = r * cw;
-    let z = r * dw;
+    let p = place_of(screen.c, screen.d, r);
+    let x0 = p.x0;
+    let x1 = p.x1;
+    let y0 = p.y0;
+    let y1 = p.y1;
+    let z0 = p.z0;
+    let z1 = p.z1;
     let span = fill.span;
     let alpha = fill.alpha;
     push_closing(
-        &mut rows[x..x + ROW],
-        &mut render[y..y + cw],
-        &mut fills[z..z + dw],
+        &mut rows[x0..x1],
+        &mut render[y0..y1],
+        &mut fills[z0..z1],
         span,
         alpha,
         fill.attrs_idx,
@@ -278,15 +277,17 @@ fn pop_at(screen: Screen, rows: &mut [u32], render: &mut [u32], fills: &mut [u32
     ensures { λ _. ⌜ rows-at (frame-of screen) (words (now (rows .exit)) (now (render .exit)) (now (fills .exit)))
         ≡ change end-buf r (rows-at (frame-of screen) (words (now (rows .entry)) (now (render .entry)) (now (fills .entry)))) ⌝ }
 {
-    let cw = 4 * (screen.c as usize);
-    let dw = 2 * (screen.d as usize);
-    let x = r * ROW;
-    let y = r * cw;
-    let z = r * dw;
+    let p = place_of(screen.c, screen.d, r);
+    let x0 = p.x0;
+    let x1 = p.x1;
+    let y0 = p.y0;
+    let y1 = p.y1;
+    let z0 = p.z0;
+    let z1 = p.z1;
     pop_buf(
-        &mut rows[x..x + ROW],
-        &mut render[y..y + cw],
-        &mut fills[z..z + dw],
+        &mut rows[x0..x1],
+        &mut render[y0..y1],
+        &mut fills[z0..z1],
     );
 }
 

@@ -25,7 +25,7 @@ use Rattle.cmd.specs.Attrs.{words-at}
 use Rattle.row.specs.Words.{Words, words, word-ops}
 use Rattle.row_screen.specs.Arena.{lay}
 use Rattle.row_acts.specs.Acts.{acted}
-use Rattle.row_judge.specs.Building.{rows-at, screen-at, good-rows, step-number}
+use Rattle.row_judge.specs.Building.{Whole, rows-at, screen-at, good-rows, step-number}
 use Rattle.rect.specs.declared.Rect.{Rect}
 use Rattle.rect.specs.Rects.{box-of}
 use Rattle.screen.specs.declared.Screen.{Screen}
@@ -36,7 +36,7 @@ use Rattle.screen.proofs.Laws.{bounds, clip, good-clip-of, clip-of, paint-count
 use Rattle.screen.proofs.Passed.{Passed, passed}
 use Rattle.screen_layers.specs.declared.LayerProps.{LayerProps}
 use Rattle.screen_layers.specs.Layers.{clip-of as clip-in, props-of, good-pattern, good-given, layer-of, layer-words}
-use Rattle.step_rows.specs.Band.{band-number, each, rows-on, Whole, OnRows}
+use Rattle.step_rows.specs.Band.{band-number, each, OnRows}
 use Rattle.step_rows.proofs.Laws.{puts-each}
 use Rattle.step_rows.proofs.Numbers.{Adding, band-answer, band-step, band-room, touch-adds, run-told}
 use Rattle.step_rows.proofs.Passing.{passed-whole, rows-within, judged-small, if-small, step-small, decide, surely, below}
@@ -131,7 +131,7 @@ module _ (p : LayerProps) (s : Screen) (w : Words) (ls : List ℕ) (os : List Fl
     pub fit : Passed s (length (w .state)) (length (w .render)) (length (w .fills)) (rows-of (box-of (s .viewport)))
     fit = passed s (length (w .state)) (length (w .render)) (length (w .fills)) z
 
-    pub whole : Whole s w
+    pub whole : Whole (frame-of s) w
     whole = passed-whole s w fit
 
     module _ (e : length ls ≡ 256) (f : length os ≡ 1040) where
@@ -268,12 +268,12 @@ module _ (p : LayerProps) (s : Screen) (w : Words) (ls : List ℕ) (os : List Fl
   unfolding screen-after
   screen-is = rw (plan-deep p s ok-screen, plan-layers p s ok-screen, ← e, plan-next p s ok-screen, plan-counts .0, plan-counts .1, plan-counts .2)
 
-  rows-are : done Words word-ops 32 (plan-of p s) (screen-at (state-of s) w) .rows ≡ each (acted (s .layers + 1) touch) (range (own-run p s .a) (own-run p s .b)) (rows-on s w)
+  rows-are : done Words word-ops 32 (plan-of p s) (screen-at (state-of s) w) .rows ≡ each (acted (s .layers + 1) touch) (range (own-run p s .a) (own-run p s .b)) (rows-at (frame-of s) w)
   unfolding done
-  rows-are = rw (plan-deep p s ok-screen, plan-puts p s ok-screen, frame-is s) (puts-each (s .layers + 1) touch (range (own-run p s .a) (own-run p s .b)) (rows-on s w))
+  rows-are = rw (plan-deep p s ok-screen, plan-puts p s ok-screen, frame-is s) (puts-each (s .layers + 1) touch (range (own-run p s .a) (own-run p s .b)) (rows-at (frame-of s) w))
 
   pub after-is : (x : Screen) (ws : Words) (r : Run) → x ≡ on-layer s b → r ≡ touch-run (p .blend .compose) (box-of b)
-      → ws ≡ lay (each (acted (s .layers + 1) touch) (range (r .a) (r .b)) (rows-on s w))
+      → ws ≡ lay (each (acted (s .layers + 1) touch) (range (r .a) (r .b)) (rows-at (frame-of s) w))
       → lent x ws (words-at ls (16 * s .layers) (layer-words (layer-of p b) (p .nan))) (set os (s .layers) (p .opacity)) ≡ after p (lent s w ls os)
   unfolding after
   after-is x ws r f g h =

@@ -1,5 +1,5 @@
 -- The judging of a run of rows, row by row. Assumes nothing.
-use mathlib.Core.Path.{_≡_, refl, sym, _∙_}
+use mathlib.Core.Path.{_≡_, refl, sym, ap, _∙_}
 use mathlib.Core.Bool.{Bool, true, false, _&&_, cond}
 use mathlib.Core.List.{List, [], _∷_}
 use Prim.Native.Nat.{ℕ, zero, suc, _+_, _-_, _*_, _≤_, _<_}
@@ -36,9 +36,6 @@ unfoldable pub going : ℕ → ℕ → ℕ → List ℕ → ℕ → List ℕ →
 going c d n ws x rs =
     cond (every (λ (r : ℕ). good-row c d n (record-of ws r)) rs)
     (cond (some-of (λ (r : ℕ). is-full c n (record-of ws r)) rs) 10 x) 4
-
-pub whole-run : (a : ℕ) → a + 54 - a ≡ 54
-whole-run a = omega arith
 
 one-less : (b r : ℕ) → r < b → b - r ≡ suc (b - (r + 1))
 one-less b r h = omega arith
@@ -86,13 +83,13 @@ module _ (c d n : ℕ) (ws : List ℕ) where
     fine true false e k h i = rw (e, k)
     fine false f e k h i = absurd (h refl)
 
-  -- m is the number of row r, cut out to be judged
-  module _ (x r b m : ℕ) (h : r < b) (e : m ≡ row-number c d n (take (r * 54 + 54 - r * 54) (drop (r * 54) ws))) where
+  -- m is the number of row r, whose record s is
+  module _ (x r b m : ℕ) (s : List ℕ) (h : r < b) (q : s ≡ record-of ws r) (e : m ≡ row-number c d n s) where
     first : range r b ≡ r ∷ range (r + 1) b
     first = rw (one-less b r h, next r)
 
     own : m ≡ told (good-row c d n (record-of ws r)) (is-full c n (record-of ws r))
-    own = rw (whole-run (r * 54)) at e
+    own = e ∙ ap (row-number c d n) q
 
     pub going-bad : m ≡ 4 → 4 ≡ going c d n ws x (range r b)
     going-bad p = rw first (sym (bad x r (range (r + 1) b) _ (is-full c n (record-of ws r)) refl (sym own ∙ p)))
@@ -103,6 +100,6 @@ module _ (c d n : ℕ) (ws : List ℕ) where
     pub going-fine : (m ≡ 4 → ⊥) → (m ≡ 10 → ⊥) → going c d n ws x (range (r + 1) b) ≡ going c d n ws x (range r b)
     going-fine p q = rw first (fine x r (range (r + 1) b) _ _ refl refl (λ z. p (own ∙ z)) (λ z. q (own ∙ z)))
 
--- a row's record, cut out, has its words
-pub record-long : (ws : List ℕ) (r b : ℕ) → r < b → b * 54 ≤ length ws → length (take (r * 54 + 54 - r * 54) (drop (r * 54) ws)) ≡ 54
-record-long ws r b h g = rw (whole-run (r * 54)) (length-take-le 54 (drop (r * 54) ws) (rw length-drop (omega arith)))
+-- a row's record has its words
+pub record-long : (ws : List ℕ) (r b : ℕ) → r < b → b * 54 ≤ length ws → length (record-of ws r) ≡ 54
+record-long ws r b h g = length-take-le 54 (drop (r * 54) ws) (rw length-drop (omega arith))

@@ -6,23 +6,24 @@ use mathlib.Core.Option.{none}
 use Prim.Native.Nat.{ℕ, zero, suc, _+_, _-_, _*_, _≤_, _<_}
 use native.Mathlib.Omega.{arith}
 use lib.Dec.{eqb}
-use lib.ListN.{length, getD, take, drop}
+use lib.ListN.{length, getD}
 use borrow.Author.Tests.{eqb-true, eqb-false}
-use borrow.Rule.Slice.PartMut.{putMid}
 use Rattle.rules.specs.Lists.{change, count-from, range}
 use Rattle.rules.specs.Boxes.{rows-of}
 use Rattle.rules.specs.Spans.{Span}
 use Rattle.rules.specs.Plans.{Act, paint, touch, on}
 use Rattle.rules.specs.Steps.{do-act, do-puts}
 use Rattle.rules.proofs.laws.Changes.{change-length, change-same, change-else}
-use Rattle.row.specs.Words.{Words, words, word-ops, Room}
+use Rattle.row.specs.Words.{Words, words, word-ops, Room, Grown}
 use Rattle.row_screen.specs.Arena.{nowhere, sizes, cut, lay, Long}
-use Rattle.row_screen.proofs.Laws.{lay-cut, lent, back}
+use Rattle.row_screen.proofs.Laws.{lay-cut}
 use Rattle.row_acts.specs.Acts.{acted, ensured, drawn}
 use Rattle.row_acts.proofs.Laws.{acted-sound, touch-is, paint-is}
 use Rattle.rect.specs.Rects.{box-of}
 use Rattle.screen.specs.declared.Screen.{Screen}
-use Rattle.step_rows.specs.Band.{each, rows-on, Whole, OnRow, OnRows}
+use Rattle.row_judge.specs.Building.{rows-at}
+use Rattle.screen.specs.Screens.{frame-of}
+use Rattle.step_rows.specs.Band.{each, OnRow, OnRows}
 
 module _ (f : Words → Words) where
   pub each-length : (rs : List ℕ) (ws : List Words) → length (each f rs ws) ≡ length ws
@@ -56,7 +57,7 @@ puts-each n a (r ∷ rs) ws = puts-each n a rs (change (acted n a) r ws)
 -- a loop over the rows a to b, at row r
 pub record Banding (s : Screen) (n : ℕ) (f : Words → Words) (a b : ℕ) (w₀ : Words) (r : ℕ) (w : Words) : Type 0 where
   pub on : OnRows s n f r b w
-  pub rest : each f (range r b) (rows-on s w) ≡ each f (range a b) (rows-on s w₀)
+  pub rest : each f (range r b) (rows-at (frame-of s) w) ≡ each f (range a b) (rows-at (frame-of s) w₀)
 
 pub banding : {s : Screen} {n : ℕ} {f : Words → Words} {a b : ℕ} {w : Words} → OnRows s n f a b w → Banding s n f a b w a w
 banding o = record { on = o; rest = refl }
@@ -71,16 +72,16 @@ next : (r : ℕ) → suc r ≡ r + 1
 next r = omega arith
 
 module _ {s : Screen} {n : ℕ} {f : Words → Words} {a b : ℕ} {w₀ : Words} {r : ℕ} {w : Words} (v : Banding s n f a b w₀ r w) where
-  pub band-end : b ≤ r → w ≡ lay (each f (range a b) (rows-on s w₀))
+  pub band-end : b ≤ r → w ≡ lay (each f (range a b) (rows-at (frame-of s) w₀))
   unfolding each
   band-end h =
-      let e : rows-on s w ≡ each f (range a b) (rows-on s w₀) = rw (none-left b r h) at (v .rest) in
+      let e : rows-at (frame-of s) w ≡ each f (range a b) (rows-at (frame-of s) w₀) = rw (none-left b r h) at (v .rest) in
       sym (lay-cut (sizes (s .c) (s .d)) (rows-of (box-of (s .viewport))) w (v .on .whole .long)) ∙ ap lay e
 
   pub band-row : r < b → OnRow s n f r w
   band-row h = record { whole = v .on .whole; layers = v .on .layers; within = omega (arith, v .on .within); room = v .on .room r (omega arith) h }
 
-  pub band-again : r < b → (u : Words) → Long (sizes (s .c) (s .d)) (rows-of (box-of (s .viewport))) u → rows-on s u ≡ change f r (rows-on s w) → Banding s n f a b w₀ (r + 1) u
+  pub band-again : r < b → (u : Words) → Long (sizes (s .c) (s .d)) (rows-of (box-of (s .viewport))) u → rows-at (frame-of s) u ≡ change f r (rows-at (frame-of s) w) → Banding s n f a b w₀ (r + 1) u
   unfolding each
   band-again h u l e =
       record {
@@ -89,35 +90,18 @@ module _ {s : Screen} {n : ℕ} {f : Words → Words} {a b : ℕ} {w₀ : Words}
               whole = record { rows = v .on .whole .rows; c = v .on .whole .c; d = v .on .whole .d; long = l };
               layers = v .on .layers;
               within = v .on .within;
-              room = λ i g k. rw (e, change-else f r i (rows-on s w) nowhere (λ q. omega arith)) (v .on .room i (omega arith) k);
+              room = λ i g k. rw (e, change-else f r i (rows-at (frame-of s) w) nowhere (λ q. omega arith)) (v .on .room i (omega arith) k);
             };
         rest = rw (e, ← next r) (rw (one-less b r h, ← next r) at (v .rest));
       }
 
--- row r cut out to be lent, and the rows as it comes back
-abbrev pub lent-row : Screen → ℕ → Words → Words
-lent-row s r w =
-    words (take (r * 54 + 54 - r * 54) (drop (r * 54) (w .state)))
-    (take (r * (4 * s .c) + 4 * s .c - r * (4 * s .c)) (drop (r * (4 * s .c)) (w .render)))
-    (take (r * (2 * s .d) + 2 * s .d - r * (2 * s .d)) (drop (r * (2 * s .d)) (w .fills)))
+-- a row has room for an act as it is lent, and an act grows it
+module _ (a : Act) {s : Screen} {n r : ℕ} {w u : Words} (o : OnRow s n (acted n a) r w) (e : u ≡ getD (rows-at (frame-of s) w) r nowhere) where
+  pub room-lent : Room u (acted n a u)
+  room-lent = rw e (o .room)
 
-abbrev pub back-row : Screen → ℕ → Words → Words → Words
-back-row s r w u =
-    words (putMid (r * 54) (r * 54 + 54 - r * 54) (w .state) (u .state))
-    (putMid (r * (4 * s .c)) (r * (4 * s .c) + 4 * s .c - r * (4 * s .c)) (w .render) (u .render))
-    (putMid (r * (2 * s .d)) (r * (2 * s .d) + 2 * s .d - r * (2 * s .d)) (w .fills) (u .fills))
-
-module _ (a : Act) {s : Screen} {n r : ℕ} {w : Words} (o : OnRow s n (acted n a) r w) where
-  lent-is : lent-row s r w ≡ getD (rows-on s w) r nowhere
-  lent-is = lent (sizes (s .c) (s .d)) (rows-of (box-of (s .viewport))) r w (o .whole .long) (o .within)
-
-  pub room-lent : Room (lent-row s r w) (acted n a (lent-row s r w))
-  room-lent = rw lent-is (o .room)
-
-  pub came-back : (x y z : List ℕ) → words x y z ≡ acted n a (lent-row s r w) → rows-on s (back-row s r w (words x y z)) ≡ change (acted n a) r (rows-on s w)
-  came-back x y z e =
-      back (sizes (s .c) (s .d)) (rows-of (box-of (s .viewport))) r w (o .whole .long) (o .within) (acted n a) x y z
-      (acted-sound n (getD (rows-on s w) r nowhere) (o .room .state) (o .room .levels) (o .layers) a .grown) (e ∙ ap (acted n a) lent-is)
+  pub grows : Grown u (acted n a u)
+  grows = acted-sound n u (room-lent .state) (room-lent .levels) (o .layers) a .grown
 
 -- the words that come back from a call are as many
 pub long-after : (s : Screen) (w : Words) (x y z : List ℕ) → Long (sizes (s .c) (s .d)) (rows-of (box-of (s .viewport))) w
@@ -125,17 +109,10 @@ pub long-after : (s : Screen) (w : Words) (x y z : List ℕ) → Long (sizes (s 
     → Long (sizes (s .c) (s .d)) (rows-of (box-of (s .viewport))) (words x y z)
 long-after s w x y z l p q r = record { state = p ∙ l .state; render = q ∙ l .render; fills = r ∙ l .fills }
 
--- the two acts as their functions have them
-module _ {s : Screen} {n r : ℕ} {w : Words} (o : OnRow s n (acted n touch) r w) where
-  pub touch-room : Room (lent-row s r w) (ensured n (lent-row s r w))
-  touch-room = rw (touch-is n (lent-row s r w)) at (room-lent touch o)
+-- an act on one row, by its cases
+module _ (n : ℕ) (w : Words) where
+  pub touch-room : Room w (acted n touch w) → Room w (ensured n w)
+  touch-room r = rw (touch-is n w) at r
 
-  pub touch-back : (x y z : List ℕ) → words x y z ≡ ensured n (lent-row s r w) → rows-on s (back-row s r w (words x y z)) ≡ change (acted n touch) r (rows-on s w)
-  touch-back x y z e = came-back touch o x y z (e ∙ sym (touch-is n (lent-row s r w)))
-
-module _ (t : Span) (i : ℕ) {s : Screen} {n r : ℕ} {w : Words} (o : OnRow s n (acted n (paint t none i)) r w) where
-  pub paint-room : Room (lent-row s r w) (drawn n false t none i 0 (lent-row s r w))
-  paint-room = rw (paint-is n (lent-row s r w) t i 0) at (room-lent (paint t none i) o)
-
-  pub paint-back : (x y z : List ℕ) → words x y z ≡ drawn n false t none i 0 (lent-row s r w) → rows-on s (back-row s r w (words x y z)) ≡ change (acted n (paint t none i)) r (rows-on s w)
-  paint-back x y z e = came-back (paint t none i) o x y z (e ∙ sym (paint-is n (lent-row s r w) t i 0))
+  pub paint-room : (t : Span) (i : ℕ) → Room w (acted n (paint t none i) w) → Room w (drawn n false t none i 0 w)
+  paint-room t i r = rw (paint-is n w t i 0) at r

@@ -23,11 +23,11 @@ use Rattle.row_screen.specs.Arena.{nowhere, sizes, cut}
 use Rattle.row_screen.proofs.Laws.{cut-length, cut-at, at-state, at-render, at-fills}
 use Rattle.row_acts.specs.Acts.{acted, ensured}
 use Rattle.row_acts.proofs.Laws.{ensured-sound, touch-is, drawn-plain, paint-is}
-use Rattle.row_judge.specs.Building.{screen-at, good-row, good-at, good-rows, step-number}
+use Rattle.row_judge.specs.Building.{Whole, rows-at, screen-at, good-row, good-at, good-rows, step-number}
 use Rattle.rect.specs.Rects.{box-of}
 use Rattle.screen.specs.declared.Screen.{Screen}
 use Rattle.screen.specs.Screens.{frame-of, state-of}
-use Rattle.step_rows.specs.Band.{record-of, is-full, band-number, each, rows-on, Whole, OnRows}
+use Rattle.step_rows.specs.Band.{record-of, is-full, band-number, each, OnRows}
 use Rattle.step_rows.proofs.Laws.{each-length, each-at, puts-each}
 use Rattle.step_rows.proofs.Judging.{Counted, counted}
 
@@ -85,63 +85,63 @@ pub record Adds (n : ℕ) (f : Words → Words) (w : Words) : Type 0 where
 abbrev pub Adding : ℕ → (Words → Words) → Type 0
 Adding n f = (w : Words) → length (w .state) ≡ 54 → word 5 w ≤ n → Adds n f w
 
-module _ (s : Screen) (w : Words) (o : Whole s w) where
+module _ (s : Screen) (w : Words) (o : Whole (frame-of s) w) where
   module _ (i : ℕ) (h : i < rows-of (box-of (s .viewport))) where
-    row-is : getD (rows-on s w) i nowhere .state ≡ record-of (w .state) i
+    row-is : getD (rows-at (frame-of s) w) i nowhere .state ≡ record-of (w .state) i
     row-is = ap (λ (u : Words). u .state) (cut-at (sizes (s .c) (s .d)) (rows-of (box-of (s .viewport))) i w nowhere h)
 
-    in-rows : i < length (rows-on s w)
+    in-rows : i < length (rows-at (frame-of s) w)
     in-rows = rw (cut-length (sizes (s .c) (s .d)) (rows-of (box-of (s .viewport))) w) h
 
-    row-state : length (getD (rows-on s w) i nowhere .state) ≡ 54
+    row-state : length (getD (rows-at (frame-of s) w) i nowhere .state) ≡ 54
     row-state = ap (λ (u : Words). length (u .state)) (cut-at (sizes (s .c) (s .d)) (rows-of (box-of (s .viewport))) i w nowhere h) ∙ at-state (sizes (s .c) (s .d)) (rows-of (box-of (s .viewport))) i w (o .long) h
 
-    row-render : length (getD (rows-on s w) i nowhere .render) ≡ 4 * s .c
+    row-render : length (getD (rows-at (frame-of s) w) i nowhere .render) ≡ 4 * s .c
     row-render = ap (λ (u : Words). length (u .render)) (cut-at (sizes (s .c) (s .d)) (rows-of (box-of (s .viewport))) i w nowhere h) ∙ at-render (sizes (s .c) (s .d)) (rows-of (box-of (s .viewport))) i w (o .long) h
 
-    row-fills : length (getD (rows-on s w) i nowhere .fills) ≡ 2 * s .d
+    row-fills : length (getD (rows-at (frame-of s) w) i nowhere .fills) ≡ 2 * s .d
     row-fills = ap (λ (u : Words). length (u .fills)) (cut-at (sizes (s .c) (s .d)) (rows-of (box-of (s .viewport))) i w nowhere h) ∙ at-fills (sizes (s .c) (s .d)) (rows-of (box-of (s .viewport))) i w (o .long) h
 
   module _ (x b : ℕ) (m : b ≤ rows-of (box-of (s .viewport))) where
     in-run : {P : ℕ → Type 0} → ((i : ℕ) → x ≤ i → i < b → P i) → All P (range x b)
     in-run f = run-all x (b - x) (λ i g k. f i g (omega arith))
 
-    good-is : (n : ℕ) (a : Act) → good-rows (frame-of s) n (map (on a) (range x b)) (rows-on s w) ≡ every (λ (r : ℕ). good-row (s .c) (s .d) n (record-of (w .state) r)) (range x b)
+    good-is : (n : ℕ) (a : Act) → good-rows (frame-of s) n (map (on a) (range x b)) (rows-at (frame-of s) w) ≡ every (λ (r : ℕ). good-row (s .c) (s .d) n (record-of (w .state) r)) (range x b)
     unfolding good-rows
     good-is n a =
-        every-map (on a) (λ (p : Put). good-at (frame-of s) n (p .row) (rows-on s w)) (range x b)
-        ∙ every-same (in-run (λ i g k. good-get s n i (rows-on s w) (in-rows i (omega arith)) ∙ ap (good-row (s .c) (s .d) n) (row-is i (omega arith))))
+        every-map (on a) (λ (p : Put). good-at (frame-of s) n (p .row) (rows-at (frame-of s) w)) (range x b)
+        ∙ every-same (in-run (λ i g k. good-get s n i (rows-at (frame-of s) w) (in-rows i (omega arith)) ∙ ap (good-row (s .c) (s .d) n) (row-is i (omega arith))))
 
     module _ (n : ℕ) (f : Words → Words) (ad : Adding n f) (good : every (λ (r : ℕ). good-row (s .c) (s .d) n (record-of (w .state) r)) (range x b) ≡ true) where
       module _ (i : ℕ) (g : x ≤ i) (k : i < b) where
         facts : Counted (s .c) (s .d) n (record-of (w .state) i)
         facts = counted (s .c) (s .d) n (record-of (w .state) i) (all-run x (b - x) (every-all (λ (r : ℕ). good-row (s .c) (s .d) n (record-of (w .state) r)) (range x b) good) i g (omega arith))
 
-        row-levels : word 5 (getD (rows-on s w) i nowhere) ≤ n
+        row-levels : word 5 (getD (rows-at (frame-of s) w) i nowhere) ≤ n
         row-levels = rw (row-is i (omega arith)) (facts .levels)
 
-        row-adds : Adds n f (getD (rows-on s w) i nowhere)
-        row-adds = ad (getD (rows-on s w) i nowhere) (row-state i (omega arith)) row-levels
+        row-adds : Adds n f (getD (rows-at (frame-of s) w) i nowhere)
+        row-adds = ad (getD (rows-at (frame-of s) w) i nowhere) (row-state i (omega arith)) row-levels
 
-        row-after : getD (each f (range x b) (rows-on s w)) i nowhere ≡ f (getD (rows-on s w) i nowhere)
-        row-after = each-at f i x (b - x) (rows-on s w) g (omega arith) (in-rows i (omega arith))
+        row-after : getD (each f (range x b) (rows-at (frame-of s) w)) i nowhere ≡ f (getD (rows-at (frame-of s) w) i nowhere)
+        row-after = each-at f i x (b - x) (rows-at (frame-of s) w) g (omega arith) (in-rows i (omega arith))
 
-        in-after : i < length (each f (range x b) (rows-on s w))
-        in-after = rw (each-length f (range x b) (rows-on s w)) (in-rows i (omega arith))
+        in-after : i < length (each f (range x b) (rows-at (frame-of s) w))
+        in-after = rw (each-length f (range x b) (rows-at (frame-of s) w)) (in-rows i (omega arith))
 
-        one-full : row-passes Words word-ops 32 (word 0) (s .c) i (each f (range x b) (rows-on s w)) ≡ is-full (s .c) n (record-of (w .state) i)
-        one-full = passes-get 0 (s .c) i (each f (range x b) (rows-on s w)) in-after ∙ rw (row-after, row-adds .renders, row-is i (omega arith))
+        one-full : row-passes Words word-ops 32 (word 0) (s .c) i (each f (range x b) (rows-at (frame-of s) w)) ≡ is-full (s .c) n (record-of (w .state) i)
+        one-full = passes-get 0 (s .c) i (each f (range x b) (rows-at (frame-of s) w)) in-after ∙ rw (row-after, row-adds .renders, row-is i (omega arith))
 
-        one-deep : row-passes Words word-ops 32 (word 1) (s .d) i (each f (range x b) (rows-on s w)) ≡ false
-        one-deep = passes-get 1 (s .d) i (each f (range x b) (rows-on s w)) in-after ∙ rw (row-after, row-adds .depths, row-is i (omega arith)) (le-ltb _ _ (facts .depths))
+        one-deep : row-passes Words word-ops 32 (word 1) (s .d) i (each f (range x b) (rows-at (frame-of s) w)) ≡ false
+        one-deep = passes-get 1 (s .d) i (each f (range x b) (rows-at (frame-of s) w)) in-after ∙ rw (row-after, row-adds .depths, row-is i (omega arith)) (le-ltb _ _ (facts .depths))
 
-      full-is : (a : Act) → passes Words word-ops 32 (word 0) (s .c) (map (on a) (range x b)) (each f (range x b) (rows-on s w)) ≡ some-of (λ (r : ℕ). is-full (s .c) n (record-of (w .state) r)) (range x b)
+      full-is : (a : Act) → passes Words word-ops 32 (word 0) (s .c) (map (on a) (range x b)) (each f (range x b) (rows-at (frame-of s) w)) ≡ some-of (λ (r : ℕ). is-full (s .c) n (record-of (w .state) r)) (range x b)
       unfolding passes
-      full-is a = some-map (on a) (λ (p : Put). row-passes Words word-ops 32 (word 0) (s .c) (p .row) (each f (range x b) (rows-on s w))) (range x b) ∙ some-same (in-run one-full)
+      full-is a = some-map (on a) (λ (p : Put). row-passes Words word-ops 32 (word 0) (s .c) (p .row) (each f (range x b) (rows-at (frame-of s) w))) (range x b) ∙ some-same (in-run one-full)
 
-      deep-is : (a : Act) → passes Words word-ops 32 (word 1) (s .d) (map (on a) (range x b)) (each f (range x b) (rows-on s w)) ≡ false
+      deep-is : (a : Act) → passes Words word-ops 32 (word 1) (s .d) (map (on a) (range x b)) (each f (range x b) (rows-at (frame-of s) w)) ≡ false
       unfolding passes
-      deep-is a = some-map (on a) (λ (p : Put). row-passes Words word-ops 32 (word 1) (s .d) (p .row) (each f (range x b) (rows-on s w))) (range x b) ∙ some-none (in-run one-deep)
+      deep-is a = some-map (on a) (λ (p : Put). row-passes Words word-ops 32 (word 1) (s .d) (p .row) (each f (range x b) (rows-at (frame-of s) w))) (range x b) ∙ some-none (in-run one-deep)
 
 -- a step's number where the run's is k: 4 for a row's record before 6, 8 and 9, and 10 after them
 unfoldable pub band-answer : ℕ → Plan → ℕ
@@ -162,7 +162,7 @@ then-full : (f ids attrs : Bool) → first-of ((false, 6) ∷ (ids, 8) ∷ (attr
 then-full true ids attrs = refl
 then-full false ids attrs = refl
 
-module _ (s : Screen) (w : Words) (o : Whole s w) (a : Act) (x b : ℕ) (m : b ≤ rows-of (box-of (s .viewport))) where
+module _ (s : Screen) (w : Words) (o : Whole (frame-of s) w) (a : Act) (x b : ℕ) (m : b ≤ rows-of (box-of (s .viewport))) where
   abbrev good-run : Bool
   good-run = every (λ (r : ℕ). good-row (s .c) (s .d) (s .layers) (record-of (w .state) r)) (range x b)
 
@@ -185,7 +185,7 @@ module _ (s : Screen) (w : Words) (o : Whole s w) (a : Act) (x b : ℕ) (m : b �
           fine,
           e,
           puts,
-          puts-each (length (p .layers)) a (range x b) (rows-on s w),
+          puts-each (length (p .layers)) a (range x b) (rows-at (frame-of s) w),
           full-is s w o x b m (s .layers) (acted (length (p .layers)) a) (ad few) g a,
           deep-is s w o x b m (s .layers) (acted (length (p .layers)) a) (ad few) g a,
         )
@@ -197,11 +197,11 @@ module _ (s : Screen) (w : Words) (o : Whole s w) (a : Act) (x b : ℕ) (m : b �
     numbered true e = refused e (ltb 16 (length (p .layers))) refl
     numbered false e = refl
 
-    pub band-step : step-number 0 (good-rows (frame-of s) (s .layers) (p .puts) (rows-on s w)) p (screen-at (state-of s) w) ≡ band-answer run-number p
+    pub band-step : step-number 0 (good-rows (frame-of s) (s .layers) (p .puts) (rows-at (frame-of s) w)) p (screen-at (state-of s) w) ≡ band-answer run-number p
     unfolding step-number band-number
     band-step =
         ap (λ (g : Bool). cond g (refusal Words word-ops 32 p (done Words word-ops 32 p (screen-at (state-of s) w))) 4)
-        (ap (λ (ps : List Put). good-rows (frame-of s) (s .layers) ps (rows-on s w)) puts ∙ good-is s w o x b m (s .layers) a)
+        (ap (λ (ps : List Put). good-rows (frame-of s) (s .layers) ps (rows-at (frame-of s) w)) puts ∙ good-is s w o x b m (s .layers) a)
         ∙ numbered good-run refl
 
   -- where the number is 0, each row has room
@@ -217,9 +217,9 @@ module _ (s : Screen) (w : Words) (o : Whole s w) (a : Act) (x b : ℕ) (m : b �
           room = λ i g k.
               let h : i < rows-of (box-of (s .viewport)) = omega arith in
               let e = row-is s w o i h in
-              let t : word 0 (acted n a (getD (rows-on s w) i nowhere)) ≡ getD (record-of (w .state) i) 0 0 + (s .layers + 1 - getD (record-of (w .state) i) 5 0) =
+              let t : word 0 (acted n a (getD (rows-at (frame-of s) w) i nowhere)) ≡ getD (record-of (w .state) i) 0 0 + (s .layers + 1 - getD (record-of (w .state) i) 5 0) =
               rw e at (row-adds s w o x b m (s .layers) (acted n a) ad p i g k .renders) in
-              let v : word 1 (acted n a (getD (rows-on s w) i nowhere)) ≡ getD (record-of (w .state) i) 1 0 = rw e at (row-adds s w o x b m (s .layers) (acted n a) ad p i g k .depths) in
+              let v : word 1 (acted n a (getD (rows-at (frame-of s) w) i nowhere)) ≡ getD (record-of (w .state) i) 1 0 = rw e at (row-adds s w o x b m (s .layers) (acted n a) ad p i g k .depths) in
               let c = facts s w o x b m (s .layers) (acted n a) ad p i g k in
               let u = ltb-false (s .c) (getD (record-of (w .state) i) 0 0 + (s .layers + 1 - getD (record-of (w .state) i) 5 0)) (all-run x (b - x) (none-of (λ (r : ℕ). is-full (s .c) (s .layers) (record-of (w .state) r)) (range x b) q) i g (omega arith)) in
               record {

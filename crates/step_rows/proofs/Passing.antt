@@ -12,8 +12,8 @@ use Rattle.rules.specs.Plans.{Plan}
 use Rattle.rules.specs.Steps as Steps
 use Rattle.rules.specs.Attributes.{attrs-full}
 use Rattle.rules.specs.Steps.{done, passes, refusal}
-use Rattle.row_judge.specs.Building.{step-number}
-use Rattle.screen.specs.Screens.{good-screen}
+use Rattle.row_judge.specs.Building.{Whole, step-number}
+use Rattle.screen.specs.Screens.{frame-of, good-screen}
 use Rattle.screen.specs.Judging.{good-rooms, judged}
 use Rattle.rules.specs.Boxes.{Box, height, rows-of, good-viewport}
 use Rattle.row.specs.Words.{Words, word, word-ops}
@@ -22,9 +22,8 @@ use Rattle.screen.specs.declared.Screen.{Screen}
 use Rattle.rect.proofs.Boxes.{View, view}
 use Rattle.screen.proofs.Laws.{few-rows}
 use Rattle.screen.proofs.Passed.{Passed}
-use Rattle.step_rows.specs.Band.{Whole}
 
-pub passed-whole : (s : Screen) (w : Words) → Passed s (length (w .state)) (length (w .render)) (length (w .fills)) (rows-of (box-of (s .viewport))) → Whole s w
+pub passed-whole : (s : Screen) (w : Words) → Passed s (length (w .state)) (length (w .render)) (length (w .fills)) (rows-of (box-of (s .viewport))) → Whole (frame-of s) w
 passed-whole s w p =
     record {
       rows = few-rows (box-of (s .viewport)) (p .view);

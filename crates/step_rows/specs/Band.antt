@@ -2,17 +2,24 @@
 use Prim.Native.Nat.{ℕ, _≤_, _<_, _+_, _-_, _*_}
 use mathlib.Core.Bool.{Bool, cond}
 use mathlib.Core.List.{List, [], _∷_}
+use mathlib.Core.Option.{none}
 use lib.ListN.{getD, take, drop}
 use lib.Dec.{ltb}
 use Rattle.rules.specs.Lists.{every, some-of, change}
 use Rattle.rules.specs.Answers.{Done, BadRecord, FullRow}
 use Rattle.rules.specs.Boxes.{rows-of}
 use Rattle.row.specs.Words.{Words, Room}
-use Rattle.row_screen.specs.Arena.{nowhere, sizes, Long}
-use Rattle.row_judge.specs.Building.{rows-at, good-row}
+use Rattle.row.specs.Cmds.{Short}
+use Rattle.row_screen.specs.Arena.{nowhere}
+use Rattle.row_judge.specs.Building.{rows-at, Whole, good-row}
 use Rattle.rect.specs.Rects.{box-of}
 use Rattle.screen.specs.declared.Screen.{Screen}
 use Rattle.screen.specs.Screens.{frame-of}
+use Rattle.span.specs.Spans.{tiles}
+use Rattle.rules.specs.Plans as Plans
+use Rattle.rules.specs.Plans.{touch, paint}
+use Rattle.step_rows.specs.declared.Act.{Act}
+use Rattle.step_rows.specs.declared.Act.the-variants.{Touch, Paint}
 
 -- row r's record among all
 abbrev pub record-of : List ℕ → ℕ → List ℕ
@@ -37,27 +44,25 @@ unfoldable pub each : (Words → Words) → List ℕ → List Words → List Wor
 each f [] ws = ws
 each f (r ∷ rs) ws = each f rs (change f r ws)
 
--- the rows of a screen's words
-abbrev pub rows-on : Screen → Words → List Words
-rows-on s w = rows-at (frame-of s) w
+-- the rules' act, and what it asks of its span
+abbrev pub act-of : Act → Plans.Act
+act-of Touch = touch
+act-of (Paint s i) = paint (tiles s) none i
 
--- the words of a screen, as many as its numbers say
-pub record Whole (s : Screen) (w : Words) : Type 0 where
-  pub rows : rows-of (box-of (s .viewport)) ≤ 512
-  pub c : s .c ≤ 1024
-  pub d : s .d ≤ 1024
-  pub long : Long (sizes (s .c) (s .d)) (rows-of (box-of (s .viewport))) w
+abbrev pub ShortAct : Act → Type 0
+ShortAct Touch = Unit
+ShortAct (Paint s i) = Short (tiles s)
 
 -- row r has room for f, which is done with n layers open
 pub record OnRow (s : Screen) (n : ℕ) (f : Words → Words) (r : ℕ) (w : Words) : Type 0 where
-  pub whole : Whole s w
+  pub whole : Whole (frame-of s) w
   pub layers : n ≤ 16
   pub within : r < rows-of (box-of (s .viewport))
-  pub room : Room (getD (rows-on s w) r nowhere) (f (getD (rows-on s w) r nowhere))
+  pub room : Room (getD (rows-at (frame-of s) w) r nowhere) (f (getD (rows-at (frame-of s) w) r nowhere))
 
 -- each of the rows a to b has
 pub record OnRows (s : Screen) (n : ℕ) (f : Words → Words) (a b : ℕ) (w : Words) : Type 0 where
-  pub whole : Whole s w
+  pub whole : Whole (frame-of s) w
   pub layers : n ≤ 16
   pub within : b ≤ rows-of (box-of (s .viewport))
-  pub room : (i : ℕ) → a ≤ i → i < b → Room (getD (rows-on s w) i nowhere) (f (getD (rows-on s w) i nowhere))
+  pub room : (i : ℕ) → a ≤ i → i < b → Room (getD (rows-at (frame-of s) w) i nowhere) (f (getD (rows-at (frame-of s) w) i nowhere))

@@ -11,9 +11,13 @@ ghost use Rattle.row.specs.Words.{words, Room};
 ghost use Rattle.row.specs.Cmds.{Short};
 ghost use Rattle.row_screen.specs.Arena.{lay};
 ghost use Rattle.row_acts.specs.Acts.{acted, drawn};
-ghost use Rattle.step_rows.specs.Band.{row-number, band-number, rows-on, OnRow, OnRows, each};
+ghost use Rattle.row_judge.specs.Building.{rows-at};
+ghost use Rattle.screen.specs.Screens.{frame-of};
+ghost use Rattle.step_rows.specs.Band.{row-number, band-number, act-of, ShortAct, OnRow, OnRows, each};
 use row_acts::ensure_row_layers;
 use row_judge::is_good_row;
+use row_screen::part;
+use row_screen::place_of;
 use row::push_paint;
 use screen::ROW;
 use screen::Screen;
@@ -42,8 +46,7 @@ pub fn judge_rows(screen: Screen, rows: &[u32], a: usize, b: usize) -> u32
     let mut number: u32 = 0;
     let mut r = a;
     while r < b {
-        let at = r * ROW;
-        let k = judge_row(&rows[at..at + ROW], screen.c, screen.d, screen.layers);
+        let k = judge_row(part(rows, ROW, r), screen.c, screen.d, screen.layers);
         if k == 4 {
             return 4;
         }
@@ -55,49 +58,12 @@ pub fn judge_rows(screen: Screen, rows: &[u32], a: usize, b: usize) -> u32
     number
 }
 
-// Rule 5 on row r, with n layers open.
-fn touch_row(
-    screen: Screen,
-    rows: &mut [u32],
-    render: &mut [u32],
-    fills: &mut [u32],
-    r: usize,
-    n: u32,
-)
-    requires { ⌜ OnRow screen n (acted n touch) r (words (now rows) (now render) (now fills)) ⌝ }
-    ensures { λ _. ⌜ rows-on screen (words (now (rows .exit)) (now (render .exit)) (now (fills .exit))) ≡ change (acted n touch) r (rows-on screen (words (now (rows .entry)) (now (render .entry)) (now (fills .entry)))) ⌝ }
-{
-    let cw = 4 * (screen.c as usize);
-    let dw = 2 * (screen.d as usize);
-    let x = r * ROW;
-    let y = r * cw;
-    let z = r * dw;
-    ensure_row_layers(
-        &mut rows[x..x + ROW],
-        &mut render[y..y + cw],
-        &mut fills[z..z + dw],
-        n,
-    );
-}
-
-// Rule 8: rule 5 on the rows a to b.
-pub fn touch_rows(
-    screen: Screen,
-    rows: &mut [u32],
-    render: &mut [u32],
-    fills: &mut [u32],
-    a: usize,
-    b: usize,
-    n: u32,
-)
-    requires { ⌜ OnRows screen n (acted n touch) a b (words (now rows) (now render) (now fills)) ⌝ }
-    ensures { λ _. ⌜ words (now (rows .exit)) (now (render .exit)) (now (fills .exit)) ≡ lay (each (acted n touch) (range a b) (rows-on screen (words (now (rows .entry)) (now (render .entry)) (now (fills .entry))))) ⌝ }
-{
-    let mut r = a;
-    while r < b {
-        touch_row(screen, rows, render, fills, r, n);
-        r += 1;
-    }
+// What is done on each row of a run, with n layers open.
+pub enum Act {
+    // Rule 5 alone.
+    Touch,
+    // A solid fill that is no depth fill.
+    Paint { span: TileSpan, attrs_idx: u32 },
 }
 
 // Rules 5 to 7 on one row, for a solid fill that is no depth fill.
@@ -116,36 +82,88 @@ fn push_plain(
     push_paint(state, render, fills, span, Alpha::Solid, attrs_idx);
 }
 
-// A solid fill on row r that is no depth fill, with n layers open.
-fn paint_row(
+// An act on one row's words.
+fn do_act(state: &mut [u32], render: &mut [u32], fills: &mut [u32], n: u32, act: Act)
+    requires { ⌜ ShortAct act × (n ≤ 16) × Room (words (now state) (now render) (now fills)) (acted n (act-of act) (words (now state) (now render) (now fills))) ⌝ }
+    ensures { λ _. ⌜ words (now (state .exit)) (now (render .exit)) (now (fills .exit)) ≡ acted n (act-of act) (words (now (state .entry)) (now (render .entry)) (now (fills .entry))) ⌝ }
+{
+    match act {
+        Act::Touch => {
+            ensure_row_layers(state, render, fills, n);
+        }
+        Act::Paint { span, attrs_idx } => {
+            push_plain(state, render, fills, n, span, attrs_idx);
+        }
+    }
+}
+
+// An act on row r.
+fn on_row(
     screen: Screen,
     rows: &mut [u32],
     render: &mut [u32],
     fills: &mut [u32],
     r: usize,
     n: u32,
-    span: TileSpan,
-    attrs_idx: u32,
+    act: Act,
 )
-    requires { ⌜ Short (tiles span) × OnRow screen n (acted n (paint (tiles span) none «attrs_idx»)) r (words (now rows) (now render) (now fills)) ⌝ }
-    ensures { λ _. ⌜ rows-on screen (words (now (rows .exit)) (now (render .exit)) (now (fills .exit))) ≡ change (acted n (paint (tiles span) none «attrs_idx»)) r (rows-on screen (words (now (rows .entry)) (now (render .entry)) (now (fills .entry)))) ⌝ }
+    requires { ⌜ ShortAct act × OnRow screen n (acted n (act-of act)) r (words (now rows) (now render) (now fills)) ⌝ }
+    ensures { λ _. ⌜ rows-at (frame-of screen) (words (now (rows .exit)) (now (render .exit)) (now (fills .exit))) ≡ change (acted n (act-of act)) r (rows-at (frame-of screen) (words (now (rows .entry)) (now (render .entry)) (now (fills .entry)))) ⌝ }
 {
-    let cw = 4 * (screen.c as usize);
-    let dw = 2 * (screen.d as usize);
-    let x = r * ROW;
-    let y = r * cw;
-    let z = r * dw;
-    push_plain(
-        &mut rows[x..x + ROW],
-        &mut render[y..y + cw],
-        &mut fills[z..z + dw],
+    let p = place_of(screen.c, screen.d, r);
+    let x0 = p.x0;
+    let x1 = p.x1;
+    let y0 = p.y0;
+    let y1 = p.y1;
+    let z0 = p.z0;
+    let z1 = p.z1;
+    do_act(
+        &mut rows[x0..x1],
+        &mut render[y0..y1],
+        &mut fills[z0..z1],
         n,
-        span,
-        attrs_idx,
+        act,
     );
 }
 
-// Rule 11: such a fill on each of the rows a to b.
+// An act on each of the rows a to b.
+fn on_rows(
+    screen: Screen,
+    rows: &mut [u32],
+    render: &mut [u32],
+    fills: &mut [u32],
+    a: usize,
+    b: usize,
+    n: u32,
+    act: Act,
+)
+    requires { ⌜ ShortAct act × OnRows screen n (acted n (act-of act)) a b (words (now rows) (now render) (now fills)) ⌝ }
+    ensures { λ _. ⌜ words (now (rows .exit)) (now (render .exit)) (now (fills .exit)) ≡ lay (each (acted n (act-of act)) (range a b) (rows-at (frame-of screen) (words (now (rows .entry)) (now (render .entry)) (now (fills .entry))))) ⌝ }
+{
+    let mut r = a;
+    while r < b {
+        on_row(screen, rows, render, fills, r, n, act);
+        r += 1;
+    }
+}
+
+// Rule 8: rule 5 on the rows a to b.
+pub fn touch_rows(
+    screen: Screen,
+    rows: &mut [u32],
+    render: &mut [u32],
+    fills: &mut [u32],
+    a: usize,
+    b: usize,
+    n: u32,
+)
+    requires { ⌜ OnRows screen n (acted n touch) a b (words (now rows) (now render) (now fills)) ⌝ }
+    ensures { λ _. ⌜ words (now (rows .exit)) (now (render .exit)) (now (fills .exit)) ≡ lay (each (acted n touch) (range a b) (rows-at (frame-of screen) (words (now (rows .entry)) (now (render .entry)) (now (fills .entry))))) ⌝ }
+{
+    on_rows(screen, rows, render, fills, a, b, n, Act::Touch);
+}
+
+// Rule 11: a solid fill that is no depth fill, on each of the rows a to b.
 pub fn paint_rows(
     screen: Screen,
     rows: &mut [u32],
@@ -158,11 +176,8 @@ pub fn paint_rows(
     attrs_idx: u32,
 )
     requires { ⌜ Short (tiles span) × OnRows screen n (acted n (paint (tiles span) none «attrs_idx»)) a b (words (now rows) (now render) (now fills)) ⌝ }
-    ensures { λ _. ⌜ words (now (rows .exit)) (now (render .exit)) (now (fills .exit)) ≡ lay (each (acted n (paint (tiles span) none «attrs_idx»)) (range a b) (rows-on screen (words (now (rows .entry)) (now (render .entry)) (now (fills .entry))))) ⌝ }
+    ensures { λ _. ⌜ words (now (rows .exit)) (now (render .exit)) (now (fills .exit)) ≡ lay (each (acted n (paint (tiles span) none «attrs_idx»)) (range a b) (rows-at (frame-of screen) (words (now (rows .entry)) (now (render .entry)) (now (fills .entry))))) ⌝ }
 {
-    let mut r = a;
-    while r < b {
-        paint_row(screen, rows, render, fills, r, n, span, attrs_idx);
-        r += 1;
-    }
+    let act = Act::Paint { span, attrs_idx };
+    on_rows(screen, rows, render, fills, a, b, n, act);
 }

@@ -5,13 +5,13 @@ use mathlib.Core.Option.{Option, none, some}
 use Prim.Native.Nat.{ℕ, zero, suc, _+_, _-_, _*_, _≤_, _<_}
 use native.Mathlib.Omega.{arith}
 use native.Mathlib.Nat.{mul-le-mul}
-use lib.ListN.{length, take, drop}
+use lib.ListN.{length}
 use lib.Dec.{leb, eqb}
 use borrow.Author.Tests.{le-leb, lt-leb, ne-eqb, leb-true}
 use Rattle.rules.proofs.All.{both}
-use Rattle.row.specs.Words.{Words, words, word}
-use Rattle.row_screen.specs.Arena.{nowhere, sizes, row-at}
-use Rattle.row_screen.proofs.Laws.{lent, cut-at, at-state, at-render, at-fills}
+use Rattle.row.specs.Words.{Words, word}
+use Rattle.row_screen.specs.Arena.{sizes, row-at, Arenas}
+use Rattle.row_screen.proofs.Laws.{at-state, at-render, at-fills}
 use Rattle.text_screen.specs.Places.{is-some}
 use Rattle.rules.specs.Boxes.{rows-of, buckets-of}
 use Rattle.rect.specs.Rects.{box-of}
@@ -19,7 +19,7 @@ use Rattle.screen.specs.declared.Screen.{Screen}
 use Rattle.screen.specs.Judging.{judged}
 use Rattle.screen.proofs.Laws.{few-rows, few-buckets, bounds}
 use Rattle.screen.proofs.Passed.{passed}
-use Rattle.text_screen.specs.Listed.{good-depths, good-commands, good-row, good-rows, screen-room, list-number, Whole, Few, Ready}
+use Rattle.text_screen.specs.Listed.{good-depths, good-commands, good-row, good-rows, screen-room, list-number, Few, Ready}
 use Rattle.text_screen.proofs.Runs.{below-at}
 
 pub not-there : {A : Type 0} {x y : Option A} → x ≡ y → x ≡ none → false ≡ is-some y
@@ -59,25 +59,12 @@ module _ (c d n : ℕ) (w : Words) where
 pub small : (m c d : ℕ) → m ≤ 512 → c ≤ 1024 → d ≤ 1024 → m * (64 * (1 + (c + d))) ≤ 67141632
 small m c d h e g = mul-le-mul {n₂ = 512} {m₂ = 131136} h (omega arith)
 
--- row r as code cuts it out to lend it to a call
-abbrev pub part : ℕ → ℕ → ℕ → Words → Words
-part c d r w =
-    words (take (r * 54 + 54 - r * 54) (drop (r * 54) (w .state)))
-    (take (r * (4 * c) + 4 * c - r * (4 * c)) (drop (r * (4 * c)) (w .render)))
-    (take (r * (2 * d) + 2 * d - r * (2 * d)) (drop (r * (2 * d)) (w .fills)))
-
-module _ {m c d : ℕ} {w : Words} (o : Whole m c d w) (r : ℕ) (h : r < m) where
-  pub part-is : part c d r w ≡ row-at (sizes c d) r w
-  part-is = lent (sizes c d) m r w (o .long) h ∙ cut-at (sizes c d) m r w nowhere h
-
-  pub part-few : Few c d (row-at (sizes c d) r w) → Few c d (part c d r w)
-  part-few f = rw part-is f
-
-  pub part-ready : Few c d (row-at (sizes c d) r w) → Ready (part c d r w)
-  part-ready f =
-      let x = at-render (sizes c d) m r w (o .long) h in
-      let y = at-fills (sizes c d) m r w (o .long) h in
-      rw part-is (record { state = at-state (sizes c d) m r w (o .long) h; commands = omega (arith, x, f .commands); depths = omega (arith, y, f .depths) })
+-- row r has its words
+pub row-ready : {m c d : ℕ} {w : Words} → Arenas c d m w → (r : ℕ) → r < m → Few c d (row-at (sizes c d) r w) → Ready (row-at (sizes c d) r w)
+row-ready {m} {c} {d} {w} o r h f =
+    let x = at-render (sizes c d) m r w (o .long) h in
+    let y = at-fills (sizes c d) m r w (o .long) h in
+    record { state = at-state (sizes c d) m r w (o .long) h; commands = omega (arith, x, f .commands); depths = omega (arith, y, f .depths) }
 
 -- the call's number
 module _ (s : Screen) (w : Words) where
@@ -86,14 +73,14 @@ module _ (s : Screen) (w : Words) where
   by-screen n e h = rw (← e, ne-eqb n 0 h)
 
   module _ (e : judged s (length (w .state)) (length (w .render)) (length (w .fills)) ≡ 0) {m : ℕ} (p : m ≡ rows-of (box-of (s .viewport))) where
-    pub whole : Whole m (s .c) (s .d) w
+    pub whole : Arenas (s .c) (s .d) m w
     whole =
         let o = passed s (length (w .state)) (length (w .render)) (length (w .fills)) e in
         rw p
         (record {
-          few-rows = few-rows _ (o .view);
-          few-c = o .c-room .few;
-          few-d = o .d-room .few;
+          rows = few-rows _ (o .view);
+          c = o .c-room .few;
+          d = o .d-room .few;
           long = record { state = o .row-words; render = o .render-words; fills = o .fill-words };
         })
 
@@ -108,7 +95,7 @@ module _ (s : Screen) (w : Words) where
 
 -- a screen that the call lists
 pub record Listable (s : Screen) (w : Words) : Type 0 where
-  pub whole : Whole (rows-of (box-of (s .viewport))) (s .c) (s .d) w
+  pub whole : Arenas (s .c) (s .d) (rows-of (box-of (s .viewport))) w
   pub few : (r : ℕ) → r < rows-of (box-of (s .viewport)) → Few (s .c) (s .d) (row-at (sizes (s .c) (s .d)) r w)
   pub room : screen-room s ≤ 67141696
   pub some-id : 1 ≤ s .«next_draw_id»
@@ -130,7 +117,7 @@ module _ (s : Screen) (w : Words) where
       record {
         whole = l;
         few = λ r h. row-few _ _ _ _ (below-at _ (rows-of v) (all .1) r h);
-        room = omega (arith, small (rows-of v) (s .c) (s .d) (l .few-rows) (l .few-c) (l .few-d));
+        room = omega (arith, small (rows-of v) (s .c) (s .d) (l .rows) (l .c) (l .d));
         some-id = bounds s (o .screen) .some-id;
         few-buckets = few-buckets v (o .view);
       }

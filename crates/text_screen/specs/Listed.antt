@@ -14,7 +14,7 @@ use Rattle.cmd.specs.Reading.{command-of, depth-fill-of}
 use Rattle.rules.specs.Lines.{Line, header, row, refused, depth-line, command-line, line-bytes}
 use Rattle.rect.specs.Rects.{box-of}
 use Rattle.row.specs.Words.{Words, word}
-use Rattle.row_screen.specs.Arena.{Sizes, sizes, row-at, Long}
+use Rattle.row_screen.specs.Arena.{Sizes, sizes, row-at}
 use Rattle.screen.specs.declared.Screen.{Screen}
 use Rattle.screen.specs.Judging.{judged}
 use Rattle.text_screen.specs.declared.Listing.{Listing}
@@ -113,13 +113,6 @@ listed s w bs =
 -- the line of a refusal
 abbrev pub refused-listed : ℕ → List ℕ → Out
 refused-listed n bs = written (line-bytes (refused n)) bs
-
--- a screen's words
-pub record Whole (m c d : ℕ) (w : Words) : Type 0 where
-  pub few-rows : m ≤ 512
-  pub few-c : c ≤ 1024
-  pub few-d : d ≤ 1024
-  pub long : Long (sizes c d) m w
 
 -- a row's counts within C and D
 pub record Few (c d : ℕ) (w : Words) : Type 0 where

@@ -11,6 +11,7 @@ use text_lines::put_header;
 use text_lines::put_refused;
 use text_lines::put_row_line;
 use row::wide;
+use row_screen::part;
 use screen::ROW;
 use screen::Screen;
 use screen::judge_screen;
@@ -24,9 +25,9 @@ ghost use Rattle.cmd.specs.Commands.{read-of};
 ghost use Rattle.cmd.specs.DepthFills.{read-depth-of};
 ghost use Rattle.text.specs.Texts.{text, far, Wrote};
 ghost use Rattle.row.specs.Words.{words};
-ghost use Rattle.row_screen.specs.Arena.{sizes, row-at};
+ghost use Rattle.row_screen.specs.Arena.{sizes, row-at, Arenas};
 ghost use Rattle.text_screen.specs.Places.{is-some};
-ghost use Rattle.text_screen.specs.Listed.{depth-fill-at, command-at, shown, depth-lines, command-lines, row-lines, rows-lines, screen-lines, text-of, good-depths, good-commands, good-row, good-rows, row-room, screen-room, list-number, left, listed, refused-listed, Whole, Few, Ready};
+ghost use Rattle.text_screen.specs.Listed.{depth-fill-at, command-at, shown, depth-lines, command-lines, row-lines, rows-lines, screen-lines, text-of, good-depths, good-commands, good-row, good-rows, row-room, screen-room, list-number, left, listed, refused-listed, Few, Ready};
 
 // number: document 01's answer. bytes: how many are written, at the start of the lent ones.
 pub struct Listing {
@@ -144,18 +145,13 @@ fn judge_row(
     buckets: u32,
     r: usize,
 ) -> bool
-    requires { ⌜ Whole m c d (words (now rows) (now render) (now fills)) × (r < m) ⌝ }
+    requires { ⌜ Arenas c d m (words (now rows) (now render) (now fills)) × (r < m) ⌝ }
     ensures { λ t. ⌜ t ≡ good-row c d buckets (row-at (sizes c d) r (words (now (rows .entry)) (now (render .entry)) (now (fills .entry)))) ⌝ }
 {
-    let cw = 4 * (c as usize);
-    let dw = 2 * (d as usize);
-    let x = r * ROW;
-    let y = r * cw;
-    let z = r * dw;
     is_good_row(
-        &rows[x..x + ROW],
-        &render[y..y + cw],
-        &fills[z..z + dw],
+        part(rows, ROW, r),
+        part(render, 4 * (c as usize), r),
+        part(fills, 2 * (d as usize), r),
         c,
         d,
         buckets,
@@ -172,7 +168,7 @@ fn judge_rows(
     d: u32,
     buckets: u32,
 ) -> bool
-    requires { ⌜ Whole m c d (words (now rows) (now render) (now fills)) ⌝ }
+    requires { ⌜ Arenas c d m (words (now rows) (now render) (now fills)) ⌝ }
     ensures { λ t. ⌜ t ≡ good-rows c d buckets (words (now (rows .entry)) (now (render .entry)) (now (fills .entry))) m ⌝ }
 {
     let mut left = m;
@@ -269,20 +265,15 @@ fn put_row_at(
     buckets: u32,
     r: usize,
 ) -> usize
-    requires { ⌜ Whole m c d (words (now rows) (now render) (now fills)) × (r < m) × Few c d (row-at (sizes c d) r (words (now rows) (now render) (now fills))) × (at + row-room c d ≤ far) ⌝ }
+    requires { ⌜ Arenas c d m (words (now rows) (now render) (now fills)) × (r < m) × Few c d (row-at (sizes c d) r (words (now rows) (now render) (now fills))) × (at + row-room c d ≤ far) ⌝ }
     ensures { λ p. ⌜ Wrote (text-of (row-lines buckets r (row-at (sizes c d) r (words (now (rows .entry)) (now (render .entry)) (now (fills .entry)))))) (row-room c d) (text (now (out .entry)) at) (text (now (out .exit)) p) ⌝ }
 {
-    let cw = 4 * (c as usize);
-    let dw = 2 * (d as usize);
-    let x = r * ROW;
-    let y = r * cw;
-    let z = r * dw;
     put_row(
         out,
         at,
-        &rows[x..x + ROW],
-        &render[y..y + cw],
-        &fills[z..z + dw],
+        part(rows, ROW, r),
+        part(render, 4 * (c as usize), r),
+        part(fills, 2 * (d as usize), r),
         buckets,
         r as u32,
     )
@@ -300,7 +291,7 @@ fn put_rows(
     d: u32,
     buckets: u32,
 ) -> usize
-    requires { ⌜ Whole m c d (words (now rows) (now render) (now fills)) × ((r : ℕ) → r < m → Few c d (row-at (sizes c d) r (words (now rows) (now render) (now fills)))) × (at + m * row-room c d ≤ far) ⌝ }
+    requires { ⌜ Arenas c d m (words (now rows) (now render) (now fills)) × ((r : ℕ) → r < m → Few c d (row-at (sizes c d) r (words (now rows) (now render) (now fills)))) × (at + m * row-room c d ≤ far) ⌝ }
     ensures { λ p. ⌜ Wrote (text-of (rows-lines (sizes c d) buckets (words (now (rows .entry)) (now (render .entry)) (now (fills .entry))) m)) (m * row-room c d) (text (now (out .entry)) at) (text (now (out .exit)) p) ⌝ }
 {
     let mut place = at;

@@ -4,7 +4,7 @@ use native.Mathlib.Omega.{arith}
 use borrow.Author.Needs.{needs}
 use borrow.Author.Tests.{not-true, not-false}
 use Rattle.segments.specs.Segs.{segment-of}
-use Rattle.step_fill_rows.specs.Filling.{count-rows}
+use Rattle.row_screen.specs.Arena.{count-rows}
 use Rattle.step_fill_judge.proofs.Hands.{Passing, begun, bad-here, bad-record, again, told-at-last, low-marked}
 use Rattle.step_fill_judge.proofs.judge_list.Statement.{statement}
 use Rattle.step_fill_judge.proofs.judge_list.Tie as tie

@@ -2,9 +2,10 @@ use Prim.Native.Nat.{_-_}
 use mathlib.Core.Path.{sym, _∙_}
 use native.Mathlib.Omega.{arith}
 use Rattle.row.specs.Words.{words}
-use Rattle.step_fill_rows.specs.Filling.{count-rows}
+use Rattle.row_screen.specs.Arena.{count-rows}
+use Rattle.row_screen.proofs.Laws.{rows-counted}
 use borrow.Author.Needs.{needs}
-use Rattle.step_fill_rows.proofs.Laws.{rows-counted, Filling, begun, filled, good-here, room-here, again, long-after}
+use Rattle.step_fill_rows.proofs.Laws.{Filling, begun, filled, good-here, room-here, again, long-after}
 use Rattle.step_fill_rows.proofs.fill_rows.Statement.{statement}
 use Rattle.step_fill_rows.proofs.fill_rows.Tie as tie
 use Rattle.step_fill_rows.proofs.fill_rows.Reads as reads
@@ -21,7 +22,7 @@ loop-holds : tie.Need-loop-holds Inv-loop μ-loop
 loop-holds c = begun (c .before .before .before .before .pre)
 
 fill-segment-requires : tie.Need-fill-segment-requires Inv-loop μ-loop
-fill-segment-requires c κs = rw (rows-counted _ _ (c .before .before .before .before .loop .inv .rest .whole .long .state)) (c .before .before .before .before .loop .inv .rest .whole, omega (arith, c .before .before .before .before .loop .inv .rest .within), good-here (c .before .before .before .before .loop .inv) (c .before .before .before .loop-test .taken), room-here (c .before .before .before .before .loop .inv) (c .before .before .before .loop-test .taken))
+fill-segment-requires c κs = rw (rows-counted _ _ (c .before .before .before .before .loop .inv .rest .fits .arenas .long .state)) (c .before .before .before .before .loop .inv .rest .fits, omega (arith, c .before .before .before .before .loop .inv .rest .within), good-here (c .before .before .before .before .loop .inv) (c .before .before .before .loop-test .taken), room-here (c .before .before .before .before .loop .inv) (c .before .before .before .loop-test .taken))
 
 add-i : tie.Need-add-i Inv-loop μ-loop
 add-i c = record { fits = omega arith }
@@ -30,16 +31,16 @@ loop-less : tie.Need-loop-less Inv-loop μ-loop
 loop-less c = omega arith
 
 loop-again : tie.Need-loop-again Inv-loop μ-loop
-loop-again c = again (c .before .before .before .before .before .before .before .before .before .before .before .loop .inv) (c .before .before .before .before .before .before .before .before .before .before .loop-test .taken) _ (long-after _ _ _ (c .before .before .before .before .before .before .before .before .before .before .before .loop .inv .rest .whole .long) (search needs) (search needs) (search needs)) (rw (rows-counted _ _ (c .before .before .before .before .before .before .before .before .before .before .before .loop .inv .rest .whole .long .state)) at (c .before .before .before .before .before .before .fill-segment .ensures))
+loop-again c = again (c .before .before .before .before .before .before .before .before .before .before .before .loop .inv) (c .before .before .before .before .before .before .before .before .before .before .loop-test .taken) _ (long-after _ _ _ (c .before .before .before .before .before .before .before .before .before .before .before .loop .inv .rest .fits .arenas .long) (search needs) (search needs) (search needs)) (rw (rows-counted _ _ (c .before .before .before .before .before .before .before .before .before .before .before .loop .inv .rest .fits .arenas .long .state)) at (c .before .before .before .before .before .before .fill-segment .ensures))
 
 same-length : tie.Need-same-length Inv-loop μ-loop
-same-length c = c .before .loop .inv .rest .whole .long .state ∙ sym (c .before .before .before .before .before .before .pre .whole .long .state)
+same-length c = c .before .loop .inv .rest .fits .arenas .long .state ∙ sym (c .before .before .before .before .before .before .pre .fits .arenas .long .state)
 
 same-length-2 : tie.Need-same-length-2 Inv-loop μ-loop
-same-length-2 c = c .before .loop .inv .rest .whole .long .render ∙ sym (c .before .before .before .before .before .before .pre .whole .long .render)
+same-length-2 c = c .before .loop .inv .rest .fits .arenas .long .render ∙ sym (c .before .before .before .before .before .before .pre .fits .arenas .long .render)
 
 same-length-3 : tie.Need-same-length-3 Inv-loop μ-loop
-same-length-3 c = c .before .loop .inv .rest .whole .long .fills ∙ sym (c .before .before .before .before .before .before .pre .whole .long .fills)
+same-length-3 c = c .before .loop .inv .rest .fits .arenas .long .fills ∙ sym (c .before .before .before .before .before .before .pre .fits .arenas .long .fills)
 
 returns : tie.Need-returns Inv-loop μ-loop
 returns c = filled (c .before .loop .inv) (c .loop-test .left)

@@ -7,8 +7,8 @@ use Rattle.rules.specs.Plans.{close}
 use Rattle.span.specs.Spans.{tiles}
 use Rattle.screen.specs.Screens.{frame-of}
 use Rattle.row.specs.Words.{words}
-use Rattle.row_judge.specs.Building.{rows-at}
-use Rattle.step_pop_rows.specs.Closing.{Whole, Fillable}
+use Rattle.row_judge.specs.Building.{rows-at, Whole}
+use Rattle.step_pop_rows.specs.Closing.{Fillable}
 use Rattle.step_pop_rows.proofs.Going.{Going, going-start, going-done, going-here, going-on}
 use Rattle.step_pop_rows.proofs.Rooms.{long-after}
 use Rattle.step_pop_rows.proofs.close_spans.Statement.{statement}

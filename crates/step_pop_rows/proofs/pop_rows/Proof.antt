@@ -5,8 +5,8 @@ use borrow.Author.Needs.{needs}
 use Rattle.rules.specs.Plans.{pop}
 use Rattle.screen.specs.Screens.{frame-of}
 use Rattle.row.specs.Words.{words}
-use Rattle.row_judge.specs.Building.{rows-at}
-use Rattle.step_pop_rows.specs.Closing.{Whole, Poppable}
+use Rattle.row_judge.specs.Building.{rows-at, Whole}
+use Rattle.step_pop_rows.specs.Closing.{Poppable}
 use Rattle.step_pop_rows.proofs.Going.{Going, going-start, going-done, going-here, going-on}
 use Rattle.step_pop_rows.proofs.Rooms.{long-after}
 use Rattle.step_pop_rows.proofs.pop_rows.Statement.{statement}

@@ -1,3 +1,4 @@
+-- Judging the rows from r to b with the number so far gives what judging all from a would (`going`).
 use mathlib.Core.Path.{_≡_, sym, _∙_}
 use mathlib.Core.Logic.{⊎-elim}
 use Prim.Native.Nat.{_-_, _*_}
@@ -18,29 +19,17 @@ abbrev μ-loop : tie.MeasureT-loop
 loop-holds : tie.Need-loop-holds Inv-loop μ-loop
 loop-holds c = going-all _ _ _ _ _
 
-mul-at : tie.Need-mul-at Inv-loop μ-loop
-mul-at c = record { fits = omega arith }
-
-add-judge-row : tie.Need-add-judge-row Inv-loop μ-loop
-add-judge-row c = record { fits = omega arith }
-
-mul-judge-row : tie.Need-mul-judge-row Inv-loop μ-loop
-mul-judge-row c = record { fits = omega arith }
-
-sub-judge-row : tie.Need-sub-judge-row Inv-loop μ-loop
-sub-judge-row c = omega arith
-
-part-judge-row-start : tie.Need-part-judge-row-start Inv-loop μ-loop
-part-judge-row-start c = omega arith
-
-part-judge-row-end : tie.Need-part-judge-row-end Inv-loop μ-loop
-part-judge-row-end c = omega arith
+part-requires : tie.Need-part-requires Inv-loop μ-loop
+part-requires c κs = omega arith
 
 judge-row-requires : tie.Need-judge-row-requires Inv-loop μ-loop
-judge-row-requires c κs = (record-long (c .before .before .before .before .args .rows .now) _ (c .before .before .before .before .args .b) (c .before .loop-test .taken) (c .before .before .before .before .pre .3), c .before .before .before .before .pre .0, c .before .before .before .before .pre .1)
+judge-row-requires c κs =
+    let start = c .before .before .before .before in
+    (rw (c .part .ensures) (record-long (start .args .rows .now) _ (start .args .b) (c .before .loop-test .taken) (start .pre .3)), start .pre .0, start .pre .1)
 
 returns : tie.Need-returns Inv-loop μ-loop
-returns c = going-bad _ _ _ _ _ _ _ _ (c .before .before .before .loop-test .taken) (c .before .judge-row .ensures) (c .if1 .taken) ∙ c .before .before .before .before .loop .inv
+returns c =
+    going-bad _ _ _ _ _ _ _ _ _ (c .before .before .before .loop-test .taken) (c .before .before .part .ensures) (c .before .judge-row .ensures) (c .if1 .taken) ∙ c .before .before .before .before .loop .inv
 
 add-r : tie.Need-add-r Inv-loop μ-loop
 add-r c = record { fits = omega arith }
@@ -49,7 +38,13 @@ loop-less : tie.Need-loop-less Inv-loop μ-loop
 loop-less c = omega arith
 
 loop-again : tie.Need-loop-again Inv-loop μ-loop
-loop-again c = ⊎-elim (λ w. rw (w .1) (going-full _ _ _ _ _ _ _ _ (c .before .before .before .before .loop-test .taken) (c .before .before .judge-row .ensures) (w .0 .taken) ∙ c .before .before .before .before .before .loop .inv)) (λ w. rw (w .1) (going-fine _ _ _ _ _ _ _ _ (c .before .before .before .before .loop-test .taken) (c .before .before .judge-row .ensures) (c .before .if1 .left) (w .0 .left) ∙ c .before .before .before .before .before .loop .inv)) (c .if2 .came)
+loop-again c =
+    let here = c .before .before .before .before .loop-test .taken in
+    let own = c .before .before .before .part .ensures in
+    let told = c .before .before .judge-row .ensures in
+    let held = c .before .before .before .before .before .loop .inv in
+    ⊎-elim (λ w. rw (w .1) (going-full _ _ _ _ _ _ _ _ _ here own told (w .0 .taken) ∙ held))
+    (λ w. rw (w .1) (going-fine _ _ _ _ _ _ _ _ _ here own told (c .before .if1 .left) (w .0 .left) ∙ held)) (c .if2 .came)
 
 returns-2 : tie.Need-returns-2 Inv-loop μ-loop
 returns-2 c = sym (going-end _ _ _ _ _ _ _ (c .loop-test .left)) ∙ c .before .loop .inv
@@ -61,12 +56,7 @@ judge-rows-spec =
     Inv-loop
     μ-loop
     loop-holds
-    mul-at
-    add-judge-row
-    mul-judge-row
-    sub-judge-row
-    part-judge-row-start
-    part-judge-row-end
+    part-requires
     judge-row-requires
     returns
     add-r

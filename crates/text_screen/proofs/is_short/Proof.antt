@@ -17,7 +17,7 @@ screen-room-requires : tie.Need-screen-room-requires
 screen-room-requires c κs =
     let entry = c .before .before .before .before in
     let o = listable _ (words (entry .args .rows .now) (entry .args .render .now) (entry .args .fills .now)) (entry .pre) in
-    rw (c .rows .ensures) (o .whole .few-rows, o .whole .few-c, o .whole .few-d)
+    rw (c .rows .ensures) (o .whole .rows, o .whole .c, o .whole .d)
 
 returns : tie.Need-returns
 returns c =

@@ -24,7 +24,7 @@ cast-put-header c =
     let at-rows = c .before .before in
     let entry = at-rows .before .before .before .before .before in
     let w = words (entry .args .rows .now) (entry .args .render .now) (entry .args .fills .now) in
-    omega (arith, at-rows .rows .ensures, listable _ w (entry .pre) .whole .few-rows)
+    omega (arith, at-rows .rows .ensures, listable _ w (entry .pre) .whole .rows)
 
 sub-put-header : tie.Need-sub-put-header
 sub-put-header c =

@@ -1,0 +1,40 @@
+-- Row r stands where `place_of` says, so the three parts lie within the slices, are row r as they are lent, and come back as row r.
+use Rattle.row_screen.proofs.Laws.{y-end, z-end, lent, back}
+use Rattle.row_acts.specs.Acts.{acted}
+use Rattle.step_rows.specs.Band.{act-of}
+use borrow.Author.Needs.{needs}
+use Rattle.step_rows.proofs.Laws.{room-lent, grows}
+use Rattle.step_rows.proofs.on_row.Statement.{statement}
+use Rattle.step_rows.proofs.on_row.Tie as tie
+
+y-within : tie.Need-part-do-act-end-2
+y-within c = let o = c .before .before .before .before .before .pre .1 in y-end (o .whole) (o .within) (c .before .place-of .ensures)
+
+z-within : tie.Need-part-do-act-end-3
+z-within c = let o = c .before .before .before .before .before .before .pre .1 in z-end (o .whole) (o .within) (c .before .before .place-of .ensures)
+
+do-act-requires : tie.Need-do-act-requires
+do-act-requires c κs =
+    let start = c .before .before .before .before .before .before .before in
+    let o = start .pre .1 in
+    (start .pre .0, o .layers, room-lent (act-of (start .args .act)) o (lent (o .whole) (o .within) (c .before .before .before .place-of .ensures)))
+
+returns : tie.Need-returns
+returns c =
+    let start = c .before .before .before .before .before .before .before .before .before .before .before .before .before .before in
+    let o = start .pre .1 in
+    let s = c .before .before .before .before .before .before .before .before .before .before .place-of .ensures in
+    let a = act-of (start .args .act) in
+    back (o .whole) (o .within) s (acted (start .args .n) a) _ _ _ (grows a o (lent (o .whole) (o .within) s)) (c .before .before .before .before .before .before .do-act .ensures)
+
+pub on-row-spec : {M : Type 1} → statement M
+on-row-spec =
+    tie.close
+    (tie.spec
+    (λ c κs. search needs)
+    (λ c. search needs) (λ c. search needs) (λ c. search needs) (λ c. search needs)
+    (λ c. search needs) (λ c. search needs) (λ c. search needs) y-within
+    (λ c. search needs) (λ c. search needs) (λ c. search needs) z-within
+    do-act-requires
+    (λ c. search needs) (λ c. search needs) (λ c. search needs)
+    returns)

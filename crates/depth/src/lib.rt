@@ -14,5 +14,3 @@ pub use state::Bounds;
 pub use state::DepthState;
 pub use state::Skip;
 
-// Tiles in a depth bucket.
-const BUCKET: u32 = 32;

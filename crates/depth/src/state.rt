@@ -2,6 +2,7 @@
 use cmd::Answer;
 use span::TileSpan;
 use span::larger;
+use sizes::TILE_END;
 ghost use mathlib.Core.Path.{_≡_};
 ghost use Rattle.rules.specs.Depth.{no-depth, included, can-skip-answer};
 ghost use Rattle.span.specs.Spans.{tiles};
@@ -58,7 +59,7 @@ impl DepthState {
         if span.end < span.first {
             return Skip::Refused(Answer::BadRun);
         }
-        if 8192 < span.end {
+        if TILE_END < span.end {
             return Skip::Refused(Answer::BadRun);
         }
         if self.max_draw_id <= draw_id {

@@ -4,8 +4,10 @@ use cmd::Answer;
 use depth::Runs;
 use depth::visible_runs;
 use span::TileSpan;
+use sizes::BUCKET_END;
 ghost use mathlib.Core.Path.{_≡_};
 ghost use lib.ListN.{length, replicate};
+ghost use Rattle.sizes.specs.Sizes.{bucket-tiles, bucket-end};
 ghost use Rattle.rules.specs.Depth.{visible-answer};
 ghost use Rattle.span.specs.Spans.{tiles};
 ghost use Rattle.depth.specs.Listing as words;
@@ -15,15 +17,15 @@ ghost use Rattle.depth_forms.specs.Listing.{out, listing, counted};
 struct Found {
     runs: Runs,
     count: usize,
-    words: [u32; 256],
+    words: [u32; BUCKET_END],
 }
 
 // The runs that a list of so many spans has room for. Tiles end at 8,192, in 256 buckets, which have at most 128 runs: the words hold
 // them all.
 fn found_runs(depth: &[u32], span: TileSpan, draw_id: u32, room: usize) -> Found
-    ensures { λ r. ⌜ (words.out (r .runs) (r .words) ≡ words.listing (visible-answer 32 (now (depth .entry)) «draw_id» (tiles span) room) (replicate 256 0)) × (r .count ≡ counted (r .runs)) ⌝ }
+    ensures { λ r. ⌜ (words.out (r .runs) (r .words) ≡ words.listing (visible-answer bucket-tiles (now (depth .entry)) «draw_id» (tiles span) room) (replicate bucket-end 0)) × (r .count ≡ counted (r .runs)) ⌝ }
 {
-    let mut words = [0u32; 256];
+    let mut words = [0u32; BUCKET_END];
     let runs = visible_runs(depth, span, draw_id, &mut words);
     match runs {
         Runs::Refused(answer) => Found {
@@ -36,7 +38,7 @@ fn found_runs(depth: &[u32], span: TileSpan, draw_id: u32, room: usize) -> Found
                 return Found {
                     runs: Runs::Refused(Answer::NoRoom),
                     count: 0,
-                    words: [0u32; 256],
+                    words: [0u32; BUCKET_END],
                 };
             }
             Found {
@@ -56,7 +58,7 @@ pub fn list_visible_spans(
     draw_id: u32,
     list: &mut [TileSpan],
 ) -> Runs
-    ensures { λ r. ⌜ out r (now (list .exit)) ≡ listing (visible-answer 32 (now (depth .entry)) «draw_id» (tiles span) (length (now (list .entry)))) (now (list .entry)) ⌝ }
+    ensures { λ r. ⌜ out r (now (list .exit)) ≡ listing (visible-answer bucket-tiles (now (depth .entry)) «draw_id» (tiles span) (length (now (list .entry)))) (now (list .entry)) ⌝ }
 {
     let found = found_runs(depth, span, draw_id, list.len());
     let words = found.words;

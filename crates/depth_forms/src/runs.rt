@@ -1,8 +1,10 @@
 // Runs as spans in a lent slice of them. `depth` has the form over tile numbers, two words a run.
 use span::TileSpan;
+use sizes::MOST_RUNS;
 ghost use mathlib.Core.Path.{_≡_};
 ghost use Prim.Native.Nat.{_+_, _*_, _<_, _≤_};
 ghost use lib.ListN.{length, replicate};
+ghost use Rattle.sizes.specs.Sizes.{most-runs};
 ghost use Rattle.depth_forms.specs.Spans.{span-at, no-span, with-spans};
 
 // The run at a place of a list of tile numbers.
@@ -30,11 +32,11 @@ pub fn write_runs(list: &mut [TileSpan], words: &[u32], count: usize)
 }
 
 // The same by value: a list of 16 spans is made, and lent. A row of 32 buckets has no more runs.
-pub fn runs_of(words: &[u32], count: usize) -> [TileSpan; 16]
-    requires { ⌜ (count ≤ 16) × (count * 2 ≤ length (now words)) ⌝ }
-    ensures { λ r. ⌜ r ≡ with-spans (now (words .entry)) count (replicate 16 no-span) ⌝ }
+pub fn runs_of(words: &[u32], count: usize) -> [TileSpan; MOST_RUNS]
+    requires { ⌜ (count ≤ most-runs) × (count * 2 ≤ length (now words)) ⌝ }
+    ensures { λ r. ⌜ r ≡ with-spans (now (words .entry)) count (replicate most-runs no-span) ⌝ }
 {
-    let mut list = [TileSpan { first: 0, end: 0 }; 16];
+    let mut list = [TileSpan { first: 0, end: 0 }; MOST_RUNS];
     write_runs(&mut list, words, count);
     list
 }

@@ -20,6 +20,7 @@ use screen::Built;
 use screen::Screen;
 use screen::answer_of;
 use screen::reset;
+use sizes::MOST_LAYERS;
 
 fn wide(x: u32) -> usize
     ensures { λ r. ⌜ r ≡ x ⌝ }
@@ -58,7 +59,7 @@ fn play(
     let first = wide(w[at]);
     let end = wide(w[at + 1]);
     walk_nodes(
-        16,
+        MOST_LAYERS,
         screen,
         w,
         l,

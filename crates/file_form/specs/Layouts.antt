@@ -6,6 +6,7 @@ use mathlib.Core.List.{List, [], _∷_}
 use mathlib.Core.Option.{Option, none, some}
 use lib.ListN.{length, getD, drop}
 use lib.Dec.{leb, ltb}
+use Rattle.sizes.specs.Sizes.{most-records}
 use Rattle.rules.specs.Recording.{shape, good-count, records, sections}
 use Rattle.file_form.specs.declared.Section.{Section}
 use Rattle.file_form.specs.declared.Layout.{Layout}
@@ -78,7 +79,7 @@ sections-at l ws =
 -- a section of k words a record lies within the words, and has at most 4,096 records
 pub record Within (ws : List ℕ) (k : ℕ) (s : Section) : Type 0 where
   pub ends : s .at + s .count * k ≤ length ws
-  pub few : s .count ≤ 4096
+  pub few : s .count ≤ most-records
 
 pub record Fits (ws : List ℕ) (l : Layout) : Type 0 where
   pub viewport : Within ws 4 viewport

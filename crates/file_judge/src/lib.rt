@@ -20,6 +20,8 @@ use file_form::Layout;
 use rect::Rect;
 use segments::judge_segments;
 use segments::segment_at;
+use sizes::THREAD_END;
+use sizes::HANDLE_END;
 
 fn wide(x: u32) -> usize
     ensures { λ r. ⌜ r ≡ x ⌝ }
@@ -79,7 +81,7 @@ fn is_good_paint(w: &[u32], at: usize) -> bool
     if 1 < w[at] {
         return false;
     }
-    w[at + 1] < 2147483648
+    w[at + 1] < HANDLE_END
 }
 
 // The draw at a place, in a file of so many paints and segments.
@@ -87,7 +89,7 @@ fn is_good_draw(w: &[u32], at: usize, paints: usize, segments: usize) -> bool
     requires { ⌜ at + 7 ≤ length (now w) ⌝ }
     ensures { λ r. ⌜ r ≡ draw-fields paints segments (draw-from (now (w .entry)) at) ⌝ }
 {
-    if 256 <= w[at] {
+    if THREAD_END <= w[at] {
         return false;
     }
     if !is_good_range(w[at + 1], w[at + 2], segments) {
@@ -99,7 +101,7 @@ fn is_good_draw(w: &[u32], at: usize, paints: usize, segments: usize) -> bool
     if !is_good_blend(w[at + 4], w[at + 5]) {
         return false;
     }
-    w[at + 6] < 2147483648
+    w[at + 6] < HANDLE_END
 }
 
 // The clip of the layer at a place.
@@ -114,7 +116,7 @@ fn is_good_clip(w: &[u32], at: usize, segments: usize) -> bool
     if w[at + 13] < w[at + 12] {
         return false;
     }
-    if 256 <= w[at + 14] {
+    if THREAD_END <= w[at + 14] {
         return false;
     }
     wide(w[at + 13]) <= segments
@@ -136,7 +138,7 @@ fn is_good_filter(w: &[u32], at: usize) -> bool
     requires { ⌜ at + 22 ≤ length (now w) ⌝ }
     ensures { λ r. ⌜ r ≡ good-filter (filter-from (now (w .entry)) at) ⌝ }
 {
-    if 2147483648 <= w[at + 15] {
+    if HANDLE_END <= w[at + 15] {
         return false;
     }
     let b = box_at(w, at + 16);
@@ -174,7 +176,7 @@ fn is_good_layer(w: &[u32], at: usize, nodes: usize, segments: usize) -> bool
     if !is_good_blend(w[at + 3], w[at + 4]) {
         return false;
     }
-    if 2147483648 <= w[at + 6] {
+    if HANDLE_END <= w[at + 6] {
         return false;
     }
     if 1 < w[at + 7] {

@@ -5,6 +5,7 @@ use mathlib.Core.Bool.{Bool, true, cond}
 use mathlib.Core.List.{List, [], _∷_, _++_}
 use lib.ListN.{length, drop}
 use lib.Dec.{eqb}
+use Rattle.sizes.specs.Sizes.{bucket-tiles}
 use Rattle.rules.specs.Answers.{Answer, answer, BadRecord}
 use Rattle.rules.specs.Spans.{Span}
 use Rattle.rules.specs.Split.{Part, regular, buckets, split-answer}
@@ -108,4 +109,4 @@ abbrev pub split-left : List ℕ → Answer (List Part) → Answer (List ℕ)
 split-left parts a = answer (a .number) (result (a .number) (three-words (a .value)) parts)
 
 unfoldable pub split-call : Span → List ℕ → Answer (List ℕ)
-split-call s parts = with-room 9 parts parts (split-left parts (split-answer 32 s))
+split-call s parts = with-room 9 parts parts (split-left parts (split-answer bucket-tiles s))

@@ -3,6 +3,7 @@ use Prim.Native.Nat.{ℕ}
 use mathlib.Core.List.{List, [], _∷_}
 use lib.ListN.{length, replicate}
 use lib.Dec.{eqb}
+use Rattle.sizes.specs.Sizes.{bucket-tiles, open-layer-table}
 use Rattle.rules.specs.Answers.{Answer, answer}
 use Rattle.rules.specs.Spans.{Span}
 use Rattle.rules.specs.Depth.{visible-answer}
@@ -18,7 +19,7 @@ use Rattle.host.specs.Painting.{result, count-left}
 
 -- the row's runs that n runs' room lists, or the number of the refusal: `visible-of` lists these in words
 abbrev pub runs-of : Screen → ℕ → List ℕ → Span → ℕ → ℕ → Answer (List Span)
-runs-of s r d t id n = or-runs (runs-number s r (length d)) (visible-answer 32 (part (wide s) r d) id t n)
+runs-of s r d t id n = or-runs (runs-number s r (length d)) (visible-answer bucket-tiles (part (wide s) r d) id t n)
 
 -- the list of spans, and how many of them are runs
 abbrev pub spans-left : List ℕ → spans.Out → Answer (List TileSpan × List ℕ)
@@ -30,7 +31,7 @@ spans-call r t id st d l n =
 
 -- Before they are written, in words of the call's own: 256, which hold every run of a row.
 abbrev pub own-words : List ℕ
-own-words = replicate 256 0
+own-words = replicate open-layer-table 0
 
 -- how many there are, and their tile numbers
 abbrev pub found-left : List ℕ → words.Out → Answer (ℕ × List ℕ × List ℕ)

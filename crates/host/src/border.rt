@@ -13,6 +13,7 @@ use rect::Rect;
 use screen::fresh;
 use screen::is_good_rooms;
 use screen::judge_screen;
+use sizes::STATE;
 ghost use mathlib.Core.Path.{_≡_};
 ghost use lib.ListN.{length};
 ghost use Rattle.screen.specs.declared.Screen.{Screen as Numbers};
@@ -50,7 +51,7 @@ pub fn refuse_reset(
 ) -> u32
     ensures { λ r. ⌜ r ≡ refused-at (now (state .entry)) (λ (s : Numbers). arenas-number viewport c d (arenas render fills depth)) ⌝ }
 {
-    if state.len() != 16 {
+    if state.len() != STATE {
         return 4;
     }
     before_4(judge_arenas(viewport, c, d, render, fills, depth))
@@ -77,7 +78,7 @@ pub fn refuse_recording(
 ) -> u32
     ensures { λ r. ⌜ r ≡ refused-at (now (state .entry)) (λ (s : Numbers). file-number (now (file .entry)) c d (arenas render fills depth)) ⌝ }
 {
-    if state.len() != 16 {
+    if state.len() != STATE {
         return 4;
     }
     before_4(judge_file(file, c, d, render, fills, depth))
@@ -87,7 +88,7 @@ pub fn refuse_recording(
 pub fn refuse_build(state: &[u32], rows: usize, render: usize, fills: usize) -> u32
     ensures { λ r. ⌜ r ≡ refused-at (now (state .entry)) (λ (s : Numbers). judged s rows render fills) ⌝ }
 {
-    if state.len() != 16 {
+    if state.len() != STATE {
         return 4;
     }
     before_4(judge_screen(screen_at(state), rows, render, fills))
@@ -96,7 +97,7 @@ pub fn refuse_build(state: &[u32], rows: usize, render: usize, fills: usize) -> 
 pub fn refuse_begin(state: &[u32], depth: usize, painting: usize) -> u32
     ensures { λ r. ⌜ r ≡ refused-at (now (state .entry)) (λ (s : Numbers). begin-number s depth painting) ⌝ }
 {
-    if state.len() != 16 {
+    if state.len() != STATE {
         return 4;
     }
     before_4(judge_begin(screen_at(state), depth, painting))
@@ -116,7 +117,7 @@ pub fn refuse_step(
 ) -> u32
     ensures { λ r. ⌜ r ≡ refused-at (now (state .entry)) (λ (s : Numbers). step-number s row (arenas-long s render fills depth) (tables-long s rows painting «paint_attrs» «layer_attrs»)) ⌝ }
 {
-    if state.len() != 16 {
+    if state.len() != STATE {
         return 4;
     }
     before_4(judge_step(
@@ -136,7 +137,7 @@ pub fn refuse_step(
 pub fn refuse_runs(state: &[u32], row: usize, depth: usize) -> u32
     ensures { λ r. ⌜ r ≡ refused-at (now (state .entry)) (λ (s : Numbers). runs-number s row depth) ⌝ }
 {
-    if state.len() != 16 {
+    if state.len() != STATE {
         return 4;
     }
     before_4(judge_runs(screen_at(state), row, depth))
@@ -145,7 +146,7 @@ pub fn refuse_runs(state: &[u32], row: usize, depth: usize) -> u32
 pub fn refuse_skip(state: &[u32], row: usize, rows: usize) -> u32
     ensures { λ r. ⌜ r ≡ refused-at (now (state .entry)) (λ (s : Numbers). skip-number s row rows) ⌝ }
 {
-    if state.len() != 16 {
+    if state.len() != STATE {
         return 4;
     }
     before_4(judge_skip(screen_at(state), row, rows))

@@ -3,5 +3,5 @@
 mod border;
 pub mod build;
 pub mod painting;
-pub mod sizes;
+pub mod lengths;
 pub mod spans;

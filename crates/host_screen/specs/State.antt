@@ -4,6 +4,7 @@ use mathlib.Core.Bool.{Bool, true, false, _&&_, cond}
 use mathlib.Core.List.{List, [], _∷_}
 use lib.ListN.{length, getD}
 use lib.Dec.{leb, ltb, eqb}
+use Rattle.sizes.specs.Sizes.{state-size}
 use Rattle.rules.specs.Answers.{Answer, answer, BadRecord}
 use Rattle.rect.specs.declared.Rect.{Rect}
 use Rattle.screen.specs.declared.Screen.{Screen}
@@ -55,7 +56,7 @@ screen-at ws =
 
 -- 16 words, the last of them 0 or 1
 abbrev pub good-words : List ℕ → Bool
-good-words ws = eqb (length ws) 16 && leb (getD ws 15 0) 1
+good-words ws = eqb (length ws) state-size && leb (getD ws 15 0) 1
 
 -- the screen that the words stand for, if what else the host gives is good
 unfoldable pub screen-of : Bool → List ℕ → Held
@@ -67,7 +68,7 @@ before-4 n = cond (ltb 0 n && ltb n BadRecord) n BadRecord
 
 -- .. of the screen at 16 words; words of another length are no screen at all
 unfoldable pub refused-at : List ℕ → (Screen → ℕ) → ℕ
-refused-at ws f = cond (eqb (length ws) 16) (before-4 (f (screen-at ws))) BadRecord
+refused-at ws f = cond (eqb (length ws) state-size) (before-4 (f (screen-at ws))) BadRecord
 
 -- what a call on a screen gives, or a refusal at the border with everything as it was
 abbrev pub at-held : {T : Type 0} → Held → List ℕ → T → (Screen → Answer T) → Answer T

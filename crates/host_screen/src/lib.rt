@@ -3,8 +3,10 @@
 use rect::Rect;
 use screen::Built;
 use screen::Screen;
+use sizes::STATE;
 ghost use mathlib.Core.Path.{_≡_};
 ghost use lib.ListN.{length};
+ghost use Rattle.sizes.specs.Sizes.{state-size};
 ghost use Rattle.cmd.specs.Answers.{number-of};
 ghost use Rattle.host_screen.specs.State.{bit, screen-words, screen-at, screen-of, before-4};
 
@@ -16,7 +18,7 @@ pub enum Held {
 
 // The screen of 16 words, whatever the last.
 pub fn screen_at(state: &[u32]) -> Screen
-    requires { ⌜ length (now state) ≡ 16 ⌝ }
+    requires { ⌜ length (now state) ≡ state-size ⌝ }
     ensures { λ r. ⌜ r ≡ screen-at (now (state .entry)) ⌝ }
 {
     let viewport = Rect {
@@ -52,7 +54,7 @@ pub fn screen_of(state: &[u32], good: bool) -> Held
     if !good {
         return Held::Nothing;
     }
-    if state.len() != 16 {
+    if state.len() != STATE {
         return Held::Nothing;
     }
     if 1 < state[15] {
@@ -82,7 +84,7 @@ pub fn flag(yes: bool) -> u32
 
 // The words of a screen.
 pub fn put_screen(state: &mut [u32], screen: Screen)
-    requires { ⌜ length (now state) ≡ 16 ⌝ }
+    requires { ⌜ length (now state) ≡ state-size ⌝ }
     ensures { λ _. ⌜ now (state .exit) ≡ screen-words screen ⌝ }
 {
     let v = screen.viewport;
@@ -107,7 +109,7 @@ pub fn put_screen(state: &mut [u32], screen: Screen)
 
 // What a call gave: its screen's words, and its number.
 pub fn leave(state: &mut [u32], built: Built) -> u32
-    requires { ⌜ length (now state) ≡ 16 ⌝ }
+    requires { ⌜ length (now state) ≡ state-size ⌝ }
     ensures { λ r. ⌜ (r ≡ number-of (built .answer)) × (now (state .exit) ≡ screen-words (built .screen)) ⌝ }
 {
     let answer = built.answer;

@@ -5,6 +5,7 @@ use mathlib.Core.List.{List, [], _∷_, map}
 use mathlib.Core.Option.{Option, none, some}
 use lib.ListN.{length, getD}
 use lib.Dec.{leb, ltb}
+use Rattle.sizes.specs.Sizes.{bucket-tiles, most-layers, last-id}
 use Rattle.rules.specs.Lists.{count-from}
 use Rattle.rules.specs.Blends.{default-blend}
 use Rattle.rules.specs.Answers.{Done, BadRecord, NoRoom}
@@ -62,7 +63,7 @@ painter-at d p = record { buckets = d; steps = word p 0; nesting = word p 1 }
 
 -- Judging. An id that a draw can have taken.
 abbrev pub good-id : ℕ → Bool
-good-id id = ltb 0 id && leb id 1048576
+good-id id = ltb 0 id && leb id last-id
 
 -- an id, or 0 if its attribute is not there or it is not good
 unfoldable pub given : Bool → ℕ → ℕ
@@ -80,13 +81,13 @@ module _ (attrs : Attrs) where
   abbrev pub good-command : ℕ → Command → Bool
   good-command n (paint-fill s a i) = good-paint i
   good-command n (layer-fill s a i) = good-layer i
-  good-command n (push-buf s) = ltb n 16
+  good-command n (push-buf s) = ltb n most-layers
   good-command n pop-buf = ltb 0 n
 
   -- a fill gives the runs that are shown, for its attribute's id
   unfoldable pub fill-shown : Summary → Bool → ℕ → ℕ → Span → Option ℕ → Painter → rules.Painted
   fill-shown u l id i s a p =
-      gives (map (fill-piece 32 attrs l i s a (p .nesting)) (shown-runs u (p .buckets) id s))
+      gives (map (fill-piece bucket-tiles attrs l i s a (p .nesting)) (shown-runs u (p .buckets) id s))
       (p .buckets)
       (p .steps + 1)
       (p .nesting)
@@ -95,13 +96,13 @@ module _ (attrs : Attrs) where
   unfoldable pub command-shown : Summary → Command → Painter → rules.Painted
   command-shown u (paint-fill s a i) p = fill-shown u false (paint-id attrs i) i s a p
   command-shown u (layer-fill s a i) p = fill-shown u true (layer-id attrs i) i s a p
-  command-shown u (push-buf s) p = paint-command 32 attrs (push-buf s) p
-  command-shown u pop-buf p = paint-command 32 attrs pop-buf p
+  command-shown u (push-buf s) p = paint-command bucket-tiles attrs (push-buf s) p
+  command-shown u pop-buf p = paint-command bucket-tiles attrs pop-buf p
 
   -- The step, by the rules, unless something that it reads is forged: of a depth fill ..
   unfoldable pub depth-step : Painter → Option DepthFill → Option rules.Painted
   depth-step p none = none
-  depth-step p (some f) = only-if (good-paint (f .attribute)) (paint-depth 32 attrs f p)
+  depth-step p (some f) = only-if (good-paint (f .attribute)) (paint-depth bucket-tiles attrs f p)
 
   -- .. and of a command
   unfoldable pub command-step : Summary → Painter → Option Command → Option rules.Painted
@@ -120,7 +121,7 @@ abbrev pub bad-row : Lent → Bool
 bad-row w =
     ltb (length (w .render)) (4 * word (w .state) 0)
     || ltb (length (w .fills)) (2 * word (w .state) 1)
-    || ltb 16 (word (w .painting) 1)
+    || ltb most-layers (word (w .painting) 1)
     || ltb (word (w .state) 1 + word (w .state) 0) (word (w .painting) 0)
     || not (good-summary (w .state))
 

@@ -5,6 +5,7 @@ use mathlib.Core.Bool.{true}
 use mathlib.Core.List.{List}
 use mathlib.Core.Option.{some}
 use lib.ListN.{length, getD}
+use Rattle.sizes.specs.Sizes.{most-layers}
 use Rattle.rules.specs.Commands.{pop-buf}
 use Rattle.rules.specs.Rows.{Row}
 use Rattle.rules.specs.Attributes.{Attrs}
@@ -26,7 +27,7 @@ pub record Stands (attrs : Attrs) (n : ℕ) (r : Row) (state render fills : List
 -- a painter within the row; its next command, if that is what is next, is good at its nesting
 pub record Ready (attrs : Attrs) (r : Row) (p : Painter) : Type 0 where
   pub steps-left : p .steps ≤ length (r .fills) + length (r .commands)
-  pub shallow : p .nesting ≤ 16
+  pub shallow : p .nesting ≤ most-layers
   pub good-next : length (r .fills) ≤ p .steps → p .steps - length (r .fills) < length (r .commands)
       → good-command attrs (p .nesting) (getD (r .commands) (p .steps - length (r .fills)) pop-buf) ≡ true
 

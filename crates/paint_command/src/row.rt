@@ -14,6 +14,10 @@ use cmd::depth_fill::ReadDepth;
 use depth::DepthState;
 use paint_runs::is_good_summary;
 use paint_runs::summary_of;
+use sizes::MOST_LAYERS;
+use sizes::LAST_ID;
+use sizes::RENDERS;
+use sizes::DEPTHS;
 ghost use mathlib.Core.Path.{_≡_};
 ghost use mathlib.Core.Bool.{true};
 ghost use mathlib.Core.List.{[]};
@@ -21,6 +25,7 @@ ghost use mathlib.Core.Option.{some};
 ghost use Prim.Native.Nat.{_+_, _*_, _≤_, _<_};
 ghost use lib.ListN.{length};
 ghost use lib.Dec.{ltb};
+ghost use Rattle.sizes.specs.Sizes.{most-room, most-attrs, row-size, paint-attr-table, layer-attr-table};
 ghost use Rattle.cmd.specs.Commands.{command, read-of};
 ghost use Rattle.cmd.specs.Good.{GoodCommand};
 ghost use Rattle.depth.specs.Answers.{summary};
@@ -36,12 +41,12 @@ fn wide(x: u32) -> usize
 fn taken(id: u32) -> u32
     ensures { λ r. ⌜ r ≡ given true id ⌝ }
 {
-    if id <= 1048576 { id } else { 0 }
+    if id <= LAST_ID { id } else { 0 }
 }
 
 // The id of a paint attribute, 0 if the attribute is not there or has no id.
 fn paint_taken(paint_attrs: &[u32], paints: u32, i: u32) -> u32
-    requires { ⌜ (length (now «paint_attrs») ≡ 8192) × (paints ≤ 1024) ⌝ }
+    requires { ⌜ (length (now «paint_attrs») ≡ paint-attr-table) × (paints ≤ most-attrs) ⌝ }
     ensures { λ r. ⌜ r ≡ given (ltb i paints) (word (now («paint_attrs» .entry)) (8 * i + 4)) ⌝ }
 {
     if i < paints {
@@ -52,7 +57,7 @@ fn paint_taken(paint_attrs: &[u32], paints: u32, i: u32) -> u32
 
 // The same of a layer attribute.
 fn layer_taken(layer_attrs: &[u32], layers: u32, i: u32) -> u32
-    requires { ⌜ (length (now «layer_attrs») ≡ 6144) × (layers ≤ 1024) ⌝ }
+    requires { ⌜ (length (now «layer_attrs») ≡ layer-attr-table) × (layers ≤ most-attrs) ⌝ }
     ensures { λ r. ⌜ r ≡ given (ltb i layers) (word (now («layer_attrs» .entry)) (6 * i + 3)) ⌝ }
 {
     if i < layers {
@@ -71,7 +76,7 @@ fn step_depth(
     paints: u32,
     list: &mut [u32],
 ) -> Painted
-    requires { ⌜ (length (now «paint_attrs») ≡ 8192) × (paints ≤ 1024) × (length (now depth) ≤ 65535) ⌝ }
+    requires { ⌜ (length (now «paint_attrs») ≡ paint-attr-table) × (paints ≤ most-attrs) × (length (now depth) ≤ 65535) ⌝ }
     requires { ⌜ (2 * k + 2 ≤ length (now fills)) × (length (now painting) ≡ 2) × (word (now painting) 0 < 4294967295) ⌝ }
     ensures { λ r. ⌜ out r (now (depth .exit)) (now (painting .exit)) (now (list .exit)) ≡ settled (depth-step (attrs-at (now («paint_attrs» .entry)) paints [] 0) (painter-at (now (depth .entry)) (now (painting .entry))) (depth-fill-at (length (now (depth .entry))) (now (fills .entry)) k)) (now (depth .entry)) (now (painting .entry)) (now (list .entry)) ⌝ }
 {
@@ -104,7 +109,7 @@ fn step_command(
     layers: u32,
     list: &mut [u32],
 ) -> Painted
-    requires { ⌜ (length (now «paint_attrs») ≡ 8192) × (paints ≤ 1024) × (length (now «layer_attrs») ≡ 6144) × (layers ≤ 1024) ⌝ }
+    requires { ⌜ (length (now «paint_attrs») ≡ paint-attr-table) × (paints ≤ most-attrs) × (length (now «layer_attrs») ≡ layer-attr-table) × (layers ≤ most-attrs) ⌝ }
     requires { ⌜ GoodCommand (command cmd) × (length (now depth) ≤ 65535) × (length (now painting) ≡ 2) × (word (now painting) 0 < 4294967295) ⌝ }
     ensures { λ r. ⌜ out r (now (depth .entry)) (now (painting .exit)) (now (list .exit)) ≡ settled (command-step (attrs-at (now («paint_attrs» .entry)) paints (now («layer_attrs» .entry)) layers) (summary sum) (painter-at (now (depth .entry)) (now (painting .entry))) (some (command cmd))) (now (depth .entry)) (now (painting .entry)) (now (list .entry)) ⌝ }
 {
@@ -125,7 +130,7 @@ fn step_command(
         }
         RenderCmd::PushBuf(_) => {
             let nesting = painting[1];
-            if nesting < 16 {
+            if nesting < MOST_LAYERS {
                 return advance(painting, nesting + 1, 0);
             }
             refused(4)
@@ -168,12 +173,12 @@ pub fn step_row(
     layers: u32,
     list: &mut [u32],
 ) -> Painted
-    requires { ⌜ (length (now state) ≡ 54) × (length (now render) ≤ 4096) × (length (now fills) ≤ 2048) × (length (now depth) ≤ 65535) × (length (now painting) ≡ 2) ⌝ }
-    requires { ⌜ (length (now «paint_attrs») ≡ 8192) × (paints ≤ 1024) × (length (now «layer_attrs») ≡ 6144) × (layers ≤ 1024) ⌝ }
+    requires { ⌜ (length (now state) ≡ row-size) × (length (now render) ≤ 4 * most-room) × (length (now fills) ≤ 2 * most-room) × (length (now depth) ≤ 65535) × (length (now painting) ≡ 2) ⌝ }
+    requires { ⌜ (length (now «paint_attrs») ≡ paint-attr-table) × (paints ≤ most-attrs) × (length (now «layer_attrs») ≡ layer-attr-table) × (layers ≤ most-attrs) ⌝ }
     ensures { λ r. ⌜ out r (now (depth .exit)) (now (painting .exit)) (now (list .exit)) ≡ painted-row (attrs-at (now («paint_attrs» .entry)) paints (now («layer_attrs» .entry)) layers) (lent (now (state .entry)) (now (render .entry)) (now (fills .entry)) (now (depth .entry)) (now (painting .entry)) (now (list .entry))) ⌝ }
 {
-    let renders = state[0];
-    let depths = state[1];
+    let renders = state[RENDERS];
+    let depths = state[DEPTHS];
     let steps = painting[0];
     if render.len() < 4 * wide(renders) {
         return refused(4);
@@ -181,7 +186,7 @@ pub fn step_row(
     if fills.len() < 2 * wide(depths) {
         return refused(4);
     }
-    if 16 < painting[1] {
+    if MOST_LAYERS < painting[1] {
         return refused(4);
     }
     if depths + renders < steps {

@@ -5,26 +5,25 @@ use depth::Runs;
 use depth::Skip;
 use depth::visible_runs;
 use span::TileSpan;
+use sizes::BUCKET_TILES;
 ghost use mathlib.Core.Path.{_≡_};
 ghost use mathlib.Core.Bool.{false};
 ghost use Prim.Native.Nat.{_/_, _≤_};
 ghost use lib.ListN.{length};
+ghost use Rattle.sizes.specs.Sizes.{tile-end};
 ghost use Rattle.rules.specs.Depth.{listed};
 ghost use Rattle.span.specs.Spans.{tiles};
 ghost use Rattle.depth.specs.Answers.{summary};
 ghost use Rattle.depth.specs.Listing.{listing};
 ghost use Rattle.paint_runs.specs.Summaries.{listing-out, whole-run, is-clear, shown-runs};
 
-// Tiles in a depth bucket.
-const BUCKET: usize = 32;
-
 // Whether the summary of a row of so many buckets says that nothing hides the span.
 fn is_clear(sum: DepthState, span: TileSpan, id: u32, buckets: usize) -> bool
-    requires { ⌜ (span .first ≤ span .«end») × (span .«end» ≤ 8192) × (buckets ≤ 65535) ⌝ }
+    requires { ⌜ (span .first ≤ span .«end») × (span .«end» ≤ tile-end) × (buckets ≤ 65535) ⌝ }
     ensures { λ r. ⌜ r ≡ is-clear (summary sum) buckets id (tiles span) ⌝ }
 {
     match sum.can_skip(span, id) {
-        Skip::Yes => (span.end as usize) <= BUCKET * buckets,
+        Skip::Yes => (span.end as usize) <= BUCKET_TILES * buckets,
         Skip::No => false,
         Skip::Refused(_) => false,
     }
@@ -47,7 +46,7 @@ fn list_whole(span: TileSpan, list: &mut [u32]) -> Runs
 
 // The runs of a fill, whole where the summary says so: only else are the depth words searched.
 pub fn shown_runs(depth: &[u32], sum: DepthState, span: TileSpan, id: u32, list: &mut [u32]) -> Runs
-    requires { ⌜ (span .first ≤ span .«end») × (span .«end» ≤ 8192) × (length (now depth) ≤ 65535) ⌝ }
+    requires { ⌜ (span .first ≤ span .«end») × (span .«end» ≤ tile-end) × (length (now depth) ≤ 65535) ⌝ }
     ensures { λ r. ⌜ listing-out r (now (list .exit)) ≡ listing (listed false (length (now (list .entry)) / 2) (shown-runs (summary sum) (now (depth .entry)) id (tiles span))) (now (list .entry)) ⌝ }
 {
     if is_clear(sum, span, id, depth.len()) {

@@ -3,6 +3,7 @@ use Prim.Native.Nat.{ℕ, _*_}
 use mathlib.Core.Bool.{Bool, true, _&&_, not, cond}
 use mathlib.Core.List.{[], _∷_}
 use lib.Dec.{leb, eqb}
+use Rattle.sizes.specs.Sizes.{bucket-tiles, row-size, paint-attr-table, layer-attr-table}
 use Rattle.rules.specs.Answers.{first-of, Done, BadArena, BadViewport, BadRecord, BadRun, Open}
 use Rattle.rules.specs.Boxes.{good-viewport, rows-of, buckets-of}
 use Rattle.rules.specs.Walk.{good-room}
@@ -15,7 +16,7 @@ abbrev pub count : Screen → ℕ
 count s = rows-of (box-of (s .viewport))
 
 abbrev pub wide : Screen → ℕ
-wide s = buckets-of 32 (box-of (s .viewport))
+wide s = buckets-of bucket-tiles (box-of (s .viewport))
 
 -- the arenas' lengths, rows x the words of a row
 abbrev pub depth-long : Screen → ℕ → Bool
@@ -27,14 +28,14 @@ arenas-long s render fills depth =
 
 -- .. and the tables'
 abbrev pub rows-long : Screen → ℕ → Bool
-rows-long s rows = eqb rows (count s * 54)
+rows-long s rows = eqb rows (count s * row-size)
 
 abbrev pub painting-long : Screen → ℕ → Bool
 painting-long s painting = eqb painting (count s * 2)
 
 abbrev pub tables-long : Screen → ℕ → ℕ → ℕ → ℕ → Bool
 tables-long s rows painting paint-attrs layer-attrs =
-    rows-long s rows && painting-long s painting && eqb paint-attrs 8192 && eqb layer-attrs 6144
+    rows-long s rows && painting-long s painting && eqb paint-attrs paint-attr-table && eqb layer-attrs layer-attr-table
 
 -- 2, then 1, then 4: the screen's numbers, and whether the arenas and tables that are lent have their lengths
 unfoldable pub judged : Screen → Bool → Bool → ℕ

@@ -4,6 +4,7 @@ use mathlib.Core.Bool.{Bool, false, not, cond}
 use mathlib.Core.List.{List, []}
 use lib.ListN.{length}
 use lib.Dec.{eqb}
+use Rattle.sizes.specs.Sizes.{bucket-tiles, row-size}
 use Rattle.rules.specs.Answers.{Answer, answer, Done, BadRecord}
 use Rattle.rules.specs.Spans.{Span}
 use Rattle.rules.specs.Depth.{unset-answer, visible-answer, can-skip-answer}
@@ -21,11 +22,11 @@ or-runs n a = cond (eqb n Done) a (answer n [])
 
 unfoldable pub unset-of : Screen → ℕ → List ℕ → Span → List ℕ → Out
 unset-of s r depth t l =
-    listing (or-runs (runs-number s r (length depth)) (unset-answer 32 (part (wide s) r depth) t (length l / 2))) l
+    listing (or-runs (runs-number s r (length depth)) (unset-answer bucket-tiles (part (wide s) r depth) t (length l / 2))) l
 
 unfoldable pub visible-of : Screen → ℕ → List ℕ → Span → ℕ → List ℕ → Out
 visible-of s r depth t id l =
-    listing (or-runs (runs-number s r (length depth)) (visible-answer 32 (part (wide s) r depth) id t (length l / 2))) l
+    listing (or-runs (runs-number s r (length depth)) (visible-answer bucket-tiles (part (wide s) r depth) id t (length l / 2))) l
 
 -- a run with write: what is listed, the screen, the depth words
 pub record Wrote : Type 0 where
@@ -58,5 +59,5 @@ record-skip state t id = cond (good-summary state) (can-skip-answer (summary-at 
 unfoldable pub skip-of-row : Screen → ℕ → List ℕ → Span → ℕ → Answer Bool
 skip-of-row s r rows t id =
     let n = skip-number s r (length rows) in
-    let a = record-skip (part 54 r rows) t id in
+    let a = record-skip (part row-size r rows) t id in
     cond (eqb n Done) a (answer n false)

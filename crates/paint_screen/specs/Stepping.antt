@@ -6,6 +6,7 @@ use mathlib.Core.List.{List}
 use lib.ListN.{length, take, drop}
 use lib.Dec.{eqb}
 use borrow.Rule.Slice.PartMut.{putMid}
+use Rattle.sizes.specs.Sizes.{most-room, most-attrs, row-size, paint-attr-table, layer-attr-table}
 use Rattle.rules.specs.Answers.{Done}
 use Rattle.cmd.specs.Answers.{number-of}
 use Rattle.screen.specs.declared.Screen.{Screen}
@@ -42,7 +43,7 @@ attributes ps ls = record { paints = ps; layers = ls }
 -- the words of row r, and the whole list
 abbrev pub own : Screen → ℕ → Lent → Lent
 own s r l =
-    lent (part 54 r (l .state)) (part (4 * s .c) r (l .render)) (part (2 * s .d) r (l .fills)) (part (wide s) r (l .depth)) (part 2 r (l .painting))
+    lent (part row-size r (l .state)) (part (4 * s .c) r (l .render)) (part (2 * s .d) r (l .fills)) (part (wide s) r (l .depth)) (part 2 r (l .painting))
     (l .list)
 
 -- what a row's step leaves, in its place on the screen
@@ -56,17 +57,17 @@ number s r a l =
 
 -- what a step needs once it is judged 0
 pub record Ready (s : Screen) (r : ℕ) (a : Attributes) (l : Lent) : Type 0 where
-  pub state : Within 54 r (l .state)
+  pub state : Within row-size r (l .state)
   pub render : Within (4 * s .c) r (l .render)
   pub fills : Within (2 * s .d) r (l .fills)
   pub depth : Within (wide s) r (l .depth)
   pub painting : Within 2 r (l .painting)
-  pub c : s .c ≤ 1024
-  pub d : s .d ≤ 1024
-  pub paint-table : length (a .paints) ≡ 8192
-  pub layer-table : length (a .layers) ≡ 6144
-  pub paints : s .«paint_attrs» ≤ 1024
-  pub layers : s .«layer_attrs» ≤ 1024
+  pub c : s .c ≤ most-room
+  pub d : s .d ≤ most-room
+  pub paint-table : length (a .paints) ≡ paint-attr-table
+  pub layer-table : length (a .layers) ≡ layer-attr-table
+  pub paints : s .«paint_attrs» ≤ most-attrs
+  pub layers : s .«layer_attrs» ≤ most-attrs
 
 unfoldable pub row-step : Screen → ℕ → Attributes → Lent → Out
 row-step s r a l =

@@ -1,6 +1,9 @@
 // What a call's screen, its lengths and its row say, before anything of the row is read.
 use screen::Screen;
 use screen::is_good_room;
+use sizes::ROW;
+use sizes::PAINT_TABLE;
+use sizes::LAYER_TABLE;
 ghost use mathlib.Core.Path.{_≡_};
 ghost use mathlib.Core.Bool.{true};
 ghost use Rattle.paint_screen.specs.Judging.{depth-long, arenas-long, tables-long, judged, of-row, begin-number, step-number, runs-number, skip-number};
@@ -37,16 +40,16 @@ fn is_tables(
     ensures { λ r. ⌜ r ≡ tables-long screen rows painting «paint_attrs» «layer_attrs» ⌝ }
 {
     let n = screen.rows();
-    if rows != n * 54 {
+    if rows != n * ROW {
         return false;
     }
     if painting != n * 2 {
         return false;
     }
-    if paint_attrs != 8192 {
+    if paint_attrs != PAINT_TABLE {
         return false;
     }
-    layer_attrs == 6144
+    layer_attrs == LAYER_TABLE
 }
 
 // 2, then 1, then 4, or 0: the screen's numbers, and whether the arenas and tables that are lent have their lengths.
@@ -146,5 +149,5 @@ pub fn judge_runs(screen: Screen, row: usize, depth: usize) -> u32
 pub fn judge_skip(screen: Screen, row: usize, rows: usize) -> u32
     ensures { λ r. ⌜ r ≡ skip-number screen row rows ⌝ }
 {
-    judge_row(judge(screen, true, rows == screen.rows() * 54), screen, row)
+    judge_row(judge(screen, true, rows == screen.rows() * ROW), screen, row)
 }

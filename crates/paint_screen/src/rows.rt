@@ -11,8 +11,10 @@ use paint_runs::is_good_summary;
 use paint_runs::summary_of;
 use span::BucketRange;
 use span::TileSpan;
+use sizes::ROW;
 ghost use mathlib.Core.Path.{_≡_};
 ghost use lib.ListN.{length};
+ghost use Rattle.sizes.specs.Sizes.{row-size};
 ghost use Rattle.span.specs.Spans.{tiles, buckets};
 ghost use Rattle.depth.specs.Answers.{skip-of};
 ghost use Rattle.depth.specs.Listing.{out};
@@ -98,7 +100,7 @@ pub fn unset_runs_and_write(
 
 // By the row's record.
 fn skip_by(state: &[u32], span: TileSpan, draw_id: u32) -> Skip
-    requires { ⌜ length (now state) ≡ 54 ⌝ }
+    requires { ⌜ length (now state) ≡ row-size ⌝ }
     ensures { λ r. ⌜ skip-of r ≡ record-skip (now (state .entry)) (tiles span) «draw_id» ⌝ }
 {
     if !is_good_summary(state) {
@@ -116,6 +118,6 @@ pub fn can_skip(screen: Screen, row: usize, rows: &[u32], span: TileSpan, draw_i
     if n != 0 {
         return Skip::Refused(answer_of(n));
     }
-    let at = row * 54;
-    skip_by(&rows[at..at + 54], span, draw_id)
+    let at = row * ROW;
+    skip_by(&rows[at..at + ROW], span, draw_id)
 }

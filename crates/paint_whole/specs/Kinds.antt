@@ -6,6 +6,7 @@ use mathlib.Core.List.{List, [], _∷_}
 use mathlib.Core.Option.{none, some}
 use lib.ListN.{length, getD}
 use lib.Dec.{leb, ltb, eqb}
+use Rattle.sizes.specs.Sizes.{tile-end, tile-alphas, most-layers}
 use Rattle.rules.specs.Spans.{Span, span}
 use Rattle.rules.specs.Depth.{Summary}
 use Rattle.cmd.specs.Reading.{word-span, command-of}
@@ -26,12 +27,12 @@ summary-by a e n = record { union = cond (eqb n 0) none (some (span a e)); large
 
 -- an alpha index that a fill's tag allows over a width: none if it is odd, one that can be moved if it is even
 abbrev pub good-index : ℕ → ℕ → ℕ → Bool
-good-index t x n = cond (eqb (t % 2) 1) (eqb x 0) (ltb (x + 16 * n) 4294967296)
+good-index t x n = cond (eqb (t % 2) 1) (eqb x 0) (ltb (x + tile-alphas * n) 4294967296)
 
 -- a fill's words in order
 pub record Fills (t w x : ℕ) : Type 0 where
   pub low : w / 65536 ≤ w % 65536
-  pub high : w % 65536 ≤ 8192
+  pub high : w % 65536 ≤ tile-end
   pub index : good-index t x (w % 65536 - w / 65536) ≡ true
 
 -- what is said of a fill: 1 all of it is shown, 2 nothing of it; 0 says nothing
@@ -51,7 +52,7 @@ module _ (attrs : Attrs) (u : Summary) (D : List ℕ) (m t w x i : ℕ) where
     pub whole : r ≡ 1 → (q : ℕ) (P l : List ℕ) → 6 ≤ length l
         → step-to q P l ≡ out (listed 1) D ((q + 1) ∷ m ∷ []) (over (t ∷ i ∷ (w / 65536) ∷ (w % 65536) ∷ x ∷ m ∷ []) l)
     pub hidden : r ≡ 2 → (q : ℕ) (P l : List ℕ) → step-to q P l ≡ out (listed 0) D ((q + 1) ∷ m ∷ []) l
-    pub pushed : r ≡ 3 → (m < 16) × ((q : ℕ) (P l : List ℕ) → step-to q P l ≡ out (listed 0) D ((q + 1) ∷ (m + 1) ∷ []) l)
+    pub pushed : r ≡ 3 → (m < most-layers) × ((q : ℕ) (P l : List ℕ) → step-to q P l ≡ out (listed 0) D ((q + 1) ∷ (m + 1) ∷ []) l)
     pub popped : r ≡ 4 → (0 < m) × ((q : ℕ) (P l : List ℕ) → step-to q P l ≡ out (listed 0) D ((q + 1) ∷ (m - 1) ∷ []) l)
 
 -- a row's counts have room, and its summary is in order
@@ -82,6 +83,6 @@ stands D d p = out (listed (p .pieces)) D ((d + p .at) ∷ p .nesting ∷ []) (p
 pub record Reaches (step : List ℕ → List ℕ → List ℕ → Out) (D : List ℕ) (d : ℕ) (a b : Place) : Type 0 where
   pub after : a .at ≤ b .at
   pub onward : Onward step (b .at - a .at) (stands D d a) (stands D d b)
-  pub shallow : b .nesting ≤ 16
+  pub shallow : b .nesting ≤ most-layers
   pub few : 6 * b .pieces ≤ length (b .list)
   pub long : length (b .list) ≡ length (a .list)

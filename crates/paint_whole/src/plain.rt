@@ -1,11 +1,26 @@
 // Commands whose step needs no search over the depth words: fills that one look shows to be visible or hidden whole, and buffers.
 // Parts: where a function asks something, its callers have judged it.
 use paint_runs::is_good_summary;
+use sizes::BUCKET;
+use sizes::BUCKET_TILES;
+use sizes::BUCKET_ROUND;
+use sizes::TILE_END;
+use sizes::TILE_ALPHAS;
+use sizes::MOST_LAYERS;
+use sizes::LAST_ID;
+use sizes::RENDERS;
+use sizes::DEPTHS;
+use sizes::FIRST;
+use sizes::END;
+use sizes::LARGEST;
+use sizes::PAINT_ATTR;
+use sizes::LAYER_ATTR;
 ghost use mathlib.Core.Path.{_≡_};
 ghost use mathlib.Core.Bool.{true};
 ghost use mathlib.Core.List.{List, [], _∷_};
 ghost use Prim.Native.Nat.{ℕ, _+_, _-_, _*_, _/_, _%_, _≤_, _<_};
 ghost use lib.ListN.{length};
+ghost use Rattle.sizes.specs.Sizes.{tile-end, most-layers, most-room, most-attrs, row-size, paint-attr-table, layer-attr-table};
 ghost use Rattle.rules.specs.Attributes.{Attrs};
 ghost use Rattle.rules.specs.Spans.{span};
 ghost use Rattle.rules.specs.Depth.{Summary, can-skip, is-visible, runs-in};
@@ -13,9 +28,6 @@ ghost use Rattle.cmd.specs.Attrs.{words-at};
 ghost use Rattle.paint_command.specs.Painting.{word, given, attrs-at, out, listed};
 ghost use Rattle.paint_whole.specs.Running.{own-step};
 ghost use Rattle.paint_whole.specs.Kinds.{id-given, summary-by, good-index, FillSaid, Said, Calm, place, Reaches, Onward};
-
-// Tiles in a depth bucket.
-const BUCKET: u32 = 32;
 
 fn wide(x: u32) -> usize
     ensures { λ r. ⌜ r ≡ x ⌝ }
@@ -27,7 +39,7 @@ fn wide(x: u32) -> usize
 fn taken(id: u32) -> u32
     ensures { λ r. ⌜ r ≡ given true id ⌝ }
 {
-    if id <= 1048576 { id } else { 0 }
+    if id <= LAST_ID { id } else { 0 }
 }
 
 // The id of a fill's attribute, 0 if the attribute is not there or has no id.
@@ -39,30 +51,30 @@ fn id_of(
     layer_attrs: &[u32],
     layers: u32,
 ) -> u32
-    requires { ⌜ (length (now «paint_attrs») ≡ 8192) × (paints ≤ 1024) × (length (now «layer_attrs») ≡ 6144) × (layers ≤ 1024) ⌝ }
+    requires { ⌜ (length (now «paint_attrs») ≡ paint-attr-table) × (paints ≤ most-attrs) × (length (now «layer_attrs») ≡ layer-attr-table) × (layers ≤ most-attrs) ⌝ }
     ensures { λ r. ⌜ r ≡ id-given (now («paint_attrs» .entry)) paints (now («layer_attrs» .entry)) layers tag i ⌝ }
 {
     if tag <= 2 {
         if i < paints {
-            return taken(paint_attrs[8 * wide(i) + 4]);
+            return taken(paint_attrs[PAINT_ATTR * wide(i) + 4]);
         }
         return 0;
     }
     if i < layers {
-        return taken(layer_attrs[6 * wide(i) + 3]);
+        return taken(layer_attrs[LAYER_ATTR * wide(i) + 3]);
     }
     0
 }
 
 // A solid fill has no alpha index, another one that can be moved over the whole width.
 fn is_good_index(tag: u32, alpha: u32, width: u32) -> bool
-    requires { ⌜ width ≤ 8192 ⌝ }
+    requires { ⌜ width ≤ tile-end ⌝ }
     ensures { λ r. ⌜ r ≡ good-index tag alpha width ⌝ }
 {
     if tag % 2 == 1 {
         alpha == 0
     } else {
-        alpha <= 4294967295 - 16 * width
+        alpha <= 4294967295 - TILE_ALPHAS * width
     }
 }
 
@@ -131,20 +143,20 @@ fn fill_kind(
     if end <= first {
         return 0;
     }
-    if 8192 < end {
+    if TILE_END < end {
         return 0;
     }
     if !is_good_index(tag, alpha, end - first) {
         return 0;
     }
-    if 32 * depth.len() < wide(end) {
+    if BUCKET_TILES * depth.len() < wide(end) {
         return 0;
     }
     if is_apart(from, to, largest, first, end, id) {
         return 1;
     }
     let a = wide(first / BUCKET);
-    let e = wide((end + 31) / BUCKET);
+    let e = wide((end + BUCKET_ROUND) / BUCKET);
     if depth[a] <= id {
         if e <= a + 1 {
             return 1;
@@ -177,10 +189,10 @@ fn buffer_kind(tag: u32, tiles: u32, alpha: u32, i: u32, nesting: u32) -> u32
         if tiles % 65536 < tiles / 65536 {
             return 0;
         }
-        if 8192 < tiles % 65536 {
+        if TILE_END < tiles % 65536 {
             return 0;
         }
-        if nesting < 16 {
+        if nesting < MOST_LAYERS {
             return 3;
         }
         return 0;
@@ -189,7 +201,7 @@ fn buffer_kind(tag: u32, tiles: u32, alpha: u32, i: u32, nesting: u32) -> u32
         return 0;
     }
     if tag == 5 {
-        if nesting < 16 {
+        if nesting < MOST_LAYERS {
             return 3;
         }
         return 0;
@@ -218,7 +230,7 @@ fn kind_of(
     layer_attrs: &[u32],
     layers: u32,
 ) -> u32
-    requires { ⌜ (length (now «paint_attrs») ≡ 8192) × (paints ≤ 1024) × (length (now «layer_attrs») ≡ 6144) × (layers ≤ 1024) × (length (now depth) ≤ 65535) ⌝ }
+    requires { ⌜ (length (now «paint_attrs») ≡ paint-attr-table) × (paints ≤ most-attrs) × (length (now «layer_attrs») ≡ layer-attr-table) × (layers ≤ most-attrs) × (length (now depth) ≤ 65535) ⌝ }
     ensures { λ r. ⌜ Said (attrs-at (now («paint_attrs» .entry)) paints (now («layer_attrs» .entry)) layers) (summary-by from to largest) (now (depth .entry)) nesting tag tiles alpha i r ⌝ }
 {
     if 4 < tag {
@@ -271,15 +283,15 @@ fn run_commands(
     pieces: usize,
     nesting: u32,
 ) -> Reached
-    requires { ⌜ (length (now «paint_attrs») ≡ 8192) × (paints ≤ 1024) × (length (now «layer_attrs») ≡ 6144) × (layers ≤ 1024) × (length (now depth) ≤ 65535) ⌝ }
-    requires { ⌜ (length (now state) ≡ 54) × Calm (now state) (now render) (now fills) × (length (now render) ≤ 4096) ⌝ }
-    requires { ⌜ (start ≤ stop) × (stop ≤ word (now state) 0) × (nesting ≤ 16) × (6 * pieces ≤ length (now list)) ⌝ }
+    requires { ⌜ (length (now «paint_attrs») ≡ paint-attr-table) × (paints ≤ most-attrs) × (length (now «layer_attrs») ≡ layer-attr-table) × (layers ≤ most-attrs) × (length (now depth) ≤ 65535) ⌝ }
+    requires { ⌜ (length (now state) ≡ row-size) × Calm (now state) (now render) (now fills) × (length (now render) ≤ 4 * most-room) ⌝ }
+    requires { ⌜ (start ≤ stop) × (stop ≤ word (now state) 0) × (nesting ≤ most-layers) × (6 * pieces ≤ length (now list)) ⌝ }
     ensures { λ r. ⌜ Reaches (own-step (attrs-at (now («paint_attrs» .entry)) paints (now («layer_attrs» .entry)) layers) (now (state .entry)) (now (render .entry)) (now (fills .entry))) (now (depth .entry)) (word (now (state .entry)) 1) (place start pieces nesting (now (list .entry))) (place (r .at) (r .pieces) (r .nesting) (now (list .exit))) ⌝ }
     ensures { λ r. ⌜ r .at ≤ stop ⌝ }
 {
-    let from = state[2];
-    let to = state[3];
-    let largest = state[4];
+    let from = state[FIRST];
+    let to = state[END];
+    let largest = state[LARGEST];
     let mut at = start;
     let mut n = pieces;
     let mut level = nesting;
@@ -377,18 +389,18 @@ pub fn run_plain(
     pieces: usize,
     limit: usize,
 ) -> Gone
-    requires { ⌜ (length (now state) ≡ 54) × (length (now render) ≤ 4096) × (length (now fills) ≤ 2048) × (length (now depth) ≤ 65535) × (length (now painting) ≡ 2) ⌝ }
-    requires { ⌜ (length (now «paint_attrs») ≡ 8192) × (paints ≤ 1024) × (length (now «layer_attrs») ≡ 6144) × (layers ≤ 1024) ⌝ }
+    requires { ⌜ (length (now state) ≡ row-size) × (length (now render) ≤ 4 * most-room) × (length (now fills) ≤ 2 * most-room) × (length (now depth) ≤ 65535) × (length (now painting) ≡ 2) ⌝ }
+    requires { ⌜ (length (now «paint_attrs») ≡ paint-attr-table) × (paints ≤ most-attrs) × (length (now «layer_attrs») ≡ layer-attr-table) × (layers ≤ most-attrs) ⌝ }
     requires { ⌜ (6 * pieces ≤ length (now list)) × (limit ≤ 2048) ⌝ }
     ensures { λ r. ⌜ Onward (own-step (attrs-at (now («paint_attrs» .entry)) paints (now («layer_attrs» .entry)) layers) (now (state .entry)) (now (render .entry)) (now (fills .entry))) (r .steps) (out (listed pieces) (now (depth .entry)) (now (painting .entry)) (now (list .entry))) (out (listed (r .pieces)) (now (depth .entry)) (now (painting .exit)) (now (list .exit))) ⌝ }
     ensures { λ r. ⌜ (r .steps ≤ limit) × (6 * r .pieces ≤ length (now (list .entry))) ⌝ }
 {
-    let depths = state[1];
+    let depths = state[DEPTHS];
     let done = painting[0];
     if done < depths {
         return none_done(pieces);
     }
-    let renders = state[0];
+    let renders = state[RENDERS];
     let next = done - depths;
     if renders <= next {
         return none_done(pieces);
@@ -400,7 +412,7 @@ pub fn run_plain(
         return none_done(pieces);
     }
     let nesting = painting[1];
-    if 16 < nesting {
+    if MOST_LAYERS < nesting {
         return none_done(pieces);
     }
     if !is_good_summary(state) {

@@ -5,6 +5,7 @@ use paint_command::step_row;
 ghost use mathlib.Core.Path.{_≡_};
 ghost use Prim.Native.Nat.{_*_, _≤_};
 ghost use lib.ListN.{length};
+ghost use Rattle.sizes.specs.Sizes.{most-room, most-attrs, row-size, paint-attr-table, layer-attr-table};
 ghost use Rattle.paint_command.specs.Painting.{attrs-at, lent, out, listed};
 ghost use Rattle.paint_whole.specs.Running.{one-more, own-step, own-run};
 
@@ -22,8 +23,8 @@ fn step_on(
     list: &mut [u32],
     pieces: usize,
 ) -> Painted
-    requires { ⌜ (length (now state) ≡ 54) × (length (now render) ≤ 4096) × (length (now fills) ≤ 2048) × (length (now depth) ≤ 65535) × (length (now painting) ≡ 2) ⌝ }
-    requires { ⌜ (length (now «paint_attrs») ≡ 8192) × (paints ≤ 1024) × (length (now «layer_attrs») ≡ 6144) × (layers ≤ 1024) ⌝ }
+    requires { ⌜ (length (now state) ≡ row-size) × (length (now render) ≤ 4 * most-room) × (length (now fills) ≤ 2 * most-room) × (length (now depth) ≤ 65535) × (length (now painting) ≡ 2) ⌝ }
+    requires { ⌜ (length (now «paint_attrs») ≡ paint-attr-table) × (paints ≤ most-attrs) × (length (now «layer_attrs») ≡ layer-attr-table) × (layers ≤ most-attrs) ⌝ }
     requires { ⌜ 6 * pieces ≤ length (now list) ⌝ }
     ensures { λ r. ⌜ out r (now (depth .exit)) (now (painting .exit)) (now (list .exit)) ≡ one-more (own-step (attrs-at (now («paint_attrs» .entry)) paints (now («layer_attrs» .entry)) layers) (now (state .entry)) (now (render .entry)) (now (fills .entry))) (out (listed pieces) (now (depth .entry)) (now (painting .entry)) (now (list .entry))) ⌝ }
     ensures { λ r. ⌜ 6 * r .pieces ≤ length (now (list .entry)) ⌝ }
@@ -61,8 +62,8 @@ pub fn run_row(
     layers: u32,
     list: &mut [u32],
 ) -> Painted
-    requires { ⌜ (length (now state) ≡ 54) × (length (now render) ≤ 4096) × (length (now fills) ≤ 2048) × (length (now depth) ≤ 65535) × (length (now painting) ≡ 2) ⌝ }
-    requires { ⌜ (length (now «paint_attrs») ≡ 8192) × (paints ≤ 1024) × (length (now «layer_attrs») ≡ 6144) × (layers ≤ 1024) ⌝ }
+    requires { ⌜ (length (now state) ≡ row-size) × (length (now render) ≤ 4 * most-room) × (length (now fills) ≤ 2 * most-room) × (length (now depth) ≤ 65535) × (length (now painting) ≡ 2) ⌝ }
+    requires { ⌜ (length (now «paint_attrs») ≡ paint-attr-table) × (paints ≤ most-attrs) × (length (now «layer_attrs») ≡ layer-attr-table) × (layers ≤ most-attrs) ⌝ }
     ensures { λ r. ⌜ out r (now (depth .exit)) (now (painting .exit)) (now (list .exit)) ≡ own-run (attrs-at (now («paint_attrs» .entry)) paints (now («layer_attrs» .entry)) layers) (lent (now (state .entry)) (now (render .entry)) (now (fills .entry)) (now (depth .entry)) (now (painting .entry)) (now (list .entry))) ⌝ }
 {
     let mut pieces: usize = 0;

@@ -7,6 +7,8 @@ ghost use Rattle.rect.specs.Rects.{box-of, same-box};
 use span::TileSpan;
 use span::larger;
 use span::smaller;
+use sizes::MOST_WIDTH;
+use sizes::MOST_HEIGHT;
 
 // From a left and a top edge to a right and a bottom edge, in pixels.
 pub struct Rect {
@@ -121,10 +123,10 @@ impl Rect {
         if !self.is_good() {
             return false;
         }
-        if 4096 < self.width() {
+        if MOST_WIDTH < self.width() {
             return false;
         }
-        self.height() <= 2048
+        self.height() <= MOST_HEIGHT
     }
 
     // A box of the same size at 0, 0: the first clip box of this viewport.

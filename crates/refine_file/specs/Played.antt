@@ -3,6 +3,7 @@ use Prim.Native.Nat.{ℕ}
 use mathlib.Core.Path.{_≡_}
 use mathlib.Core.Bool.{false}
 use lib.Dec.{eqb}
+use Rattle.sizes.specs.Sizes.{most-rows}
 use Rattle.rules.specs.Answers.{Answer, Done}
 use Rattle.rules.specs.Walk.{Place}
 use Rattle.screen.specs.Judging.{arenas}
@@ -10,7 +11,7 @@ use Rattle.screen.specs.Tables.{lengths, Lent}
 
 -- what is lent as the rules' place: no screen has more than 512 rows
 abbrev pub place : ℕ → ℕ → Lent → Place
-place c d l = record { limit = 512; c = c; d = d; arenas = arenas (lengths (l .tables)) }
+place c d l = record { limit = most-rows; c = c; d = d; arenas = arenas (lengths (l .tables)) }
 
 module _ {S : Type 0} (R : S → Lent → Type 0) where
   -- what stands afterwards at the number n, from the state s and the words l: refused, both are left as they were, or the words are related to the rules' state

@@ -4,6 +4,7 @@ use mathlib.Core.Path.{_≡_}
 use mathlib.Core.Bool.{true}
 use mathlib.Core.List.{List, [], _∷_}
 use lib.ListN.{length, getD}
+use Rattle.sizes.specs.Sizes.{bucket-tiles, paint-attr-table, layer-attr-table}
 use Rattle.rules.specs.Lists.{join, is-empty}
 use Rattle.rules.specs.Answers.{answer}
 use Rattle.rules.specs.Boxes.{buckets-of}
@@ -48,10 +49,10 @@ pub record Whole (k : rule.Canvas) : Type 0 where
   pub sound : Sound (k .screen)
   pub fair : FairRows (k .screen)
   pub count : length (k .painters) ≡ length (k .screen .rows)
-  pub wide : All (λ (p : Painter). length (p .buckets) ≡ buckets-of 32 (k .screen .state .frame .viewport)) (k .painters)
+  pub wide : All (λ (p : Painter). length (p .buckets) ≡ buckets-of bucket-tiles (k .screen .state .frame .viewport)) (k .painters)
   pub closed : k .begun ≡ true → is-empty (k .screen .state .layers) ≡ true
   pub going : k .begun ≡ true → (i : ℕ) → i < length (k .screen .rows)
-      → Going (buckets-of 32 (k .screen .state .frame .viewport)) (getD (k .screen .rows) i fresh-row) (getD (k .painters) i (begin 0))
+      → Going (buckets-of bucket-tiles (k .screen .state .frame .viewport)) (getD (k .screen .rows) i fresh-row) (getD (k .painters) i (begin 0))
 
 -- what a painting step of the rules gives, as words: the answer, the depth and painting words, the list
 abbrev pub given-out : rule.Given Painted → List ℕ → Out
@@ -72,7 +73,7 @@ wrote-of g l =
 
 -- the attribute tables, and the words of the rows, of their painting, and of a list
 abbrev pub attributes-of : Screen Row → Attributes
-attributes-of s = attributes (table 0 8192 (join paint-attr-words (s .state .attrs .paints))) (table 0 6144 (join attr-words (s .state .attrs .layers)))
+attributes-of s = attributes (table 0 paint-attr-table (join paint-attr-words (s .state .attrs .paints))) (table 0 layer-attr-table (join attr-words (s .state .attrs .layers)))
 
 abbrev pub words-of : rule.Canvas → List ℕ → Lent
 words-of k l =

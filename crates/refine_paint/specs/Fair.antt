@@ -5,6 +5,7 @@ use mathlib.Core.Path.{_≡_}
 use mathlib.Core.Bool.{true}
 use mathlib.Core.List.{List, [], _∷_}
 use lib.ListN.{length, getD}
+use Rattle.sizes.specs.Sizes.{bucket-tiles, most-layers}
 use Rattle.rules.specs.Boxes.{buckets-of}
 use Rattle.rules.specs.Depth.{Summary}
 use Rattle.rules.specs.Commands.{Command, paint-fill, layer-fill, push-buf, pop-buf, DepthFill}
@@ -39,7 +40,7 @@ abbrev pub Nested : ℕ → List Command → Type 0
 Nested n [] = Unit {0}
 Nested n (paint-fill s a i ∷ cs) = Nested n cs
 Nested n (layer-fill s a i ∷ cs) = Nested n cs
-Nested n (push-buf s ∷ cs) = (n < 16) × Nested (suc n) cs
+Nested n (push-buf s ∷ cs) = (n < most-layers) × Nested (suc n) cs
 Nested n (pop-buf ∷ cs) = (0 < n) × Nested (n - 1) cs
 
 -- the nesting after commands
@@ -59,4 +60,4 @@ pub record Fair (a : Attrs) (n : ℕ) (r : Row) : Type 0 where
 
 -- every row of a screen
 abbrev pub FairRows : Screen Row → Type 0
-FairRows s = (i : ℕ) → Fair (s .state .attrs) (buckets-of 32 (s .state .frame .viewport)) (getD (s .rows) i fresh-row)
+FairRows s = (i : ℕ) → Fair (s .state .attrs) (buckets-of bucket-tiles (s .state .frame .viewport)) (getD (s .rows) i fresh-row)

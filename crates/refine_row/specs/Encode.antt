@@ -4,6 +4,7 @@ use mathlib.Core.Path.{_≡_}
 use mathlib.Core.List.{List, [], _∷_, _++_}
 use mathlib.Core.Option.{Option, none, some}
 use lib.ListN.{length, take, getD, replicate}
+use Rattle.sizes.specs.Sizes.{most-layers}
 use Rattle.rules.specs.Lists.{join, is-none, is-empty}
 use Rattle.rules.specs.Spans.{Span}
 use Rattle.rules.specs.Commands.{Command, push-buf, pop-buf, command-words, depth-words, span-word}
@@ -52,7 +53,7 @@ placed cs b (l ∷ ls) = (l .place < b) × (getD cs (l .place) pop-buf ≡ push-
 
 -- what holds of every row that steps make
 pub record Fine (r : Row) : Type 0 where
-  pub few : length (r .levels) ≤ 16
+  pub few : length (r .levels) ≤ most-layers
   pub spans : All (λ (l : Level). end-of (l .union) < 65536) (r .levels)
   pub summary : is-none (r .depth .union) ≡ is-empty (r .fills)
   pub places : placed (r .commands) (length (r .commands)) (r .levels)

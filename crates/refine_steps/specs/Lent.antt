@@ -8,6 +8,7 @@ use lib.Dec.{eqb}
 use lib.ListN.{length, replicate}
 use lib.IntN.{pos}
 use lib.Ieee.{Float, binary32, ofBits}
+use Rattle.sizes.specs.Sizes.{most-layers, most-attrs, open-layer-table, paint-attr-table, layer-attr-table, filter-paint-table}
 use Rattle.rules.specs.Lists.{join}
 use Rattle.rules.specs.Answers.{Answer, answer, Done}
 use Rattle.rules.specs.Attributes.{LayerAttr}
@@ -73,11 +74,11 @@ rows-of s = lay (map (encode (s .state .frame .c) (s .state .frame .d)) (s .rows
 unfoldable pub lent-of : rule.Screen Row → Bool → List ℕ → List ℕ → Lent
 lent-of s begun depth painting =
     lent (screen-of (s .state) begun)
-    (tables (rows-of s .render) (rows-of s .fills) depth (rows-of s .state) painting (table 0 256 (layers-words (s .state .layers)))
-    (table float-0 16 (layers-opacities (s .state .layers)) ++ table float-0 1024 (map attr-opacity (s .state .attrs .layers)))
-    (table 0 8192 (join paint-attr-words (s .state .attrs .paints)))
-    (table 0 6144 (join attr-words (s .state .attrs .layers)))
-    (table (pos 0) 1024 (join filter-paint-words (s .state .attrs .filters))))
+    (tables (rows-of s .render) (rows-of s .fills) depth (rows-of s .state) painting (table 0 open-layer-table (layers-words (s .state .layers)))
+    (table float-0 most-layers (layers-opacities (s .state .layers)) ++ table float-0 most-attrs (map attr-opacity (s .state .attrs .layers)))
+    (table 0 paint-attr-table (join paint-attr-words (s .state .attrs .paints)))
+    (table 0 layer-attr-table (join attr-words (s .state .attrs .layers)))
+    (table (pos 0) filter-paint-table (join filter-paint-words (s .state .attrs .filters))))
 
 -- an answer of the rules, at the words: a done step ends painting
 abbrev pub answer-of : Answer (rule.Screen Row) → Bool → List ℕ → List ℕ → Answer Lent

@@ -5,6 +5,7 @@ use mathlib.Core.Path.{_≡_}
 use mathlib.Core.Bool.{true, false}
 use mathlib.Core.Option.{Option, none, some}
 use lib.ListN.{length, getD}
+use Rattle.sizes.specs.Sizes.{tile-end, most-layers, last-id}
 use Rattle.rules.specs.Boxes.{Box, good-viewport, rows-of}
 use Rattle.rules.specs.Spans.{Span}
 use Rattle.rules.specs.Inputs.{good-props}
@@ -21,7 +22,7 @@ use Rattle.refine_layers.specs.Touched.{Reaching}
 -- a span in order, ending at tile 8,192 at the latest
 pub record Ordered (s : Span) : Type 0 where
   pub order : s .first ≤ s .end
-  pub end : s .end ≤ 8192
+  pub end : s .end ≤ tile-end
 
 abbrev pub OrderedUnion : Option Span → Type 0
 OrderedUnion none = Unit {0}
@@ -31,7 +32,7 @@ OrderedUnion (some s) = Ordered s
 pub record Sane (r : Row) : Type 0 where
   pub unions : All (λ (l : Level). OrderedUnion (l .union)) (r .levels)
   pub depth : OrderedUnion (r .depth .union)
-  pub largest : r .depth .largest ≤ 1048576
+  pub largest : r .depth .largest ≤ last-id
 
 -- .. and its counts, with room for c commands and d depth fills
 pub record Fitting (c d : ℕ) (r : Row) : Type 0 where
@@ -53,7 +54,7 @@ pub record Sound (s : Screen Row) : Type 0 where
   pub some-id : 1 ≤ s .state .next
   pub ids : s .state .next ≤ 1048577
   pub attrs : attrs-full (s .state .attrs) ≡ false
-  pub deep : length (s .state .layers) ≤ 16
+  pub deep : length (s .state .layers) ≤ most-layers
   pub layers : All (Good (s .state .frame .viewport)) (s .state .layers)
   pub count : length (s .rows) ≡ rows-of (s .state .frame .viewport)
   pub rows : (i : ℕ) → Fitting (s .state .frame .c) (s .state .frame .d) (getD (s .rows) i fresh-row)

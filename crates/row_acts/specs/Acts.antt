@@ -3,6 +3,7 @@ use Prim.Native.Nat.{ℕ}
 use mathlib.Core.Bool.{Bool}
 use mathlib.Core.List.{foldl}
 use mathlib.Core.Option.{Option, none}
+use Rattle.sizes.specs.Sizes.{bucket-tiles}
 use Rattle.rules.specs.Spans.{Span}
 use Rattle.rules.specs.Split.{split}
 use Rattle.rules.specs.Commands.{paint-fill}
@@ -21,15 +22,15 @@ alpha-of a = alpha a
 
 -- rule 5, with n layers open
 abbrev pub ensured : ℕ → Words → Words
-ensured n w = ensure Words word-ops 32 n w
+ensured n w = ensure Words word-ops bucket-tiles n w
 
 -- any act, with n layers open
 abbrev pub acted : ℕ → Act → Words → Words
-acted n a w = do-act Words word-ops 32 n a w
+acted n a w = do-act Words word-ops bucket-tiles n a w
 
 -- rule 7, all the parts
 abbrev pub parted : ℕ → ℕ → Span → Words → Words
-parted i id s w = foldl (put-part Words word-ops 32 i id) w (split 32 s)
+parted i id s w = foldl (put-part Words word-ops bucket-tiles i id) w (split bucket-tiles s)
 
 -- the regular piece on one side of a depth fill, where there is one
 abbrev pub edged : Edge → ℕ → Words → Words

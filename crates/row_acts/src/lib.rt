@@ -9,8 +9,10 @@ use row::push_depth_fill;
 use row::push_paint;
 use span::Alpha;
 use span::TileSpan;
+use sizes::LEVELS;
 ghost use mathlib.Core.Path.{_≡_};
 ghost use Prim.Native.Nat.{_≤_};
+ghost use Rattle.sizes.specs.Sizes.{most-layers};
 ghost use Rattle.rules.specs.Commands.{paint-fill, layer-fill};
 ghost use Rattle.span.specs.Spans.{tiles};
 ghost use Rattle.row.specs.Words.{words, put-command, Room};
@@ -19,10 +21,10 @@ ghost use Rattle.row_acts.specs.Acts.{alpha-of, ensured, parted, ShortEd
 
 // Rule 5: a PushBuf for each open layer that the row lacks. A destructive push does this alone (rule 8).
 pub fn ensure_row_layers(state: &mut [u32], render: &mut [u32], fills: &mut [u32], n: u32)
-    requires { ⌜ (n ≤ 16) × Room (words (now state) (now render) (now fills)) (ensured n (words (now state) (now render) (now fills))) ⌝ }
+    requires { ⌜ (n ≤ most-layers) × Room (words (now state) (now render) (now fills)) (ensured n (words (now state) (now render) (now fills))) ⌝ }
     ensures { λ _. ⌜ words (now (state .exit)) (now (render .exit)) (now (fills .exit)) ≡ ensured n (words (now (state .entry)) (now (render .entry)) (now (fills .entry))) ⌝ }
 {
-    let mut k = state[5];
+    let mut k = state[LEVELS];
     while k < n {
         push_buf(state, render, fills);
         k += 1;
@@ -92,7 +94,7 @@ pub fn push_fill(
     attrs_idx: u32,
     draw_id: u32,
 )
-    requires { ⌜ Short (tiles span) × (n ≤ 16) × Room (words (now state) (now render) (now fills)) (drawn n eligible (tiles span) (alpha-of alpha) «attrs_idx» «draw_id» (words (now state) (now render) (now fills))) ⌝ }
+    requires { ⌜ Short (tiles span) × (n ≤ most-layers) × Room (words (now state) (now render) (now fills)) (drawn n eligible (tiles span) (alpha-of alpha) «attrs_idx» «draw_id» (words (now state) (now render) (now fills))) ⌝ }
     ensures { λ _. ⌜ words (now (state .exit)) (now (render .exit)) (now (fills .exit)) ≡ drawn n eligible (tiles span) (alpha-of alpha) «attrs_idx» «draw_id» (words (now (state .entry)) (now (render .entry)) (now (fills .entry))) ⌝ }
 {
     ensure_row_layers(state, render, fills, n);

@@ -2,6 +2,7 @@
 use Prim.Native.Nat.{ℕ, _+_, _-_}
 use mathlib.Core.Bool.{cond}
 use lib.Dec.{eqb}
+use Rattle.sizes.specs.Sizes.{renders-at, depths-at, levels-at}
 use Rattle.rules.specs.Rows.{RowOps}
 use Rattle.row.specs.Words.{Words, word}
 
@@ -28,4 +29,4 @@ count-ops =
 
 -- those of a row of words
 abbrev pub count : Words → Counts
-count w = counts (word 0 w) (word 1 w) (word 5 w)
+count w = counts (word renders-at w) (word depths-at w) (word levels-at w)

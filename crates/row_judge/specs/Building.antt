@@ -4,6 +4,7 @@ use mathlib.Core.Bool.{Bool, true, false, _&&_, _||_, not, cond}
 use mathlib.Core.List.{List, [], _∷_}
 use lib.ListN.{getD}
 use lib.Dec.{leb, ltb, eqb}
+use Rattle.sizes.specs.Sizes.{bucket-tiles, tile-end, last-id, renders-at, depths-at, first-at, end-at, largest-at, levels-at, level-at}
 use Rattle.rules.specs.Lists.{every}
 use Rattle.rules.specs.Answers.{Done, BadRecord}
 use Rattle.rules.specs.Boxes.{rows-of}
@@ -27,22 +28,22 @@ screen-at s w = record { state = s; rows = rows-at (s .frame) w }
 
 -- a level's union: tag 5 without a span yet, 6 with one
 abbrev pub good-union : ℕ → ℕ → Bool
-good-union tag s = cond (eqb tag 5) (eqb s 0) (eqb tag 6 && good-span-word 8192 s)
+good-union tag s = cond (eqb tag 5) (eqb s 0) (eqb tag 6 && good-span-word tile-end s)
 
 -- the words of level k of a row's record: its PushBuf stands on the row
 abbrev pub good-level : ℕ → List ℕ → Bool
-good-level k s = let a = 3 + 3 * k in ltb (getD s a 0) (getD s 0 0) && good-union (getD s (a + 1) 0) (getD s (a + 2) 0)
+good-level k s = let a = level-at k in ltb (getD s a 0) (getD s renders-at 0) && good-union (getD s (a + 1) 0) (getD s (a + 2) 0)
 
 abbrev pub good-top : ℕ → List ℕ → Bool
 good-top k s = cond (eqb k 0) true (good-level k s)
 
 abbrev pub good-summary : List ℕ → Bool
-good-summary s = leb (getD s 2 0) (getD s 3 0) && leb (getD s 3 0) 8192 && leb (getD s 4 0) 1048576
+good-summary s = leb (getD s first-at 0) (getD s end-at 0) && leb (getD s end-at 0) tile-end && leb (getD s largest-at 0) last-id
 
 -- a row's record with room for c commands and d depth fills, n layers being open: counts, levels, the top level, the summary
 unfoldable pub good-row : ℕ → ℕ → ℕ → List ℕ → Bool
 good-row c d n s =
-    leb (getD s 0 0) c && leb (getD s 1 0) d && leb (getD s 5 0) n && good-summary s && good-top (getD s 5 0) s
+    leb (getD s renders-at 0) c && leb (getD s depths-at 0) d && leb (getD s levels-at 0) n && good-summary s && good-top (getD s levels-at 0) s
 
 -- row i, if it is there
 abbrev pub good-at : Frame → ℕ → ℕ → List Words → Bool
@@ -57,4 +58,4 @@ good-rows f n ps rs = every (λ (p : Put). good-at f n (p .row) rs) ps
 -- a step's number: what the screen and the lent words say (2, 1, 4), then 4 for a row's record, then the rules' own refusal
 unfoldable pub step-number : ℕ → Bool → Plan → Screen Words → ℕ
 step-number first good p s =
-    cond (eqb first Done) (cond good (refusal Words word-ops 32 p (done Words word-ops 32 p s)) BadRecord) first
+    cond (eqb first Done) (cond good (refusal Words word-ops bucket-tiles p (done Words word-ops bucket-tiles p s)) BadRecord) first

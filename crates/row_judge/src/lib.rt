@@ -2,8 +2,19 @@
 ghost use mathlib.Core.Path.{_≡_};
 ghost use Prim.Native.Nat.{_≤_};
 ghost use lib.ListN.{length};
+ghost use Rattle.sizes.specs.Sizes.{most-layers, row-size};
 ghost use Rattle.row_judge.specs.Building.{good-union, good-row};
 use row::wide;
+use sizes::TILE_END;
+use sizes::LAST_ID;
+use sizes::RENDERS;
+use sizes::DEPTHS;
+use sizes::FIRST;
+use sizes::END;
+use sizes::LARGEST;
+use sizes::LEVELS;
+use sizes::LEVEL_BASE;
+use sizes::LEVEL;
 
 // The tag and the span word of an open buffer's union.
 fn is_good_union(tag: u32, span: u32) -> bool
@@ -13,40 +24,40 @@ fn is_good_union(tag: u32, span: u32) -> bool
         return span == 0;
     }
     if tag == 6 {
-        return cmd::command::good_span_word(8192, span);
+        return cmd::command::good_span_word(TILE_END, span);
     }
     false
 }
 
 // Answer 4: a row's record where a step reads it, `open` layers being open.
 pub fn is_good_row(state: &[u32], c: u32, d: u32, open: u32) -> bool
-    requires { ⌜ (length (now state) ≡ 54) × («open» ≤ 16) ⌝ }
+    requires { ⌜ (length (now state) ≡ row-size) × («open» ≤ most-layers) ⌝ }
     ensures { λ r. ⌜ r ≡ good-row c d «open» (now (state .entry)) ⌝ }
 {
-    let renders = state[0];
-    let levels = state[5];
+    let renders = state[RENDERS];
+    let levels = state[LEVELS];
     if c < renders {
         return false;
     }
-    if d < state[1] {
+    if d < state[DEPTHS] {
         return false;
     }
     if open < levels {
         return false;
     }
-    if state[3] < state[2] {
+    if state[END] < state[FIRST] {
         return false;
     }
-    if 8192 < state[3] {
+    if TILE_END < state[END] {
         return false;
     }
-    if 1048576 < state[4] {
+    if LAST_ID < state[LARGEST] {
         return false;
     }
     if levels == 0 {
         return true;
     }
-    let at = 3 + 3 * wide(levels);
+    let at = LEVEL_BASE + LEVEL * wide(levels);
     if renders <= state[at] {
         return false;
     }

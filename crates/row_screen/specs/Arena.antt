@@ -4,6 +4,7 @@ use mathlib.Core.Path.{_≡_}
 use mathlib.Core.List.{List, [], _∷_, _++_}
 use lib.ListN.{length, take, drop}
 use borrow.Rule.Slice.PartMut.{putMid}
+use Rattle.sizes.specs.Sizes.{most-room, most-rows, last-id, row-size}
 use Rattle.row.specs.Words.{Words, words}
 use Rattle.row_screen.specs.declared.Place.{Place}
 
@@ -19,7 +20,7 @@ pub record Sizes : Type 0 where
 
 -- room for c commands and d depth fills
 abbrev pub sizes : ℕ → ℕ → Sizes
-sizes c d = record { state = 54; render = 4 * c; fills = 2 * d }
+sizes c d = record { state = row-size; render = 4 * c; fills = 2 * d }
 
 abbrev pub head-of : Sizes → Words → Words
 head-of k w = words (take (k .state) (w .state)) (take (k .render) (w .render)) (take (k .fills) (w .fills))
@@ -58,21 +59,21 @@ pub record Sized (k : Sizes) (u : Words) : Type 0 where
 
 -- how many rows have their records in these words
 abbrev pub count-rows : List ℕ → ℕ
-count-rows s = length s / 54
+count-rows s = length s / row-size
 
 -- the words of n rows, with room for i commands and j depth fills in each
 pub record Arenas (i j n : ℕ) (w : Words) : Type 0 where
-  pub rows : n ≤ 512
-  pub c : i ≤ 1024
-  pub d : j ≤ 1024
+  pub rows : n ≤ most-rows
+  pub c : i ≤ most-room
+  pub d : j ≤ most-room
   pub long : Long (sizes i j) n w
 
 -- where row r stands
 pub record Stands (c d r : ℕ) (p : Place) : Type 0 where
-  pub x0 : p .x0 ≡ r * 54
-  pub x1 : p .x1 ≡ p .x0 + 54
+  pub x0 : p .x0 ≡ r * row-size
+  pub x1 : p .x1 ≡ p .x0 + row-size
   pub y0 : p .y0 ≡ r * (4 * c)
   pub y1 : p .y1 ≡ p .y0 + 4 * c
   pub z0 : p .z0 ≡ r * (2 * d)
   pub z1 : p .z1 ≡ p .z0 + 2 * d
-  pub low : (p .x1 ≤ 27648) × (p .y1 ≤ 2097152) × (p .z1 ≤ 1048576)
+  pub low : (p .x1 ≤ 27648) × (p .y1 ≤ 2097152) × (p .z1 ≤ last-id)

@@ -2,7 +2,9 @@
 ghost use mathlib.Core.Path.{_≡_};
 ghost use Prim.Native.Nat.{_+_, _*_, _≤_, _<_};
 ghost use lib.ListN.{length, take, drop};
+ghost use Rattle.sizes.specs.Sizes.{most-room, most-rows};
 ghost use Rattle.row_screen.specs.Arena.{Stands};
+use sizes::ROW;
 
 // Where row r's words start and end: x in the records, y in the render commands, z in the depth fills.
 pub struct Place {
@@ -16,17 +18,17 @@ pub struct Place {
 
 // Row r's place, with room for c commands and d depth fills in a row.
 pub fn place_of(c: u32, d: u32, r: usize) -> Place
-    requires { ⌜ (c ≤ 1024) × (d ≤ 1024) × (r < 512) ⌝ }
+    requires { ⌜ (c ≤ most-room) × (d ≤ most-room) × (r < most-rows) ⌝ }
     ensures { λ p. ⌜ Stands c d r p ⌝ }
 {
     let cw = 4 * (c as usize);
     let dw = 2 * (d as usize);
-    let x0 = r * 54;
+    let x0 = r * ROW;
     let y0 = r * cw;
     let z0 = r * dw;
     Place {
         x0,
-        x1: x0 + 54,
+        x1: x0 + ROW,
         y0,
         y1: y0 + cw,
         z0,

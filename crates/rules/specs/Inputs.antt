@@ -5,6 +5,7 @@ use mathlib.Core.List.{List}
 use mathlib.Core.Option.{Option, none, some}
 use lib.ListN.{length, getD}
 use lib.Dec.{leb, ltb, eqb}
+use Rattle.sizes.specs.Sizes.{thread-end, handle-end, most-records}
 use Rattle.rules.specs.Lists.{is-none, slice}
 use Rattle.rules.specs.Boxes.{Box, good-box, good-dest}
 use Rattle.rules.specs.Blends.{Blend, is-default, good-blend}
@@ -12,10 +13,10 @@ use Rattle.rules.specs.Segments.{Segment}
 
 -- masks and pixmaps are handles; 0 says none
 abbrev pub good-handle : ℕ → Bool
-good-handle h = ltb h 2147483648
+good-handle h = ltb h handle-end
 
 abbrev pub good-thread : ℕ → Bool
-good-thread t = ltb t 256
+good-thread t = ltb t thread-end
 
 -- places start to end of a list of n
 abbrev pub good-range : ℕ → ℕ → ℕ → Bool
@@ -55,7 +56,7 @@ good-draw ps ss d =
 
 -- a paint list has at most 4,096 records, as a section has
 abbrev pub few-paints : ℕ → Bool
-few-paints n = leb n 4096
+few-paints n = leb n most-records
 
 -- what a fill is lent and told
 abbrev pub good-fill : List Paint → List Segment → Draw → Bool

@@ -6,6 +6,7 @@ use mathlib.Core.Option.{Option, none, some}
 use lib.ListN.{getD, replicate}
 use lib.Dec.{leb, ltb, eqb}
 use lib.Ieee.{Float, binary32, isNan, nanBits}
+use Rattle.sizes.specs.Sizes.{open-layer-size}
 use Rattle.rules.specs.Boxes.{Box, box, width, height, by-4}
 use Rattle.rules.specs.Blends.{good-blend}
 use Rattle.rules.specs.Inputs as rule
@@ -58,11 +59,11 @@ layer-words l nan =
 
 -- those of a layer that is not open
 abbrev pub no-words : List ℕ
-no-words = replicate 16 0
+no-words = replicate open-layer-size 0
 
 -- word i of layer k
 abbrev pub layer-word : List ℕ → ℕ → ℕ → ℕ
-layer-word ws k i = getD ws (16 * k + i) 0
+layer-word ws k i = getD ws (open-layer-size * k + i) 0
 
 abbrev pub box-in : List ℕ → ℕ → Rect
 box-in ws k = record { x0 = layer-word ws k 11; y0 = layer-word ws k 12; x1 = layer-word ws k 13; y1 = layer-word ws k 14 }

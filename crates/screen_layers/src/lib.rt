@@ -3,6 +3,7 @@
 ghost use mathlib.Core.Path.{_≡_};
 ghost use Prim.Native.Nat.{_*_, _<_};
 ghost use lib.ListN.{length};
+ghost use Rattle.sizes.specs.Sizes.{most-layers, open-layer-size, open-layer-table};
 ghost use Rattle.rules.specs.Inputs.{all-good};
 ghost use Rattle.rules.specs.Plans.{layer-box};
 ghost use Rattle.rect.specs.Rects.{box-of};
@@ -10,6 +11,9 @@ ghost use Rattle.cmd.specs.Attrs.{words-at};
 ghost use Rattle.screen_layers.specs.Layers.{clip-of, good-pattern, good-given, layer-of, clip-words, flat-words, layer-words, no-words, open-at, box-in, good-layer, good-own-box};
 use cmd::blend::Blend;
 use rect::Rect;
+use sizes::THREAD_END;
+use sizes::HANDLE_END;
+use sizes::OPEN_LAYER;
 
 // The box, the range of its segments, the thread.
 pub struct Clip {
@@ -97,7 +101,7 @@ fn is_good_clip(clip: LayerClip) -> bool
             if c.end < c.start {
                 return false;
             }
-            c.thread < 256
+            c.thread < THREAD_END
         }
     }
 }
@@ -124,7 +128,7 @@ pub fn is_good_props(props: LayerProps) -> bool
     if !blend.is_good() {
         return false;
     }
-    if 2147483648 <= props.mask {
+    if HANDLE_END <= props.mask {
         return false;
     }
     is_good_clip(clip)
@@ -146,10 +150,10 @@ pub fn layer_box(viewport: Rect, parent: Rect, clip: LayerClip) -> Rect
 
 // The words of layer k.
 pub fn put_layer(layers: &mut [u32], k: u32, props: LayerProps, bbox: Rect)
-    requires { ⌜ (k < 16) × (length (now layers) ≡ 256) ⌝ }
-    ensures { λ _. ⌜ now (layers .exit) ≡ words-at (now (layers .entry)) (16 * k) (layer-words (layer-of props bbox) (props .nan)) ⌝ }
+    requires { ⌜ (k < most-layers) × (length (now layers) ≡ open-layer-table) ⌝ }
+    ensures { λ _. ⌜ now (layers .exit) ≡ words-at (now (layers .entry)) (open-layer-size * k) (layer-words (layer-of props bbox) (props .nan)) ⌝ }
 {
-    let at = 16 * (k as usize);
+    let at = OPEN_LAYER * (k as usize);
     let blend = props.blend;
     let given = props.clip;
     let clip = flat(given);
@@ -174,10 +178,10 @@ pub fn put_layer(layers: &mut [u32], k: u32, props: LayerProps, bbox: Rect)
 
 // The own box of layer k.
 pub fn box_at(layers: &[u32], k: u32) -> Rect
-    requires { ⌜ (k < 16) × (length (now layers) ≡ 256) ⌝ }
+    requires { ⌜ (k < most-layers) × (length (now layers) ≡ open-layer-table) ⌝ }
     ensures { λ r. ⌜ r ≡ box-in (now (layers .entry)) k ⌝ }
 {
-    let at = 16 * (k as usize);
+    let at = OPEN_LAYER * (k as usize);
     Rect {
         x0: layers[at + 11],
         y0: layers[at + 12],
@@ -188,10 +192,10 @@ pub fn box_at(layers: &[u32], k: u32) -> Rect
 
 // Layer k as it stands in the table.
 pub fn open_layer(layers: &[u32], k: u32) -> OpenLayer
-    requires { ⌜ (k < 16) × (length (now layers) ≡ 256) ⌝ }
+    requires { ⌜ (k < most-layers) × (length (now layers) ≡ open-layer-table) ⌝ }
     ensures { λ r. ⌜ r ≡ open-at (now (layers .entry)) k ⌝ }
 {
-    let at = 16 * (k as usize);
+    let at = OPEN_LAYER * (k as usize);
     let bbox = box_at(layers, k);
     let blend = Blend {
         mix: layers[at],
@@ -211,12 +215,12 @@ pub fn open_layer(layers: &[u32], k: u32) -> OpenLayer
 
 // Every word of layer k is 0.
 pub fn drop_layer(layers: &mut [u32], k: u32)
-    requires { ⌜ (k < 16) × (length (now layers) ≡ 256) ⌝ }
-    ensures { λ _. ⌜ now (layers .exit) ≡ words-at (now (layers .entry)) (16 * k) no-words ⌝ }
+    requires { ⌜ (k < most-layers) × (length (now layers) ≡ open-layer-table) ⌝ }
+    ensures { λ _. ⌜ now (layers .exit) ≡ words-at (now (layers .entry)) (open-layer-size * k) no-words ⌝ }
 {
-    let at = 16 * (k as usize);
+    let at = OPEN_LAYER * (k as usize);
     let mut i = 0;
-    while i < 16 {
+    while i < OPEN_LAYER {
         layers[at + i] = 0;
         i += 1;
     }
@@ -230,7 +234,7 @@ pub fn is_good_layer(layer: OpenLayer) -> bool
     if !blend.is_good() {
         return false;
     }
-    if 2147483648 <= layer.mask {
+    if HANDLE_END <= layer.mask {
         return false;
     }
     if 1 < layer.flag {
@@ -239,7 +243,7 @@ pub fn is_good_layer(layer: OpenLayer) -> bool
     if layer.end < layer.start {
         return false;
     }
-    layer.thread < 256
+    layer.thread < THREAD_END
 }
 
 // Answer 4: the own box of an open layer, in a viewport.

@@ -13,6 +13,8 @@ use span::Alpha;
 use span::Cut;
 use span::Stretch;
 use span::TileSpan;
+use sizes::TILE_END;
+use sizes::TILE_ALPHAS;
 
 // Kind 0 is solid, 1 has an alpha index, that of its first tile.
 pub struct Segment {
@@ -46,19 +48,19 @@ impl Segment {
         if 1 < self.kind {
             return false;
         }
-        if 8192 <= self.row {
+        if TILE_END <= self.row {
             return false;
         }
         if self.end <= self.first {
             return false;
         }
-        if 8192 < self.end {
+        if TILE_END < self.end {
             return false;
         }
         if self.kind == 0 {
             return self.alpha == 0;
         }
-        self.alpha <= 4294967295 - 16 * (self.end - self.first)
+        self.alpha <= 4294967295 - TILE_ALPHAS * (self.end - self.first)
     }
 
     // Answer 5: this one may stand right before `next` in a list.

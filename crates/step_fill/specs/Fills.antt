@@ -5,6 +5,7 @@ use mathlib.Core.Bool.{Bool, true, _&&_, cond}
 use mathlib.Core.List.{List, [], _∷_}
 use lib.Dec.{eqb}
 use lib.ListN.{getD, length, drop}
+use Rattle.sizes.specs.Sizes.{bucket-tiles, paint-attr-table}
 use Rattle.rules.specs.Lists.{join}
 use Rattle.rules.specs.Answers.{Answer, settle, Done, BadRecord}
 use Rattle.rules.specs.Boxes.{Box, good-viewport}
@@ -85,7 +86,7 @@ fill-plan s ps ss d = plan-fill (paints-of ps) (segs-of ss) (draw-of d) (state-o
 
 -- the table of paint attributes is lent whole, and the lists have whole records
 abbrev pub good-lists : ℕ → ℕ → ℕ → Bool
-good-lists table ps ss = eqb table 8192 && eqb (ps % 4) 0 && eqb (ss % 5) 0
+good-lists table ps ss = eqb table paint-attr-table && eqb (ps % 4) 0 && eqb (ss % 5) 0
 
 -- what the screen and the lengths say: 2, 1, 4 or 0
 unfoldable pub first-number : Screen → ℕ → ℕ → ℕ → ℕ → ℕ → ℕ → ℕ
@@ -109,7 +110,7 @@ unfoldable pub fill-done : Lent → List ℕ → List ℕ → Draw → Lent
 fill-done l ps ss d =
     let p = fill-plan (l .screen) ps ss d in
     let n = l .screen .«paint_attrs» in
-    lent (screen-after (l .screen) p) (lay (done Words word-ops 32 p (screen-at (state-of (l .screen)) (l .words)) .rows))
+    lent (screen-after (l .screen) p) (lay (done Words word-ops bucket-tiles p (screen-at (state-of (l .screen)) (l .words)) .rows))
     (words-at (l .paint-attrs) (8 * n) (join paint-attr-words (drop n (p .attrs .paints))))
 
 -- a fill: what is refused alters nothing

@@ -11,10 +11,14 @@ use screen::answer_of;
 use screen::judge_screen;
 use segments::scene_of;
 use step_fill_judge::judge_list;
+use sizes::MOST_ATTRS;
+use sizes::LAST_ID;
+use sizes::PAINT_TABLE;
 ghost use mathlib.Core.Path.{_≡_};
 ghost use Prim.Native.Nat.{_+_, _/_, _≤_, _<_};
 ghost use lib.Dec.{eqb};
 ghost use lib.ListN.{length};
+ghost use Rattle.sizes.specs.Sizes.{most-attrs, last-id};
 ghost use Rattle.rules.specs.Answers.{answer};
 ghost use Rattle.rules.specs.Inputs.{good-draw, good-fill, draw-paint};
 ghost use Rattle.rules.specs.Plans.{eligible};
@@ -127,7 +131,7 @@ fn judge_lent(
     if n != 0 {
         return n;
     }
-    if table != 8192 {
+    if table != PAINT_TABLE {
         return 4;
     }
     if paints % 4 != 0 {
@@ -177,13 +181,13 @@ fn judge_fill(
     if n == 5 {
         return 5;
     }
-    if 1048576 < screen.next_draw_id {
+    if LAST_ID < screen.next_draw_id {
         return 8;
     }
     if start == end {
         return 0;
     }
-    if 1024 <= screen.paint_attrs {
+    if MOST_ATTRS <= screen.paint_attrs {
         return 9;
     }
     n
@@ -191,7 +195,7 @@ fn judge_fill(
 
 // The screen after a fill: one id more, and `more` attributes.
 fn taken(screen: Screen, more: u32) -> Screen
-    requires { ⌜ (screen .«next_draw_id» ≤ 1048576) × (screen .«paint_attrs» ≤ 1024) × (more ≤ 1) ⌝ }
+    requires { ⌜ (screen .«next_draw_id» ≤ last-id) × (screen .«paint_attrs» ≤ most-attrs) × (more ≤ 1) ⌝ }
     ensures { λ r. ⌜ r ≡ counted screen (screen .«next_draw_id» + 1) (screen .«paint_attrs» + more) (screen .«layer_attrs») (screen .«filter_paints») ⌝ }
 {
     let viewport = screen.viewport;

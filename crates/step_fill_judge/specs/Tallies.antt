@@ -6,6 +6,7 @@ use mathlib.Core.List.{List, [], _∷_}
 use mathlib.Core.Option.{Option, none, some}
 use lib.Dec.{ltb, eqb}
 use lib.ListN.{getD, length, take, drop}
+use Rattle.sizes.specs.Sizes.{bucket-tiles, tile-end, most-layers, most-room, most-rows, row-size, renders-at, depths-at, levels-at}
 use Rattle.rules.specs.Lists.{join}
 use Rattle.rules.specs.Answers.{Done, BadRecord, BadOrder, FullRow, FullDepth}
 use Rattle.rules.specs.Spans.{Span}
@@ -33,11 +34,11 @@ edge-count a b = cond (ltb a b) 1 0
 
 -- what a stretch adds to the counts of a row that has its layers (rules 6 and 7)
 unfoldable pub added : Bool → Span → Option ℕ → count.Counts
-added e s a = do-act count.Counts count-ops 32 0 (draw-act e 0 0 s a) (counts 0 0 0)
+added e s a = do-act count.Counts count-ops bucket-tiles 0 (draw-act e 0 0 s a) (counts 0 0 0)
 
 -- the counts that a row's record holds
 abbrev pub stored : List ℕ → count.Counts
-stored s = counts (getD s 0 0) (getD s 1 0) (getD s 5 0)
+stored s = counts (getD s renders-at 0) (getD s depths-at 0) (getD s levels-at 0)
 
 -- those of row r, whose record at entry is s
 unfoldable pub known : Tally → List ℕ → ℕ → count.Counts
@@ -45,7 +46,7 @@ known t s r = cond (eqb (t .row) r) (counts (t .renders) (t .depths) (t .levels)
 
 -- a cut segment's act, on counts
 abbrev pub drawn-counts : Job → Cut → count.Counts → count.Counts
-drawn-counts j k c = do-act count.Counts count-ops 32 (j .layers) (draw-act (j .eligible) (j .attr) (j .id) (k .tiles) (k .alpha)) c
+drawn-counts j k c = do-act count.Counts count-ops bucket-tiles (j .layers) (draw-act (j .eligible) (j .attr) (j .id) (k .tiles) (k .alpha)) c
 
 abbrev pub tally-of : Job → Tally → ℕ → count.Counts → Tally
 tally-of j t r c =
@@ -64,7 +65,7 @@ tallied j s t k = tally-of j t (k .row) (drawn-counts j k (known t s (k .row)))
 
 -- the record of row r
 abbrev pub record-at : List ℕ → ℕ → List ℕ
-record-at rows r = take 54 (drop (r * 54) rows)
+record-at rows r = take row-size (drop (r * row-size) rows)
 
 -- none where a row's record is bad
 unfoldable pub tally-cuts : Job → List ℕ → Tally → List Cut → Option Tally
@@ -84,17 +85,17 @@ cuts-of j ws a b = join (cut-in (origin (j .scene)) (bounds (j .scene))) (segs w
 
 -- no row at hand: 8,192 is no row
 abbrev pub none-yet : Tally
-none-yet = record { row = 8192; renders = 0; depths = 0; levels = 0; full = false; deep = false }
+none-yet = record { row = tile-end; renders = 0; depths = 0; levels = 0; full = false; deep = false }
 
 -- the job's numbers, and the records of n rows
 pub record Rowed (j : Job) (n : ℕ) (rows : List ℕ) : Type 0 where
-  pub c : j .c ≤ 1024
-  pub d : j .d ≤ 1024
-  pub layers : j .layers ≤ 16
+  pub c : j .c ≤ most-room
+  pub d : j .d ≤ most-room
+  pub layers : j .layers ≤ most-layers
   pub starts : Starts (origin (j .scene)) (bounds (j .scene))
   pub bottom : j .scene .rows .end ≤ j .scene .y / 4 + n
-  pub long : length rows ≡ n * 54
-  pub few : n ≤ 512
+  pub long : length rows ≡ n * row-size
+  pub few : n ≤ most-rows
 
 -- the number of a list and of its rows: 4 for either, then the list's, then the rows'
 abbrev pub list-number : ℕ → ℕ → ℕ
@@ -110,7 +111,7 @@ marked-by h follows = cond follows h (record { row = h .row; renders = h .render
 -- row r at hand, whose record at entry is s, with its layers
 unfoldable pub turned-to : Job → List ℕ → Hand → ℕ → Hand
 turned-to j s h r =
-    let read : Hand = record { row = r; renders = getD s 0 0 + (j .layers - getD s 5 0); depths = getD s 1 0; code = h .code } in
+    let read : Hand = record { row = r; renders = getD s renders-at 0 + (j .layers - getD s levels-at 0); depths = getD s depths-at 0; code = h .code } in
     let bad : Hand = record { row = r; renders = 0; depths = 0; code = BadRecord } in
     cond (eqb (h .row) r) h (cond (good-row (j .c) (j .d) (j .layers) s) read bad)
 

@@ -8,11 +8,19 @@ use segments::place;
 use segments::segment_at;
 use span::Alpha;
 use span::Stretch;
+use sizes::BUCKET;
+use sizes::BUCKET_ROUND;
+use sizes::TILE_END;
+use sizes::ROW;
+use sizes::RENDERS;
+use sizes::DEPTHS;
+use sizes::LEVELS;
 ghost use mathlib.Core.Path.{_≡_};
 ghost use mathlib.Core.Bool.{true, false};
 ghost use Prim.Native.Nat.{_-_, _*_, _≤_, _<_};
 ghost use lib.Dec.{ltb};
 ghost use lib.ListN.{length};
+ghost use Rattle.sizes.specs.Sizes.{tile-end};
 ghost use Rattle.rules.specs.Segments.{cut-in, good-segment, judge-segments};
 ghost use Rattle.span.specs.Spans.{tiles, alpha};
 ghost use Rattle.row_counts.specs.Counts.{counts};
@@ -42,7 +50,7 @@ fn edge(first: u32, end: u32) -> usize
 
 // What a stretch becomes, on a row that has its layers.
 fn added_by(eligible: bool, stretch: Stretch) -> Counts
-    requires { ⌜ (stretch .tiles .first ≤ 8192) × (stretch .tiles .«end» ≤ 8192) ⌝ }
+    requires { ⌜ (stretch .tiles .first ≤ tile-end) × (stretch .tiles .«end» ≤ tile-end) ⌝ }
     ensures { λ r. ⌜ counts (r .renders) (r .depths) 0 ≡ added eligible (tiles (stretch .tiles)) (alpha (stretch .alpha)) ⌝ }
 {
     let alpha = stretch.alpha;
@@ -54,8 +62,8 @@ fn added_by(eligible: bool, stretch: Stretch) -> Counts
         },
         Alpha::Solid => {
             if eligible {
-                let a = (tiles.first + 31) / 32 * 32;
-                let b = tiles.end / 32 * 32;
+                let a = (tiles.first + BUCKET_ROUND) / BUCKET * BUCKET;
+                let b = tiles.end / BUCKET * BUCKET;
                 if b <= a {
                     return Counts {
                         renders: 1,
@@ -117,14 +125,14 @@ fn turn_to(rows: &[u32], job: Job, hand: Hand, r: u32) -> Hand
     if hand.row == r {
         return hand;
     }
-    let at = (r as usize) * 54;
-    let state = &rows[at..at + 54];
+    let at = (r as usize) * ROW;
+    let state = &rows[at..at + ROW];
     if is_good_row(state, job.c, job.d, job.layers) {
-        let lacking = wide(job.layers - state[5]);
+        let lacking = wide(job.layers - state[LEVELS]);
         return Hand {
             row: r,
-            renders: wide(state[0]) + lacking,
-            depths: wide(state[1]),
+            renders: wide(state[RENDERS]) + lacking,
+            depths: wide(state[DEPTHS]),
             code: hand.code,
         };
     }
@@ -138,7 +146,7 @@ fn turn_to(rows: &[u32], job: Job, hand: Hand, r: u32) -> Hand
 
 // One more stretch, on the row at hand.
 fn tally_on(job: Job, hand: Hand, stretch: Stretch) -> Hand
-    requires { ⌜ Low hand × (stretch .tiles .first ≤ 8192) × (stretch .tiles .«end» ≤ 8192) ⌝ }
+    requires { ⌜ Low hand × (stretch .tiles .first ≤ tile-end) × (stretch .tiles .«end» ≤ tile-end) ⌝ }
     ensures { λ u. ⌜ u ≡ stretched job hand (tiles (stretch .tiles)) (alpha (stretch .alpha)) ⌝ }
 {
     let more = added_by(job.eligible, stretch);
@@ -185,7 +193,7 @@ pub fn judge_list(rows: &[u32], list: &[u32], start: usize, end: usize, job: Job
         alpha: 0,
     };
     let mut hand = Hand {
-        row: 8192,
+        row: TILE_END,
         renders: 0,
         depths: 0,
         code: 0,

@@ -5,6 +5,7 @@ use mathlib.Core.Bool.{Bool, true, not}
 use mathlib.Core.List.{List, [], _∷_}
 use mathlib.Core.Option.{Option, none, some}
 use lib.ListN.{getD, length}
+use Rattle.sizes.specs.Sizes.{bucket-tiles, most-layers}
 use Rattle.rules.specs.Lists.{join, every}
 use Rattle.rules.specs.Spans.{Span}
 use Rattle.rules.specs.Segments.{Cut, cut-in, good-segment}
@@ -38,7 +39,7 @@ abbrev pub puts : Job → List ℕ → ℕ → ℕ → List Put
 puts j ws i k = puts-of j (join (cut-in (origin (j .scene)) (bounds (j .scene))) (segs ws i k))
 
 abbrev pub done : Job → List Put → List Words → List Words
-done j ps rs = do-puts Words word-ops 32 (j .layers) ps rs
+done j ps rs = do-puts Words word-ops bucket-tiles (j .layers) ps rs
 
 -- each row that is put on has room for what the whole makes of it
 pub data Roomy : List Put → List Words → List Words → Type 0 where
@@ -48,7 +49,7 @@ pub data Roomy : List Put → List Words → List Words → Type 0 where
 -- n rows of words, and the job's other numbers
 pub record Fits (j : Job) (n : ℕ) (w : Words) : Type 0 where
   pub arenas : Arenas (j .c) (j .d) n w
-  pub layers : j .layers ≤ 16
+  pub layers : j .layers ≤ most-layers
   pub starts : Starts (origin (j .scene)) (bounds (j .scene))
   pub bottom : j .scene .rows .end ≤ j .scene .y / 4 + n
 

@@ -9,10 +9,12 @@ use segments::segment_at;
 use span::Alpha;
 use span::Stretch;
 use span::TileSpan;
+use sizes::LEVELS;
 ghost use mathlib.Core.Path.{_≡_};
 ghost use mathlib.Core.Bool.{true};
 ghost use Prim.Native.Nat.{_+_, _*_, _-_, _≤_, _<_};
 ghost use lib.ListN.{length, getD};
+ghost use Rattle.sizes.specs.Sizes.{most-layers};
 ghost use Rattle.rules.specs.Lists.{change};
 ghost use Rattle.rules.specs.Segments.{good-segment};
 ghost use Rattle.span.specs.Spans.{tiles, alpha};
@@ -57,10 +59,10 @@ fn push_row(
     attrs_idx: u32,
     draw_id: u32,
 )
-    requires { ⌜ Short (tiles span) × (n ≤ 16) × Room (words (now state) (now render) (now fills)) (drawn n eligible (tiles span) (alpha-of alpha) «attrs_idx» «draw_id» (words (now state) (now render) (now fills))) ⌝ }
+    requires { ⌜ Short (tiles span) × (n ≤ most-layers) × Room (words (now state) (now render) (now fills)) (drawn n eligible (tiles span) (alpha-of alpha) «attrs_idx» «draw_id» (words (now state) (now render) (now fills))) ⌝ }
     ensures { λ _. ⌜ words (now (state .exit)) (now (render .exit)) (now (fills .exit)) ≡ drawn n eligible (tiles span) (alpha-of alpha) «attrs_idx» «draw_id» (words (now (state .entry)) (now (render .entry)) (now (fills .entry))) ⌝ }
 {
-    let levels = state[5];
+    let levels = state[LEVELS];
     if levels == n {
         if is_unsplit(eligible, alpha) {
             push_paint(state, render, fills, span, alpha, attrs_idx);

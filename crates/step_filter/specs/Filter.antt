@@ -6,6 +6,7 @@ use mathlib.Core.List.{List, [], _∷_}
 use lib.ListN.{length, drop}
 use lib.Dec.{leb, eqb}
 use lib.IntN.{ℤ, pos, subℕ}
+use Rattle.sizes.specs.Sizes.{bucket-tiles, most-records, paint-attr-table, filter-paint-table}
 use Rattle.rules.specs.Lists.{join}
 use Rattle.rules.specs.Answers.{Answer, Done, BadRecord, settle}
 use Rattle.rules.specs.Boxes.{Box}
@@ -46,7 +47,7 @@ filter-of g =
     }
 
 abbrev pub good-given : Given → Bool
-good-given g = good-filter (filter-of g) && leb (g .count) 4096
+good-given g = good-filter (filter-of g) && leb (g .count) most-records
 
 -- the paint and the attribute that the code adds
 abbrev pub paint-from : Rect → ℕ → ℕ → ℕ → cmd.FilterPaint
@@ -82,7 +83,7 @@ plan-of g s = plan-filter (g .count) (filter-of g) (state-of s)
 abbrev pub first-number : Lent → ℕ
 first-number l =
     let n = judged (l .screen) (length (l .words .state)) (length (l .words .render)) (length (l .words .fills)) in
-    cond (eqb n Done) (cond (eqb (length (l .paint-attrs)) 8192 && eqb (length (l .filter-paints)) 1024) Done BadRecord) n
+    cond (eqb n Done) (cond (eqb (length (l .paint-attrs)) paint-attr-table && eqb (length (l .filter-paints)) filter-paint-table) Done BadRecord) n
 
 unfoldable pub filter-number : Given → Lent → ℕ
 filter-number g l =
@@ -99,7 +100,7 @@ unfoldable pub after : Given → Lent → Lent
 after g l =
     let s = l .screen in
     let p = plan-of g s in
-    lent (screen-after s p) (lay (done Words word-ops 32 p (screen-at (state-of s) (l .words)) .rows))
+    lent (screen-after s p) (lay (done Words word-ops bucket-tiles p (screen-at (state-of s) (l .words)) .rows))
     (words-at (l .paint-attrs) (8 * s .«paint_attrs») (join paint-attr-words (drop (s .«paint_attrs») (p .attrs .paints))))
     (words-at (l .filter-paints) (4 * s .«filter_paints») (join filter-paint-words (drop (s .«filter_paints») (p .attrs .filters))))
 

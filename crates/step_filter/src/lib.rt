@@ -4,6 +4,7 @@ ghost use mathlib.Core.Bool.{_||_};
 ghost use lib.Dec.{eqb};
 ghost use Prim.Native.Nat.{_≤_, _+_};
 ghost use lib.IntN.{subℕ};
+ghost use Rattle.sizes.specs.Sizes.{most-attrs, most-filters, most-records};
 ghost use Rattle.rules.specs.Answers.{answer};
 ghost use Rattle.rules.specs.Boxes.{meet, to-local, empty-box};
 ghost use Rattle.cmd.specs.Answers.{number-of};
@@ -24,6 +25,11 @@ use screen::Built;
 use screen::Screen;
 use screen::answer_of;
 use screen::judge_screen;
+use sizes::MOST_ATTRS;
+use sizes::MOST_FILTERS;
+use sizes::HANDLE_END;
+use sizes::PAINT_TABLE;
+use sizes::FILTER_TABLE;
 
 // Where a filter layer is drawn, and from where in its pixmap.
 pub struct Placement {
@@ -37,7 +43,7 @@ fn is_good_filter(placement: Placement, pixmap: u32, paint_count: u32) -> bool
     ensures { λ r. ⌜ r ≡ good-given (given placement pixmap «paint_count») ⌝ }
 {
     let dest = placement.dest;
-    if 2147483648 <= pixmap {
+    if HANDLE_END <= pixmap {
         return false;
     }
     if !dest.is_good_dest() {
@@ -92,7 +98,7 @@ fn filter_paint(dest: Rect, source_x: u32, source_y: u32, pixmap: u32) -> Filter
 
 // The attribute that it adds: default blend, no mask, thread 0.
 fn filter_attrs(screen: Screen, paint_count: u32) -> PaintFillAttrs
-    requires { ⌜ («paint_count» ≤ 4096) × (screen .«filter_paints» ≤ 256) ⌝ }
+    requires { ⌜ («paint_count» ≤ most-records) × (screen .«filter_paints» ≤ most-filters) ⌝ }
     ensures { λ r. ⌜ r ≡ attrs-of screen «paint_count» ⌝ }
 {
     let viewport = screen.viewport;
@@ -110,7 +116,7 @@ fn filter_attrs(screen: Screen, paint_count: u32) -> PaintFillAttrs
 
 // The screen after a filter fill that took `more` of each: an id, an attribute, a filter paint.
 fn taken(screen: Screen, more: u32) -> Screen
-    requires { ⌜ (more ≤ 1) × (screen .«next_draw_id» ≤ 1048577) × (screen .«paint_attrs» ≤ 1024) × (screen .«filter_paints» ≤ 256) ⌝ }
+    requires { ⌜ (more ≤ 1) × (screen .«next_draw_id» ≤ 1048577) × (screen .«paint_attrs» ≤ most-attrs) × (screen .«filter_paints» ≤ most-filters) ⌝ }
     ensures { λ r. ⌜ r ≡ counted screen (screen .«next_draw_id» + more) (screen .«paint_attrs» + more) (screen .«layer_attrs») (screen .«filter_paints» + more) ⌝ }
 {
     let mut next = screen;
@@ -139,10 +145,10 @@ fn judge_filter(
     if n != 0 {
         return n;
     }
-    if paint_attrs.len() != 8192 {
+    if paint_attrs.len() != PAINT_TABLE {
         return 4;
     }
-    if filter_paints.len() != 1024 {
+    if filter_paints.len() != FILTER_TABLE {
         return 4;
     }
     if !is_good_filter(placement, pixmap, paint_count) {
@@ -167,10 +173,10 @@ fn judge_filter(
     if 1048577 <= screen.next_draw_id {
         return 8;
     }
-    if 1024 <= screen.paint_attrs {
+    if MOST_ATTRS <= screen.paint_attrs {
         return 9;
     }
-    if 256 <= screen.filter_paints {
+    if MOST_FILTERS <= screen.filter_paints {
         return 9;
     }
     k

@@ -7,6 +7,7 @@ use mathlib.Core.List.{List, [], _∷_, _++_}
 use lib.ListN.{length, getD, set, drop}
 use lib.Dec.{leb, ltb, eqb}
 use lib.Ieee.{Float, nan}
+use Rattle.sizes.specs.Sizes.{bucket-tiles, most-layers, most-attrs, last-id, open-layer-size, open-layer-table, opacity-count, layer-attr-table}
 use Rattle.rules.specs.Lists.{join}
 use Rattle.rules.specs.Answers.{first-of, Done, BadRecord, Ids, FullAttrs, FullRow}
 use Rattle.rules.specs.Boxes.{Box, rows-in}
@@ -66,12 +67,12 @@ good-open v t (suc n) = good-layer (open-at t n) && good-own-box v (layer-at t n
 
 -- how many words are lent: the table of layers, opacities, layer attributes, the list
 unfoldable pub good-lengths : ℕ → ℕ → ℕ → ℕ → Bool
-good-lengths t o a ws = eqb t 256 && eqb o 1040 && eqb a 6144 && eqb (ws % 5) 0
+good-lengths t o a ws = eqb t open-layer-table && eqb o opacity-count && eqb a layer-attr-table && eqb (ws % 5) 0
 
 -- the numbers after these tests: 4 for a row's record, then 4 or 5 for the list, 8, 9 and 10
 unfoldable pub late : Bool → ℕ → ℕ → ℕ → Bool → ℕ
 late good listed next attrs full =
-    cond good (cond (eqb listed Done) (first-of ((ltb 1048576 next, Ids) ∷ (leb 1024 attrs, FullAttrs) ∷ (full, FullRow) ∷ [])) listed) BadRecord
+    cond good (cond (eqb listed Done) (first-of ((ltb last-id next, Ids) ∷ (leb most-attrs attrs, FullAttrs) ∷ (full, FullRow) ∷ [])) listed) BadRecord
 
 module _ (s : Screen) (l : Lent) (ws : List ℕ) where
   -- 2, 1 and 4: the screen, how many words are lent, the layer
@@ -110,9 +111,9 @@ module _ (s : Screen) (l : Lent) (ws : List ℕ) where
   -- done: the rows of the plan, the layer's words and its opacity 0, its opacity copied
   abbrev pub lent-after : Lent
   lent-after =
-      lent (lay (done Words word-ops 32 pop-plan (screen-at (state-in s (l .layers)) (l .words)) .rows))
-      (words-at (l .layers) (16 * (s .layers - 1)) no-words)
-      (set (set (l .opacities) (16 + s .«layer_attrs») (getD (l .opacities) (s .layers - 1) nan)) (s .layers - 1) float-0)
+      lent (lay (done Words word-ops bucket-tiles pop-plan (screen-at (state-in s (l .layers)) (l .words)) .rows))
+      (words-at (l .layers) (open-layer-size * (s .layers - 1)) no-words)
+      (set (set (l .opacities) (most-layers + s .«layer_attrs») (getD (l .opacities) (s .layers - 1) nan)) (s .layers - 1) float-0)
       (words-at (l .attrs) (6 * s .«layer_attrs») new-words)
 
   -- a pop: done, or refused by its number with nothing changed
@@ -122,7 +123,7 @@ module _ (s : Screen) (l : Lent) (ws : List ℕ) where
 -- what the doing half requires: nothing is refused. Opacities and attributes are not read here
 pub record Judged (s : Screen) (t ws : List ℕ) (w : Words) : Type 0 where
   pub screen : judged s (length (w .state)) (length (w .render)) (length (w .fills)) ≡ Done
-  pub table : length t ≡ 256
+  pub table : length t ≡ open-layer-table
   pub some : 1 ≤ s .layers
   pub layer : good-open (box-of (s .viewport)) t (s .layers) ≡ true
   pub rows : number-after s (lent w t [] []) ws Done ≡ Done
@@ -136,7 +137,7 @@ closing-puts s t ws w =
 
 -- the rows' words after it
 abbrev pub words-after : Screen → List ℕ → List ℕ → Words → Words
-words-after s t ws w = lay (done Words word-ops 32 (pop-plan s (lent w t [] []) ws) (screen-at (state-in s t) w) .rows)
+words-after s t ws w = lay (done Words word-ops bucket-tiles (pop-plan s (lent w t [] []) ws) (screen-at (state-in s t) w) .rows)
 
 -- the six words of the layer's attribute: blend, mask, id, thread, NaN pattern
 abbrev pub attr-words : Screen → List ℕ → List ℕ
@@ -147,6 +148,6 @@ attr-words s t =
 -- the tables after it
 abbrev pub tables-after : Screen → Lent → Lent
 tables-after s l =
-    lent (l .words) (words-at (l .layers) (16 * (s .layers - 1)) no-words)
-    (set (set (l .opacities) (16 + s .«layer_attrs») (getD (l .opacities) (s .layers - 1) nan)) (s .layers - 1) float-0)
+    lent (l .words) (words-at (l .layers) (open-layer-size * (s .layers - 1)) no-words)
+    (set (set (l .opacities) (most-layers + s .«layer_attrs») (getD (l .opacities) (s .layers - 1) nan)) (s .layers - 1) float-0)
     (words-at (l .attrs) (6 * s .«layer_attrs») (attr-words s (l .layers)))

@@ -24,6 +24,11 @@ use segments::Scene;
 use segments::judge_segments;
 use segments::scene_of;
 use span::TileSpan;
+use sizes::MOST_ATTRS;
+use sizes::LAST_ID;
+use sizes::OPEN_TABLE;
+use sizes::OPACITIES;
+use sizes::LAYER_TABLE;
 ghost use mathlib.Core.Path.{_≡_};
 ghost use mathlib.Core.Bool.{true, false, _&&_, _||_, cond};
 ghost use mathlib.Core.List.{[], map, _++_};
@@ -31,6 +36,7 @@ ghost use mathlib.Core.Option.{none};
 ghost use Prim.Native.Nat.{_+_, _-_, _*_, _/_, _≤_, _<_};
 ghost use lib.ListN.{length};
 ghost use lib.Dec.{eqb};
+ghost use Rattle.sizes.specs.Sizes.{most-layers, most-attrs, open-layer-table, opacity-count, layer-attr-table};
 ghost use Rattle.rules.specs.Lists.{join, range, every};
 ghost use Rattle.rules.specs.Boxes.{rows-of};
 ghost use Rattle.rules.specs.Segments.{cut-in, good-segment, judge-segments};
@@ -66,7 +72,7 @@ fn end_row(bbox: Rect) -> usize
 
 // The box of the innermost layer's parent.
 fn parent_box(viewport: Rect, layers: &[u32], open: u32) -> Rect
-    requires { ⌜ (1 ≤ «open») × («open» ≤ 16) × (length (now layers) ≡ 256) ⌝ }
+    requires { ⌜ (1 ≤ «open») × («open» ≤ most-layers) × (length (now layers) ≡ open-layer-table) ⌝ }
     ensures { λ r. ⌜ box-of r ≡ clip-box (box-of viewport) (layers-in (now (layers .entry)) («open» - 1)) ⌝ }
 {
     if open == 1 {
@@ -79,13 +85,13 @@ fn parent_box(viewport: Rect, layers: &[u32], open: u32) -> Rect
 fn is_good_lengths(layers: usize, opacities: usize, attrs: usize, list: usize) -> bool
     ensures { λ t. ⌜ t ≡ good-lengths layers opacities attrs list ⌝ }
 {
-    if layers != 256 {
+    if layers != OPEN_TABLE {
         return false;
     }
-    if opacities != 1040 {
+    if opacities != OPACITIES {
         return false;
     }
-    if attrs != 6144 {
+    if attrs != LAYER_TABLE {
         return false;
     }
     list % 5 == 0
@@ -114,17 +120,17 @@ fn judge_plain(
     a: usize,
     b: usize,
 ) -> u32
-    requires { ⌜ Whole (frame-of screen) (words (now rows) (now render) (now fills)) × (b ≤ rows-of (box-of (screen .viewport))) × (1 ≤ screen .layers) × (screen .layers ≤ 16) ⌝ }
+    requires { ⌜ Whole (frame-of screen) (words (now rows) (now render) (now fills)) × (b ≤ rows-of (box-of (screen .viewport))) × (1 ≤ screen .layers) × (screen .layers ≤ most-layers) ⌝ }
     ensures { λ r. ⌜ r ≡ late (good-pops (screen .c) (screen .d) (screen .layers) (rows-at (frame-of screen) (words (now (rows .entry)) (now (render .entry)) (now (fills .entry)))) (range a b)) 0 (screen .«next_draw_id») (screen .«layer_attrs»)
         (full-by (screen .c) 2 (rows-at (frame-of screen) (words (now (rows .entry)) (now (render .entry)) (now (fills .entry)))) (touched-in (screen .layers) (rows-at (frame-of screen) (words (now (rows .entry)) (now (render .entry)) (now (fills .entry)))) (range a b))) ⌝ }
 {
     if !judge_pop_rows(screen, rows, render, fills, a, b) {
         return 4;
     }
-    if 1048576 < screen.next_draw_id {
+    if LAST_ID < screen.next_draw_id {
         return 8;
     }
-    if 1024 <= screen.layer_attrs {
+    if MOST_ATTRS <= screen.layer_attrs {
         return 9;
     }
     if is_full(screen, rows, render, fills, a, b, 2) {
@@ -146,7 +152,7 @@ fn judge_clip(
     a: usize,
     b: usize,
 ) -> u32
-    requires { ⌜ Whole (frame-of screen) (words (now rows) (now render) (now fills)) × (b ≤ rows-of (box-of (screen .viewport))) × (1 ≤ screen .layers) × (screen .layers ≤ 16) × (start ≤ «end») × (5 * «end» ≤ length (now list)) × Starts (origin scene) (bounds scene) ⌝ }
+    requires { ⌜ Whole (frame-of screen) (words (now rows) (now render) (now fills)) × (b ≤ rows-of (box-of (screen .viewport))) × (1 ≤ screen .layers) × (screen .layers ≤ most-layers) × (start ≤ «end») × (5 * «end» ≤ length (now list)) × Starts (origin scene) (bounds scene) ⌝ }
     ensures { λ r. ⌜ r ≡ late (good-pops (screen .c) (screen .d) (screen .layers) (rows-at (frame-of screen) (words (now (rows .entry)) (now (render .entry)) (now (fills .entry)))) (range a b)) (judge-segments false (segs (now (list .entry)) start («end» - start))) (screen .«next_draw_id») (screen .«layer_attrs»)
         (full-by (screen .c) 1 (rows-at (frame-of screen) (words (now (rows .entry)) (now (render .entry)) (now (fills .entry)))) (touched-in (screen .layers) (rows-at (frame-of screen) (words (now (rows .entry)) (now (render .entry)) (now (fills .entry)))) (range a b))
         || runs-full (screen .c) (touched-in (screen .layers) (rows-at (frame-of screen) (words (now (rows .entry)) (now (render .entry)) (now (fills .entry)))) (range a b)) (rows-at (frame-of screen) (words (now (rows .entry)) (now (render .entry)) (now (fills .entry)))) 0 0 (join (cut-in (origin scene) (bounds scene)) (segs (now (list .entry)) start («end» - start)))) ⌝ }
@@ -158,10 +164,10 @@ fn judge_clip(
     if listed != 0 {
         return listed;
     }
-    if 1048576 < screen.next_draw_id {
+    if LAST_ID < screen.next_draw_id {
         return 8;
     }
-    if 1024 <= screen.layer_attrs {
+    if MOST_ATTRS <= screen.layer_attrs {
         return 9;
     }
     if is_full(screen, rows, render, fills, a, b, 1) {
@@ -182,7 +188,7 @@ fn judge_open(
     layers: &[u32],
     list: &[u32],
 ) -> u32
-    requires { ⌜ (judged screen (length (now rows)) (length (now render)) (length (now fills)) ≡ 0) × (length (now layers) ≡ 256) × (1 ≤ screen .layers) ⌝ }
+    requires { ⌜ (judged screen (length (now rows)) (length (now render)) (length (now fills)) ≡ 0) × (length (now layers) ≡ open-layer-table) × (1 ≤ screen .layers) ⌝ }
     ensures { λ r. ⌜ r ≡ cond (good-open (box-of (screen .viewport)) (now (layers .entry)) (screen .layers)) (number-after screen (lent (words (now (rows .entry)) (now (render .entry)) (now (fills .entry))) (now (layers .entry)) [] []) (now (list .entry)) 0) 4 ⌝ }
 {
     let viewport = screen.viewport;
@@ -295,7 +301,7 @@ fn thread_of(layer: OpenLayer) -> u32
 
 // Rule 9: the layer's attribute, its opacity copied; then nothing stands in the layer's place.
 fn do_tables(screen: Screen, layers: &mut [u32], opacities: &mut [f32], layer_attrs: &mut [u32])
-    requires { ⌜ (length (now layers) ≡ 256) × (length (now opacities) ≡ 1040) × (length (now «layer_attrs») ≡ 6144) × (1 ≤ screen .layers) × (screen .layers ≤ 16) × (screen .«layer_attrs» < 1024) ⌝ }
+    requires { ⌜ (length (now layers) ≡ open-layer-table) × (length (now opacities) ≡ opacity-count) × (length (now «layer_attrs») ≡ layer-attr-table) × (1 ≤ screen .layers) × (screen .layers ≤ most-layers) × (screen .«layer_attrs» < most-attrs) ⌝ }
     ensures { λ _. ⌜ lent nowhere (now (layers .exit)) (now (opacities .exit)) (now («layer_attrs» .exit))
         ≡ tables-after screen (lent nowhere (now (layers .entry)) (now (opacities .entry)) (now («layer_attrs» .entry))) ⌝ }
 {

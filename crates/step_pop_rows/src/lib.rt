@@ -7,7 +7,7 @@ use cmd::command::Fill;
 use row::pop_buf;
 use row::push_closing;
 use row::wide;
-use screen::ROW;
+use sizes::ROW;
 use screen::Screen;
 use segments::Placed;
 use segments::Scene;
@@ -15,6 +15,9 @@ use segments::place;
 use segments::segment_at;
 use span::Alpha;
 use span::TileSpan;
+use sizes::LEVELS;
+use sizes::LEVEL_BASE;
+use sizes::LEVEL;
 ghost use mathlib.Core.Path.{_≡_};
 ghost use mathlib.Core.Bool.{true, cond};
 ghost use mathlib.Core.List.{[], _∷_, map};
@@ -22,6 +25,7 @@ ghost use mathlib.Core.Option.{none};
 ghost use Prim.Native.Nat.{_+_, _-_, _*_, _≤_, _<_};
 ghost use lib.ListN.{length, getD};
 ghost use lib.Dec.{eqb};
+ghost use Rattle.sizes.specs.Sizes.{most-layers, most-room, most-rows, row-size};
 ghost use Rattle.rules.specs.Lists.{change, join, range, every};
 ghost use Rattle.rules.specs.Boxes.{rows-of};
 ghost use Rattle.rules.specs.Commands.{layer-fill};
@@ -38,23 +42,23 @@ ghost use Rattle.step_pop_rows.specs.Closing.{row-of, touched-in, good-p
 
 // Answer 4: a row of the layer's box, by its words.
 fn is_good_pop(state: &[u32], render: &[u32], fills: &[u32], c: u32, d: u32, open: u32) -> bool
-    requires { ⌜ (length (now state) ≡ 54) × (length (now render) ≡ 4 * c) × (1 ≤ «open») × («open» ≤ 16) ⌝ }
+    requires { ⌜ (length (now state) ≡ row-size) × (length (now render) ≡ 4 * c) × (1 ≤ «open») × («open» ≤ most-layers) ⌝ }
     ensures { λ b. ⌜ b ≡ good-pop c d «open» (words (now (state .entry)) (now (render .entry)) (now (fills .entry))) ⌝ }
 {
-    let levels = state[5];
+    let levels = state[LEVELS];
     if levels != open {
         return levels < open;
     }
     if !is_good_row(state, c, d, open) {
         return false;
     }
-    let place = wide(state[3 + 3 * wide(open)]);
+    let place = wide(state[LEVEL_BASE + LEVEL * wide(open)]);
     render[4 * place] == 5
 }
 
 // Answer 4: row r of the layer's box.
 fn judge_pop_row(screen: Screen, rows: &[u32], render: &[u32], fills: &[u32], r: usize) -> bool
-    requires { ⌜ Whole (frame-of screen) (words (now rows) (now render) (now fills)) × (r < rows-of (box-of (screen .viewport))) × (1 ≤ screen .layers) × (screen .layers ≤ 16) ⌝ }
+    requires { ⌜ Whole (frame-of screen) (words (now rows) (now render) (now fills)) × (r < rows-of (box-of (screen .viewport))) × (1 ≤ screen .layers) × (screen .layers ≤ most-layers) ⌝ }
     ensures { λ b. ⌜ b ≡ good-pop (screen .c) (screen .d) (screen .layers) (row-of (rows-at (frame-of screen) (words (now (rows .entry)) (now (render .entry)) (now (fills .entry)))) r) ⌝ }
 {
     is_good_pop(
@@ -76,7 +80,7 @@ pub fn judge_pop_rows(
     a: usize,
     b: usize,
 ) -> bool
-    requires { ⌜ Whole (frame-of screen) (words (now rows) (now render) (now fills)) × (b ≤ rows-of (box-of (screen .viewport))) × (1 ≤ screen .layers) × (screen .layers ≤ 16) ⌝ }
+    requires { ⌜ Whole (frame-of screen) (words (now rows) (now render) (now fills)) × (b ≤ rows-of (box-of (screen .viewport))) × (1 ≤ screen .layers) × (screen .layers ≤ most-layers) ⌝ }
     ensures { λ t. ⌜ t ≡ good-pops (screen .c) (screen .d) (screen .layers) (rows-at (frame-of screen) (words (now (rows .entry)) (now (render .entry)) (now (fills .entry)))) (range a b) ⌝ }
 {
     let mut r = a;
@@ -102,7 +106,7 @@ fn is_full_row(
     ensures { λ t. ⌜ t ≡ full-by (screen .c) more (rows-at (frame-of screen) (words (now (rows .entry)) (now (render .entry)) (now (fills .entry)))) (touched-in (screen .layers) (rows-at (frame-of screen) (words (now (rows .entry)) (now (render .entry)) (now (fills .entry)))) (r ∷ [])) ⌝ }
 {
     let x = r * ROW;
-    if rows[x + 5] != screen.layers {
+    if rows[x + LEVELS] != screen.layers {
         return false;
     }
     (screen.c as usize) < wide(rows[x]) + more
@@ -133,7 +137,7 @@ pub fn is_full(
 
 // Row r lies from a to b, and has the innermost layer's PushBuf.
 fn is_touched(rows: &[u32], r: usize, a: usize, b: usize, open: u32) -> bool
-    requires { ⌜ (b ≤ 512) × (b * 54 ≤ length (now rows)) ⌝ }
+    requires { ⌜ (b ≤ most-rows) × (b * row-size ≤ length (now rows)) ⌝ }
     ensures { λ t. ⌜ t ≡ touched-word a b «open» (now (rows .entry)) r ⌝ }
 {
     if r < a {
@@ -142,7 +146,7 @@ fn is_touched(rows: &[u32], r: usize, a: usize, b: usize, open: u32) -> bool
     if b <= r {
         return false;
     }
-    rows[r * ROW + 5] == open
+    rows[r * ROW + LEVELS] == open
 }
 
 // The commands of the row before `next` so far, and whether a row was full.
@@ -154,8 +158,8 @@ pub struct Count {
 
 // The commands of row k so far.
 fn so_far(rows: &[u32], count: Count, k: u32) -> usize
-    requires { ⌜ (k < 512) × (k * 54 < length (now rows)) × (count .n ≤ 1024) ⌝ }
-    ensures { λ m. ⌜ (m ≡ cond (eqb (k + 1) (count .next)) (count .n) (getD (now (rows .entry)) (k * 54) 0)) × (m < 4294967296) ⌝ }
+    requires { ⌜ (k < most-rows) × (k * row-size < length (now rows)) × (count .n ≤ most-room) ⌝ }
+    ensures { λ m. ⌜ (m ≡ cond (eqb (k + 1) (count .next)) (count .n) (getD (now (rows .entry)) (k * row-size) 0)) × (m < 4294967296) ⌝ }
 {
     if k + 1 == count.next {
         return count.n;
@@ -177,7 +181,7 @@ fn count_segment(
     b: usize,
     count: Count,
 ) -> Count
-    requires { ⌜ Whole (frame-of screen) (words (now rows) (now render) (now fills)) × (b ≤ rows-of (box-of (screen .viewport))) × (5 * i + 5 ≤ length (now list)) × (good-segment (seg-at (now list) i) ≡ true) × Starts (origin scene) (bounds scene) × (count .n ≤ 1024) ⌝ }
+    requires { ⌜ Whole (frame-of screen) (words (now rows) (now render) (now fills)) × (b ≤ rows-of (box-of (screen .viewport))) × (5 * i + 5 ≤ length (now list)) × (good-segment (seg-at (now list) i) ≡ true) × Starts (origin scene) (bounds scene) × (count .n ≤ most-room) ⌝ }
     ensures { λ r. ⌜ Counted (screen .c) (touched-in (screen .layers) (rows-at (frame-of screen) (words (now (rows .entry)) (now (render .entry)) (now (fills .entry)))) (range a b)) (rows-at (frame-of screen) (words (now (rows .entry)) (now (render .entry)) (now (fills .entry)))) (count .next) (count .n) (cut-in (origin scene) (bounds scene) (seg-at (now (list .entry)) i)) r ⌝ }
 {
     let placed = place(segment_at(list, i), scene);
@@ -306,7 +310,7 @@ fn close_span(
         ≡ done-puts (screen .layers - 1) (map (on (close (tiles span) none (screen .«layer_attrs»))) (touched-in (screen .layers) (rows-at (frame-of screen) (words (now (rows .entry)) (now (render .entry)) (now (fills .entry)))) (r ∷ []))) (rows-at (frame-of screen) (words (now (rows .entry)) (now (render .entry)) (now (fills .entry)))) ⌝ }
 {
     let x = r * ROW;
-    if rows[x + 5] != screen.layers {
+    if rows[x + LEVELS] != screen.layers {
         return;
     }
     let fill = Fill {
@@ -347,7 +351,7 @@ fn pop_row(screen: Screen, rows: &mut [u32], render: &mut [u32], fills: &mut [u3
         ≡ done-puts (screen .layers - 1) (map (on pop) (touched-in (screen .layers) (rows-at (frame-of screen) (words (now (rows .entry)) (now (render .entry)) (now (fills .entry)))) (r ∷ []))) (rows-at (frame-of screen) (words (now (rows .entry)) (now (render .entry)) (now (fills .entry)))) ⌝ }
 {
     let x = r * ROW;
-    if rows[x + 5] != screen.layers {
+    if rows[x + LEVELS] != screen.layers {
         return;
     }
     pop_at(screen, rows, render, fills, r);

@@ -5,6 +5,7 @@ use mathlib.Core.List.{List, [], _∷_}
 use lib.ListN.{length, set}
 use lib.Dec.{eqb}
 use lib.Ieee.{Float}
+use Rattle.sizes.specs.Sizes.{bucket-tiles, open-layer-size, open-layer-table, opacity-count}
 use Rattle.rules.specs.Answers.{Answer, Done, BadRecord, settle}
 use Rattle.rules.specs.Boxes.{Box, empty-box}
 use Rattle.rules.specs.Blends.{destructive}
@@ -41,7 +42,7 @@ abbrev pub first-number : LayerProps → Lent → ℕ
 first-number p l =
     let n = judged (l .screen) (length (l .words .state)) (length (l .words .render)) (length (l .words .fills)) in
     cond (eqb n Done)
-    (cond (eqb (length (l .layers)) 256 && eqb (length (l .opacities)) 1040 && good-pattern (p .opacity) (p .nan)) Done BadRecord) n
+    (cond (eqb (length (l .layers)) open-layer-table && eqb (length (l .opacities)) opacity-count && good-pattern (p .opacity) (p .nan)) Done BadRecord) n
 
 unfoldable pub push-number : LayerProps → Lent → ℕ
 push-number p l =
@@ -58,8 +59,8 @@ top-words (l ∷ ls) nan = layer-words l nan
 unfoldable pub after : LayerProps → Lent → Lent
 after p l =
     let s = l .screen in
-    lent (screen-after s (plan-of p s)) (lay (done Words word-ops 32 (plan-of p s) (screen-at (state-of s) (l .words)) .rows))
-    (words-at (l .layers) (16 * s .layers) (top-words (plan-of p s .layers) (p .nan))) (set (l .opacities) (s .layers) (p .opacity))
+    lent (screen-after s (plan-of p s)) (lay (done Words word-ops bucket-tiles (plan-of p s) (screen-at (state-of s) (l .words)) .rows))
+    (words-at (l .layers) (open-layer-size * s .layers) (top-words (plan-of p s .layers) (p .nan))) (set (l .opacities) (s .layers) (p .opacity))
 
 -- what is refused alters nothing
 unfoldable pub pushed : LayerProps → Lent → Answer Lent

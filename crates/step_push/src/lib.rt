@@ -1,6 +1,7 @@
 // A push (rule 8). `push_layer` is a public call; the others are parts of it.
 ghost use mathlib.Core.Path.{_≡_};
 ghost use Prim.Native.Nat.{_≤_};
+ghost use Rattle.sizes.specs.Sizes.{most-layers};
 ghost use Rattle.rules.specs.Answers.{answer};
 ghost use Rattle.cmd.specs.Answers.{number-of};
 ghost use Rattle.rect.specs.Rects.{box-of};
@@ -19,6 +20,9 @@ use screen::Built;
 use screen::Screen;
 use screen::answer_of;
 use screen::judge_screen;
+use sizes::MOST_LAYERS;
+use sizes::OPEN_TABLE;
+use sizes::OPACITIES;
 
 // Rows a to b.
 struct Run {
@@ -45,7 +49,7 @@ fn touch_run(blend: Blend, bbox: Rect) -> Run
 
 // The screen with one more layer, whose box is given.
 fn on_layer(screen: Screen, bbox: Rect) -> Screen
-    requires { ⌜ screen .layers ≤ 16 ⌝ }
+    requires { ⌜ screen .layers ≤ most-layers ⌝ }
     ensures { λ r. ⌜ r ≡ on-layer screen bbox ⌝ }
 {
     let mut next = screen;
@@ -71,10 +75,10 @@ fn judge_push(
     if n != 0 {
         return n;
     }
-    if layers.len() != 256 {
+    if layers.len() != OPEN_TABLE {
         return 4;
     }
-    if opacities.len() != 1040 {
+    if opacities.len() != OPACITIES {
         return 4;
     }
     if !is_good_props(props) {
@@ -90,7 +94,7 @@ fn judge_push(
     if k == 4 {
         return 4;
     }
-    if 16 <= screen.layers {
+    if MOST_LAYERS <= screen.layers {
         return 6;
     }
     k

@@ -5,6 +5,7 @@ use mathlib.Core.List.{List, [], _∷_}
 use mathlib.Core.Option.{none}
 use lib.ListN.{getD, take, drop}
 use lib.Dec.{ltb}
+use Rattle.sizes.specs.Sizes.{most-layers, row-size, renders-at, levels-at}
 use Rattle.rules.specs.Lists.{every, some-of, change}
 use Rattle.rules.specs.Answers.{Done, BadRecord, FullRow}
 use Rattle.rules.specs.Boxes.{rows-of}
@@ -23,11 +24,11 @@ use Rattle.step_rows.specs.declared.Act.the-variants.{Touch, Paint}
 
 -- row r's record among all
 abbrev pub record-of : List ℕ → ℕ → List ℕ
-record-of ws r = take 54 (drop (r * 54) ws)
+record-of ws r = take row-size (drop (r * row-size) ws)
 
 -- one more command, with what the row lacks of n open layers, passes c
 abbrev pub is-full : ℕ → ℕ → List ℕ → Bool
-is-full c n s = ltb c (getD s 0 0 + (n + 1 - getD s 5 0))
+is-full c n s = ltb c (getD s renders-at 0 + (n + 1 - getD s levels-at 0))
 
 -- 4 for a record, then 10
 abbrev pub row-number : ℕ → ℕ → ℕ → List ℕ → ℕ
@@ -56,13 +57,13 @@ ShortAct (Paint s i) = Short (tiles s)
 -- row r has room for f, which is done with n layers open
 pub record OnRow (s : Screen) (n : ℕ) (f : Words → Words) (r : ℕ) (w : Words) : Type 0 where
   pub whole : Whole (frame-of s) w
-  pub layers : n ≤ 16
+  pub layers : n ≤ most-layers
   pub within : r < rows-of (box-of (s .viewport))
   pub room : Room (getD (rows-at (frame-of s) w) r nowhere) (f (getD (rows-at (frame-of s) w) r nowhere))
 
 -- each of the rows a to b has
 pub record OnRows (s : Screen) (n : ℕ) (f : Words → Words) (a b : ℕ) (w : Words) : Type 0 where
   pub whole : Whole (frame-of s) w
-  pub layers : n ≤ 16
+  pub layers : n ≤ most-layers
   pub within : b ≤ rows-of (box-of (s .viewport))
   pub room : (i : ℕ) → a ≤ i → i < b → Room (getD (rows-at (frame-of s) w) i nowhere) (f (getD (rows-at (frame-of s) w) i nowhere))

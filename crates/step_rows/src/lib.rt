@@ -4,6 +4,7 @@ ghost use mathlib.Core.Bool.{false};
 ghost use mathlib.Core.Option.{none};
 ghost use Prim.Native.Nat.{_≤_, _*_};
 ghost use lib.ListN.{length};
+ghost use Rattle.sizes.specs.Sizes.{most-layers, most-room, most-rows, row-size};
 ghost use Rattle.rules.specs.Lists.{range, change};
 ghost use Rattle.rules.specs.Plans.{touch, paint};
 ghost use Rattle.span.specs.Spans.{tiles};
@@ -19,20 +20,22 @@ use row_judge::is_good_row;
 use row_screen::part;
 use row_screen::place_of;
 use row::push_paint;
-use screen::ROW;
+use sizes::ROW;
 use screen::Screen;
 use span::Alpha;
 use span::TileSpan;
+use sizes::RENDERS;
+use sizes::LEVELS;
 
 // A row's record: 4 if it is not good; 10 if one more command, with what the row lacks of the open layers, passes C; or 0.
 fn judge_row(state: &[u32], c: u32, d: u32, open: u32) -> u32
-    requires { ⌜ (length (now state) ≡ 54) × («open» ≤ 16) × (c ≤ 1024) ⌝ }
+    requires { ⌜ (length (now state) ≡ row-size) × («open» ≤ most-layers) × (c ≤ most-room) ⌝ }
     ensures { λ r. ⌜ r ≡ row-number c d «open» (now (state .entry)) ⌝ }
 {
     if !is_good_row(state, c, d, open) {
         return 4;
     }
-    if c < state[0] + (open + 1 - state[5]) {
+    if c < state[RENDERS] + (open + 1 - state[LEVELS]) {
         return 10;
     }
     0
@@ -40,7 +43,7 @@ fn judge_row(state: &[u32], c: u32, d: u32, open: u32) -> u32
 
 // The rows a to b: 4 for the record of one of them, then 10.
 pub fn judge_rows(screen: Screen, rows: &[u32], a: usize, b: usize) -> u32
-    requires { ⌜ (screen .layers ≤ 16) × (screen .c ≤ 1024) × (b ≤ 512) × (b * 54 ≤ length (now rows)) ⌝ }
+    requires { ⌜ (screen .layers ≤ most-layers) × (screen .c ≤ most-room) × (b ≤ most-rows) × (b * row-size ≤ length (now rows)) ⌝ }
     ensures { λ r. ⌜ r ≡ band-number (screen .c) (screen .d) (screen .layers) (now (rows .entry)) (range a b) ⌝ }
 {
     let mut number: u32 = 0;
@@ -75,7 +78,7 @@ fn push_plain(
     span: TileSpan,
     attrs_idx: u32,
 )
-    requires { ⌜ Short (tiles span) × (n ≤ 16) × Room (words (now state) (now render) (now fills)) (drawn n false (tiles span) none «attrs_idx» 0 (words (now state) (now render) (now fills))) ⌝ }
+    requires { ⌜ Short (tiles span) × (n ≤ most-layers) × Room (words (now state) (now render) (now fills)) (drawn n false (tiles span) none «attrs_idx» 0 (words (now state) (now render) (now fills))) ⌝ }
     ensures { λ _. ⌜ words (now (state .exit)) (now (render .exit)) (now (fills .exit)) ≡ drawn n false (tiles span) none «attrs_idx» 0 (words (now (state .entry)) (now (render .entry)) (now (fills .entry))) ⌝ }
 {
     ensure_row_layers(state, render, fills, n);
@@ -84,7 +87,7 @@ fn push_plain(
 
 // An act on one row's words.
 fn do_act(state: &mut [u32], render: &mut [u32], fills: &mut [u32], n: u32, act: Act)
-    requires { ⌜ ShortAct act × (n ≤ 16) × Room (words (now state) (now render) (now fills)) (acted n (act-of act) (words (now state) (now render) (now fills))) ⌝ }
+    requires { ⌜ ShortAct act × (n ≤ most-layers) × Room (words (now state) (now render) (now fills)) (acted n (act-of act) (words (now state) (now render) (now fills))) ⌝ }
     ensures { λ _. ⌜ words (now (state .exit)) (now (render .exit)) (now (fills .exit)) ≡ acted n (act-of act) (words (now (state .entry)) (now (render .entry)) (now (fills .entry))) ⌝ }
 {
     match act {

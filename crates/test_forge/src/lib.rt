@@ -3,6 +3,7 @@ use test_words::wide;
 use test_words::word;
 use rect::Rect;
 use screen::Screen;
+use sizes::STATE;
 ghost use mathlib.Core.Path.{_≡_};
 ghost use Prim.Native.Nat.{_≤_};
 ghost use lib.ListN.{length};
@@ -54,7 +55,7 @@ pub fn sum(from: u32, table: &[u32]) -> u32 {
     sum as u32
 }
 
-fn numbers(screen: Screen) -> [u32; 16] {
+fn numbers(screen: Screen) -> [u32; STATE] {
     let v = screen.viewport;
     let c = screen.clip_bbox;
     let painting = if screen.painting { 1 } else { 0 };

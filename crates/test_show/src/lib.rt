@@ -7,9 +7,10 @@ use test_words::lens::all_rows;
 use test_words::put;
 use test_words::wide;
 use test_words::word;
-use screen::ROW;
+use sizes::ROW;
 use screen::Screen;
 use text::magnitude;
+use sizes::OPACITY_BASE;
 ghost use mathlib.Core.Path.{_≡_};
 ghost use Prim.Native.Nat.{_≤_, _<_};
 ghost use lib.ListN.{length};
@@ -117,8 +118,8 @@ fn show_layers(
     while i < n {
         let b = after(a, 6, layer_attrs.len());
         let mut opacity = 0.0;
-        if 16 + i < opacities.len() {
-            opacity = opacities[16 + i];
+        if OPACITY_BASE + i < opacities.len() {
+            opacity = opacities[OPACITY_BASE + i];
         }
         place = show_layer(out, place, &layer_attrs[a..b], opacity);
         a = b;

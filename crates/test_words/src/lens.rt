@@ -4,11 +4,15 @@ use crate::box_at;
 use crate::wide;
 use crate::word;
 use rect::Rect;
-use screen::ROW;
+use sizes::MOST_ROOM;
+use sizes::ROW;
 use screen::Screen;
+use sizes::BUCKET;
+use sizes::BUCKET_ROUND;
 ghost use mathlib.Core.Path.{_≡_};
 ghost use Prim.Native.Nat.{_≤_};
 ghost use lib.ListN.{length};
+ghost use Rattle.sizes.specs.Sizes.{most-room};
 
 // How many words of each arena and table a call is lent; the rows, and a row's own words.
 pub struct Lens {
@@ -25,9 +29,9 @@ pub struct Lens {
 
 // Room for so many commands or depth fills, none if it is out of range.
 fn room(n: u32) -> usize
-    ensures { λ r. ⌜ r ≤ 1024 ⌝ }
+    ensures { λ r. ⌜ r ≤ most-room ⌝ }
 {
-    if 1024 < n {
+    if MOST_ROOM < n {
         return 0;
     }
     wide(n)
@@ -73,7 +77,7 @@ fn lens_for(
     ensures { λ r. ⌜ (r .rows ≤ rows) × (r .render ≤ render) × (r .fills ≤ fills) × (r .depth ≤ depth) × (r .painting ≤ painting) ⌝ }
 {
     let count = wide(viewport.height() / 4);
-    let buckets = wide((viewport.width() / 4 + 31) / 32);
+    let buckets = wide((viewport.width() / 4 + BUCKET_ROUND) / BUCKET);
     let row_render = 4 * room(c);
     let row_fills = 2 * room(d);
     Lens {

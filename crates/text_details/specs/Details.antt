@@ -6,6 +6,7 @@ use mathlib.Core.Option.{Option}
 use lib.ListN.{length}
 use lib.Dec.{eqb}
 use lib.IntN.{ℤ}
+use Rattle.sizes.specs.Sizes.{bucket-tiles}
 use Rattle.rules.specs.Answers.{Done}
 use Rattle.rules.specs.Boxes.{buckets-of}
 use Rattle.rules.specs.Rows.{Row}
@@ -64,4 +65,4 @@ detail-lines w s =
 
 -- a file's words; a refused recording has no details
 unfoldable pub rowdump-words : List ℕ → List Detail
-rowdump-words ws = let a = rowlist-screen ws in cond (eqb (a .number) Done) (detail-lines 32 (a .value)) []
+rowdump-words ws = let a = rowlist-screen ws in cond (eqb (a .number) Done) (detail-lines bucket-tiles (a .value)) []

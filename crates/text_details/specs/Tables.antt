@@ -5,6 +5,7 @@ use mathlib.Core.List.{List, [], _∷_}
 use lib.ListN.{getD}
 use lib.IntN.{ℤ, pos, natAbs}
 use lib.Ieee.{Float, ne, toBits, binary32, nan}
+use Rattle.sizes.specs.Sizes.{most-layers}
 use Rattle.rules.specs.Attributes.{PaintAttr, LayerAttr}
 use Rattle.text_details.specs.Details.{Detail, paint-attributes, layer-attributes, filter-paints, F, paint-attr-line, layer-attr-line}
 use Rattle.text_screen.specs.Places.{joined}
@@ -34,7 +35,7 @@ unfoldable pub layer-attr-at : List ℕ → List Float → ℕ → LayerAttr
 layer-attr-at ws os i =
     record {
       blend = record { mix = word ws (6 * i); compose = word ws (6 * i + 1) };
-      opacity = opacity-bits (getD os (16 + i) nan) (word ws (6 * i + 5));
+      opacity = opacity-bits (getD os (most-layers + i) nan) (word ws (6 * i + 5));
       mask = word ws (6 * i + 2);
       id = word ws (6 * i + 3);
       thread = word ws (6 * i + 4);

@@ -5,10 +5,12 @@ use text::put_byte;
 use text::put_number;
 use text::put_signed;
 use text::put_text;
+use sizes::OPACITY_BASE;
 ghost use mathlib.Core.Path.{_≡_};
 ghost use mathlib.Core.List.{[], _∷_, _++_};
 ghost use Prim.Native.Nat.{_+_, _*_, _≤_};
 ghost use lib.ListN.{length};
+ghost use Rattle.sizes.specs.Sizes.{most-layers};
 ghost use Rattle.rules.specs.Lines.{number};
 ghost use Rattle.text_details.specs.Details.{paint-attr-line, layer-attr-line};
 ghost use Rattle.text.specs.Texts.{text, far, Wrote};
@@ -67,11 +69,11 @@ fn opacity_bits(opacity: f32, kept: u32) -> u32
 
 // Mix, compose, opacity, mask, id, thread.
 fn put_layer_attr(out: &mut [u8], at: usize, table: &[u32], opacities: &[f32], i: usize) -> usize
-    requires { ⌜ (at + 96 ≤ far) × (6 * i + 6 ≤ length (now table)) × (16 + (i + 1) ≤ length (now opacities)) ⌝ }
+    requires { ⌜ (at + 96 ≤ far) × (6 * i + 6 ≤ length (now table)) × (most-layers + (i + 1) ≤ length (now opacities)) ⌝ }
     ensures { λ r. ⌜ Wrote (detail-bytes (layer-attr-line (layer-attr-at (now (table .entry)) (now (opacities .entry)) i))) 96 (text (now (out .entry)) at) (text (now (out .exit)) r) ⌝ }
 {
     let k = 6 * i;
-    let bits = opacity_bits(opacities[16 + i], table[k + 5]);
+    let bits = opacity_bits(opacities[OPACITY_BASE + i], table[k + 5]);
     let a = put_byte(out, at, b'Y');
     let b = put_four(out, a, table[k], table[k + 1], bits, table[k + 2]);
     let c = put_number(out, b, table[k + 3]);
@@ -114,7 +116,7 @@ pub fn put_paint_attrs(out: &mut [u8], at: usize, table: &[u32], n: u32) -> usiz
 
 // The first n layer attributes.
 pub fn put_layer_attrs(out: &mut [u8], at: usize, table: &[u32], opacities: &[f32], n: u32) -> usize
-    requires { ⌜ (at + 96 * (1 + n) ≤ far) × (6 * n ≤ length (now table)) × (16 + n ≤ length (now opacities)) ⌝ }
+    requires { ⌜ (at + 96 * (1 + n) ≤ far) × (6 * n ≤ length (now table)) × (most-layers + n ≤ length (now opacities)) ⌝ }
     ensures { λ r. ⌜ Wrote (details-text (layer-lines (now (table .entry)) (now (opacities .entry)) n)) (96 * (1 + n)) (text (now (out .entry)) at) (text (now (out .exit)) r) ⌝ }
 {
     let mut place = put_heading(out, at, b"layer attributes", n);

@@ -4,6 +4,7 @@ use mathlib.Core.Bool.{Bool, true, false, _&&_, cond}
 use mathlib.Core.List.{List, _++_}
 use lib.ListN.{length, take, drop}
 use lib.Dec.{leb, eqb}
+use Rattle.sizes.specs.Sizes.{bucket-tiles, most-attrs, file-bytes, program-rows, program-room, program-render, program-fills, program-depth, program-records, program-painting, row-size}
 use Rattle.rules.specs.Answers.{Answer, Done, BadViewport, BadForm, BadRecord}
 use Rattle.rules.specs.Boxes.{Box, good-viewport, rows-of, buckets-of}
 use Rattle.rect.specs.declared.Rect.{Rect}
@@ -68,7 +69,7 @@ answered a bs =
 
 -- a file's words with C = D = 64, in tables of the lengths that its screen has
 unfoldable pub recording-text : List ℕ → Tables → List ℕ → FileOut
-recording-text ws t bs = answered (recorded ws 64 64 (lent nothing t)) bs
+recording-text ws t bs = answered (recorded ws program-painting program-painting (lent nothing t)) bs
 
 -- The file's own size: 3 for its form, 2 for its viewport or more than 32 rows.
 abbrev pub viewport-of : List ℕ → Box
@@ -78,12 +79,12 @@ abbrev pub size : ℕ → ℕ → ℕ → Size
 size n r b = record { number = n; rows = r; buckets = b }
 
 abbrev pub sized-if : Bool → Box → Size
-sized-if true v = size Done (rows-of v) (buckets-of 32 v)
+sized-if true v = size Done (rows-of v) (buckets-of bucket-tiles v)
 sized-if false v = size BadViewport 0 0
 
 abbrev pub sized : Form → Box → Size
 sized form.Bad v = size BadForm 0 0
-sized (form.Good l) v = sized-if (good-viewport v && leb (rows-of v) 32) v
+sized (form.Good l) v = sized-if (good-viewport v && leb (rows-of v) program-rows) v
 
 unfoldable pub size-of : List ℕ → Size
 size-of ws = sized (form-of ws) (viewport-of ws)
@@ -91,7 +92,7 @@ size-of ws = sized (form-of ws) (viewport-of ws)
 -- The tables that the programs have are for 32 rows of 32 buckets; a file's screen has their first words.
 abbrev pub cut-to : Size → Tables → Tables
 cut-to z t =
-    tables (take (z .rows * 256) (t .render)) (take (z .rows * 128) (t .fills)) (take (z .rows * z .buckets) (t .depth)) (take (z .rows * 54) (t .rows))
+    tables (take (z .rows * (4 * program-room)) (t .render)) (take (z .rows * (2 * program-room)) (t .fills)) (take (z .rows * z .buckets) (t .depth)) (take (z .rows * row-size) (t .rows))
     (take (z .rows * 2) (t .painting))
     (t .layers)
     (t .opacities)
@@ -102,9 +103,9 @@ cut-to z t =
 -- the first words anew, the others as before
 abbrev pub over : Size → Tables → Tables → Tables
 over z t u =
-    tables (u .render ++ drop (z .rows * 256) (t .render)) (u .fills ++ drop (z .rows * 128) (t .fills))
+    tables (u .render ++ drop (z .rows * (4 * program-room)) (t .render)) (u .fills ++ drop (z .rows * (2 * program-room)) (t .fills))
     (u .depth ++ drop (z .rows * z .buckets) (t .depth))
-    (u .rows ++ drop (z .rows * 54) (t .rows))
+    (u .rows ++ drop (z .rows * row-size) (t .rows))
     (u .painting ++ drop (z .rows * 2) (t .painting))
     (u .layers)
     (u .opacities)
@@ -124,16 +125,16 @@ front-text n b ws t bs = in-front (size Done n b) t (recording-text ws (cut-to (
 
 -- the tables' lengths
 pub record Roomy (t : Tables) : Type 0 where
-  pub render : 8192 ≤ length (t .render)
-  pub fills : 4096 ≤ length (t .fills)
-  pub depth : 1024 ≤ length (t .depth)
-  pub rows : 1728 ≤ length (t .rows)
-  pub painting : 64 ≤ length (t .painting)
+  pub render : program-render ≤ length (t .render)
+  pub fills : program-fills ≤ length (t .fills)
+  pub depth : program-depth ≤ length (t .depth)
+  pub rows : program-records ≤ length (t .rows)
+  pub painting : program-painting ≤ length (t .painting)
 
 -- how many words the programs' tables have at least
 abbrev pub roomy : ℕ → ℕ → ℕ → ℕ → ℕ → Bool
 roomy render fills depth rows painting =
-    leb 8192 render && (leb 4096 fills && (leb 1024 depth && (leb 1728 rows && leb 64 painting)))
+    leb program-render render && (leb program-fills fills && (leb most-attrs depth && (leb program-records rows && leb program-painting painting)))
 
 abbrev pub is-roomy : Tables → Bool
 is-roomy t = roomy (length (t .render)) (length (t .fills)) (length (t .depth)) (length (t .rows)) (length (t .painting))
@@ -149,7 +150,7 @@ words-text ws t bs = text-in (size-of ws) ws t bs
 
 -- a file's bytes: at most 65,536, in whole words
 abbrev pub good-bytes : ℕ → Bool
-good-bytes n = leb n 65536 && eqb (n % 4) 0
+good-bytes n = leb n file-bytes && eqb (n % 4) 0
 
 -- 3 for the bytes, then what their words say
 unfoldable pub bytes-text : List ℕ → Tables → List ℕ → FileOut

@@ -9,9 +9,20 @@ use rect::Rect;
 use screen::Screen;
 use screen::fresh;
 use file_call::bucket_recording;
+use sizes::PROGRAM_RENDERS;
+use sizes::PROGRAM_DEPTHS;
+use sizes::FILE_BYTES;
+use sizes::PROGRAM_ROWS;
+use sizes::PROGRAM_ROOM;
+use sizes::PROGRAM_RENDER;
+use sizes::PROGRAM_FILLS;
+use sizes::PROGRAM_DEPTH;
+use sizes::PROGRAM_RECORDS;
+use sizes::ROW;
 ghost use mathlib.Core.Path.{_≡_};
 ghost use Prim.Native.Nat.{_≤_};
 ghost use lib.ListN.{length};
+ghost use Rattle.sizes.specs.Sizes.{program-rows, program-buckets};
 ghost use Rattle.screen.specs.Tables.{tables};
 ghost use Rattle.row.specs.Words.{words};
 ghost use Rattle.text_file.specs.Files.{nothing, showed, file-out, refusing, showing, recording-text, size-of, front-text, words-text, Roomy, roomy, good-bytes, bytes-text};
@@ -121,7 +132,7 @@ pub fn recording_text(
 // 3 for the file's form, 2 for its viewport or more than 32 rows.
 pub fn size_of(file: &[u32]) -> Size
     ensures { λ r. ⌜ r ≡ size-of (now (file .entry)) ⌝ }
-    ensures { λ r. ⌜ (r .rows ≤ 32) × (r .buckets ≤ 32) ⌝ }
+    ensures { λ r. ⌜ (r .rows ≤ program-rows) × (r .buckets ≤ program-buckets) ⌝ }
 {
     let Form::Good(_) = read_form(file) else {
         return Size {
@@ -131,7 +142,7 @@ pub fn size_of(file: &[u32]) -> Size
         };
     };
     let viewport = box_at(file, 1);
-    let screen = fresh(viewport, 64, 64);
+    let screen = fresh(viewport, PROGRAM_ROOM, PROGRAM_ROOM);
     let rows = screen.rows();
     if !viewport.is_good_viewport() {
         return Size {
@@ -140,7 +151,7 @@ pub fn size_of(file: &[u32]) -> Size
             buckets: 0,
         };
     }
-    if 32 < rows {
+    if PROGRAM_ROWS < rows {
         return Size {
             number: 2,
             rows: 0,
@@ -171,7 +182,7 @@ fn front_text(
     filter_paints: &mut [i32],
     out: &mut [u8],
 ) -> FileText
-    requires { ⌜ Roomy (tables (now render) (now fills) (now depth) (now rows) (now painting) (now layers) (now opacities) (now «paint_attrs») (now «layer_attrs») (now «filter_paints»)) × (n ≤ 32) × (b ≤ 32) ⌝ }
+    requires { ⌜ Roomy (tables (now render) (now fills) (now depth) (now rows) (now painting) (now layers) (now opacities) (now «paint_attrs») (now «layer_attrs») (now «filter_paints»)) × (n ≤ program-rows) × (b ≤ program-buckets) ⌝ }
     ensures { λ r. ⌜ file-out (showed r (now (out .exit)))
         (tables (now (render .exit)) (now (fills .exit)) (now (depth .exit)) (now (rows .exit)) (now (painting .exit)) (now (layers .exit)) (now (opacities .exit)) (now («paint_attrs» .exit)) (now («layer_attrs» .exit)) (now («filter_paints» .exit)))
         ≡ front-text n b (now (file .entry))
@@ -179,10 +190,10 @@ fn front_text(
 {
     recording_text(
         file,
-        &mut render[..n * 256],
-        &mut fills[..n * 128],
+        &mut render[..n * PROGRAM_RENDERS],
+        &mut fills[..n * PROGRAM_DEPTHS],
         &mut depth[..n * b],
-        &mut rows[..n * 54],
+        &mut rows[..n * ROW],
         &mut painting[..n * 2],
         layers,
         opacities,
@@ -197,16 +208,16 @@ fn front_text(
 fn is_roomy(render: usize, fills: usize, depth: usize, rows: usize, painting: usize) -> bool
     ensures { λ r. ⌜ r ≡ roomy render fills depth rows painting ⌝ }
 {
-    if render < 8192 {
+    if render < PROGRAM_RENDER {
         return false;
     }
-    if fills < 4096 {
+    if fills < PROGRAM_FILLS {
         return false;
     }
-    if depth < 1024 {
+    if depth < PROGRAM_DEPTH {
         return false;
     }
-    if rows < 1728 {
+    if rows < PROGRAM_RECORDS {
         return false;
     }
     64 <= painting
@@ -267,7 +278,7 @@ fn words_text(
 fn is_good_bytes(n: usize) -> bool
     ensures { λ r. ⌜ r ≡ good-bytes n ⌝ }
 {
-    if 65536 < n {
+    if FILE_BYTES < n {
         return false;
     }
     n % 4 == 0

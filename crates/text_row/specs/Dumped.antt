@@ -6,6 +6,7 @@ use lib.ListN.{length}
 use lib.Dec.{leb, ltb, eqb}
 use lib.IntN.{ℤ}
 use lib.Ieee.{Float}
+use Rattle.sizes.specs.Sizes.{most-attrs, most-filters, opacity-count, paint-attr-table, layer-attr-table, filter-paint-table}
 use Rattle.rules.specs.Answers.{Done, BadRecord, NoRoom}
 use Rattle.screen.specs.declared.Screen.{Screen}
 use Rattle.paint_command.specs.Painting.{Lent, lent, Out}
@@ -75,10 +76,10 @@ tables a b c d = record { paints = a; layers = b; opacities = c; filters = d }
 -- answer 4: counts within their limits, tables of their lengths
 abbrev pub good-lengths : Screen → ℕ → ℕ → ℕ → ℕ → Bool
 good-lengths s paints layers opacities filters =
-    leb (s .«paint_attrs») 1024
-    && (leb (s .«layer_attrs») 1024
-    && (leb (s .«filter_paints») 256
-    && (eqb paints 8192 && (eqb layers 6144 && (eqb opacities 1040 && eqb filters 1024)))))
+    leb (s .«paint_attrs») most-attrs
+    && (leb (s .«layer_attrs») most-attrs
+    && (leb (s .«filter_paints») most-filters
+    && (eqb paints paint-attr-table && (eqb layers layer-attr-table && (eqb opacities opacity-count && eqb filters filter-paint-table)))))
 
 abbrev pub good-tables : Screen → Tables → Bool
 good-tables s t = good-lengths s (length (t .paints)) (length (t .layers)) (length (t .opacities)) (length (t .filters))

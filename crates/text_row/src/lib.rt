@@ -11,12 +11,19 @@ use span::Alpha;
 use text::put_byte;
 use text::put_number;
 use text::put_text;
+use sizes::MOST_ATTRS;
+use sizes::MOST_FILTERS;
+use sizes::OPACITIES;
+use sizes::PAINT_TABLE;
+use sizes::LAYER_TABLE;
+use sizes::FILTER_TABLE;
 ghost use mathlib.Core.Path.{_≡_};
 ghost use mathlib.Core.Bool.{true, _&&_};
 ghost use mathlib.Core.List.{[]};
 ghost use Prim.Native.Nat.{_+_, _*_, _≤_};
 ghost use lib.ListN.{length};
 ghost use lib.Dec.{ltb};
+ghost use Rattle.sizes.specs.Sizes.{most-attrs, most-filters};
 ghost use Rattle.rules.specs.Lines.{alpha-bytes};
 ghost use Rattle.text_details.specs.Details.{painted};
 ghost use Rattle.span.specs.Spans.{alpha};
@@ -250,30 +257,30 @@ fn is_good_tables(
 ) -> bool
     ensures { λ r. ⌜ r ≡ good-lengths screen paints layers opacities filters ⌝ }
 {
-    if 1024 < screen.paint_attrs {
+    if MOST_ATTRS < screen.paint_attrs {
         return false;
     }
-    if 1024 < screen.layer_attrs {
+    if MOST_ATTRS < screen.layer_attrs {
         return false;
     }
-    if 256 < screen.filter_paints {
+    if MOST_FILTERS < screen.filter_paints {
         return false;
     }
-    if paints != 8192 {
+    if paints != PAINT_TABLE {
         return false;
     }
-    if layers != 6144 {
+    if layers != LAYER_TABLE {
         return false;
     }
-    if opacities != 1040 {
+    if opacities != OPACITIES {
         return false;
     }
-    filters == 1024
+    filters == FILTER_TABLE
 }
 
 // What the text of a screen's attributes has at most.
 fn attrs_room(screen: Screen) -> usize
-    requires { ⌜ (screen .«paint_attrs» ≤ 1024) × (screen .«layer_attrs» ≤ 1024) × (screen .«filter_paints» ≤ 256) ⌝ }
+    requires { ⌜ (screen .«paint_attrs» ≤ most-attrs) × (screen .«layer_attrs» ≤ most-attrs) × (screen .«filter_paints» ≤ most-filters) ⌝ }
     ensures { λ r. ⌜ r ≡ attrs-room screen ⌝ }
 {
     let paints = screen.paint_attrs as usize;

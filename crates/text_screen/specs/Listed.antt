@@ -6,6 +6,7 @@ use mathlib.Core.List.{List, [], _∷_, _++_}
 use mathlib.Core.Option.{Option, none, some}
 use lib.ListN.{length, getD, drop}
 use lib.Dec.{leb, ltb, eqb}
+use Rattle.sizes.specs.Sizes.{bucket-tiles, row-size, renders-at, depths-at}
 use Rattle.rules.specs.Lists.{join}
 use Rattle.rules.specs.Answers.{Done, BadRecord, NoRoom}
 use Rattle.rules.specs.Boxes.{rows-of, buckets-of}
@@ -41,7 +42,7 @@ command-lines ws k = joined (λ (i : ℕ). shown command-line (command-at ws i))
 
 -- row r, of n buckets: its counts, its depth fills, its commands
 unfoldable pub row-lines : ℕ → ℕ → Words → List Line
-row-lines n r w = row r (word 1 w) (word 0 w) ∷ (depth-lines n (w .fills) (word 1 w) ++ command-lines (w .render) (word 0 w))
+row-lines n r w = row r (word depths-at w) (word renders-at w) ∷ (depth-lines n (w .fills) (word depths-at w) ++ command-lines (w .render) (word renders-at w))
 
 -- the first m rows of a screen's words
 abbrev pub rows-lines : Sizes → ℕ → Words → ℕ → List Line
@@ -49,7 +50,7 @@ rows-lines k n w m = joined (λ (r : ℕ). row-lines n r (row-at k r w)) m
 
 unfoldable pub screen-lines : Screen → Words → List Line
 screen-lines s w =
-    let n = buckets-of 32 (box-of (s .viewport)) in
+    let n = buckets-of bucket-tiles (box-of (s .viewport)) in
     let m = rows-of (box-of (s .viewport)) in
     header m n (s .«next_draw_id» - 1) ∷ rows-lines (sizes (s .c) (s .d)) n w m
 
@@ -66,7 +67,7 @@ good-commands ws k = all-below (λ (i : ℕ). is-some (command-at ws i)) k
 
 unfoldable pub good-row : ℕ → ℕ → ℕ → Words → Bool
 good-row c d n w =
-    leb (word 0 w) c && (leb (word 1 w) d && (good-depths n (w .fills) (word 1 w) && good-commands (w .render) (word 0 w)))
+    leb (word renders-at w) c && (leb (word depths-at w) d && (good-depths n (w .fills) (word depths-at w) && good-commands (w .render) (word renders-at w)))
 
 abbrev pub good-rows : ℕ → ℕ → ℕ → Words → ℕ → Bool
 good-rows c d n w m = all-below (λ (r : ℕ). good-row c d n (row-at (sizes c d) r w)) m
@@ -83,7 +84,7 @@ screen-room s = 64 + rows-of (box-of (s .viewport)) * row-room (s .c) (s .d)
 unfoldable pub list-number : Screen → Words → ℕ
 list-number s w =
     let first = judged s (length (w .state)) (length (w .render)) (length (w .fills)) in
-    let good = good-rows (s .c) (s .d) (buckets-of 32 (box-of (s .viewport))) w (rows-of (box-of (s .viewport))) in
+    let good = good-rows (s .c) (s .d) (buckets-of bucket-tiles (box-of (s .viewport))) w (rows-of (box-of (s .viewport))) in
     cond (eqb first Done) (cond good Done BadRecord) first
 
 -- what a call leaves: its answer, and the lent bytes
@@ -116,11 +117,11 @@ refused-listed n bs = written (line-bytes (refused n)) bs
 
 -- a row's counts within C and D
 pub record Few (c d : ℕ) (w : Words) : Type 0 where
-  pub commands : word 0 w ≤ c
-  pub depths : word 1 w ≤ d
+  pub commands : word renders-at w ≤ c
+  pub depths : word depths-at w ≤ d
 
 -- a row with its counted commands and depth fills
 pub record Ready (w : Words) : Type 0 where
-  pub state : length (w .state) ≡ 54
-  pub commands : 4 * word 0 w ≤ length (w .render)
-  pub depths : 2 * word 1 w ≤ length (w .fills)
+  pub state : length (w .state) ≡ row-size
+  pub commands : 4 * word renders-at w ≤ length (w .render)
+  pub depths : 2 * word depths-at w ≤ length (w .fills)

@@ -12,14 +12,17 @@ use text_lines::put_refused;
 use text_lines::put_row_line;
 use row::wide;
 use row_screen::part;
-use screen::ROW;
+use sizes::ROW;
 use screen::Screen;
 use screen::judge_screen;
+use sizes::RENDERS;
+use sizes::DEPTHS;
 ghost use mathlib.Core.Path.{_≡_};
 ghost use Prim.Native.Nat.{ℕ, _+_, _*_, _≤_, _<_};
 ghost use mathlib.Core.Bool.{_&&_};
 ghost use lib.ListN.{length, getD};
 ghost use lib.Dec.{ltb};
+ghost use Rattle.sizes.specs.Sizes.{most-room, most-rows, row-size};
 ghost use Rattle.rules.specs.Lines.{depth-line, command-line};
 ghost use Rattle.cmd.specs.Commands.{read-of};
 ghost use Rattle.cmd.specs.DepthFills.{read-depth-of};
@@ -117,11 +120,11 @@ fn are_commands(render: &[u32], n: usize) -> bool
 
 // Answer 4: a row by its words.
 fn is_good_row(state: &[u32], render: &[u32], fills: &[u32], c: u32, d: u32, buckets: u32) -> bool
-    requires { ⌜ (length (now state) ≡ 54) × (length (now render) ≡ 4 * c) × (length (now fills) ≡ 2 * d) ⌝ }
+    requires { ⌜ (length (now state) ≡ row-size) × (length (now render) ≡ 4 * c) × (length (now fills) ≡ 2 * d) ⌝ }
     ensures { λ r. ⌜ r ≡ good-row c d buckets (words (now (state .entry)) (now (render .entry)) (now (fills .entry))) ⌝ }
 {
-    let renders = state[0];
-    let depths = state[1];
+    let renders = state[RENDERS];
+    let depths = state[DEPTHS];
     if c < renders {
         return false;
     }
@@ -245,8 +248,8 @@ fn put_row(
     requires { ⌜ Ready (words (now state) (now render) (now fills)) × (at + 64 * (1 + (getD (now state) 0 0 + getD (now state) 1 0)) ≤ far) ⌝ }
     ensures { λ p. ⌜ Wrote (text-of (row-lines buckets r (words (now (state .entry)) (now (render .entry)) (now (fills .entry))))) (64 * (1 + (getD (now (state .entry)) 0 0 + getD (now (state .entry)) 1 0))) (text (now (out .entry)) at) (text (now (out .exit)) p) ⌝ }
 {
-    let renders = state[0];
-    let depths = state[1];
+    let renders = state[RENDERS];
+    let depths = state[DEPTHS];
     let a = put_row_line(out, at, r, depths, renders);
     let b = put_depths(out, a, fills, wide(depths), buckets);
     put_commands(out, b, render, wide(renders))
@@ -305,7 +308,7 @@ fn put_rows(
 
 // What the text of m rows has at most.
 fn screen_room(m: usize, c: u32, d: u32) -> usize
-    requires { ⌜ (m ≤ 512) × (c ≤ 1024) × (d ≤ 1024) ⌝ }
+    requires { ⌜ (m ≤ most-rows) × (c ≤ most-room) × (d ≤ most-room) ⌝ }
     ensures { λ r. ⌜ r ≡ 64 + m * row-room c d ⌝ }
 {
     LINE + m * (LINE * (1 + (wide(c) + wide(d))))

@@ -5,6 +5,7 @@ use mathlib.Core.Bool.{Bool, true, _&&_, _||_, cond}
 use mathlib.Core.List.{List, [], _∷_}
 use lib.ListN.{getD}
 use lib.Dec.{eqb}
+use Rattle.sizes.specs.Sizes.{bucket-tiles}
 use Rattle.rules.specs.Answers.{Answer, answer, Done, BadForm}
 use Rattle.rules.specs.Boxes.{width, rows-of}
 use Rattle.rules.specs.Spans.{Span}
@@ -61,7 +62,7 @@ Demand-3 =
     (f : Frame) (xs : List Step) (h : Host) → Hosted f xs h → begin-at h .number ≡ Done
     → (cs : List Call) (r t : ℕ) → r < rows-of (f .viewport) → t < width (f .viewport) / 4
     → finished r cs (begin-at h .value) ≡ true
-    → received t (from r (log cs (begin-at h .value))) ≡ plain 32 (f .viewport) r t xs
+    → received t (from r (log cs (begin-at h .value))) ≡ plain bucket-tiles (f .viewport) r t xs
 
 -- Where painting goes on, by the state's last word, and `coarse_can_skip` of the tiles t of row r and an id answers 0 with the word 1: the
 -- depth word of each tile's bucket lets the id through.
@@ -70,12 +71,12 @@ Clear h =
     getD (h .state) 15 0 ≡ 1 → (r : ℕ) (t : Span) (id : ℕ) (old : List ℕ)
     → skip-call r t id (h .state) (h .tables .rows) old ≡ answer Done (1 ∷ [])
     → (x : ℕ) → t .first ≤ x → x < t .end
-    → getD (part (wide (screen-at (h .state))) r (h .tables .depth)) (x / 32) 0 ≤ id
+    → getD (part (wide (screen-at (h .state))) r (h .tables .depth)) (x / bucket-tiles) 0 ≤ id
 
 -- What a recording leaves. Accepted: words that are `Hosted` by the steps of its walk, and painting can begin there.
 pub record Accepted (file : List ℕ) (c d : ℕ) (h : Host) : Type 0 where
   pub words : Readable file
-  pub hosted : Hosted (frame-of (place c d h) (said words)) (history 32 (place c d h) (said words)) (recording-at file c d h .value)
+  pub hosted : Hosted (frame-of (place c d h) (said words)) (history bucket-tiles (place c d h) (said words)) (recording-at file c d h .value)
   pub begins : begin-at (recording-at file c d h .value) .number ≡ Done
 
 -- Refused: every word as it was; or, with a number past 3, what a reset to the file's viewport leaves.

@@ -48,7 +48,7 @@ use Rattle.host.proofs.spans.coarse_visible_spans as coarse-spans
 use Rattle.host.proofs.painting.coarse_unset_runs_and_write as coarse-written
 use Rattle.host.proofs.painting.coarse_can_skip as coarse-skip
 use Rattle.host.proofs.painting.coarse_split_opaque_span as coarse-split
-use Rattle.host.proofs.sizes.coarse_sizes as coarse-sizes
+use Rattle.host.proofs.lengths.coarse_sizes as coarse-sizes
 
 -- a number and what else is left are an answer
 once : {T : Type 0} (a : Answer T) (r q : ℕ) (x y : T) → answer r x ≡ a → answer q y ≡ a → (r ≡ q) × (x ≡ y)

@@ -2,6 +2,7 @@
 use mathlib.Core.Path.{_≡_}
 use mathlib.Core.List.{List}
 use Prim.Native.Nat.{ℕ, _<_}
+use Rattle.sizes.specs.Sizes.{bucket-tiles}
 use Rattle.rules.specs.Answers.{Answer, Done, BadForm}
 use Rattle.rules.specs.Walk.{Place, frame-of}
 use Rattle.screen.specs.Screens.{rect-of}
@@ -12,7 +13,7 @@ use Rattle.theorem_picture.specs.Reached.{Reached, begin-at}
 -- accepted: words that the steps of the file's walk reach from the reset to its viewport; no layer is open there, so that painting can begin
 pub record Accepted (p : Place) (ws : List ℕ) (m : Lent) : Type 0 where
   pub words : Readable ws
-  pub reached : Reached (frame-of p (said words)) (history 32 p (said words)) m
+  pub reached : Reached (frame-of p (said words)) (history bucket-tiles p (said words)) m
   pub begins : begin-at m .number ≡ Done
 
 -- refused: the words as they were; or, with a number past 3, those of the reset to the file's viewport

@@ -2,6 +2,12 @@
 use rect::Rect;
 use screen::fresh;
 use screen::is_good_room;
+use sizes::ROW;
+use sizes::OPEN_TABLE;
+use sizes::OPACITIES;
+use sizes::PAINT_TABLE;
+use sizes::LAYER_TABLE;
+use sizes::FILTER_TABLE;
 ghost use mathlib.Core.Path.{_≡_};
 ghost use mathlib.Core.List.{_∷_};
 ghost use lib.ListN.{length};
@@ -26,11 +32,11 @@ fn put_sizes(
     sizes[2] = depth;
     sizes[3] = rows;
     sizes[4] = painting;
-    sizes[5] = 256;
-    sizes[6] = 1040;
-    sizes[7] = 8192;
-    sizes[8] = 6144;
-    sizes[9] = 1024;
+    sizes[5] = OPEN_TABLE;
+    sizes[6] = OPACITIES;
+    sizes[7] = PAINT_TABLE;
+    sizes[8] = LAYER_TABLE;
+    sizes[9] = FILTER_TABLE;
 }
 
 // sizes: render, fills, depth, rows, painting, layers, opacities, paint_attrs, layer_attrs, filter_paints.
@@ -65,6 +71,6 @@ pub extern "C" fn coarse_sizes(
     let b = screen.buckets();
     let render = n * (4 * (c as usize));
     let fills = n * (2 * (d as usize));
-    put_sizes(sizes, render, fills, n * b, n * 54, n * 2);
+    put_sizes(sizes, render, fills, n * b, n * ROW, n * 2);
     0
 }

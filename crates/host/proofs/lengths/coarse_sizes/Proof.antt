@@ -5,8 +5,8 @@ use native.Mathlib.Nat.{mul-le-mul}
 use Prim.Native.Nat.{_*_}
 use Rattle.host.specs.Sizes.{size-call}
 use borrow.Author.Needs.{needs}
-use Rattle.host.proofs.sizes.coarse_sizes.Statement.{statement}
-use Rattle.host.proofs.sizes.coarse_sizes.Tie as tie
+use Rattle.host.proofs.lengths.coarse_sizes.Statement.{statement}
+use Rattle.host.proofs.lengths.coarse_sizes.Tie as tie
 
 is-good-viewport-requires : tie.Need-is-good-viewport-requires
 is-good-viewport-requires c κs = search needs

@@ -2,8 +2,8 @@ use Rattle.host.proofs.Results.{sizes-stored}
 use native.Mathlib.Omega.{arith}
 use lib.ListN.{length-set}
 use borrow.Author.Needs.{needs}
-use Rattle.host.proofs.sizes.put_sizes.Statement.{statement}
-use Rattle.host.proofs.sizes.put_sizes.Tie as tie
+use Rattle.host.proofs.lengths.put_sizes.Statement.{statement}
+use Rattle.host.proofs.lengths.put_sizes.Tie as tie
 
 slice-write-sizes : tie.Need-slice-write-sizes
 slice-write-sizes c = search needs

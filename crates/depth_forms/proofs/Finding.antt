@@ -5,11 +5,11 @@ use mathlib.Core.List.{List, [], _∷_, map}
 use Prim.Native.Nat.{ℕ, _+_, _*_, _/_, _<_, _≤_, min}
 use native.Mathlib.Omega.{arith}
 use lib.ListN.{length, length-map}
-use lib.Dec.{ltb}
-use borrow.Author.Tests.{lt-ltb, le-ltb, ltb-true, ltb-false}
+use lib.Dec.{leb, ltb}
+use borrow.Author.Tests.{leb-true, lt-ltb, le-ltb, ltb-true, ltb-false, not-false}
 use Rattle.rules.specs.Answers as rules
 use Rattle.rules.specs.Spans.{Span, span, common, bad-range}
-use Rattle.rules.proofs.All.{neither}
+use Rattle.rules.proofs.All.{both}
 use Rattle.rules.specs.Depth.{runs-in, runs, tiles-of, is-visible, listed, visible-runs, visible-answer}
 use Rattle.span.specs.declared.TileSpan.{TileSpan}
 use Rattle.cmd.specs.declared.Answer.{Answer}
@@ -35,7 +35,7 @@ few bs id s e = go (ltb (s .first) (s .end))
   where
     go : (t : Bool) → length (cond t (map (λ (r : Span). common s (tiles-of 32 r)) (runs-in (is-visible id) bs (span (s .first / 32) ((s .end + 31) / 32)))) []) ≤ 128
     go true =
-        let last : s .end ≤ 8192 = ltb-false 8192 (s .end) (neither (ltb (s .end) (s .first)) (ltb 8192 (s .end)) e .1) in
+        let last : s .end ≤ 8192 = leb-true (s .end) 8192 (both (leb (s .first) (s .end)) (leb (s .end) 8192) (not-false _ e) .1) in
         rw length-map (omega (arith, last, runs-few (is-visible id) bs (s .first / 32) ((s .end + 31) / 32)))
     go false = omega arith
 

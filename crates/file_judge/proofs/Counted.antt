@@ -10,7 +10,8 @@ use borrow.Author.Tests.{ltb-true}
 use Rattle.rules.specs.Lists.{every}
 use Rattle.rules.specs.Segments.{Segment, good-segment}
 use Rattle.rules.specs.Blends.{good-blend}
-use Rattle.rules.specs.Inputs.{Paint, good-paint, Draw, good-draw, draw-paint, good-range, good-thread, good-handle}
+use Rattle.rules.specs.Spans.{good-range}
+use Rattle.rules.specs.Inputs.{Paint, good-paint, Draw, good-draw, draw-paint, good-thread, good-handle}
 use Rattle.rules.specs.Recording.{Recording, recording, good-records, good-order, good-layer-rec, good-node}
 use Rattle.file_form.specs.declared.Layout.{Layout}
 use Rattle.file_form.specs.Each.{each}

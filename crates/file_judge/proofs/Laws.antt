@@ -9,7 +9,8 @@ use lib.Dec.{leb}
 use borrow.Author.Tests.{leb-true}
 use Rattle.rules.specs.Lists.{every}
 use Rattle.rules.specs.Segments.{Segment, good-segment, ordered}
-use Rattle.rules.specs.Inputs.{Paint, good-paint, Draw, good-draw, draw-segments, good-range}
+use Rattle.rules.specs.Spans.{good-range}
+use Rattle.rules.specs.Inputs.{Paint, good-paint, Draw, good-draw, draw-segments}
 use Rattle.rules.specs.Recording.{Recording, LayerRec, Node, recording, good-records, good-order, good-layer-rec, good-node, good-clip-order}
 use Rattle.segments.specs.Segs.{segs-of}
 use Rattle.file_form.specs.declared.Layout.{Layout}

@@ -11,7 +11,7 @@ use lib.Dec.{leb, eqb}
 use borrow.Author.Tests.{leb-true}
 use Rattle.rules.specs.Lists.{every, slice}
 use Rattle.rules.specs.Segments.{Segment, good-segment, ordered, judge-segments}
-use Rattle.rules.specs.Inputs.{good-range}
+use Rattle.rules.specs.Spans.{good-range}
 use Rattle.segments.specs.Segs.{seg-at, segs, segs-of}
 use Rattle.segments.proofs.Laws.{segs-first, segs-end, segs-slice}
 use Rattle.file_form.specs.Each.{each}

@@ -10,7 +10,8 @@ use Rattle.rules.specs.Lists.{every}
 use Rattle.rules.specs.Boxes.{good-box}
 use Rattle.rules.specs.Blends.{good-blend}
 use Rattle.rules.specs.Segments.{Segment, good-segment}
-use Rattle.rules.specs.Inputs.{Draw, Clip, good-clip, good-filter, good-range, good-thread, good-handle}
+use Rattle.rules.specs.Spans.{good-range}
+use Rattle.rules.specs.Inputs.{Draw, Clip, good-clip, good-filter, good-thread, good-handle}
 use Rattle.rules.specs.Recording.{Recording, LayerRec, recording, good-records, good-order, zero-clip}
 use Rattle.segments.specs.Segs.{segs-of}
 use Rattle.file_form.specs.declared.Layout.{Layout}

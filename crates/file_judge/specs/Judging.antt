@@ -10,7 +10,8 @@ use Rattle.rules.specs.Boxes.{Box, box}
 use Rattle.rules.specs.Blends as rule
 use Rattle.rules.specs.Blends.{good-blend}
 use Rattle.rules.specs.Segments.{Segment, ordered}
-use Rattle.rules.specs.Inputs.{Draw, draw-segments, Clip, good-clip, good-filter, good-handle, good-range, good-thread}
+use Rattle.rules.specs.Spans.{good-range}
+use Rattle.rules.specs.Inputs.{Draw, draw-segments, Clip, good-clip, good-filter, good-handle, good-thread}
 use Rattle.rules.specs.Recording.{Recording, LayerRec, Node, zero-clip, zero-filter, good-records, good-order}
 
 abbrev pub blend : ℕ → ℕ → rule.Blend

@@ -7,7 +7,8 @@ use mathlib.Core.List.{List, []}
 use lib.ListN.{length, getD}
 use lib.Dec.{leb, eqb}
 use borrow.Author.Tests.{leb-true}
-use Rattle.rules.specs.Inputs.{good-range, good-handle, good-filter}
+use Rattle.rules.specs.Spans.{good-range}
+use Rattle.rules.specs.Inputs.{good-handle, good-filter}
 use Rattle.rules.specs.Blends.{good-blend}
 use Rattle.rules.specs.Recording.{Recording, LayerRec, Node, good-layer-rec, good-clip-rec, zero-clip, zero-filter, layer-rec}
 use Rattle.file_form.specs.declared.Layout.{Layout}

@@ -8,7 +8,7 @@ use native.Mathlib.Nat.{mul-one}
 use native.Mathlib.Omega.{arith}
 use lib.ListN.{length, length-map}
 use lib.Dec.{ltb, eqb}
-use borrow.Author.Tests.{le-ltb, ne-eqb}
+use borrow.Author.Tests.{le-leb, ne-eqb}
 use Rattle.rules.specs.Answers.{settle}
 use Rattle.rules.specs.Attributes.{no-attrs}
 use Rattle.rules.specs.Spans.{Span, bad-range}
@@ -108,7 +108,7 @@ module _ (D P l ys D′ : List ℕ) (id i : ℕ) (b : BucketRange) (h : b .first
   unset = write-runs D (buckets b)
 
   good : (bad-range (length D) (buckets b) || eqb id 0) ≡ false
-  good = rw (le-ltb _ _ h, le-ltb _ _ g, ne-eqb id 0 (λ z. omega arith))
+  good = rw (le-leb _ _ h, le-leb _ _ g, ne-eqb id 0 (λ z. omega arith))
 
   told-write : depth.out r ys ≡ depth.listing (rule.listed false (length l / 6) unset) (lent l)
   unfolding write-answer unset

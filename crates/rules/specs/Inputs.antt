@@ -7,6 +7,7 @@ use lib.ListN.{length, getD}
 use lib.Dec.{leb, ltb, eqb}
 use Rattle.sizes.specs.Sizes.{thread-end, handle-end, most-records}
 use Rattle.rules.specs.Lists.{is-none, slice}
+use Rattle.rules.specs.Spans.{good-range}
 use Rattle.rules.specs.Boxes.{Box, good-box, good-dest}
 use Rattle.rules.specs.Blends.{Blend, is-default, good-blend}
 use Rattle.rules.specs.Segments.{Segment}
@@ -17,10 +18,6 @@ good-handle h = ltb h handle-end
 
 abbrev pub good-thread : ℕ → Bool
 good-thread t = ltb t thread-end
-
--- places start to end of a list of n
-abbrev pub good-range : ℕ → ℕ → ℕ → Bool
-good-range a b n = leb a b && leb b n
 
 -- a paint record's opaque flag and handle. Its two shifts are free, and no rule reads them
 pub record Paint : Type 0 where

@@ -1,5 +1,5 @@
 use native.Mathlib.Omega.{arith}
-use borrow.Author.Tests.{lt-ltb, le-ltb, le-leb}
+use borrow.Author.Tests.{lt-leb, le-leb}
 use borrow.Author.Needs.{needs}
 use Rattle.rules.specs.Depth.{can-skip-answer, can-skip}
 use Rattle.depth.proofs.Skipping.{skip-bare, skip-after, skip-before, no-skip}
@@ -8,15 +8,15 @@ use Rattle.depth.proofs.state.DepthState.can_skip.Tie as tie
 
 returns : tie.Need-returns
 unfolding can-skip-answer
-returns c = simp (lt-ltb _ _ (c .if1 .taken))
+returns c = simp (lt-leb _ _ (c .if1 .taken))
 
 returns-2 : tie.Need-returns-2
 unfolding can-skip-answer
-returns-2 c = simp (le-ltb _ _ (c .before .before .if1 .left), lt-ltb _ _ (c .if2 .taken))
+returns-2 c = simp (le-leb _ _ (c .before .before .if1 .left), lt-leb _ _ (c .if2 .taken))
 
 returns-3 : tie.Need-returns-3
 unfolding can-skip-answer can-skip
-returns-3 c = simp (le-ltb _ _ (c .before .before .before .before .if1 .left), le-ltb _ _ (c .before .before .if2 .left), le-leb _ _ (c .if3 .taken))
+returns-3 c = simp (le-leb _ _ (c .before .before .before .before .if1 .left), le-leb _ _ (c .before .before .if2 .left), le-leb _ _ (c .if3 .taken))
 
 enum-told : tie.Need-enum-told
 enum-told c = search needs

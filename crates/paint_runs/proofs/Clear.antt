@@ -5,7 +5,7 @@ use mathlib.Core.List.{List, [], _∷_}
 use Prim.Native.Nat.{ℕ, _≤_, _<_, _/_}
 use native.Mathlib.Omega.{arith}
 use lib.ListN.{length, set}
-use borrow.Author.Tests.{le-ltb, lt-ltb}
+use borrow.Author.Tests.{le-leb, le-ltb, lt-ltb}
 use Rattle.rules.specs.Answers.{Answer, answer}
 use Rattle.rules.specs.Spans.{Span}
 use Rattle.rules.specs.Depth.{Summary, can-skip, can-skip-answer, listed, visible-answer}
@@ -21,7 +21,7 @@ pub skip-said : (u : Summary) (s : Span) (id : ℕ) (x : Skip) → s .first ≤ 
     → can-skip u s id ≡ skip-of x .value
 unfolding can-skip-answer
 skip-said u s id x h g e =
-    let f : skip-of x ≡ answer 0 (can-skip u s id) = e ∙ rw (le-ltb _ _ h, le-ltb _ _ g) in
+    let f : skip-of x ≡ answer 0 (can-skip u s id) = e ∙ rw (le-leb _ _ h, le-leb _ _ g) in
     sym (ap (λ (a : Answer Bool). a .value) f)
 
 module _ (s : Span) where
@@ -51,4 +51,4 @@ module _ (u : Summary) (bs : List ℕ) (id : ℕ) (s : Span) (l : List ℕ) (x :
       → x ≡ listing (visible-answer 32 bs id s (length l / 2)) l
       → x ≡ listing (listed false (length l / 2) (shown-runs u bs id s)) l
   unfolding shown-runs visible-answer
-  shown-searched h g c e = rw c (e ∙ rw (le-ltb _ _ h, le-ltb _ _ g))
+  shown-searched h g c e = rw c (e ∙ rw (le-leb _ _ h, le-leb _ _ g))

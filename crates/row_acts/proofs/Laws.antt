@@ -1,13 +1,13 @@
 -- What the acts do to a row of words. Assumes nothing.
 use mathlib.Core.Path.{_≡_, refl, sym, ap, _∙_}
-use mathlib.Core.Bool.{Bool, true, false, _||_, cond}
+use mathlib.Core.Bool.{Bool, true, false, _&&_, not, cond}
 use mathlib.Core.List.{List, [], _∷_, foldl}
 use mathlib.Core.Option.{Option, none, some}
 use Prim.Native.Nat.{ℕ, zero, suc, _+_, _-_, _/_, _≤_, _<_}
 use native.Mathlib.Omega.{arith}
 use lib.Dec.{leb, ltb}
 use lib.ListN.{length}
-use borrow.Author.Tests.{le-leb, ltb-true}
+use borrow.Author.Tests.{le-leb, leb-false}
 use Rattle.rules.specs.Lists.{times, keep}
 use Rattle.rules.specs.Answers.{Answer, answer}
 use Rattle.rules.specs.Spans.{Span, span, bad-range}
@@ -164,11 +164,11 @@ split-some s =
     some-parts (leb b a) (ltb (s .first) a) (ltb b (s .end)) (regular s) (regular (span (s .first) a)) (buckets (span (a / 32) (b / 32))) (regular (span b (s .end)))
 
 -- a span that is refused starts after its end
-backwards : (s : Span) → s .end ≤ 8192 → (n : ℕ) (b c : Bool) → ltb (s .end) (s .first) ≡ b → ltb 8192 (s .end) ≡ c
-    → answer n [] ≡ cond (b || c) (answer 12 []) (answer 0 (split 32 s)) → s .end ≤ s .first
-backwards s h n true c p q e = omega (arith, ltb-true (s .end) (s .first) p)
-backwards s h n false true p q e = absurd (omega (arith, ltb-true 8192 (s .end) q))
-backwards s h n false false p q e =
+backwards : (s : Span) → s .end ≤ 8192 → (n : ℕ) (b c : Bool) → leb (s .first) (s .end) ≡ b → leb (s .end) 8192 ≡ c
+    → answer n [] ≡ cond (not (b && c)) (answer 12 []) (answer 0 (split 32 s)) → s .end ≤ s .first
+backwards s h n false c p q e = omega (arith, leb-false (s .first) (s .end) p)
+backwards s h n true false p q e = absurd (omega (arith, leb-false (s .end) 8192 q))
+backwards s h n true true p q e =
     let z : _≡_ {A = ℕ} 0 (length (split 32 s)) = ap (λ (x : Answer (List Part)). length (x .value)) e in
     absurd (omega (arith, split-some s))
 

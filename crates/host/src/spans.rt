@@ -2,6 +2,7 @@
 // call's own, and written as spans.
 use crate::painting::coarse_visible_runs;
 use depth_forms::write_runs;
+use sizes::BUCKET_END;
 use span::TileSpan;
 ghost use mathlib.Core.Path.{_≡_};
 ghost use Prim.Native.Nat.{_*_, min};
@@ -13,14 +14,14 @@ ghost use Rattle.host.specs.Spans.{found-call, spans-call};
 struct Found {
     number: u32,
     count: usize,
-    words: [u32; 256],
+    words: [u32; BUCKET_END],
 }
 
 // The words of so many runs. Tiles end at 8,192, in 256 buckets, which have at most 128 runs.
 fn words_for(room: usize) -> usize
     ensures { λ r. ⌜ r ≡ 2 * min room 128 ⌝ }
 {
-    if room < 128 { 2 * room } else { 256 }
+    if room < 128 { 2 * room } else { BUCKET_END }
 }
 
 // The runs that a list of so many spans has room for, as `coarse_visible_runs` answers and lists them.
@@ -37,7 +38,7 @@ fn found_spans(
     ensures { λ r. ⌜ answer (r .number) (r .count, r .words, now (count .exit))
         ≡ found-call row (span first «end») id (now (state .entry)) (now (depth .entry)) room (now (count .entry)) ⌝ }
 {
-    let mut words = [0u32; 256];
+    let mut words = [0u32; BUCKET_END];
     let n = words_for(room);
     let number = coarse_visible_runs(state, row, depth, first, end, id, &mut words[..n], count);
     if number != 0 {

@@ -18,6 +18,14 @@ pub struct Rect {
     pub y1: u32,
 }
 
+// No box: all zeros.
+pub const NOWHERE: Rect = Rect {
+    x0: 0,
+    y0: 0,
+    x1: 0,
+    y1: 0,
+};
+
 // A difference that stops at 0.
 pub fn less(a: u32, b: u32) -> u32
     ensures { λ r. ⌜ r ≡ a - b ⌝ }

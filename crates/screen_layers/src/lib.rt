@@ -10,6 +10,7 @@ ghost use Rattle.rect.specs.Rects.{box-of};
 ghost use Rattle.cmd.specs.Attrs.{words-at};
 ghost use Rattle.screen_layers.specs.Layers.{clip-of, good-pattern, good-given, layer-of, clip-words, flat-words, layer-words, no-words, open-at, box-in, good-layer, good-own-box};
 use cmd::blend::Blend;
+use rect::NOWHERE;
 use rect::Rect;
 use sizes::THREAD_END;
 use sizes::HANDLE_END;
@@ -64,12 +65,7 @@ fn flat(clip: LayerClip) -> FlatClip
     match clip {
         LayerClip::Absent => FlatClip {
             flag: 0,
-            bbox: Rect {
-                x0: 0,
-                y0: 0,
-                x1: 0,
-                y1: 0,
-            },
+            bbox: NOWHERE,
             start: 0,
             end: 0,
             thread: 0,

@@ -25,6 +25,15 @@ pub struct Segment {
     pub alpha: u32,
 }
 
+// Before the first of a list.
+pub const NO_SEGMENT: Segment = Segment {
+    kind: 0,
+    row: 0,
+    first: 0,
+    end: 0,
+    alpha: 0,
+};
+
 // Segment i of a list.
 pub fn segment_at(list: &[u32], i: usize) -> Segment
     requires { ⌜ 5 * i + 5 ≤ length (now list) ⌝ }

@@ -2,6 +2,7 @@
 use row_judge::is_good_row;
 use step_fill_rows::Job;
 use row::wide;
+use segments::NO_SEGMENT;
 use segments::Placed;
 use segments::Segment;
 use segments::place;
@@ -185,13 +186,7 @@ pub fn judge_list(rows: &[u32], list: &[u32], start: usize, end: usize, job: Job
     requires { ⌜ Rowed job (count-rows (now rows)) (now rows) × (start ≤ «end») × (5 * «end» ≤ length (now list)) ⌝ }
     ensures { λ r. ⌜ r ≡ list-number (judge-segments false (segs (now (list .entry)) start («end» - start))) (verdict (tally-cuts job (now (rows .entry)) none-yet (cuts-of job (now (list .entry)) start «end»))) ⌝ }
 {
-    let mut last = Segment {
-        kind: 0,
-        row: 0,
-        first: 0,
-        end: 0,
-        alpha: 0,
-    };
+    let mut last = NO_SEGMENT;
     let mut hand = Hand {
         row: TILE_END,
         renders: 0,

@@ -8,7 +8,7 @@ use test_words::after;
 use test_words::put;
 use test_words::wide;
 use test_words::word;
-use rect::Rect;
+use rect::NOWHERE;
 use screen::Screen;
 use screen::fresh;
 ghost use mathlib.Core.Path.{_≡_};
@@ -16,12 +16,7 @@ ghost use Prim.Native.Nat.{_≤_};
 ghost use lib.ListN.{length};
 
 fn first_screen() -> Screen {
-    let none = Rect {
-        x0: 0,
-        y0: 0,
-        x1: 0,
-        y1: 0,
-    };
+    let none = NOWHERE;
     fresh(none, 1, 1)
 }
 

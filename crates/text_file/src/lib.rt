@@ -5,7 +5,7 @@ use file_form::words_of_bytes;
 use text_screen::list_screen;
 use text_screen::refusal_line;
 use file_judge::box_at;
-use rect::Rect;
+use rect::NOWHERE;
 use screen::Screen;
 use screen::fresh;
 use file_call::bucket_recording;
@@ -46,12 +46,7 @@ pub fn no_screen() -> Screen
     ensures { λ r. ⌜ r ≡ nothing ⌝ }
 {
     fresh(
-        Rect {
-            x0: 0,
-            y0: 0,
-            x1: 0,
-            y1: 0,
-        },
+        NOWHERE,
         1,
         1,
     )

@@ -10,7 +10,7 @@ use borrow.Author.Tests.{le-leb, lt-leb, le-ltb, ltb-false, ne-eqb, eq-eqb}
 use Rattle.rules.specs.Answers.{Answer, answer}
 use Rattle.rules.specs.Spans.{Span, span, common, bad-range}
 use Rattle.rules.specs.Depth.{runs-in, runs, tiles-of, is-visible, listed, unset-runs, visible-runs, unset-answer, visible-answer, write-runs, write-answer, write-after, written}
-use Rattle.depth.specs.Listing.{Out, numbers, listing, done, cut-runs, met-end, OutWrite, writing}
+use Rattle.depth.specs.Listing.{RunsOut, numbers, listing, done, cut-runs, met-end, OutWrite, writing}
 use Rattle.depth.proofs.Skipping.{or-true}
 use Rattle.depth.proofs.Searching.{runs-few, runs-shorter, runs-end, runs-uncut, unset-visible}
 
@@ -41,7 +41,7 @@ met-small n s h = go (ltb (s .first) (s .end))
     go false = omega arith
 
 -- a refusal leaves the list
-abbrev pub refused : ℕ → List ℕ → Out
+abbrev pub refused : ℕ → List ℕ → RunsOut
 refused n l = record { number = n; count = 0; list = l }
 
 module _ (n : ℕ) (rs : List Span) (l : List ℕ) where

@@ -87,7 +87,7 @@ module _ (bs : List ℕ) (id : ℕ) (s : Span) (n : ℕ) (ws m : List ℕ) where
     where
       go : (bad : Bool) → bad-range 8192 s ≡ bad → words.out (found.Refused a) m ≡ words.listing (listed bad n rs) ws
       go true e = rw e at h
-      go false e = absurd (refuses a (ap (λ (o : words.Out). o .number) (rw (e, le-ltb 128 (length rs) (few bs id s e)) at h)))
+      go false e = absurd (refuses a (ap (λ (o : words.RunsOut). o .number) (rw (e, le-ltb 128 (length rs) (few bs id s e)) at h)))
 
   pub found-refused : (r : Runs) (a : Answer) → r ≡ found.Refused a → Roomy r → words.out (found.Refused a) m ≡ words.listing (visible-answer 32 bs id s n) ws
   found-refused r a q h = still a (rw q at h)
@@ -98,7 +98,7 @@ module _ (bs : List ℕ) (id : ℕ) (s : Span) (n : ℕ) (ws m : List ℕ) where
     good = go (bad-range 8192 s) refl
       where
         go : (bad : Bool) → bad-range 8192 s ≡ bad → bad ≡ false
-        go true e = absurd (omega (arith, ap (λ (o : words.Out). o .number) (rw e at h)))
+        go true e = absurd (omega (arith, ap (λ (o : words.RunsOut). o .number) (rw e at h)))
         go false e = refl
 
     all : words.out (found.Listed k) m ≡ words.listing (rules.answer 0 rs) ws
@@ -107,7 +107,7 @@ module _ (bs : List ℕ) (id : ℕ) (s : Span) (n : ℕ) (ws m : List ℕ) where
 
     many : k ≡ length rs
     unfolding words.listing
-    many = ap (λ (o : words.Out). o .count) all
+    many = ap (λ (o : words.RunsOut). o .count) all
 
     pub found-short : n < k → words.out (found.Refused case.NoRoom) ws ≡ words.listing (visible-answer 32 bs id s n) ws
     unfolding visible-answer words.listing words.numbers
@@ -123,12 +123,12 @@ module _ (m ws : List ℕ) (x : rules.Answer (List Span)) (b : List TileSpan) (k
   unfolding words.listing
   found-fits (found.Refused a) e c = (omega (arith, c), omega (arith, c))
   found-fits (found.Listed n) e c =
-      let l : n ≡ length (x .value) = ap (λ (o : words.Out). o .count) e in
+      let l : n ≡ length (x .value) = ap (λ (o : words.RunsOut). o .count) e in
       (omega (arith, c, l), omega (arith, c, listed-fits (found.Listed n) m ws x e n refl))
 
   pub found-written : (r : Runs) → words.out r m ≡ words.listing x ws → k ≡ counted r → out r (with-spans m k b) ≡ listing x b
   unfolding words.listing with-spans
   found-written (found.Refused a) e c = rw c (seen-refused (found.Refused a) m ws x e b a refl)
   found-written (found.Listed n) e c =
-      let l : n ≡ length (x .value) = ap (λ (o : words.Out). o .count) e in
+      let l : n ≡ length (x .value) = ap (λ (o : words.RunsOut). o .count) e in
       rw c (seen-listed (found.Listed n) m ws x e b n refl (omega (arith, l)))

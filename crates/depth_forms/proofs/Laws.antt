@@ -61,8 +61,8 @@ module _ (r : Runs) (m ws : List ℕ) (x : rules.Answer (List Span)) (e : words.
   pub seen-refused : (b : List TileSpan) (a : Answer) → r ≡ runs.Refused a → out (runs.Refused a) b ≡ listing x b
   unfolding words.listing listing
   seen-refused b a q =
-      let n : refusal a ≡ x .number = ap (λ (o : words.Out). o .number) (rw q at e) in
-      let c : 0 ≡ length (x .value) = ap (λ (o : words.Out). o .count) (rw q at e) in
+      let n : refusal a ≡ x .number = ap (λ (o : words.RunsOut). o .number) (rw q at e) in
+      let c : 0 ≡ length (x .value) = ap (λ (o : words.RunsOut). o .count) (rw q at e) in
       go (x .value) n c
     where
       go : (v : List Span) → refusal a ≡ x .number → 0 ≡ length v
@@ -73,16 +73,16 @@ module _ (r : Runs) (m ws : List ℕ) (x : rules.Answer (List Span)) (e : words.
   pub listed-fits : (n : ℕ) → r ≡ runs.Listed n → n * 2 ≤ length m
   unfolding words.listing
   listed-fits n q =
-      let c : n ≡ length (x .value) = ap (λ (o : words.Out). o .count) (rw q at e) in
-      let l : m ≡ over (numbers (x .value)) ws = ap (λ (o : words.Out). o .list) (rw q at e) in
+      let c : n ≡ length (x .value) = ap (λ (o : words.RunsOut). o .count) (rw q at e) in
+      let l : m ≡ over (numbers (x .value)) ws = ap (λ (o : words.RunsOut). o .list) (rw q at e) in
       omega (arith, c, ap length l, length-append (numbers (x .value)) (drop (length (numbers (x .value))) ws), length-numbers (x .value))
 
   pub seen-listed : (b : List TileSpan) (n : ℕ) → r ≡ runs.Listed n → n ≤ length b → out (runs.Listed n) (with-spans m n b) ≡ listing x b
   unfolding words.listing listing
   seen-listed b n q h =
-      let d : 0 ≡ x .number = ap (λ (o : words.Out). o .number) (rw q at e) in
-      let c : n ≡ length (x .value) = ap (λ (o : words.Out). o .count) (rw q at e) in
-      let l : m ≡ over (numbers (x .value)) ws = ap (λ (o : words.Out). o .list) (rw q at e) in
+      let d : 0 ≡ x .number = ap (λ (o : words.RunsOut). o .number) (rw q at e) in
+      let c : n ≡ length (x .value) = ap (λ (o : words.RunsOut). o .count) (rw q at e) in
+      let l : m ≡ over (numbers (x .value)) ws = ap (λ (o : words.RunsOut). o .list) (rw q at e) in
       let g : length (x .value) ≤ length b = omega (arith, c) in
       let w : with-spans m n b ≡ map as-span (x .value) ++ drop (length (x .value)) b = rw (l, c) (as-listed (x .value) ws b g) in
       rw (w, ← d, ← c)

@@ -16,7 +16,7 @@ use Rattle.rect.specs.Rects.{box-of}
 use Rattle.screen.specs.declared.Screen.{Screen}
 use Rattle.screen.specs.Screens.{rect-of, fresh-screen}
 use Rattle.screen.specs.Judging.{judged-reset}
-use Rattle.screen.specs.Tables.{zeros, Tables, tables, lengths, zeroed, Lent, lent, reset-to}
+use Rattle.screen.specs.Tables.{zeros, Tables, tables, lengths, zeroed, ScreenLent, lent, reset-to}
 use Rattle.file_form.specs.declared.Layout.{Layout}
 use Rattle.file_form.specs.Layouts.{Fits, sections-at}
 use Rattle.file_form.specs.Places as file
@@ -28,7 +28,7 @@ use Rattle.file_read.proofs.Boxed.{boxed}
 use Rattle.file_steps.specs.Steps.{call-at}
 use Rattle.file_steps.proofs.Runs.{stopped, onward}
 use Rattle.file_call.specs.Recorded.{judging, played, recorded-in, recorded}
-use Rattle.file_nodes.specs.Ready.{Ready}
+use Rattle.file_nodes.specs.Ready.{WalkReady}
 use Rattle.file_nodes.proofs.Places.{node-count}
 
 -- Records, then the walk.
@@ -44,29 +44,29 @@ module _ (l : Layout) (ws : List ℕ) (f : Fits ws l) (n : ℕ) (e : n ≡ judge
   judged-here : n ≡ judged (file.recorded l ws)
   judged-here = rw (reads l ws f) at e
 
-  pub bad-records : (n ≡ 0 → ⊥) → (m : ℕ) → m ≡ n → (s : Lent) → answer m s ≡ (judging (file.recorded l ws) then walk-all Lent call-at (file.recorded l ws)) s
+  pub bad-records : (n ≡ 0 → ⊥) → (m : ℕ) → m ≡ n → (s : ScreenLent) → answer m s ≡ (judging (file.recorded l ws) then walk-all ScreenLent call-at (file.recorded l ws)) s
   bad-records h m p s =
-      rw p (stopped (judging (file.recorded l ws)) (walk-all Lent call-at (file.recorded l ws)) s n s (ap (λ (k : ℕ). answer k s) judged-here) h)
+      rw p (stopped (judging (file.recorded l ws)) (walk-all ScreenLent call-at (file.recorded l ws)) s n s (ap (λ (k : ℕ). answer k s) judged-here) h)
 
   module _ (z : n ≡ 0) where
     good : good-records (file.recorded l ws) ≡ true
     good = sound (file.recorded l ws) (sym judged-here ∙ z) .records
 
-    pub ready : Ready ws l
+    pub ready : WalkReady ws l
     ready = record { fits = f; good = good }
 
     pub root : (getD ws (l .root .at) 0 ≤ getD ws (l .root .at + 1) 0) × (getD ws (l .root .at + 1) 0 ≤ l .nodes .count)
     unfolding file.recorded
     root = let h = root-range (file.recorded l ws) good in (h .0, rw (node-count l ws) at (h .1))
 
-    pub good-walk : (s : Lent) (a : Answer Lent)
-        → a ≡ walk-nodes Lent call-at (file.recorded l ws) (walk-layer Lent call-at (file.recorded l ws) 16) (getD ws (l .root .at) 0) (getD ws (l .root .at + 1) 0) s
-        → a ≡ (judging (file.recorded l ws) then walk-all Lent call-at (file.recorded l ws)) s
+    pub good-walk : (s : ScreenLent) (a : Answer ScreenLent)
+        → a ≡ walk-nodes ScreenLent call-at (file.recorded l ws) (walk-layer ScreenLent call-at (file.recorded l ws) 16) (getD ws (l .root .at) 0) (getD ws (l .root .at + 1) 0) s
+        → a ≡ (judging (file.recorded l ws) then walk-all ScreenLent call-at (file.recorded l ws)) s
     unfolding walk-all file.recorded
     good-walk s a q =
-        q ∙ sym (onward (judging (file.recorded l ws)) (walk-all Lent call-at (file.recorded l ws)) s n s (ap (λ (k : ℕ). answer k s) judged-here) z)
+        q ∙ sym (onward (judging (file.recorded l ws)) (walk-all ScreenLent call-at (file.recorded l ws)) s n s (ap (λ (k : ℕ). answer k s) judged-here) z)
 
-module _ (r : Recording) (fresh : Lent) (m : ℕ) (s : Lent) (e : answer m s ≡ (judging r then walk-all Lent call-at r) fresh) where
+module _ (r : Recording) (fresh : ScreenLent) (m : ℕ) (s : ScreenLent) (e : answer m s ≡ (judging r then walk-all ScreenLent call-at r) fresh) where
   all-played : m ≡ 0 → answer m s ≡ played r fresh
   unfolding played
   all-played z = rw (← e, eq-eqb m 0 z)
@@ -96,31 +96,31 @@ module _ {t u : Tables} (e : Same t u) where
   unfolding zeros
   same-zeros = rw (e .render, e .fills, e .depth, e .rows, e .painting, e .layers, e .opacities, e .paint-attrs, e .layer-attrs, e .filter-paints)
 
-by-number : (n k : ℕ) (t : Bool) → eqb k 0 ≡ t → (a b c : Lent) → n ≡ 0 → answer n a ≡ cond t (answer 0 c) (answer k b) → (k ≡ 0) × (a ≡ c)
-by-number n k true q a b c z e = (eqb-true k 0 q, ap (λ (x : Answer Lent). x .value) e)
-by-number n k false q a b c z e = let y : k ≡ 0 = sym (ap (λ (x : Answer Lent). x .number) e) ∙ z in absurd (eqb-false k 0 q y)
+by-number : (n k : ℕ) (t : Bool) → eqb k 0 ≡ t → (a b c : ScreenLent) → n ≡ 0 → answer n a ≡ cond t (answer 0 c) (answer k b) → (k ≡ 0) × (a ≡ c)
+by-number n k true q a b c z e = (eqb-true k 0 q, ap (λ (x : Answer ScreenLent). x .value) e)
+by-number n k false q a b c z e = let y : k ≡ 0 = sym (ap (λ (x : Answer ScreenLent). x .number) e) ∙ z in absurd (eqb-false k 0 q y)
 
-module _ (v : Rect) (c d : ℕ) (old : Lent) (n : ℕ) (a : Lent) (e : answer n a ≡ reset-to v c d old) (z : n ≡ 0) where
+module _ (v : Rect) (c d : ℕ) (old : ScreenLent) (n : ℕ) (a : ScreenLent) (e : answer n a ≡ reset-to v c d old) (z : n ≡ 0) where
   first-reset : (judged-reset v c d (lengths (old .tables)) ≡ 0) × (a ≡ lent (fresh-screen v c d) (zeroed (old .tables)))
   unfolding reset-to
   first-reset = by-number n (judged-reset v c d (lengths (old .tables))) _ refl a old _ z e
 
-  again : (b : Lent) → Same (b .tables) (old .tables) → (k : ℕ) (s : Lent) → answer k s ≡ reset-to v c d b → s ≡ a
+  again : (b : ScreenLent) → Same (b .tables) (old .tables) → (k : ℕ) (s : ScreenLent) → answer k s ≡ reset-to v c d b → s ≡ a
   unfolding reset-to
   again b q k s f =
       let h = first-reset in
       let j : judged-reset v c d (lengths (b .tables)) ≡ 0 = rw (same-lengths q) (h .0) in
       let g : answer k s ≡ answer 0 (lent (fresh-screen v c d) (zeroed (b .tables))) = f ∙ rw (eq-eqb _ 0 j) in
-      let w : s ≡ lent (fresh-screen v c d) (zeroed (b .tables)) = ap (λ (x : Answer Lent). x .value) g in
+      let w : s ≡ lent (fresh-screen v c d) (zeroed (b .tables)) = ap (λ (x : Answer ScreenLent). x .value) g in
       w ∙ rw (same-zeros q) (sym (h .1))
 
 -- the whole call
-pub bad-file : (ws : List ℕ) (c d : ℕ) (old : Lent) → sections shape ws ≡ none → answer 3 old ≡ recorded ws c d old
+pub bad-file : (ws : List ℕ) (c d : ℕ) (old : ScreenLent) → sections shape ws ≡ none → answer 3 old ≡ recorded ws c d old
 unfolding recorded
 bad-file ws c d old e = rw e
 
-module _ (l : Layout) (ws : List ℕ) (g : GoodForm ws l) (v : Rect) (b : box-of v ≡ box-from ws 1) (c d : ℕ) (old : Lent)
-    (n : ℕ) (a : Lent) (e : answer n a ≡ reset-to v c d old) where
+module _ (l : Layout) (ws : List ℕ) (g : GoodForm ws l) (v : Rect) (b : box-of v ≡ box-from ws 1) (c d : ℕ) (old : ScreenLent)
+    (n : ℕ) (a : ScreenLent) (e : answer n a ≡ reset-to v c d old) where
   view : v ≡ rect-of (file.recorded l ws .viewport)
   unfolding file.recorded box-from
   view = boxed v _ b
@@ -136,7 +136,7 @@ module _ (l : Layout) (ws : List ℕ) (g : GoodForm ws l) (v : Rect) (b : box-of
   unfolding recorded-in
   not-reset z = stopped (reset-to (rect-of (file.recorded l ws .viewport)) c d) (played (file.recorded l ws)) old n a its-view z ∙ as-recorded
 
-  module _ (z : n ≡ 0) (m : ℕ) (s : Lent) (f : answer m s ≡ (judging (file.recorded l ws) then walk-all Lent call-at (file.recorded l ws)) a) where
+  module _ (z : n ≡ 0) (m : ℕ) (s : ScreenLent) (f : answer m s ≡ (judging (file.recorded l ws) then walk-all ScreenLent call-at (file.recorded l ws)) a) where
     then-played : recorded ws c d old ≡ played (file.recorded l ws) a
     unfolding recorded-in
     then-played = sym as-recorded ∙ onward (reset-to (rect-of (file.recorded l ws .viewport)) c d) (played (file.recorded l ws)) old n a its-view z
@@ -144,7 +144,7 @@ module _ (l : Layout) (ws : List ℕ) (g : GoodForm ws l) (v : Rect) (b : box-of
     pub all-done : m ≡ 0 → answer m s ≡ recorded ws c d old
     all-done q = all-played (file.recorded l ws) a m s f q ∙ sym then-played
 
-    pub left-fresh : (m ≡ 0 → ⊥) → (u : Screen) → Same (s .tables) (old .tables) → (k : ℕ) (y : Lent) → answer k y ≡ reset-to v c d (lent u (s .tables))
+    pub left-fresh : (m ≡ 0 → ⊥) → (u : Screen) → Same (s .tables) (old .tables) → (k : ℕ) (y : ScreenLent) → answer k y ≡ reset-to v c d (lent u (s .tables))
         → answer m y ≡ recorded ws c d old
     left-fresh q u p k y h =
         rw (again v c d old n a e z (lent u (s .tables)) p k y h) (not-played (file.recorded l ws) a m s f q ∙ sym then-played)

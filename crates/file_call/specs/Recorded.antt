@@ -8,30 +8,30 @@ use Rattle.rules.specs.Answers.{Answer, answer, Done, BadForm}
 use Rattle.rules.specs.Recording.{Recording, shape, sections, recording}
 use Rattle.rules.specs.Walk.{_then_, walk-all}
 use Rattle.screen.specs.Screens.{rect-of}
-use Rattle.screen.specs.Tables.{Lent, reset-to}
+use Rattle.screen.specs.Tables.{ScreenLent, reset-to}
 use Rattle.file_judge.specs.Judging.{judged}
 use Rattle.file_steps.specs.Steps.{call-at}
 
 -- answer 4, then 5: nothing changes here
-abbrev pub judging : Recording → Lent → Answer Lent
+abbrev pub judging : Recording → ScreenLent → Answer ScreenLent
 judging r l = answer (judged r) l
 
 -- after a refusal the screen is left as it was after the reset
-abbrev pub or-fresh : Lent → Answer Lent → Answer Lent
+abbrev pub or-fresh : ScreenLent → Answer ScreenLent → Answer ScreenLent
 or-fresh fresh a = cond (eqb (a .number) Done) a (answer (a .number) fresh)
 
 -- all records are judged, even those out of reach, then walked
-unfoldable pub played : Recording → Lent → Answer Lent
-played r fresh = or-fresh fresh ((judging r then walk-all Lent call-at r) fresh)
+unfoldable pub played : Recording → ScreenLent → Answer ScreenLent
+played r fresh = or-fresh fresh ((judging r then walk-all ScreenLent call-at r) fresh)
 
 -- the file's viewport with C and D; a refused reset changes nothing
-unfoldable pub recorded-in : Recording → ℕ → ℕ → Lent → Answer Lent
+unfoldable pub recorded-in : Recording → ℕ → ℕ → ScreenLent → Answer ScreenLent
 recorded-in r c d = reset-to (rect-of (r .viewport)) c d then played r
 
-abbrev pub of-sections : Option (List (List (List ℕ))) → ℕ → ℕ → Lent → Answer Lent
+abbrev pub of-sections : Option (List (List (List ℕ))) → ℕ → ℕ → ScreenLent → Answer ScreenLent
 of-sections none c d l = answer BadForm l
 of-sections (some ss) c d l = recorded-in (recording ss) c d l
 
 -- a file's words; 3 before all
-unfoldable pub recorded : List ℕ → ℕ → ℕ → Lent → Answer Lent
+unfoldable pub recorded : List ℕ → ℕ → ℕ → ScreenLent → Answer ScreenLent
 recorded ws = of-sections (sections shape ws)

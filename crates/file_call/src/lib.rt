@@ -4,7 +4,7 @@ ghost use Rattle.rules.specs.Answers.{answer};
 ghost use Rattle.rules.specs.Walk.{_then_, walk-all};
 ghost use Rattle.cmd.specs.Answers.{number-of};
 ghost use Rattle.row.specs.Words.{words};
-ghost use Rattle.screen.specs.Tables.{Tables, Lent, tables, lent};
+ghost use Rattle.screen.specs.Tables.{Tables, ScreenLent, tables, lent};
 ghost use Rattle.file_form.specs.Layouts.{Fits};
 ghost use Rattle.file_form.specs.Places as file;
 ghost use Rattle.file_steps.specs.Steps.{call-at, work, work-into};
@@ -44,7 +44,7 @@ fn play(
 ) -> Built
     requires { ⌜ Fits (now w) l ⌝ }
     ensures { λ r. ⌜ ((t : Tables) → answer (number-of (r .answer)) (work-into t (work (r .screen) (words (now (rows .exit)) (now (render .exit)) (now (fills .exit))) (now (layers .exit)) (now (opacities .exit)) (now («paint_attrs» .exit)) (now («layer_attrs» .exit)) (now («filter_paints» .exit))))
-        ≡ (judging (file.recorded l (now (w .entry))) then walk-all Lent call-at (file.recorded l (now (w .entry))))
+        ≡ (judging (file.recorded l (now (w .entry))) then walk-all ScreenLent call-at (file.recorded l (now (w .entry))))
         (work-into t (work screen (words (now (rows .entry)) (now (render .entry)) (now (fills .entry))) (now (layers .entry)) (now (opacities .entry)) (now («paint_attrs» .entry)) (now («layer_attrs» .entry)) (now («filter_paints» .entry))))) ⌝ }
 {
     let n = judge_records(w, l);

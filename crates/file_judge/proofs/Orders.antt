@@ -70,13 +70,13 @@ clip-in nodes segments y e =
     by-flag segments y _ refl (h5 .1)
 
 -- what good records say of the lent segments xs, the draws and the layers
-pub record Ready (l : Layout) (ws xs : List ℕ) : Type 0 where
+pub record OrdersReady (l : Layout) (ws xs : List ℕ) : Type 0 where
   pub draws : every (draw-range (length xs / 5)) (each draw-from 7 ws (l .draws .at) (l .draws .count)) ≡ true
   pub layers : every (clip-range (length xs / 5)) (each layer-from 22 ws (l .layers .at) (l .layers .count)) ≡ true
   pub segments : every good-segment (segs-of xs) ≡ true
 
 module _ {l : Layout} {ws : List ℕ} (f : Fits ws l) (g : good-records (recording (sections-at l ws)) ≡ true) where
-  pub ready : Ready l ws (lent ws (l .segments .at) (l .segments .count))
+  pub ready : OrdersReady l ws (lent ws (l .segments .at) (l .segments .count))
   unfolding counted
   ready =
       let h5 = both (paints-good l ws && segments-good l ws && draws-good l ws && layers-good l ws && nodes-good l ws) (root-good l ws) (sym (all-counted l ws f) ∙ g) in

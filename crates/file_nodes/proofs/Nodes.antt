@@ -10,7 +10,7 @@ use Rattle.rules.specs.Lists.{slice}
 use Rattle.rules.specs.Answers.{Answer, answer}
 use Rattle.rules.specs.Recording.{Node, layer-rec}
 use Rattle.rules.specs.Walk.{each, when, walk-node, walk-nodes, walk-layer}
-use Rattle.screen.specs.Tables.{Tables, Lent}
+use Rattle.screen.specs.Tables.{Tables, ScreenLent}
 use Rattle.file_form.specs.declared.Layout.{Layout}
 use Rattle.file_form.specs.Places.{recorded, node-from}
 use Rattle.file_steps.specs.Steps.{call-at, draw-step, fill-into, Work, work, work-into}
@@ -25,18 +25,18 @@ use Rattle.file_nodes.proofs.Places.{some-node, node-count, node-there}
 
 module _ (l : Layout) (ws : List ℕ) (d : ℕ) where
   -- nodes a to b, with layers d deep
-  abbrev pub nodes : ℕ → ℕ → Lent → Answer Lent
-  nodes a b = walk-nodes Lent call-at (recorded l ws) (walk-layer Lent call-at (recorded l ws) d) a b
+  abbrev pub nodes : ℕ → ℕ → ScreenLent → Answer ScreenLent
+  nodes a b = walk-nodes ScreenLent call-at (recorded l ws) (walk-layer ScreenLent call-at (recorded l ws) d) a b
 
-  abbrev node : Node → Lent → Answer Lent
-  node n = walk-node Lent call-at (recorded l ws) (walk-layer Lent call-at (recorded l ws) d) n
+  abbrev node : Node → ScreenLent → Answer ScreenLent
+  node n = walk-node ScreenLent call-at (recorded l ws) (walk-layer ScreenLent call-at (recorded l ws) d) n
 
   -- draws a to b, and the layer that a node names
-  abbrev draws : ℕ → ℕ → Lent → Answer Lent
+  abbrev draws : ℕ → ℕ → ScreenLent → Answer ScreenLent
   draws a b = each (draw-step (recorded l ws)) (slice a b (recorded l ws .draws))
 
-  abbrev layer : ℕ → Lent → Answer Lent
-  layer k = when (not (eqb k 0)) (walk-layer Lent call-at (recorded l ws) d (getD (recorded l ws .layers) (k - 1) (layer-rec [])))
+  abbrev layer : ℕ → ScreenLent → Answer ScreenLent
+  layer k = when (not (eqb k 0)) (walk-layer ScreenLent call-at (recorded l ws) d (getD (recorded l ws .layers) (k - 1) (layer-rec [])))
 
 -- a run of draws, among the words that steps write
 pub draws-work : (l : Layout) (ws : List ℕ) (a b : ℕ) (t : Tables) (n : ℕ) (s u : Screen) (w v : Words) (la : List ℕ) (op : List Float) (pas pbs las : List ℕ) (fps : List ℤ)

@@ -15,7 +15,7 @@ use Rattle.file_form.specs.declared.Layout.{Layout}
 use Rattle.file_form.specs.Places.{recorded, layer-from, node-from}
 use Rattle.file_form.proofs.Eaches.{both, each-length, each-at}
 use Rattle.file_judge.proofs.Laws.{node-range-at, good-layer-at}
-use Rattle.file_nodes.specs.Ready.{Ready}
+use Rattle.file_nodes.specs.Ready.{WalkReady}
 
 pub some-node : Node
 some-node = record { start = 0; end = 0; layer = 0 }
@@ -64,7 +64,7 @@ module _ (l : Layout) (ws : List ℕ) where
   unfolding recorded
   layer-there i h = each-at layer-from 22 ws (l .layers .at) (l .layers .count) i (layer-rec []) h
 
-  module _ (g : Ready ws l) where
+  module _ (g : WalkReady ws l) where
     -- a node's draws, and the layer that it names
     module _ (i : ℕ) (h : i < l .nodes .count) where
       in-range : (node-from ws (l .nodes .at + 3 * i) .start ≤ node-from ws (l .nodes .at + 3 * i) .end)

@@ -9,6 +9,6 @@ use Rattle.file_form.specs.Layouts.{Fits}
 use Rattle.file_form.specs.Places.{recorded}
 
 -- the form is good, and so is every record
-pub record Ready (ws : List ℕ) (l : Layout) : Type 0 where
+pub record WalkReady (ws : List ℕ) (l : Layout) : Type 0 where
   pub fits : Fits ws l
   pub good : good-records (recorded l ws) ≡ true

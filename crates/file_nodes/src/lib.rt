@@ -11,10 +11,10 @@ ghost use Rattle.rules.specs.Recording.{layer-rec};
 ghost use Rattle.rules.specs.Walk.{when, walk-layer, walk-nodes};
 ghost use Rattle.cmd.specs.Answers.{number-of};
 ghost use Rattle.row.specs.Words.{words};
-ghost use Rattle.screen.specs.Tables.{Tables, Lent};
+ghost use Rattle.screen.specs.Tables.{Tables, ScreenLent};
 ghost use Rattle.file_form.specs.Places as file;
 ghost use Rattle.file_steps.specs.Steps.{call-at, work, work-into};
-ghost use Rattle.file_nodes.specs.Ready.{Ready};
+ghost use Rattle.file_nodes.specs.Ready.{WalkReady};
 use cmd::Answer;
 use file_form::Layout;
 use step_push::push_layer;
@@ -48,9 +48,9 @@ pub fn walk_nodes(
     layer_attrs: &mut [u32],
     filter_paints: &mut [i32],
 ) -> Built
-    requires { ⌜ Ready (now w) l × ((a ≤ b) × (b ≤ l .nodes .count)) ⌝ }
+    requires { ⌜ WalkReady (now w) l × ((a ≤ b) × (b ≤ l .nodes .count)) ⌝ }
     ensures { λ r. ⌜ ((t : Tables) → answer (number-of (r .answer)) (work-into t (work (r .screen) (words (now (rows .exit)) (now (render .exit)) (now (fills .exit))) (now (layers .exit)) (now (opacities .exit)) (now («paint_attrs» .exit)) (now («layer_attrs» .exit)) (now («filter_paints» .exit))))
-        ≡ walk-nodes Lent call-at (file.recorded l (now (w .entry))) (walk-layer Lent call-at (file.recorded l (now (w .entry))) depth) a b
+        ≡ walk-nodes ScreenLent call-at (file.recorded l (now (w .entry))) (walk-layer ScreenLent call-at (file.recorded l (now (w .entry))) depth) a b
         (work-into t (work screen (words (now (rows .entry)) (now (render .entry)) (now (fills .entry))) (now (layers .entry)) (now (opacities .entry)) (now («paint_attrs» .entry)) (now («layer_attrs» .entry)) (now («filter_paints» .entry))))) ⌝ }
 {
     let nodes = l.nodes;
@@ -111,9 +111,9 @@ pub fn walk_layer(
     layer_attrs: &mut [u32],
     filter_paints: &mut [i32],
 ) -> Built
-    requires { ⌜ Ready (now w) l × (layer ≤ l .layers .count) ⌝ }
+    requires { ⌜ WalkReady (now w) l × (layer ≤ l .layers .count) ⌝ }
     ensures { λ r. ⌜ ((t : Tables) → answer (number-of (r .answer)) (work-into t (work (r .screen) (words (now (rows .exit)) (now (render .exit)) (now (fills .exit))) (now (layers .exit)) (now (opacities .exit)) (now («paint_attrs» .exit)) (now («layer_attrs» .exit)) (now («filter_paints» .exit))))
-        ≡ when (not (eqb layer 0)) (walk-layer Lent call-at (file.recorded l (now (w .entry))) depth (getD (file.recorded l (now (w .entry)) .layers) (layer - 1) (layer-rec [])))
+        ≡ when (not (eqb layer 0)) (walk-layer ScreenLent call-at (file.recorded l (now (w .entry))) depth (getD (file.recorded l (now (w .entry)) .layers) (layer - 1) (layer-rec [])))
         (work-into t (work screen (words (now (rows .entry)) (now (render .entry)) (now (fills .entry))) (now (layers .entry)) (now (opacities .entry)) (now («paint_attrs» .entry)) (now («layer_attrs» .entry)) (now («filter_paints» .entry))))) ⌝ }
 {
     if layer == 0 {

@@ -15,7 +15,7 @@ use Rattle.rules.specs.Plans.{a-push, a-pop, a-filter}
 use Rattle.row.specs.Words.{Words}
 use Rattle.segments.specs.Segs.{segs-of}
 use Rattle.screen.specs.declared.Screen.{Screen}
-use Rattle.screen.specs.Tables.{Tables, Lent}
+use Rattle.screen.specs.Tables.{Tables, ScreenLent}
 use Rattle.step_fill.specs.declared.Draw.{Draw}
 use Rattle.step_fill.specs.Fills as fills
 use Rattle.step_fill.specs.Fills.{paints-of, filled, fill-number, fill-done}
@@ -28,17 +28,17 @@ use Rattle.step_filter.specs.Filter.{given, filtered}
 use Rattle.file_read.specs.Reading.{draw-in, props-in}
 use Rattle.file_steps.specs.Steps.{placement-in, call-at, draw-step, fill-into, work, work-into}
 
-pub same-fill : (x : fills.Lent) (ps qs ss ts : List ℕ) (d : Draw) → paints-of ps ≡ paints-of qs → length ps ≡ length qs → segs-of ss ≡ segs-of ts → length ss ≡ length ts
+pub same-fill : (x : fills.FillLent) (ps qs ss ts : List ℕ) (d : Draw) → paints-of ps ≡ paints-of qs → length ps ≡ length qs → segs-of ss ≡ segs-of ts → length ss ≡ length ts
     → filled x ps ss d ≡ filled x qs ts d
 unfolding fill-number fill-done
 same-fill x ps qs ss ts d p n s m = rw (p, s, n, m)
 
-pub same-pop : (s : Screen) (x : pop.Lent) (ss ts : List ℕ) → segs-of ss ≡ segs-of ts → length ss ≡ length ts → popped s x ss ≡ popped s x ts
+pub same-pop : (s : Screen) (x : pop.PopLent) (ss ts : List ℕ) → segs-of ss ≡ segs-of ts → length ss ≡ length ts → popped s x ss ≡ popped s x ts
 unfolding popped number-after first
 same-pop s x ss ts e n = rw (e, n)
 
 -- each call's promise, on the whole of what is lent
-pub fill-step : (t : Tables) (r : Recording) (d : rule.Draw) (n : ℕ) (x y : fills.Lent)
+pub fill-step : (t : Tables) (r : Recording) (d : rule.Draw) (n : ℕ) (x y : fills.FillLent)
     → answer n y ≡ filled x (join paint-words (r .paints)) (join segment-words (r .segments)) (draw-in d)
     → answer n (fill-into t y) ≡ draw-step r d (fill-into t x)
 unfolding call-at
@@ -64,7 +64,7 @@ module _ (t : Tables) (n : ℕ) (s u : Screen) (w v : Words) where
   filter-step la op pas pbs las fps fqs f k e = rw (← e)
 
   -- a run of fills, among the words that steps write
-  pub fills-work : (la : List ℕ) (op : List Float) (pas pbs las : List ℕ) (fps : List ℤ) (F : Lent → Answer Lent)
+  pub fills-work : (la : List ℕ) (op : List Float) (pas pbs las : List ℕ) (fps : List ℤ) (F : ScreenLent → Answer ScreenLent)
       → ((t : Tables) → answer n (fill-into t (fills.lent u v pbs)) ≡ F (fill-into t (fills.lent s w pas)))
       → answer n (work-into t (work u v la op pbs las fps)) ≡ F (work-into t (work s w la op pas las fps))
   fills-work la op pas pbs las fps F e = e (work-into t (work s w la op pas las fps) .tables)

@@ -26,15 +26,15 @@ some-draw : rule.Draw
 some-draw = record { thread = 0; start = 0; end = 0; paint = 0; blend = default-blend; mask = 0 }
 
 -- what is left of the draws from i on, after y, says what all of them say, after x
-pub record Left (l : Layout) (ws : List ℕ) (a b : ℕ) (x : fills.Lent) (i : ℕ) (y : fills.Lent) : Type 0 where
+pub record Left (l : Layout) (ws : List ℕ) (a b : ℕ) (x : fills.FillLent) (i : ℕ) (y : fills.FillLent) : Type 0 where
   pub same : (t : Tables) → each (draw-step (recorded l ws)) (slice i b (recorded l ws .draws)) (fill-into t y)
       ≡ each (draw-step (recorded l ws)) (slice a b (recorded l ws .draws)) (fill-into t x)
 
-module _ {l : Layout} {ws : List ℕ} {a b i : ℕ} {x y : fills.Lent} (left : Left l ws a b x i y) where
+module _ {l : Layout} {ws : List ℕ} {a b i : ℕ} {x y : fills.FillLent} (left : Left l ws a b x i y) where
   pub all-drawn : b ≤ i → (t : Tables) → answer 0 (fill-into t y) ≡ each (draw-step (recorded l ws)) (slice a b (recorded l ws .draws)) (fill-into t x)
   all-drawn h t = sym (ended (draw-step (recorded l ws)) (recorded l ws .draws) i b (fill-into t y) h) ∙ left .same t
 
-  module _ (f : Fits ws l) (h : i < b) (k : b ≤ l .draws .count) (n : ℕ) (z : fills.Lent)
+  module _ (f : Fits ws l) (h : i < b) (k : b ≤ l .draws .count) (n : ℕ) (z : fills.FillLent)
       (e : answer n z ≡ filled y (join paint-words (recorded l ws .paints)) (join segment-words (recorded l ws .segments)) (draw-in (draw-from ws (l .draws .at + 7 * i)))) where
     room : b ≤ length (recorded l ws .draws)
     room = rw (draws-count l ws f) k

@@ -9,7 +9,7 @@ ghost use Rattle.rules.proofs.Words.{paint-words, segment-words};
 ghost use Rattle.rules.specs.Walk.{each, walk-filter};
 ghost use Rattle.cmd.specs.Answers.{number-of};
 ghost use Rattle.row.specs.Words.{words};
-ghost use Rattle.screen.specs.Tables.{Tables, Lent};
+ghost use Rattle.screen.specs.Tables.{Tables, ScreenLent};
 ghost use Rattle.file_form.specs.Layouts.{Fits};
 ghost use Rattle.file_form.specs.Places.{recorded, draw-from, filter-from, layer-from};
 ghost use Rattle.step_fill.specs.Fills as filling;
@@ -198,7 +198,7 @@ pub fn walk_filter(
 ) -> Built
     requires { ⌜ Fits (now w) l × (at + 22 ≤ length (now w)) ⌝ }
     ensures { λ r. ⌜ ((t : Tables) → answer (number-of (r .answer)) (work-into t (work (r .screen) (words (now (rows .exit)) (now (render .exit)) (now (fills .exit))) (now (layers .exit)) (now (opacities .exit)) (now («paint_attrs» .exit)) (now («layer_attrs» .exit)) (now («filter_paints» .exit))))
-        ≡ walk-filter Lent call-at (recorded l (now (w .entry))) (layer-from (now (w .entry)) at)
+        ≡ walk-filter ScreenLent call-at (recorded l (now (w .entry))) (layer-from (now (w .entry)) at)
         (work-into t (work screen (words (now (rows .entry)) (now (render .entry)) (now (fills .entry))) (now (layers .entry)) (now (opacities .entry)) (now («paint_attrs» .entry)) (now («layer_attrs» .entry)) (now («filter_paints» .entry))))) ⌝ }
 {
     let props = props_at(w, at);

@@ -10,7 +10,7 @@ use Rattle.rules.specs.Answers.{Answer, answer}
 use Rattle.rect.specs.declared.Rect.{Rect}
 use Rattle.row.specs.Words.{Words}
 use Rattle.screen.specs.declared.Screen.{Screen}
-use Rattle.screen.specs.Tables.{Tables, Lent, lent, reset-to}
+use Rattle.screen.specs.Tables.{Tables, ScreenLent, lent, reset-to}
 use Rattle.file_call.specs.Recorded.{recorded}
 use Rattle.step_fill.specs.declared.Draw.{Draw}
 use Rattle.step_fill.specs.Fills as fills
@@ -48,7 +48,7 @@ module _ (st st' : List ℕ) (s s' : Screen) (r n : ℕ) (h : held.Good s ≡ sc
   fill-built ps ss d w w' pas pas' e =
       rw (rn, sw) (ap fill-left e ∙ ap (λ (x : Held). at-held x st (st, w, pas) (λ (s : Screen). fill-left (filled (fills.lent s w pas) ps ss d))) h)
 
-  pub pop-built : (ss : List ℕ) (l l' : pop.Lent) → pop.out n s' l' ≡ popped s l ss → answer r (st', l') ≡ pop-call ss st l
+  pub pop-built : (ss : List ℕ) (l l' : pop.PopLent) → pop.out n s' l' ≡ popped s l ss → answer r (st', l') ≡ pop-call ss st l
   unfolding pop-call
   pop-built ss l l' e =
       rw (rn, sw) (ap pop-left e ∙ ap (λ (x : Held). at-held x st (st, l) (λ (s : Screen). pop-left (popped s l ss))) h)

@@ -17,7 +17,7 @@ use Rattle.depth.specs.declared.runs.Runs.the-variants as runs
 use Rattle.depth.specs.declared.split.Split.{Split}
 use Rattle.depth.specs.declared.state.Skip.{Skip}
 use Rattle.depth.specs.Answers.{refusal, skip-of, split-of}
-use Rattle.depth.specs.Listing.{Out, out}
+use Rattle.depth.specs.Listing.{RunsOut, out}
 use Rattle.paint_command.specs.declared.Painted.{Painted}
 use Rattle.paint_command.specs.Painting as paint
 use Rattle.paint_screen.specs.declared.rows.Written.{Written}
@@ -71,13 +71,13 @@ written o d l n n' k e = ap (λ (x : Answer (List ℕ × List ℕ)). answer (x .
 
 -- at the screen that the words stand for, with a result of the right length
 module _ (st : List ℕ) (s : Screen) where
-  pub step-roomed : (r k : ℕ) (a : Attributes) (l : paint.Lent) (p : Painted) (d' p' l' res res' : List ℕ) → held.Good s ≡ screen-of (eqb (length res) 2) st
+  pub step-roomed : (r k : ℕ) (a : Attributes) (l : paint.RowLent) (p : Painted) (d' p' l' res res' : List ℕ) → held.Good s ≡ screen-of (eqb (length res) 2) st
       → paint.out p d' p' l' ≡ stepped s r a l → answer k res' ≡ step-result res p → answer k (d', p', l', res') ≡ step-call r a st l res
   unfolding step-call
   step-roomed r k a l p d' p' l' res res' q e f =
       rw (← q) (ap (λ (x : Answer (List ℕ)). answer (x .number) (d', p', l', x .value)) f ∙ ap (step-left res) e)
 
-  pub row-roomed : (r k : ℕ) (a : Attributes) (l : paint.Lent) (p : Painted) (d' p' l' res res' : List ℕ) → held.Good s ≡ screen-of (eqb (length res) 2) st
+  pub row-roomed : (r k : ℕ) (a : Attributes) (l : paint.RowLent) (p : Painted) (d' p' l' res res' : List ℕ) → held.Good s ≡ screen-of (eqb (length res) 2) st
       → paint.out p d' p' l' ≡ row-painted s r a l → answer k res' ≡ step-result res p → answer k (d', p', l', res') ≡ row-call r a st l res
   unfolding row-call
   row-roomed r k a l p d' p' l' res res' q e f =

@@ -69,7 +69,7 @@ module _ (st : List ℕ) (n : ℕ) where
       refused-on (screen-of (leb flag 1) st) st (st, w, ls, os) (λ (s : Screen). push-left (pushed p (push.lent s w ls os)))
       (λ (s : Screen). judged s (length (w .state)) (length (w .render)) (length (w .fills))) n h q (λ (s : Screen). push-early p (push.lent s w ls os))
 
-  pub pop-unheld : (ss : List ℕ) (l : pop.Lent) → held.Nothing ≡ screen-of true st
+  pub pop-unheld : (ss : List ℕ) (l : pop.PopLent) → held.Nothing ≡ screen-of true st
       → n ≡ refused-at st (λ (s : Screen). judged s (length (l .words .state)) (length (l .words .render)) (length (l .words .fills))) → answer n (st, l) ≡ pop-call ss st l
   unfolding pop-call
   pop-unheld ss l h q =
@@ -90,14 +90,14 @@ module _ (st : List ℕ) (n : ℕ) where
       (λ (s : Screen). begin-early (canvas s d p))
 
   module _ (r : ℕ) where
-    pub step-unheld : (a : Attributes) (l : paint.Lent) (res : List ℕ) → held.Nothing ≡ screen-of (eqb (length res) 2) st → n ≡ refused-at st (λ (s : Screen). number s r a l)
+    pub step-unheld : (a : Attributes) (l : paint.RowLent) (res : List ℕ) → held.Nothing ≡ screen-of (eqb (length res) 2) st → n ≡ refused-at st (λ (s : Screen). number s r a l)
         → answer n (l .depth, l .painting, l .list, res) ≡ step-call r a st l res
     unfolding step-call
     step-unheld a l res h q =
         refused-on (screen-of (eqb (length res) 2) st) st (l .depth, l .painting, l .list, res) (λ (s : Screen). step-left res (stepped s r a l)) (λ (s : Screen). number s r a l) n h q
         (λ (s : Screen). step-is-early s r a l)
 
-    pub row-unheld : (a : Attributes) (l : paint.Lent) (res : List ℕ) → held.Nothing ≡ screen-of (eqb (length res) 2) st → n ≡ refused-at st (λ (s : Screen). number s r a l)
+    pub row-unheld : (a : Attributes) (l : paint.RowLent) (res : List ℕ) → held.Nothing ≡ screen-of (eqb (length res) 2) st → n ≡ refused-at st (λ (s : Screen). number s r a l)
         → answer n (l .depth, l .painting, l .list, res) ≡ row-call r a st l res
     unfolding row-call
     row-unheld a l res h q =

@@ -22,7 +22,7 @@ abbrev pub runs-of : Screen → ℕ → List ℕ → Span → ℕ → ℕ → An
 runs-of s r d t id n = or-runs (runs-number s r (length d)) (visible-answer bucket-tiles (part (wide s) r d) id t n)
 
 -- the list of spans, and how many of them are runs
-abbrev pub spans-left : List ℕ → spans.Out → Answer (List TileSpan × List ℕ)
+abbrev pub spans-left : List ℕ → spans.SpansOut → Answer (List TileSpan × List ℕ)
 spans-left n o = answer (o .number) (o .spans, result (o .number) (o .count ∷ []) n)
 
 unfoldable pub spans-call : ℕ → Span → ℕ → List ℕ → List ℕ → List TileSpan → List ℕ → Answer (List TileSpan × List ℕ)
@@ -34,7 +34,7 @@ abbrev pub own-words : List ℕ
 own-words = replicate open-layer-table 0
 
 -- how many there are, and their tile numbers
-abbrev pub found-left : List ℕ → words.Out → Answer (ℕ × List ℕ × List ℕ)
+abbrev pub found-left : List ℕ → words.RunsOut → Answer (ℕ × List ℕ × List ℕ)
 found-left n o = answer (o .number) (o .count, o .list, count-left n o .value)
 
 unfoldable pub found-call : ℕ → Span → ℕ → List ℕ → List ℕ → ℕ → List ℕ → Answer (ℕ × List ℕ × List ℕ)

@@ -14,9 +14,9 @@ use Rattle.rules.specs.Rows.{Row}
 use Rattle.rules.specs.Attributes.{PaintAttr, LayerAttr, Attrs}
 use Rattle.rules.specs.Painting as rules
 use Rattle.rules.specs.Painting.{Painter, paint-id, layer-id, no-fill, paint-depth, paint-fill-runs, paint-command, paint-when, paint-step}
-use Rattle.paint_command.specs.Painting.{word, attrs-at, Lent, lent, painter-at, good-command, fill-shown, command-shown, depth-step, command-step, depth-fill-at, command-at, bad-row, next-step, painted-row}
+use Rattle.paint_command.specs.Painting.{word, attrs-at, RowLent, lent, painter-at, good-command, fill-shown, command-shown, depth-step, command-step, depth-fill-at, command-at, bad-row, next-step, painted-row}
 use Rattle.paint_runs.specs.Summaries.{summary-at, Sound, Included}
-use Rattle.paint_command.specs.Standing.{Stands, Ready, Holds}
+use Rattle.paint_command.specs.Standing.{Stands, PainterReady, Holds}
 use Rattle.paint_runs.proofs.Skips.{same-runs, sound-after}
 use Rattle.paint_command.proofs.Judging.{length-count, no-paint, no-layer, paint-id-is, layer-id-is}
 
@@ -72,7 +72,7 @@ module _ (a b : Attrs) (s : Same a b) (p : Painter) where
   unfolding paint-step
   same-step r = same-paint _ _ r
 
-pub same-row : (a b : Attrs) → Same a b → (w : Lent) → painted-row a w ≡ painted-row b w
+pub same-row : (a b : Attrs) → Same a b → (w : RowLent) → painted-row a w ≡ painted-row b w
 unfolding painted-row next-step
 same-row a b s w =
     let p = painter-at (w .depth) (w .painting) in
@@ -132,7 +132,7 @@ by-summary a u (push-buf t) p o = refl
 by-summary a u pop-buf p o = refl
 
 -- the words of a row stand for it, the painter is within it, and its summary is sound
-module _ (a : Attrs) (r : Row) (s re fi D P l : List ℕ) (g : Stands a (length D) r s re fi) (q : Ready a r (painter-at D P)) (o : Sound (summary-at s) D) where
+module _ (a : Attrs) (r : Row) (s re fi D P l : List ℕ) (g : Stands a (length D) r s re fi) (q : PainterReady a r (painter-at D P)) (o : Sound (summary-at s) D) where
   good : bad-row (lent s re fi D P l) ≡ false
   good =
       rw (g .renders, g .depths, le-ltb _ _ (g .few-renders), le-ltb _ _ (g .few-depths), le-ltb _ _ (q .shallow), le-ltb _ _ (q .steps-left), g .summary)

@@ -15,9 +15,9 @@ use Rattle.cmd.specs.Reading.{command-of, depth-fill-of}
 use Rattle.rules.specs.Depth.{no-depth, can-skip, bucket-runs, runs-in, runs, visible-runs, write-runs, written}
 use Rattle.rules.specs.Painting.{no-fill, paint-depth, paint-command}
 use Rattle.paint_command.specs.declared.Painted.{Painted}
-use Rattle.paint_command.specs.Painting.{attrs-at, painter-at, good-paint, command-at, depth-fill-at, lent, Out, out, refused, settled, fill-shown, command-shown, depth-step, command-step, next-step, painted-row}
+use Rattle.paint_command.specs.Painting.{attrs-at, painter-at, good-paint, command-at, depth-fill-at, lent, StepOut, out, refused, settled, fill-shown, command-shown, depth-step, command-step, next-step, painted-row}
 use Rattle.paint_runs.specs.Summaries.{shown-runs}
-use Rattle.paint_command.specs.Standing.{Stands, Ready}
+use Rattle.paint_command.specs.Standing.{Stands, PainterReady}
 
 -- one paint attribute and one layer attribute, with the ids 1 and 2
 attrs : Attrs
@@ -27,7 +27,7 @@ told : ℕ → Painted
 told n = record { number = 0; finished = false; pieces = n }
 
 -- document 01's worked example, row 0: a depth fill of bucket 1, and tiles 10 to 32 beside it
-row : List ℕ → List ℕ → List ℕ → Out
+row : List ℕ → List ℕ → List ℕ → StepOut
 row d p l = painted-row attrs (lent (1 ∷ 1 ∷ []) (1 ∷ 655392 ∷ 0 ∷ 0 ∷ []) (65538 ∷ 0 ∷ []) d p l)
 
 first : row (0 ∷ 0 ∷ []) (0 ∷ 0 ∷ []) (9 ∷ 9 ∷ 9 ∷ 9 ∷ 9 ∷ 9 ∷ 9 ∷ [])
@@ -108,6 +108,6 @@ stands =
     good zero h = refl
     good (suc k) h = absurd (omega arith)
 
-ready : Ready known on-row (painter-at (0 ∷ 1 ∷ []) (1 ∷ 0 ∷ []))
+ready : PainterReady known on-row (painter-at (0 ∷ 1 ∷ []) (1 ∷ 0 ∷ []))
 unfolding known on-row
 ready = record { steps-left = omega arith; shallow = omega arith; good-next = λ h g. refl }

@@ -18,20 +18,20 @@ use Rattle.rules.specs.Attributes.{Attrs}
 use Rattle.rules.specs.Painting as rules
 use Rattle.rules.specs.Painting.{paint-depth, paint-command, paint-step}
 use Rattle.paint_command.specs.declared.Painted.{Painted}
-use Rattle.paint_command.specs.Painting.{word, attrs-at, Lent, lent, Out, out, painter-at, good-paint, good-command, fill-shown, command-shown, depth-step, command-step, depth-fill-at, command-at, bad-row, refused, left, next-step, settled, painted-row}
+use Rattle.paint_command.specs.Painting.{word, attrs-at, RowLent, lent, StepOut, out, painter-at, good-paint, good-command, fill-shown, command-shown, depth-step, command-step, depth-fill-at, command-at, bad-row, refused, left, next-step, settled, painted-row}
 use Rattle.paint_runs.specs.Summaries.{good-summary, summary-at, Sound}
-use Rattle.paint_command.specs.Standing.{Stands, Ready, Holds}
+use Rattle.paint_command.specs.Standing.{Stands, PainterReady, Holds}
 use Rattle.paint_command.proofs.Steps.{then-finished}
 use Rattle.paint_command.proofs.ByRules.{held, same-row, next}
 
 -- the contract's equation allows one result
 pub once : (r q : Painted) (d d′ p p′ l l′ : List ℕ) → out r d p l ≡ out q d′ p′ l′ → (r ≡ q) × (d ≡ d′) × (p ≡ p′) × (l ≡ l′)
 once r q d d′ p p′ l l′ e =
-    (ap (λ (o : Out). o .answer) e, ap (λ (o : Out). o .depth) e, ap (λ (o : Out). o .painting) e, ap (λ (o : Out). o .list) e)
+    (ap (λ (o : StepOut). o .answer) e, ap (λ (o : StepOut). o .depth) e, ap (λ (o : StepOut). o .painting) e, ap (λ (o : StepOut). o .list) e)
 
 -- Nothing is forged, and the summary is sound for the depth words: the step is the rules' step of the row. It is refused, by 14, only if the list is shorter than its pieces.
 module _ (a : Attrs) (ps : List ℕ) (paints : ℕ) (ls : List ℕ) (layers : ℕ) (h : Holds a ps paints ls layers)
-    (r : Row) (s re fi D P l : List ℕ) (g : Stands a (length D) r s re fi) (q : Ready a r (painter-at D P)) (o : Sound (summary-at s) D) where
+    (r : Row) (s re fi D P l : List ℕ) (g : Stands a (length D) r s re fi) (q : PainterReady a r (painter-at D P)) (o : Sound (summary-at s) D) where
   stands : painted-row a (lent s re fi D P l) ≡ settled (some (paint-step 32 a r (painter-at D P))) D P l
   unfolding painted-row
   stands = rw (next a r s re fi D P l g q o)
@@ -49,10 +49,10 @@ module _ (a : Attrs) (ps : List ℕ) (paints : ℕ) (ls : List ℕ) (layers : �
   by-rules-done m = by-rules ∙ fits m
 
 -- Every row. The number is 0, 4 or 14, and any but 0 leaves every word as it was.
-abbrev pub Kept : Out → List ℕ → List ℕ → List ℕ → Type 0
+abbrev pub Kept : StepOut → List ℕ → List ℕ → List ℕ → Type 0
 Kept o d p l = (o .depth ≡ d) × (o .painting ≡ p) × (o .list ≡ l)
 
-abbrev pub Settled : Out → List ℕ → List ℕ → List ℕ → Type 0
+abbrev pub Settled : StepOut → List ℕ → List ℕ → List ℕ → Type 0
 Settled o d p l =
     (o .answer .number ≡ 0) ⊎ (((o .answer .number ≡ 4) ⊎ (o .answer .number ≡ 14)) × Kept o d p l)
 
@@ -65,7 +65,7 @@ settles (some o) d p l = go (ltb (length l / 6) (length (o .pieces)))
     go true = inr (inr refl, (refl, refl, refl))
     go false = inl refl
 
-pub done-or-kept : (a : Attrs) (w : Lent) → Settled (painted-row a w) (w .depth) (w .painting) (w .list)
+pub done-or-kept : (a : Attrs) (w : RowLent) → Settled (painted-row a w) (w .depth) (w .painting) (w .list)
 unfolding painted-row
 done-or-kept a w = settles (next-step a w) (w .depth) (w .painting) (w .list)
 
@@ -107,7 +107,7 @@ module _ (a : Attrs) (u : Summary) (p : rules.Painter) where
   long-command none = tt
   long-command (some c) = long-if _ (good-command a (p .nesting) c) _ (long-shown c)
 
-long-next : (a : Attrs) (w : Lent) → Long (length (w .depth)) (next-step a w)
+long-next : (a : Attrs) (w : RowLent) → Long (length (w .depth)) (next-step a w)
 unfolding next-step
 long-next a w = go (bad-row w) (ltb (p .steps) (word (w .state) 1)) (ltb (p .steps - word (w .state) 1) (word (w .state) 0))
   where
@@ -125,7 +125,7 @@ long-next a w = go (bad-row w) (ltb (p .steps) (word (w .state) 1)) (ltb (p .ste
     go false false true = long-command a (summary-at (w .state)) p _
     go false false false = refl
 
-abbrev SameLong : Out → List ℕ → Type 0
+abbrev SameLong : StepOut → List ℕ → Type 0
 SameLong o d = (length (o .depth) ≡ length d) × (length (o .painting) ≡ 2)
 
 settled-long : (o : Option rules.Painted) (d p l : List ℕ) → length p ≡ 2 → Long (length d) o → SameLong (settled o d p l) d
@@ -137,7 +137,7 @@ settled-long (some o) d p l e h = go (ltb (length l / 6) (length (o .pieces)))
     go true = (refl, e)
     go false = (h, refl)
 
-pub same-lengths : (a : Attrs) (w : Lent) → length (w .painting) ≡ 2
+pub same-lengths : (a : Attrs) (w : RowLent) → length (w .painting) ≡ 2
     → (length (painted-row a w .depth) ≡ length (w .depth)) × (length (painted-row a w .painting) ≡ 2)
 unfolding painted-row
 same-lengths a w e = settled-long (next-step a w) (w .depth) (w .painting) (w .list) e (long-next a w)

@@ -19,7 +19,7 @@ use Rattle.cmd.specs.Answers.{number-of}
 use Rattle.depth.specs.declared.runs.Runs.{Runs}
 use Rattle.depth.specs.declared.runs.Runs.the-variants as runs
 use Rattle.depth.specs.Answers.{refusal}
-use Rattle.depth.specs.Listing.{Out, out, numbers, over, listing}
+use Rattle.depth.specs.Listing.{RunsOut, out, numbers, over, listing}
 use Rattle.depth.proofs.Filling.{length-numbers}
 use Rattle.depth.proofs.Once.{refused-number}
 use Rattle.paint_command.specs.declared.pieces.Brush.{Brush}
@@ -114,39 +114,39 @@ back l ys = ys ++ drop (2 * (length l / 6)) l
 
 -- what a call on a good range leaves, if there is room in the list or not
 module _ (rs : List Span) (l ys : List ℕ) where
-  told : Bool → Out
+  told : Bool → RunsOut
   told t = listing (rules.settle (cond t 14 0) [] rs) (lent l)
 
   short : (a : Answer) → out (runs.Refused a) ys ≡ told true → (number-of a ≡ 14) × (back l ys ≡ l)
   unfolding told listing numbers
   short a e = (
-    refused-number a 14 (ap (λ (o : Out). o .number) e) (omega arith),
-    ap (back l) (ap (λ (o : Out). o .list) e) ∙ take-append-drop (2 * (length l / 6)) l,
+    refused-number a 14 (ap (λ (o : RunsOut). o .number) e) (omega arith),
+    ap (back l) (ap (λ (o : RunsOut). o .list) e) ∙ take-append-drop (2 * (length l / 6)) l,
   )
 
   not-refused : (a : Answer) → out (runs.Refused a) ys ≡ told false → ⊥
   unfolding told listing
   not-refused a e =
-      let q : refusal a ≡ 0 = ap (λ (o : Out). o .number) e in
+      let q : refusal a ≡ 0 = ap (λ (o : RunsOut). o .number) e in
       let n : number-of a ≡ 0 = refused-number a 0 q (omega arith) in
       let z : _≡_ {A = ℕ} 15 0 = rw n at q in
       omega arith
 
   not-listed : (n : ℕ) → out (runs.Listed n) ys ≡ told true → ⊥
   unfolding told listing
-  not-listed n e = let z : _≡_ {A = ℕ} 0 14 = ap (λ (o : Out). o .number) e in omega arith
+  not-listed n e = let z : _≡_ {A = ℕ} 0 14 = ap (λ (o : RunsOut). o .number) e in omega arith
 
   full : (n : ℕ) → out (runs.Listed n) ys ≡ told false → ltb (length l / 6) (length rs) ≡ false → Listed rs l n (back l ys)
   unfolding told listing
   full n e q =
-      let many : n ≡ length rs = ap (λ (o : Out). o .count) e in
+      let many : n ≡ length rs = ap (λ (o : RunsOut). o .count) e in
       let room = ltb-false (length l / 6) (length rs) q in
       let fits : length (numbers rs) ≤ length (lent l) = rw (length-numbers rs, lent-length l) (omega arith) in
       record {
         many = many;
         roomy = q;
         start =
-            ap (back l) (ap (λ (o : Out). o .list) e)
+            ap (back l) (ap (λ (o : RunsOut). o .list) e)
             ∙ rw (append-assoc, ← drop-append-le (length (numbers rs)) (lent l) (drop (2 * (length l / 6)) l) fits, take-append-drop (2 * (length l / 6)) l);
       }
 

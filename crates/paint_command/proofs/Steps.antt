@@ -32,7 +32,7 @@ use Rattle.cmd.specs.DepthFills.{depth-fill, read-depth-of}
 use Rattle.cmd.specs.Good.{GoodAlpha, GoodCommand}
 use Rattle.cmd.proofs.BothWays.{depth-reads-good, reads-good}
 use Rattle.paint_command.specs.declared.Painted.{Painted}
-use Rattle.paint_command.specs.Painting.{word, attrs-at, Lent, lent, Out, out, painter-at, good-id, given, fill-shown, command-shown, depth-step, command-step, depth-fill-at, command-at, bad-row, next-step, refused, listed, Advanced, advanced, settled, painted-row}
+use Rattle.paint_command.specs.Painting.{word, attrs-at, RowLent, lent, StepOut, out, painter-at, good-id, given, fill-shown, command-shown, depth-step, command-step, depth-fill-at, command-at, bad-row, next-step, refused, listed, Advanced, advanced, settled, painted-row}
 use Rattle.paint_runs.specs.Summaries.{good-summary, summary-at}
 use Rattle.paint_command.proofs.Judging.{given-none, given-some, paint-id-is, layer-id-is, good-paint-is, good-layer-is, two-same}
 
@@ -78,7 +78,7 @@ module _ (ps : List ℕ) (paints : ℕ) (ls : List ℕ) (layers : ℕ) (D P l : 
           let bad = given-none (ltb (f .«attrs_idx») paints) (word ps (8 * f .«attrs_idx» + 4)) (sym g ∙ z) in
           forged D P l _ p (rw (is-fill, good-paint-is ps paints ls layers (f .«attrs_idx») ∙ bad)) q
 
-      pub depth-taken : (x : Out) → (id ≡ 0 → ⊥)
+      pub depth-taken : (x : StepOut) → (id ≡ 0 → ⊥)
           → x
           ≡ settled
           (some
@@ -104,7 +104,7 @@ module _ (ps : List ℕ) (paints : ℕ) (ls : List ℕ) (layers : ℕ) (D P l : 
         let bad = given-none (ltb (f .«attrs_idx») paints) (word ps (8 * f .«attrs_idx» + 4)) (sym g ∙ z) in
         forged D P l _ p (rw (e, good-paint-is ps paints ls layers (f .«attrs_idx») ∙ bad)) q
 
-    pub paint-taken : (x : Out) → (id ≡ 0 → ⊥)
+    pub paint-taken : (x : StepOut) → (id ≡ 0 → ⊥)
         → x ≡ settled (some (fill-shown no-attrs v false id (f .«attrs_idx») (tiles (f .span)) (alpha (f .alpha)) (painter-at D P))) D P l
         → x ≡ settled (command-step attrs v (painter-at D P) (some (command c))) D P l
     unfolding command-step command-shown fill-shown
@@ -126,7 +126,7 @@ module _ (ps : List ℕ) (paints : ℕ) (ls : List ℕ) (layers : ℕ) (D P l : 
         let bad = given-none (ltb (f .«attrs_idx») layers) (word ls (6 * f .«attrs_idx» + 3)) (sym g ∙ z) in
         forged D P l _ p (rw (e, good-layer-is ps paints ls layers (f .«attrs_idx») ∙ bad)) q
 
-    pub layer-taken : (x : Out) → (id ≡ 0 → ⊥)
+    pub layer-taken : (x : StepOut) → (id ≡ 0 → ⊥)
         → x ≡ settled (some (fill-shown no-attrs v true id (f .«attrs_idx») (tiles (f .span)) (alpha (f .alpha)) (painter-at D P))) D P l
         → x ≡ settled (command-step attrs v (painter-at D P) (some (command c))) D P l
     unfolding command-step command-shown fill-shown
@@ -175,7 +175,7 @@ module _ (ps : List ℕ) (paints : ℕ) (ls : List ℕ) (layers : ℕ) (D P l : 
 
   -- the row's counts, judged one after the other
   module _ (s r f : List ℕ) where
-    abbrev w : Lent
+    abbrev w : RowLent
     w = lent s r f D P l
 
     no-step : (p : Painted) → bad-row w ≡ true → p ≡ refused 4 → out p D P l ≡ painted-row attrs w
@@ -206,7 +206,7 @@ module _ (ps : List ℕ) (paints : ℕ) (ls : List ℕ) (layers : ℕ) (D P l : 
               good-counts = rw (le-ltb _ _ h1, le-ltb _ _ h2, le-ltb _ _ h3, le-ltb _ _ h4, h0)
 
               -- then the depth fill at its place, ..
-              pub then-depth : (x : Out) (k : ℕ) → word P 0 < word s 1 → k ≡ word s 1 - (word P 0 + 1)
+              pub then-depth : (x : StepOut) (k : ℕ) → word P 0 < word s 1 → k ≡ word s 1 - (word P 0 + 1)
                   → x ≡ settled (depth-step (attrs-at ps paints [] 0) (painter-at D P) (depth-fill-at (length D) f k)) D P l
                   → x ≡ painted-row attrs w
               unfolding painted-row next-step
@@ -222,7 +222,7 @@ module _ (ps : List ℕ) (paints : ℕ) (ls : List ℕ) (layers : ℕ) (D P l : 
                       let none-there : command-at r k ≡ none = sym q ∙ ap read-of b in
                       forged D P l _ p (rw (good-counts, le-ltb _ _ h5, lt-ltb _ _ h6, ← e, none-there)) u
 
-                  pub then-command : (x : Out) (c : RenderCmd) (v : Summary) → o ≡ read.Cmd c → v ≡ summary-at s
+                  pub then-command : (x : StepOut) (c : RenderCmd) (v : Summary) → o ≡ read.Cmd c → v ≡ summary-at s
                       → x ≡ settled (command-step attrs v (painter-at D P) (some (command c))) D P l → x ≡ painted-row attrs w
                   unfolding painted-row next-step
                   then-command x c v b y u =

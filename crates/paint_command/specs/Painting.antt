@@ -36,7 +36,7 @@ attrs-at ps paints ls layers =
     record { paints = map (paint-at ps) (count-from 0 paints); layers = map (layer-at ls) (count-from 0 layers); filters = [] }
 
 -- The words that a step is lent: the row's record, commands and depth fills, its depth words, where its painting stands, the result list.
-pub record Lent : Type 0 where
+pub record RowLent : Type 0 where
   pub state : List ℕ
   pub render : List ℕ
   pub fills : List ℕ
@@ -44,17 +44,17 @@ pub record Lent : Type 0 where
   pub painting : List ℕ
   pub list : List ℕ
 
-abbrev pub lent : List ℕ → List ℕ → List ℕ → List ℕ → List ℕ → List ℕ → Lent
+abbrev pub lent : List ℕ → List ℕ → List ℕ → List ℕ → List ℕ → List ℕ → RowLent
 lent s r f d p l = record { state = s; render = r; fills = f; depth = d; painting = p; list = l }
 
 -- What it gives: its answer, and the words that it may change.
-pub record Out : Type 0 where
+pub record StepOut : Type 0 where
   pub answer : Painted
   pub depth : List ℕ
   pub painting : List ℕ
   pub list : List ℕ
 
-abbrev pub out : Painted → List ℕ → List ℕ → List ℕ → Out
+abbrev pub out : Painted → List ℕ → List ℕ → List ℕ → StepOut
 out r d p l = record { answer = r; depth = d; painting = p; list = l }
 
 -- where the painting of the row stands
@@ -117,7 +117,7 @@ abbrev pub command-at : List ℕ → ℕ → Option Command
 command-at ws k = command-of (word ws (4 * k)) (word ws (4 * k + 1)) (word ws (4 * k + 2)) (word ws (4 * k + 3))
 
 -- counts above the room, a nesting above 16, more steps than there are, a summary out of bounds
-abbrev pub bad-row : Lent → Bool
+abbrev pub bad-row : RowLent → Bool
 bad-row w =
     ltb (length (w .render)) (4 * word (w .state) 0)
     || ltb (length (w .fills)) (2 * word (w .state) 1)
@@ -126,7 +126,7 @@ bad-row w =
     || not (good-summary (w .state))
 
 -- depth fills last to first, then commands in order, then finished
-unfoldable pub next-step : Attrs → Lent → Option rules.Painted
+unfoldable pub next-step : Attrs → RowLent → Option rules.Painted
 next-step attrs w =
     let renders = word (w .state) 0 in
     let depths = word (w .state) 1 in
@@ -151,16 +151,16 @@ pub record Advanced : Type 0 where
 abbrev pub advanced : Painted → List ℕ → Advanced
 advanced r p = record { answer = r; painting = p }
 
-abbrev pub left : rules.Painted → List ℕ → Out
+abbrev pub left : rules.Painted → List ℕ → StepOut
 left o l =
     out (record { number = Done; finished = o .finished; pieces = length (o .pieces) })
     (o .painter .buckets)
     (o .painter .steps ∷ o .painter .nesting ∷ [])
     (laid (o .pieces) l)
 
-unfoldable pub settled : Option rules.Painted → List ℕ → List ℕ → List ℕ → Out
+unfoldable pub settled : Option rules.Painted → List ℕ → List ℕ → List ℕ → StepOut
 settled none d p l = out (refused BadRecord) d p l
 settled (some o) d p l = cond (ltb (length l / 6) (length (o .pieces))) (out (refused NoRoom) d p l) (left o l)
 
-unfoldable pub painted-row : Attrs → Lent → Out
+unfoldable pub painted-row : Attrs → RowLent → StepOut
 painted-row attrs w = settled (next-step attrs w) (w .depth) (w .painting) (w .list)

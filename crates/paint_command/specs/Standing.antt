@@ -25,7 +25,7 @@ pub record Stands (attrs : Attrs) (n : ℕ) (r : Row) (state render fills : List
   pub good-fills : (k : ℕ) → k < length (r .fills) → good-paint attrs (getD (r .fills) k no-fill .attribute) ≡ true
 
 -- a painter within the row; its next command, if that is what is next, is good at its nesting
-pub record Ready (attrs : Attrs) (r : Row) (p : Painter) : Type 0 where
+pub record PainterReady (attrs : Attrs) (r : Row) (p : Painter) : Type 0 where
   pub steps-left : p .steps ≤ length (r .fills) + length (r .commands)
   pub shallow : p .nesting ≤ most-layers
   pub good-next : length (r .fills) ≤ p .steps → p .steps - length (r .fills) < length (r .commands)

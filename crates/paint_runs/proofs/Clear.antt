@@ -13,7 +13,7 @@ use Rattle.cmd.specs.declared.Answer.the-variants as cmd
 use Rattle.depth.specs.declared.runs.Runs.the-variants as runs
 use Rattle.depth.specs.declared.state.Skip.{Skip}
 use Rattle.depth.specs.Answers.{skip-of}
-use Rattle.depth.specs.Listing.{Out, numbers, listing}
+use Rattle.depth.specs.Listing.{RunsOut, numbers, listing}
 use Rattle.paint_runs.specs.Summaries.{listing-out, whole-run, is-clear, shown-runs}
 
 -- what the call says, it says of the definition
@@ -41,7 +41,7 @@ module _ (s : Span) where
     whole-one (a ∷ []) g = absurd (omega arith)
     whole-one (a ∷ b ∷ l) g = rw (lt-ltb _ _ h, le-ltb (length (a ∷ b ∷ l) / 2) 1 (omega arith))
 
-module _ (u : Summary) (bs : List ℕ) (id : ℕ) (s : Span) (l : List ℕ) (x : Out) where
+module _ (u : Summary) (bs : List ℕ) (id : ℕ) (s : Span) (l : List ℕ) (x : RunsOut) where
   pub shown-whole : is-clear u (length bs) id s ≡ true → x ≡ listing (listed false (length l / 2) (whole-run s)) l
       → x ≡ listing (listed false (length l / 2) (shown-runs u bs id s)) l
   unfolding shown-runs

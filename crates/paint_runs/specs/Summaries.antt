@@ -33,7 +33,7 @@ unfoldable pub shown-runs : Summary → List ℕ → ℕ → Span → List Span
 shown-runs u bs id s = cond (is-clear u (length bs) id s) (whole-run s) (visible-runs bucket-tiles bs id s)
 
 -- what listing them leaves
-abbrev pub listing-out : Runs → List ℕ → depth.Out
+abbrev pub listing-out : Runs → List ℕ → depth.RunsOut
 listing-out r l = depth.out r l
 
 -- bucket k lies in the union

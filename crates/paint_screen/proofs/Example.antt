@@ -13,7 +13,7 @@ use Rattle.screen.specs.declared.Screen.{Screen}
 use Rattle.screen.specs.Screens.{good-clip, good-screen}
 use Rattle.paint_runs.specs.Summaries.{shown-runs}
 use Rattle.paint_command.specs.declared.Painted.{Painted}
-use Rattle.paint_command.specs.Painting.{attrs-at, lent, Out, out, settled, fill-shown, command-shown, depth-step, command-step, next-step, painted-row}
+use Rattle.paint_command.specs.Painting.{attrs-at, lent, StepOut, out, settled, fill-shown, command-shown, depth-step, command-step, next-step, painted-row}
 use Rattle.paint_screen.specs.Judging.{judged, step-number}
 use Rattle.paint_screen.specs.Stepping.{Attributes, attributes, row-step, stepped}
 
@@ -52,12 +52,12 @@ commands =
     ++ (6 ∷ 64 ∷ 0 ∷ 0 ∷ 1 ∷ 8 ∷ 0 ∷ 1 ∷ 3 ∷ 64 ∷ 0 ∷ 0 ∷ 7 ∷ 0 ∷ 0 ∷ 0 ∷ [])
 
 -- one step of row r, into a list of 7 words, after what an earlier step left
-turn : Bool → ℕ → Out → Out
+turn : Bool → ℕ → StepOut → StepOut
 turn b r o =
     stepped (screen b) r tables
     (lent records commands (65538 ∷ 0 ∷ 0 ∷ 0 ∷ []) (o .depth) (o .painting) (9 ∷ 9 ∷ 9 ∷ 9 ∷ 9 ∷ 9 ∷ 9 ∷ []))
 
-start : Out
+start : StepOut
 start = out (record { number = 0; finished = false; pieces = 0 }) (0 ∷ 0 ∷ 0 ∷ 0 ∷ []) (0 ∷ 0 ∷ 0 ∷ 0 ∷ []) []
 
 -- what the steps of these rows answer, with the pieces that they list
@@ -66,13 +66,13 @@ pub record Told : Type 0 where
   pub finished : Bool
   pub pieces : List ℕ
 
-told : Out → Told
+told : StepOut → Told
 told o = record { number = o .answer .number; finished = o .answer .finished; pieces = take (6 * o .answer .pieces) (o .list) }
 
 says : ℕ → Bool → List ℕ → Told
 says n b ps = record { number = n; finished = b; pieces = ps }
 
-turns : Bool → List ℕ → Out → List Told
+turns : Bool → List ℕ → StepOut → List Told
 turns b [] o = []
 turns b (r ∷ rs) o = let p = turn b r o in told p ∷ turns b rs p
 

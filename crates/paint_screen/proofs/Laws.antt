@@ -22,9 +22,9 @@ use Rattle.row_screen.proofs.Laws.{part-0, part-suc, less, head-0, tail-0, head
 use Rattle.screen.specs.declared.Screen.{Screen}
 use Rattle.screen.specs.declared.Built.{Built}
 use Rattle.screen.proofs.Numbers.{and-left, and-right}
-use Rattle.paint_command.specs.Painting.{attrs-at, Lent, Out, out, painter-at, refused, settled, painted-row}
+use Rattle.paint_command.specs.Painting.{attrs-at, RowLent, StepOut, out, painter-at, refused, settled, painted-row}
 use Rattle.paint_runs.specs.Summaries.{summary-at, Sound}
-use Rattle.paint_command.specs.Standing.{Stands, Ready, Holds}
+use Rattle.paint_command.specs.Standing.{Stands, PainterReady, Holds}
 use Rattle.paint_command.proofs.Laws.{by-rules, same-lengths}
 use Rattle.paint_screen.specs.declared.step.Stepped.{Stepped}
 use Rattle.paint_screen.specs.declared.rows.Written.{Written}
@@ -53,10 +53,10 @@ begin-once r q d e p o h =
 
 pub step-once : (r q : Stepped) (d e p o l m : List ℕ) → out (painted-of r) d p l ≡ out (painted-of q) e o m → (r ≡ q) × (d ≡ e) × (p ≡ o) × (l ≡ m)
 step-once r q d e p o l m h =
-    let n : r .answer ≡ q .answer = number-once _ _ (ap (λ (x : Out). x .answer .number) h) in
-    let f : r .finished ≡ q .finished = ap (λ (x : Out). x .answer .finished) h in
-    let k : r .pieces ≡ q .pieces = ap (λ (x : Out). x .answer .pieces) h in
-    (rw (n, f, k), ap (λ (x : Out). x .depth) h, ap (λ (x : Out). x .painting) h, ap (λ (x : Out). x .list) h)
+    let n : r .answer ≡ q .answer = number-once _ _ (ap (λ (x : StepOut). x .answer .number) h) in
+    let f : r .finished ≡ q .finished = ap (λ (x : StepOut). x .answer .finished) h in
+    let k : r .pieces ≡ q .pieces = ap (λ (x : StepOut). x .answer .pieces) h in
+    (rw (n, f, k), ap (λ (x : StepOut). x .depth) h, ap (λ (x : StepOut). x .painting) h, ap (λ (x : StepOut). x .list) h)
 
 pub write-once : (r q : Written) (l m d e : List ℕ) → wrote r l d ≡ wrote q m e → (r ≡ q) × (l ≡ m) × (d ≡ e)
 write-once r q l m d e h =
@@ -85,7 +85,7 @@ part-other k (suc n) (suc r) (suc q) xs ys h g d l m =
     ∙ part-suc k q xs
 
 -- A step of row r, refused or done, leaves the depth and painting words of every other row as they were.
-module _ (s : Screen) (r : ℕ) (a : Attributes) (l : Lent) where
+module _ (s : Screen) (r : ℕ) (a : Attributes) (l : RowLent) where
   lengths : number s r a l ≡ 0 → (r < count s) × (length (l .depth) ≡ count s * wide s) × (length (l .painting) ≡ count s * 2)
   lengths h =
       let re = eqb (length (l .render)) (count s * (4 * s .c)) in
@@ -103,7 +103,7 @@ module _ (s : Screen) (r : ℕ) (a : Attributes) (l : Lent) where
       )
 
   module _ (q : ℕ) (g : q < count s) (d : q ≡ r → ⊥) where
-    abbrev Alone : Out → Type 0
+    abbrev Alone : StepOut → Type 0
     Alone o = (part (wide s) q (o .depth) ≡ part (wide s) q (l .depth)) × (part 2 q (o .painting) ≡ part 2 q (l .painting))
 
     done-alone : number s r a l ≡ 0 → Alone (row-step s r a l)
@@ -127,10 +127,10 @@ module _ (s : Screen) (r : ℕ) (a : Attributes) (l : Lent) where
         go false e = (refl, refl)
 
 -- Nothing of row r is forged, and its summary is sound for its depth words: a step is the rules' step of the row.
-module _ (s : Screen) (r : ℕ) (t : Attributes) (l : Lent) (k : number s r t l ≡ 0) (a : Attrs)
+module _ (s : Screen) (r : ℕ) (t : Attributes) (l : RowLent) (k : number s r t l ≡ 0) (a : Attrs)
     (h : Holds a (t .paints) (s .«paint_attrs») (t .layers) (s .«layer_attrs»)) (w : Row)
     (g : Stands a (length (own s r l .depth)) w (own s r l .state) (own s r l .render) (own s r l .fills))
-    (q : Ready a w (painter-at (own s r l .depth) (own s r l .painting))) (o : Sound (summary-at (own s r l .state)) (own s r l .depth)) where
+    (q : PainterReady a w (painter-at (own s r l .depth) (own s r l .painting))) (o : Sound (summary-at (own s r l .state)) (own s r l .depth)) where
   pub step-by-rules : stepped s r t l
       ≡ in-place s r l
       (settled (some (paint-step 32 a w (painter-at (own s r l .depth) (own s r l .painting)))) (own s r l .depth) (own s r l .painting) (l .list))

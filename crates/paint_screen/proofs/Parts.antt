@@ -17,10 +17,10 @@ use Rattle.screen.specs.declared.Screen.{Screen}
 use Rattle.screen.specs.Screens.{good-screen}
 use Rattle.screen.proofs.Numbers.{and-left, and-right}
 use Rattle.paint_command.specs.declared.Painted.{Painted}
-use Rattle.paint_command.specs.Painting.{attrs-at, Lent, lent, Out, out, refused, painted-row}
+use Rattle.paint_command.specs.Painting.{attrs-at, RowLent, lent, StepOut, out, refused, painted-row}
 use Rattle.paint_command.proofs.Laws.{done-or-kept}
 use Rattle.paint_screen.specs.Judging.{count, wide, runs-number, skip-number}
-use Rattle.paint_screen.specs.Stepping.{part, with-part, Within, Attributes, own, in-place, number, Ready, row-step, stepped}
+use Rattle.paint_screen.specs.Stepping.{part, with-part, Within, Attributes, own, in-place, number, StepReady, row-step, stepped}
 use Rattle.paint_screen.proofs.Judged.{step-there, runs-there, skip-there}
 
 -- a part as code cuts it out
@@ -66,7 +66,7 @@ few-attrs s h =
     let g3 : (a && p && l) ≡ true = and-left (a && p && l) f (and-left (a && p && l && f) o g) in
     (leb-true _ _ (and-right a p (and-left (a && p) l g3)), leb-true _ _ (and-right (a && p) l g3))
 
-pub ready : (s : Screen) (r : ℕ) (a : Attributes) (l : Lent) → number s r a l ≡ 0 → Ready s r a l
+pub ready : (s : Screen) (r : ℕ) (a : Attributes) (l : RowLent) → number s r a l ≡ 0 → StepReady s r a l
 ready s r a l h =
     let n = count s in
     let re = eqb (length (l .render)) (n * (4 * s .c)) in
@@ -97,13 +97,13 @@ ready s r a l h =
     }
 
 -- a row's step has a number of document 01
-pub row-number : (r : Painted) (d p l : List ℕ) (a : Attrs) (w : Lent) → out r d p l ≡ painted-row a w → r .number ≤ 14
+pub row-number : (r : Painted) (d p l : List ℕ) (a : Attrs) (w : RowLent) → out r d p l ≡ painted-row a w → r .number ≤ 14
 row-number r d p l a w e =
-    let n : r .number ≡ painted-row a w .answer .number = ap (λ (o : Out). o .answer .number) e in
+    let n : r .number ≡ painted-row a w .answer .number = ap (λ (o : StepOut). o .answer .number) e in
     ⊎-elim (λ h. omega arith) (λ h. ⊎-elim (λ i. omega arith) (λ i. omega arith) (h .0)) (done-or-kept a w)
 
 -- the step of the row's own parts, put back in their places
-module _ (s : Screen) (r : ℕ) (a : Attributes) (l : Lent) (b : ℕ) (e : b ≡ wide s) (o : Painted) (d p t : List ℕ) where
+module _ (s : Screen) (r : ℕ) (a : Attributes) (l : RowLent) (b : ℕ) (e : b ≡ wide s) (o : Painted) (d p t : List ℕ) where
   pub step-back : (m : ℕ) → m ≡ o .number
       → out o d p t ≡ painted-row (attrs-at (a .paints) (s .«paint_attrs») (a .layers) (s .«layer_attrs»))
       (lent (take (r * 54 + 54 - r * 54) (drop (r * 54) (l .state)))
@@ -122,12 +122,12 @@ module _ (s : Screen) (r : ℕ) (a : Attributes) (l : Lent) (b : ℕ) (e : b ≡
       rw (put-is b r (l .depth) d, put-is 2 r (l .painting) p, e, g) (ap (in-place s r l) i)
 
 -- the call, refused or done
-module _ (s : Screen) (r : ℕ) (a : Attributes) (l : Lent) (n : ℕ) (e : n ≡ number s r a l) where
+module _ (s : Screen) (r : ℕ) (a : Attributes) (l : RowLent) (n : ℕ) (e : n ≡ number s r a l) where
   pub step-refused : (m : ℕ) → m ≡ n → (n ≡ 0 → ⊥)
       → out (record { number = m; finished = false; pieces = 0 }) (l .depth) (l .painting) (l .list) ≡ stepped s r a l
   unfolding stepped
   step-refused m p h = rw (← e, ne-eqb n 0 h, p)
 
-  pub step-done : (o : Out) → n ≡ 0 → o ≡ row-step s r a l → o ≡ stepped s r a l
+  pub step-done : (o : StepOut) → n ≡ 0 → o ≡ row-step s r a l → o ≡ stepped s r a l
   unfolding stepped
   step-done o h p = rw (← e, eq-eqb n 0 h) p

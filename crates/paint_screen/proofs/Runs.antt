@@ -16,7 +16,7 @@ use Rattle.depth.specs.declared.runs.Runs.{Runs}
 use Rattle.depth.specs.declared.runs.Runs.the-variants as runs
 use Rattle.depth.specs.declared.state.Skip.the-variants as skip
 use Rattle.depth.specs.Answers.{refusal, skip-of}
-use Rattle.depth.specs.Listing.{Out, out, out-write, numbers, listing, writing}
+use Rattle.depth.specs.Listing.{RunsOut, out, out-write, numbers, listing, writing}
 use Rattle.screen.specs.declared.Screen.{Screen}
 use Rattle.paint_screen.specs.Judging.{wide, runs-number, skip-number}
 use Rattle.paint_screen.specs.Beginning.{begun}
@@ -44,17 +44,17 @@ module _ (s : Screen) (r : ℕ) (depth : List ℕ) (t : Span) where
       visible-refused id l = no-runs _ l
 
     module _ (h : n ≡ 0) (b : ℕ) (f : b ≡ wide s) where
-      same-runs : (x : Out) (g : List ℕ → Answer (List Span)) (l : List ℕ)
+      same-runs : (x : RunsOut) (g : List ℕ → Answer (List Span)) (l : List ℕ)
           → x ≡ listing (g (take (r * b + b - r * b) (drop (r * b) depth))) l
           → x ≡ listing (or-runs (runs-number s r (length depth)) (g (part (wide s) r depth))) l
       same-runs x g l k = rw (← e, eq-eqb n 0 h) (rw (part-is b r depth, f) at k)
 
-      pub unset-done : (x : Out) (l : List ℕ) → x ≡ listing (unset-answer 32 (take (r * b + b - r * b) (drop (r * b) depth)) t (length l / 2)) l
+      pub unset-done : (x : RunsOut) (l : List ℕ) → x ≡ listing (unset-answer 32 (take (r * b + b - r * b) (drop (r * b) depth)) t (length l / 2)) l
           → x ≡ unset-of s r depth t l
       unfolding unset-of
       unset-done x l k = same-runs x (λ (bs : List ℕ). unset-answer 32 bs t (length l / 2)) l k
 
-      pub visible-done : (x : Out) (id : ℕ) (l : List ℕ)
+      pub visible-done : (x : RunsOut) (id : ℕ) (l : List ℕ)
           → x ≡ listing (visible-answer 32 (take (r * b + b - r * b) (drop (r * b) depth)) id t (length l / 2)) l
           → x ≡ visible-of s r depth t id l
       unfolding visible-of

@@ -8,7 +8,7 @@ use Rattle.sizes.specs.Sizes.{bucket-tiles, row-size}
 use Rattle.rules.specs.Answers.{Answer, answer, Done, BadRecord}
 use Rattle.rules.specs.Spans.{Span}
 use Rattle.rules.specs.Depth.{unset-answer, visible-answer, can-skip-answer}
-use Rattle.depth.specs.Listing.{Out, OutWrite, out, listing, writing}
+use Rattle.depth.specs.Listing.{RunsOut, OutWrite, out, listing, writing}
 use Rattle.screen.specs.declared.Screen.{Screen}
 use Rattle.paint_runs.specs.Summaries.{good-summary, summary-at}
 use Rattle.paint_screen.specs.declared.rows.Written.{Written}
@@ -20,17 +20,17 @@ use Rattle.paint_screen.specs.Stepping.{part, with-part}
 abbrev pub or-runs : ℕ → Answer (List Span) → Answer (List Span)
 or-runs n a = cond (eqb n Done) a (answer n [])
 
-unfoldable pub unset-of : Screen → ℕ → List ℕ → Span → List ℕ → Out
+unfoldable pub unset-of : Screen → ℕ → List ℕ → Span → List ℕ → RunsOut
 unset-of s r depth t l =
     listing (or-runs (runs-number s r (length depth)) (unset-answer bucket-tiles (part (wide s) r depth) t (length l / 2))) l
 
-unfoldable pub visible-of : Screen → ℕ → List ℕ → Span → ℕ → List ℕ → Out
+unfoldable pub visible-of : Screen → ℕ → List ℕ → Span → ℕ → List ℕ → RunsOut
 visible-of s r depth t id l =
     listing (or-runs (runs-number s r (length depth)) (visible-answer bucket-tiles (part (wide s) r depth) id t (length l / 2))) l
 
 -- a run with write: what is listed, the screen, the depth words
 pub record Wrote : Type 0 where
-  pub listed : Out
+  pub listed : RunsOut
   pub screen : Screen
   pub depth : List ℕ
 

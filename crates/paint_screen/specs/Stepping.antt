@@ -11,7 +11,7 @@ use Rattle.rules.specs.Answers.{Done}
 use Rattle.cmd.specs.Answers.{number-of}
 use Rattle.screen.specs.declared.Screen.{Screen}
 use Rattle.paint_command.specs.declared.Painted.{Painted}
-use Rattle.paint_command.specs.Painting.{attrs-at, Lent, lent, Out, out, refused, painted-row}
+use Rattle.paint_command.specs.Painting.{attrs-at, RowLent, lent, StepOut, out, refused, painted-row}
 use Rattle.paint_screen.specs.declared.step.Stepped.{Stepped}
 use Rattle.paint_screen.specs.Judging.{wide, arenas-long, tables-long, step-number}
 
@@ -41,22 +41,22 @@ abbrev pub attributes : List ℕ → List ℕ → Attributes
 attributes ps ls = record { paints = ps; layers = ls }
 
 -- the words of row r, and the whole list
-abbrev pub own : Screen → ℕ → Lent → Lent
+abbrev pub own : Screen → ℕ → RowLent → RowLent
 own s r l =
     lent (part row-size r (l .state)) (part (4 * s .c) r (l .render)) (part (2 * s .d) r (l .fills)) (part (wide s) r (l .depth)) (part 2 r (l .painting))
     (l .list)
 
 -- what a row's step leaves, in its place on the screen
-abbrev pub in-place : Screen → ℕ → Lent → Out → Out
+abbrev pub in-place : Screen → ℕ → RowLent → StepOut → StepOut
 in-place s r l o = out (o .answer) (with-part (wide s) r (l .depth) (o .depth)) (with-part 2 r (l .painting) (o .painting)) (o .list)
 
-abbrev pub number : Screen → ℕ → Attributes → Lent → ℕ
+abbrev pub number : Screen → ℕ → Attributes → RowLent → ℕ
 number s r a l =
     step-number s r (arenas-long s (length (l .render)) (length (l .fills)) (length (l .depth)))
     (tables-long s (length (l .state)) (length (l .painting)) (length (a .paints)) (length (a .layers)))
 
 -- what a step needs once it is judged 0
-pub record Ready (s : Screen) (r : ℕ) (a : Attributes) (l : Lent) : Type 0 where
+pub record StepReady (s : Screen) (r : ℕ) (a : Attributes) (l : RowLent) : Type 0 where
   pub state : Within row-size r (l .state)
   pub render : Within (4 * s .c) r (l .render)
   pub fills : Within (2 * s .d) r (l .fills)
@@ -69,12 +69,12 @@ pub record Ready (s : Screen) (r : ℕ) (a : Attributes) (l : Lent) : Type 0 whe
   pub paints : s .«paint_attrs» ≤ most-attrs
   pub layers : s .«layer_attrs» ≤ most-attrs
 
-unfoldable pub row-step : Screen → ℕ → Attributes → Lent → Out
+unfoldable pub row-step : Screen → ℕ → Attributes → RowLent → StepOut
 row-step s r a l =
     in-place s r l (painted-row (attrs-at (a .paints) (s .«paint_attrs») (a .layers) (s .«layer_attrs»)) (own s r l))
 
 -- the call: refused, or the step of the row
-unfoldable pub stepped : Screen → ℕ → Attributes → Lent → Out
+unfoldable pub stepped : Screen → ℕ → Attributes → RowLent → StepOut
 stepped s r a l =
     let n = number s r a l in
     let o = row-step s r a l in

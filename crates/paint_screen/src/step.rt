@@ -7,7 +7,7 @@ use screen::answer_of;
 use sizes::ROW;
 ghost use mathlib.Core.Path.{_≡_};
 ghost use Rattle.paint_command.specs.Painting.{lent, out};
-ghost use Rattle.paint_screen.specs.Stepping.{painted-of, attributes, Ready, row-step, stepped};
+ghost use Rattle.paint_screen.specs.Stepping.{painted-of, attributes, StepReady, row-step, stepped};
 
 // finished: no step was left. pieces: how many stand in the list, six words each.
 pub struct Stepped {
@@ -29,7 +29,7 @@ fn step_part(
     layer_attrs: &[u32],
     list: &mut [u32],
 ) -> Stepped
-    requires { ⌜ Ready screen row (attributes (now «paint_attrs») (now «layer_attrs»)) (lent (now rows) (now render) (now fills) (now depth) (now painting) (now list)) ⌝ }
+    requires { ⌜ StepReady screen row (attributes (now «paint_attrs») (now «layer_attrs»)) (lent (now rows) (now render) (now fills) (now depth) (now painting) (now list)) ⌝ }
     ensures { λ r. ⌜ out (painted-of r) (now (depth .exit)) (now (painting .exit)) (now (list .exit))
         ≡ row-step screen row (attributes (now («paint_attrs» .entry)) (now («layer_attrs» .entry))) (lent (now (rows .entry)) (now (render .entry)) (now (fills .entry)) (now (depth .entry)) (now (painting .entry)) (now (list .entry))) ⌝ }
 {

@@ -12,15 +12,15 @@ use Rattle.cmd.specs.Attrs.{words-at}
 use Rattle.cmd.proofs.Tables.{length-at}
 use Rattle.paint_runs.specs.Summaries.{summary-at}
 use Rattle.depth.specs.Listing.{over}
-use Rattle.paint_command.specs.Painting.{word, Out, out, listed, next-step, painted-row}
+use Rattle.paint_command.specs.Painting.{word, StepOut, out, listed, next-step, painted-row}
 use Rattle.paint_whole.specs.Running.{one-more, run, own-step}
 use Rattle.paint_whole.specs.Kinds.{step-to, Said, Calm, Onward, Place, place, stands, Reaches}
 use Rattle.paint_command.proofs.Judging.{two-both, two-same}
 use Rattle.paint_whole.proofs.Runs.{more}
 
 -- any step
-module _ (step : List ℕ → List ℕ → List ℕ → Out) (D : List ℕ) (d : ℕ) where
-  none-more : (n f k : ℕ) (g : Out) → run step f k g ≡ run step (f - (n - n)) (k + (n - n)) g
+module _ (step : List ℕ → List ℕ → List ℕ → StepOut) (D : List ℕ) (d : ℕ) where
+  none-more : (n f k : ℕ) (g : StepOut) → run step f k g ≡ run step (f - (n - n)) (k + (n - n)) g
   none-more n f k g = let e : n - n ≡ 0 = omega arith in let i : f - 0 ≡ f = omega arith in let j : k + 0 ≡ k = omega arith in rw (e, i, j)
 
   pub reach-none : (p : Place) → p .nesting ≤ 16 → 6 * p .pieces ≤ length (p .list) → Reaches step D d p p
@@ -45,7 +45,7 @@ module _ (a : Attrs) (s re fi D : List ℕ) (c : Calm s re fi) where
   abbrev d : ℕ
   d = word s 1
 
-  abbrev steps : List ℕ → List ℕ → List ℕ → Out
+  abbrev steps : List ℕ → List ℕ → List ℕ → StepOut
   steps = own-step a s re fi
 
   module _ (at m : ℕ) (h : at < word s 0) (g : m ≤ 16) where
@@ -118,7 +118,7 @@ module _ (a : Attrs) (s re fi D : List ℕ) (c : Calm s re fi) where
           rw i (reach-more steps D d start (place at n m l) z (place (at + 1) (n + 1) m (words-at l (6 * n) six)) refl (piece-step e) (z .shallow) (rw k (omega arith)) k)
 
 -- No step done.
-pub none-gone : (step : List ℕ → List ℕ → List ℕ → Out) (D P l : List ℕ) (n limit k j : ℕ) → 6 * n ≤ length l → (k ≡ 0) × (j ≡ n)
+pub none-gone : (step : List ℕ → List ℕ → List ℕ → StepOut) (D P l : List ℕ) (n limit k j : ℕ) → 6 * n ≤ length l → (k ≡ 0) × (j ≡ n)
     → Onward step k (out (listed n) D P l) (out (listed j) D P l) × ((k ≤ limit) × (6 * j ≤ length l))
 none-gone step D P l n limit k j h e = (λ f i g. onward f i, (omega (arith, e .0), rw (e .1) h))
   where
@@ -129,7 +129,7 @@ none-gone step D P l n limit k j h e = (λ f i g. onward f i, (omega (arith, e .
         rw (a, b, e .1)
 
 -- The commands from where the painting words stand, and the painting words after them.
-module _ (step : List ℕ → List ℕ → List ℕ → Out) (D : List ℕ) (d : ℕ) (P : List ℕ) (two : length P ≡ 2) (g : d ≤ word P 0) (start n : ℕ) (e : start ≡ word P 0 - d) (l : List ℕ)
+module _ (step : List ℕ → List ℕ → List ℕ → StepOut) (D : List ℕ) (d : ℕ) (P : List ℕ) (two : length P ≡ 2) (g : d ≤ word P 0) (start n : ℕ) (e : start ≡ word P 0 - d) (l : List ℕ)
     (b : Place) (z : Reaches step D d (place start n (word P 1) l) b) where
   before : (d + start) ∷ word P 1 ∷ [] ≡ P
   before = let i : d + start ≡ word P 0 = omega arith in rw i (sym (two-same P two))

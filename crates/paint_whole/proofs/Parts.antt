@@ -14,21 +14,21 @@ use Rattle.rules.specs.Attributes.{Attrs}
 use Rattle.row_screen.proofs.Laws.{put-length}
 use Rattle.screen.specs.declared.Screen.{Screen}
 use Rattle.paint_command.specs.declared.Painted.{Painted}
-use Rattle.paint_command.specs.Painting.{attrs-at, Lent, lent, Out, out, refused, painted-row}
+use Rattle.paint_command.specs.Painting.{attrs-at, RowLent, lent, StepOut, out, refused, painted-row}
 use Rattle.paint_command.proofs.Laws.{done-or-kept, same-lengths}
 use Rattle.paint_screen.specs.Judging.{wide}
-use Rattle.paint_screen.specs.Stepping.{part, with-part, Within, Attributes, own, in-place, number, Ready, row-step, stepped}
+use Rattle.paint_screen.specs.Stepping.{part, with-part, Within, Attributes, own, in-place, number, StepReady, row-step, stepped}
 use Rattle.paint_screen.proofs.Parts.{part-is, put-is, ready}
 use Rattle.paint_whole.specs.Running.{goes-on, ended, one-more, run, most, standing, own-step, own-run, row-run, call-step, row-painted}
 use Rattle.paint_whole.proofs.Runs.{stops}
 
 -- a number of document 01, if each step's is
-module _ (step : List ℕ → List ℕ → List ℕ → Out) (small : (d p l : List ℕ) → step d p l .answer .number ≤ 14) where
-  small-one : (g : Out) → one-more step g .answer .number ≤ 14
+module _ (step : List ℕ → List ℕ → List ℕ → StepOut) (small : (d p l : List ℕ) → step d p l .answer .number ≤ 14) where
+  small-one : (g : StepOut) → one-more step g .answer .number ≤ 14
   unfolding one-more
   small-one g = small _ _ _
 
-  small-run : (f k : ℕ) (g : Out) → g .answer .number ≤ 14 → run step f k g .answer .number ≤ 14
+  small-run : (f k : ℕ) (g : StepOut) → g .answer .number ≤ 14 → run step f k g .answer .number ≤ 14
   unfolding run
   small-run zero k g h = h
   small-run (suc f) k g h = go (goes-on (one-more step g .answer)) (eqb k 0) (small-run f (k + 1) (one-more step g) (small-one g))
@@ -42,17 +42,17 @@ module _ (step : List ℕ → List ℕ → List ℕ → Out) (small : (d p l : L
       go false true i = small-one g
       go false false i = omega arith
 
-row-small : (a : Attrs) (w : Lent) → painted-row a w .answer .number ≤ 14
+row-small : (a : Attrs) (w : RowLent) → painted-row a w .answer .number ≤ 14
 row-small a w = ⊎-elim (λ h. omega arith) (λ h. ⊎-elim (λ i. omega arith) (λ i. omega arith) (h .0)) (done-or-kept a w)
 
-pub run-number : (r : Painted) (d p l : List ℕ) (a : Attrs) (w : Lent) → out r d p l ≡ own-run a w → r .number ≤ 14
+pub run-number : (r : Painted) (d p l : List ℕ) (a : Attrs) (w : RowLent) → out r d p l ≡ own-run a w → r .number ≤ 14
 unfolding own-run
 run-number r d p l a w e =
-    let n : r .number ≡ own-run a w .answer .number = ap (λ (o : Out). o .answer .number) e in
+    let n : r .number ≡ own-run a w .answer .number = ap (λ (o : StepOut). o .answer .number) e in
     rw n (small-run (own-step a (w .state) (w .render) (w .fills)) (λ x y z. row-small a (lent (w .state) (w .render) (w .fills) x y z)) most 0 (standing (w .depth) (w .painting) (w .list)) (omega arith))
 
 -- the steps of the row's own parts, put back in their places
-module _ (s : Screen) (r : ℕ) (a : Attributes) (l : Lent) (b : ℕ) (e : b ≡ wide s) (o : Painted) (d p t : List ℕ) where
+module _ (s : Screen) (r : ℕ) (a : Attributes) (l : RowLent) (b : ℕ) (e : b ≡ wide s) (o : Painted) (d p t : List ℕ) where
   pub run-back : (m : ℕ) → m ≡ o .number
       → out o d p t ≡ own-run (attrs-at (a .paints) (s .«paint_attrs») (a .layers) (s .«layer_attrs»))
       (lent (take (r * 54 + 54 - r * 54) (drop (r * 54) (l .state)))
@@ -89,22 +89,22 @@ part-of-length : (k r : ℕ) (xs : List ℕ) → Within k r xs → length (part 
 part-of-length k r xs h = length-take-le k (drop (r * k) xs) (rw length-drop (omega (arith, h .ends)))
 
 -- A call whose screen and lengths are judged 0: its steps are those of the row's own words.
-module _ (s : Screen) (r : ℕ) (a : Attributes) (l : Lent) (z : number s r a l ≡ 0) where
+module _ (s : Screen) (r : ℕ) (a : Attributes) (l : RowLent) (z : number s r a l ≡ 0) where
   abbrev b : Attrs
   b = attrs-at (a .paints) (s .«paint_attrs») (a .layers) (s .«layer_attrs»)
 
-  abbrev mine : List ℕ → List ℕ → List ℕ → Out
+  abbrev mine : List ℕ → List ℕ → List ℕ → StepOut
   mine = own-step b (own s r l .state) (own s r l .render) (own s r l .fills)
 
-  abbrev called : List ℕ → List ℕ → List ℕ → Out
+  abbrev called : List ℕ → List ℕ → List ℕ → StepOut
   called = call-step s r a (l .state) (l .render) (l .fills)
 
   -- the row's own depth and painting words have their lengths
-  abbrev Long : Out → Type 0
+  abbrev Long : StepOut → Type 0
   Long g = (length (g .depth) ≡ wide s) × (length (g .painting) ≡ 2)
 
   module _ (d p t : List ℕ) (x : length d ≡ wide s) (y : length p ≡ 2) where
-    abbrev then : Lent
+    abbrev then : RowLent
     then = lent (l .state) (l .render) (l .fills) (with-part (wide s) r (l .depth) d) (with-part 2 r (l .painting) p) t
 
     still : number s r a then ≡ 0
@@ -125,17 +125,17 @@ module _ (s : Screen) (r : ℕ) (a : Attributes) (l : Lent) (z : number s r a l 
           part-again 2 r (l .painting) p (g .painting) y (o .painting),
         )
 
-  one-mine : (g : Out) → Long g → one-more called (in-place s r l g) ≡ in-place s r l (one-more mine g)
+  one-mine : (g : StepOut) → Long g → one-more called (in-place s r l g) ≡ in-place s r l (one-more mine g)
   unfolding one-more
   one-mine g h = rw (call-mine (g .depth) (g .painting) (drop (6 * g .answer .pieces) (g .list)) (h .0) (h .1))
 
-  one-long : (g : Out) → Long g → Long (one-more mine g)
+  one-long : (g : StepOut) → Long g → Long (one-more mine g)
   unfolding one-more
   one-long g h =
       let o = same-lengths b (lent (own s r l .state) (own s r l .render) (own s r l .fills) (g .depth) (g .painting) (drop (6 * g .answer .pieces) (g .list))) (h .1) in
       (o .0 ∙ h .0, o .1)
 
-  run-mine : (f k : ℕ) (g : Out) → Long g → run called f k (in-place s r l g) ≡ in-place s r l (run mine f k g)
+  run-mine : (f k : ℕ) (g : StepOut) → Long g → run called f k (in-place s r l g) ≡ in-place s r l (run mine f k g)
   unfolding run
   run-mine zero k g h = refl
   run-mine (suc f) k g h = rw (one-mine g h, run-mine f (k + 1) (one-more mine g) (one-long g h)) (go (goes-on (one-more mine g .answer)))
@@ -154,7 +154,7 @@ module _ (s : Screen) (r : ℕ) (a : Attributes) (l : Lent) (z : number s r a l 
       (rw (put-same (r * wide s) (wide s) (l .depth), put-same (r * 2) 2 (l .painting)) at e)
 
 -- the call, refused or done
-module _ (s : Screen) (r : ℕ) (a : Attributes) (l : Lent) (n : ℕ) (e : n ≡ number s r a l) where
+module _ (s : Screen) (r : ℕ) (a : Attributes) (l : RowLent) (n : ℕ) (e : n ≡ number s r a l) where
   first-refused : (n ≡ 0 → ⊥) → one-more (call-step s r a (l .state) (l .render) (l .fills)) (standing (l .depth) (l .painting) (l .list))
       ≡ out (refused n) (l .depth) (l .painting) (l .list)
   unfolding one-more stepped
@@ -170,5 +170,5 @@ module _ (s : Screen) (r : ℕ) (a : Attributes) (l : Lent) (n : ℕ) (e : n ≡
       let i : goes-on (one-more step start .answer) ≡ false = rw (f, ne-eqb n 0 h) in
       rw p (sym (stops step most 0 start (omega arith) i ∙ rw f))
 
-  pub row-done : (o : Out) → n ≡ 0 → o ≡ row-run s r a l → o ≡ row-painted s r a l
+  pub row-done : (o : StepOut) → n ≡ 0 → o ≡ row-run s r a l → o ≡ row-painted s r a l
   row-done o h p = p ∙ sym (calls-are-run s r a l (sym e ∙ h))

@@ -13,7 +13,7 @@ use borrow.Rule.Slice.PartMut.{putMid, post-is}
 use Rattle.rules.specs.Attributes.{Attrs}
 use Rattle.rules.specs.Painting as rules
 use Rattle.paint_command.specs.declared.Painted.{Painted}
-use Rattle.paint_command.specs.Painting.{Lent, lent, Out, out, listed, settled, painted-row}
+use Rattle.paint_command.specs.Painting.{RowLent, lent, StepOut, out, listed, settled, painted-row}
 use Rattle.paint_whole.specs.Running.{goes-on, ended, one-more, run, most, own-step}
 use Rattle.paint_whole.specs.Kinds.{Onward}
 
@@ -27,7 +27,7 @@ settled-few (some o) d p l = go (ltb (length l / 6) (length (o .pieces))) refl
     go true e = rw e (omega arith)
     go false e = rw e (omega (arith, ltb-false (length l / 6) (length (o .pieces)) e))
 
-row-few : (a : Attrs) (w : Lent) → 6 * painted-row a w .answer .pieces ≤ length (w .list)
+row-few : (a : Attrs) (w : RowLent) → 6 * painted-row a w .answer .pieces ≤ length (w .list)
 unfolding painted-row
 row-few a w = settled-few _ _ _ (w .list)
 
@@ -53,39 +53,39 @@ module _ (a : Attrs) (s re fi d p xs : List ℕ) (n : ℕ) (h : 6 * n ≤ length
   unfolding one-more
   one-done =
       rw (back-after xs (6 * n) h ys)
-      (ap (λ (o : Out). out (record { number = o .answer .number; finished = o .answer .finished; pieces = n + o .answer .pieces }) (o .depth) (o .painting) (take (6 * n) xs ++ o .list)) same)
+      (ap (λ (o : StepOut). out (record { number = o .answer .number; finished = o .answer .finished; pieces = n + o .answer .pieces }) (o .depth) (o .painting) (take (6 * n) xs ++ o .list)) same)
 
   pub one-few : 6 * (n + q .pieces) ≤ length xs
   one-few =
-      let i : q .pieces ≡ own-step a s re fi d p (drop (6 * n) xs) .answer .pieces = ap (λ (o : Out). o .answer .pieces) same in
+      let i : q .pieces ≡ own-step a s re fi d p (drop (6 * n) xs) .answer .pieces = ap (λ (o : StepOut). o .answer .pieces) same in
       let j : 6 * q .pieces ≤ length (drop (6 * n) xs) = rw i (row-few a (lent s re fi d p (drop (6 * n) xs))) in
       omega (arith, j, length-drop (6 * n) xs)
 
 -- the steps of a row, from the first to the last
-module _ (step : List ℕ → List ℕ → List ℕ → Out) where
+module _ (step : List ℕ → List ℕ → List ℕ → StepOut) where
   less-one : (n : ℕ) → suc n - 1 ≡ n
   less-one n = omega arith
 
-  pub stops : (f k : ℕ) (g : Out) → 0 < f → goes-on (one-more step g .answer) ≡ false → run step f k g ≡ ended k (one-more step g)
+  pub stops : (f k : ℕ) (g : StepOut) → 0 < f → goes-on (one-more step g .answer) ≡ false → run step f k g ≡ ended k (one-more step g)
   unfolding run
   stops zero k g h e = absurd (omega arith)
   stops (suc f) k g h e = rw e
 
-  pub more : (f k : ℕ) (g : Out) → 0 < f → goes-on (one-more step g .answer) ≡ true → run step f k g ≡ run step (f - 1) (k + 1) (one-more step g)
+  pub more : (f k : ℕ) (g : StepOut) → 0 < f → goes-on (one-more step g .answer) ≡ true → run step f k g ≡ run step (f - 1) (k + 1) (one-more step g)
   unfolding run
   more zero k g h e = absurd (omega arith)
   more (suc f) k g h e = rw (e, less-one f)
 
   -- the rest of the steps from here is all of them
-  pub record Rest (start now : Out) (k : ℕ) : Type 0 where
+  pub record Rest (start now : StepOut) (k : ℕ) : Type 0 where
     pub few : k ≤ most
     pub whole : run step (most - k) k now ≡ run step most 0 start
 
-  pub rest-all : (g : Out) → Rest g g 0
+  pub rest-all : (g : StepOut) → Rest g g 0
   rest-all g = record { few = omega arith; whole = refl }
 
   -- steps that are done together
-  pub rest-far : {start now next : Out} {k n : ℕ} → Rest start now k → n ≤ most - k → Onward step n now next → Rest start next (k + n)
+  pub rest-far : {start now next : StepOut} {k n : ℕ} → Rest start now k → n ≤ most - k → Onward step n now next → Rest start next (k + n)
   rest-far {k = k} {n = n} z h g =
       let e : most - k - n ≡ most - (k + n) = omega (arith, z .few) in
       record { few = omega (arith, z .few); whole = rw (← e) (sym (g (most - k) k h) ∙ z .whole) }
@@ -94,10 +94,10 @@ module _ (step : List ℕ → List ℕ → List ℕ → Out) where
   no-and true = refl
   no-and false = refl
 
-  module _ {start now : Out} {k : ℕ} (z : Rest start now k) (h : k < most) (q : Painted) (d p l : List ℕ) (e : out q d p l ≡ one-more step now) where
+  module _ {start now : StepOut} {k : ℕ} (z : Rest start now k) (h : k < most) (q : Painted) (d p l : List ℕ) (e : out q d p l ≡ one-more step now) where
     halted : goes-on q ≡ false → ended k (out q d p l) ≡ run step most 0 start
     halted g =
-        let i : goes-on (one-more step now .answer) ≡ false = ap (λ (o : Out). goes-on (o .answer)) (sym e) ∙ g in
+        let i : goes-on (one-more step now .answer) ≡ false = ap (λ (o : StepOut). goes-on (o .answer)) (sym e) ∙ g in
         ap (ended k) e ∙ sym (stops (most - k) k now (omega arith) i) ∙ z .whole
 
     stuck : (q .number ≡ 0 → ⊥) → goes-on q ≡ false
@@ -127,10 +127,10 @@ module _ (step : List ℕ → List ℕ → List ℕ → Out) where
     pub rest-on : q .number ≡ 0 → q .finished ≡ false → Rest start (out (listed (q .pieces)) d p l) (k + 1)
     rest-on m g =
         let j : most - k - 1 ≡ most - (k + 1) = omega arith in
-        let i : goes-on (one-more step now .answer) ≡ true = ap (λ (o : Out). goes-on (o .answer)) (sym e) ∙ rw (eq-eqb (q .number) 0 m, g) in
+        let i : goes-on (one-more step now .answer) ≡ true = ap (λ (o : StepOut). goes-on (o .answer)) (sym e) ∙ rw (eq-eqb (q .number) 0 m, g) in
         let same : out (listed (q .pieces)) d p l ≡ one-more step now = rw (← m, ← g) e in
         record { few = omega arith; whole = rw (same, ← j) (sym (more (most - k) k now (omega arith) i) ∙ z .whole) }
 
-  pub rest-end : {start now : Out} {k : ℕ} → Rest start now k → most ≤ k → now ≡ run step most 0 start
+  pub rest-end : {start now : StepOut} {k : ℕ} → Rest start now k → most ≤ k → now ≡ run step most 0 start
   unfolding run
   rest-end {k = k} z h = let e : most - k ≡ 0 = omega arith in (rw e at (z .whole))

@@ -21,7 +21,7 @@ use Rattle.cmd.proofs.Tests.{and-left, both}
 use Rattle.cmd.proofs.Commands.{tag-1, tag-2, tag-3, tag-4, tag-5, tag-6, tag-7}
 use Rattle.paint_runs.specs.Summaries.{shown-runs}
 use Rattle.paint_command.specs.Pieces.{tag-of, index-of}
-use Rattle.paint_command.specs.Painting.{word, attrs-at, Out, out, good-id, given, good-paint, good-layer, fill-shown, command-shown, command-step, settled, listed}
+use Rattle.paint_command.specs.Painting.{word, attrs-at, StepOut, out, good-id, given, good-paint, good-layer, fill-shown, command-shown, command-step, settled, listed}
 use Rattle.paint_command.proofs.Judging.{given-some, paint-id-is, layer-id-is, good-paint-is, good-layer-is}
 use Rattle.paint_command.proofs.Steps.{bare}
 use Rattle.paint_whole.specs.Kinds.{id-given, good-index, Fills, FillSaid, step-to, Said}

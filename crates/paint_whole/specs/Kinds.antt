@@ -13,7 +13,7 @@ use Rattle.cmd.specs.Reading.{word-span, command-of}
 use Rattle.rules.specs.Attributes.{Attrs}
 use Rattle.depth.specs.Listing.{over}
 use Rattle.paint_runs.specs.Summaries.{good-summary, shown-runs}
-use Rattle.paint_command.specs.Painting.{word, given, Out, out, listed, command-step, settled}
+use Rattle.paint_command.specs.Painting.{word, given, StepOut, out, listed, command-step, settled}
 use Rattle.paint_whole.specs.Running.{own-step, run}
 
 -- the id of a fill's attribute, a paint's or a layer's by the tag; 0 if it is not good
@@ -44,7 +44,7 @@ pub record FillSaid (u : Summary) (D : List ℕ) (id t w x r : ℕ) : Type 0 whe
 
 module _ (attrs : Attrs) (u : Summary) (D : List ℕ) (m t w x i : ℕ) where
   -- the step of four words at nesting m, after q steps
-  abbrev pub step-to : ℕ → List ℕ → List ℕ → Out
+  abbrev pub step-to : ℕ → List ℕ → List ℕ → StepOut
   step-to q P l = settled (command-step attrs u (record { buckets = D; steps = q; nesting = m }) (command-of t w x i)) D P l
 
   -- what is said of a command: 1 one piece with all of the fill, 2 no piece, 3 nesting up, 4 nesting down; 0 says nothing
@@ -62,7 +62,7 @@ pub record Calm (s re fi : List ℕ) : Type 0 where
   pub summary : good-summary s ≡ true
 
 -- the steps from one place of a row to another, n of them, are steps of the run
-abbrev pub Onward : (List ℕ → List ℕ → List ℕ → Out) → ℕ → Out → Out → Type 0
+abbrev pub Onward : (List ℕ → List ℕ → List ℕ → StepOut) → ℕ → StepOut → StepOut → Type 0
 Onward step n g o = (f k : ℕ) → n ≤ f → run step f k g ≡ run step (f - n) (k + n) o
 
 -- where a run of commands stands: the place of the next one, the pieces listed, the nesting, the list
@@ -76,11 +76,11 @@ abbrev pub place : ℕ → ℕ → ℕ → List ℕ → Place
 place a n m l = record { at = a; pieces = n; nesting = m; list = l }
 
 -- .. as where the painting stands, over the depth words D and after d depth fills
-abbrev pub stands : List ℕ → ℕ → Place → Out
+abbrev pub stands : List ℕ → ℕ → Place → StepOut
 stands D d p = out (listed (p .pieces)) D ((d + p .at) ∷ p .nesting ∷ []) (p .list)
 
 -- the commands from one place to another are steps of the run
-pub record Reaches (step : List ℕ → List ℕ → List ℕ → Out) (D : List ℕ) (d : ℕ) (a b : Place) : Type 0 where
+pub record Reaches (step : List ℕ → List ℕ → List ℕ → StepOut) (D : List ℕ) (d : ℕ) (a b : Place) : Type 0 where
   pub after : a .at ≤ b .at
   pub onward : Onward step (b .at - a .at) (stands D d a) (stands D d b)
   pub shallow : b .nesting ≤ most-layers

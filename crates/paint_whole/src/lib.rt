@@ -7,7 +7,7 @@ use screen::answer_of;
 use sizes::ROW;
 ghost use mathlib.Core.Path.{_≡_};
 ghost use Rattle.paint_command.specs.Painting.{lent, out};
-ghost use Rattle.paint_screen.specs.Stepping.{painted-of, attributes, Ready};
+ghost use Rattle.paint_screen.specs.Stepping.{painted-of, attributes, StepReady};
 ghost use Rattle.paint_whole.specs.Running.{row-run, row-painted};
 
 pub mod plain;
@@ -26,7 +26,7 @@ fn row_part(
     layer_attrs: &[u32],
     list: &mut [u32],
 ) -> Stepped
-    requires { ⌜ Ready screen row (attributes (now «paint_attrs») (now «layer_attrs»)) (lent (now rows) (now render) (now fills) (now depth) (now painting) (now list)) ⌝ }
+    requires { ⌜ StepReady screen row (attributes (now «paint_attrs») (now «layer_attrs»)) (lent (now rows) (now render) (now fills) (now depth) (now painting) (now list)) ⌝ }
     ensures { λ r. ⌜ out (painted-of r) (now (depth .exit)) (now (painting .exit)) (now (list .exit))
         ≡ row-run screen row (attributes (now («paint_attrs» .entry)) (now («layer_attrs» .entry))) (lent (now (rows .entry)) (now (render .entry)) (now (fills .entry)) (now (depth .entry)) (now (painting .entry)) (now (list .entry))) ⌝ }
 {

@@ -18,7 +18,7 @@ use Rattle.rules.proofs.All.{never}
 use Rattle.rect.specs.declared.Rect.{Rect}
 use Rattle.screen.specs.Screens.{frame, rect-of}
 use Rattle.screen.specs.Judging.{good-tables, arenas, judged-reset}
-use Rattle.screen.specs.Tables.{lengths, Lent, reset-to}
+use Rattle.screen.specs.Tables.{lengths, ScreenLent, reset-to}
 use Rattle.screen.proofs.Laws.{few-rows}
 use Rattle.file_steps.specs.Steps.{call-at}
 use Rattle.file_judge.specs.Judging.{judged}
@@ -28,10 +28,10 @@ use Rattle.refine_steps.proofs.Refined.{Refines, reset-refines, step-refines}
 use Rattle.refine_steps.proofs.Walks.{Both, Follow, walk-follows}
 use Rattle.refine_file.specs.Played.{place, unaltered, made, Plays}
 
-module _ (S : Type 0) (step : Step → S → Answer S) (fresh-state : Frame → S) (R : S → Lent → Type 0)
+module _ (S : Type 0) (step : Step → S → Answer S) (fresh-state : Frame → S) (R : S → ScreenLent → Type 0)
     (follows : (x : Step) → Follow R (step x) (call-at x))
-    (reset-made : (v : Rect) (c d : ℕ) (l : Lent) → judged-reset v c d (lengths (l .tables)) ≡ 0 → R (fresh-state (frame v c d)) (reset-to v c d l .value)) where
-  module _ (r : Recording) (c d : ℕ) (l : Lent) (old : S) (t : good-tables (rows-of (r .viewport)) (lengths (l .tables)) ≡ true) where
+    (reset-made : (v : Rect) (c d : ℕ) (l : ScreenLent) → judged-reset v c d (lengths (l .tables)) ≡ 0 → R (fresh-state (frame v c d)) (reset-to v c d l .value)) where
+  module _ (r : Recording) (c d : ℕ) (l : ScreenLent) (old : S) (t : good-tables (rows-of (r .viewport)) (lengths (l .tables)) ≡ true) where
     abbrev v : Box
     v = r .viewport
 
@@ -73,7 +73,7 @@ module _ (S : Type 0) (step : Step → S → Answer S) (fresh-state : Frame → 
         go false q = never (sym q)
 
     -- the call at the words
-    abbrev fresh : Answer Lent
+    abbrev fresh : Answer ScreenLent
     fresh = reset-to (rect-of v) c d l
 
     refused-reset : (n : ℕ) → judged-reset (rect-of v) c d (lengths (l .tables)) ≡ n → eqb n Done ≡ false → recorded-in r c d l ≡ answer n l
@@ -84,15 +84,15 @@ module _ (S : Type 0) (step : Step → S → Answer S) (fresh-state : Frame → 
     unfolding recorded-in _then_
     done-reset e = rw e
 
-    refused-records : (m : Lent) (n : ℕ) → judged r ≡ n → eqb n Done ≡ false → played r m ≡ answer n m
+    refused-records : (m : ScreenLent) (n : ℕ) → judged r ≡ n → eqb n Done ≡ false → played r m ≡ answer n m
     unfolding played _then_
     refused-records m n e z = rw (e, z, z)
 
-    walked-records : (m : Lent) → judged r ≡ Done → played r m ≡ or-fresh m (walk-all Lent call-at r m)
+    walked-records : (m : ScreenLent) → judged r ≡ Done → played r m ≡ or-fresh m (walk-all ScreenLent call-at r m)
     unfolding played _then_
     walked-records m e = rw e
 
-    abbrev ours : Answer Lent
+    abbrev ours : Answer ScreenLent
     ours = recorded-in r c d l
 
     no-play : (n : ℕ) → eqb n Done ≡ false → leb n BadForm ≡ true → judge-records 32 (place c d l) r ≡ n → judged-reset (rect-of v) c d (lengths (l .tables)) ≡ n → Plays R old l theirs ours
@@ -131,17 +131,17 @@ module _ (S : Type 0) (step : Step → S → Answer S) (fresh-state : Frame → 
             rw (refused-play n (judge-is ∙ q) z, ours-is, refused-records (fresh .value) n q z, k)
             (record { number = refl; value = made resets })
 
-        walks : Both R rules-walk (walk-all Lent call-at r (fresh .value))
+        walks : Both R rules-walk (walk-all ScreenLent call-at r (fresh .value))
         walks = walk-follows R step call-at follows r start (fresh .value) resets
 
         good-records-play : judged r ≡ Done → Plays R old l theirs ours
         good-records-play q =
             rw (done-play (judge-is ∙ q), ours-is, walked-records (fresh .value) q)
-            (go (eqb (rules-walk .number) Done) (eqb (walk-all Lent call-at r (fresh .value) .number) Done) refl (ap (λ (n : ℕ). eqb n Done) (walks .number)))
+            (go (eqb (rules-walk .number) Done) (eqb (walk-all ScreenLent call-at r (fresh .value) .number) Done) refl (ap (λ (n : ℕ). eqb n Done) (walks .number)))
           where
             go : (x y : Bool) → eqb (rules-walk .number) Done ≡ x → y ≡ x
                 → Plays R old l (cond x (answer Done (rules-walk .value)) (answer (rules-walk .number) start))
-                (cond y (walk-all Lent call-at r (fresh .value)) (answer (walk-all Lent call-at r (fresh .value) .number) (fresh .value)))
+                (cond y (walk-all ScreenLent call-at r (fresh .value)) (answer (walk-all ScreenLent call-at r (fresh .value) .number) (fresh .value)))
             go true true d z = record { number = walks .number ∙ eqb-true _ _ d; value = made (walks .value (eqb-true _ _ d)) }
             go false false d z = record { number = walks .number; value = made resets }
             go true false d z = never (sym z)
@@ -163,7 +163,7 @@ module _ (S : Type 0) (step : Step → S → Answer S) (fresh-state : Frame → 
 
   -- A recording call, from a state's words to all words afterwards: it has the rules' number, and leaves words that R relates to the rules'
   -- state, or alters nothing. The tables beside the arenas are as long as the file's viewport asks.
-  pub words-play : (ws : List ℕ) (c d : ℕ) (l : Lent) (old : S)
+  pub words-play : (ws : List ℕ) (c d : ℕ) (l : ScreenLent) (old : S)
       → ((ss : List (List (List ℕ))) → sections shape ws ≡ some ss → good-tables (rows-of (recording ss .viewport)) (lengths (l .tables)) ≡ true)
       → Plays R old l (play S step fresh-state 32 (place c d l) old ws) (recorded ws c d l)
   unfolding play recorded
@@ -180,7 +180,7 @@ module _ (S : Type 0) (step : Step → S → Answer S) (fresh-state : Frame → 
       go (some ss) e = records-play (recording ss) c d l old (h ss e)
 
 -- The screens of the rules: the words left are those of the rules' screen.
-pub file-plays : (ws : List ℕ) (c d : ℕ) (l : Lent) (old : Screen Row)
+pub file-plays : (ws : List ℕ) (c d : ℕ) (l : ScreenLent) (old : Screen Row)
     → ((ss : List (List (List ℕ))) → sections shape ws ≡ some ss → good-tables (rows-of (recording ss .viewport)) (lengths (l .tables)) ≡ true)
     → Plays Refines old l (play (Screen Row) (call Row row-ops 32) (reset fresh-row) 32 (place c d l) old ws) (recorded ws c d l)
 file-plays =

@@ -28,7 +28,7 @@ use Rattle.refine_steps.proofs.Judged.{judged-done}
 use Rattle.refine_steps.proofs.Tables.{replicate-add}
 use Rattle.paint_screen.specs.Judging.{judged, begin-number}
 use Rattle.paint_screen.specs.Beginning.{canvas, beginning}
-use Rattle.refine_paint.specs.Canvases.{buckets-in, standing-in, depth-of, painting-of, canvas-of, Whole}
+use Rattle.refine_paint.specs.Canvases.{buckets-in, standing-in, depth-of, painting-of, canvas-of, WholeCanvas}
 
 good-by : (a b c g : Bool) → first-of ((not a, BadViewport) ∷ (not b, BadArena) ∷ (not (c && g), BadRecord) ∷ []) ≡ 0 → g ≡ true
 good-by false b c g e = absurd (omega arith)
@@ -74,7 +74,7 @@ pub all-standing : (ps : List Painter) → All (λ (p : Painter). length (standi
 all-standing [] = nil
 all-standing (p ∷ ps) = cons refl (all-standing ps)
 
-module _ (k : calls.Canvas) (w : Whole k) where
+module _ (k : calls.Canvas) (w : WholeCanvas k) where
   abbrev s : rule.Screen Row
   s = k .screen
 

@@ -22,7 +22,7 @@ use Rattle.row_screen.proofs.Laws.{cut-at}
 use Rattle.refine_row.specs.Encode.{Fine, encode}
 use Rattle.refine_row.proofs.Refines.{fresh-fine}
 use Rattle.refine_row.proofs.Screens.{cut-screen}
-use Rattle.screen.specs.Tables.{Lent}
+use Rattle.screen.specs.Tables.{ScreenLent}
 use Rattle.refine_steps.specs.Sound.{Sound}
 use Rattle.refine_steps.specs.Lent.{rows-of}
 use Rattle.refine_steps.proofs.Kept.{Passing, passing}
@@ -74,7 +74,7 @@ reset-fair f i = rw (fresh-at (boxes.rows-of (f .viewport)) i) (record { command
     fresh-at (suc n) (suc i) = fresh-at n i
 
 -- on every built screen all rows are fair
-pub built-fair : {s : Screen Row} {l : Lent} → BuiltBy s l → FairRows s
+pub built-fair : {s : Screen Row} {l : ScreenLent} → BuiltBy s l → FairRows s
 built-fair (by-reset v c d l z) = reset-fair _
 built-fair (by-step x s l b z) = call-fair x s (built-refines b .sound) (built-fair b)
 

@@ -17,19 +17,19 @@ use Rattle.rules.specs.Painting.{begin}
 use Rattle.rules.specs.Calls.{Canvas, fresh-canvas, step-call, begin-call, paint-call}
 use Rattle.rules.proofs.All.{never, all-replicate}
 use Rattle.rules.proofs.laws.Maps.{planned}
-use Rattle.screen.specs.Tables.{Lent}
+use Rattle.screen.specs.Tables.{ScreenLent}
 use Rattle.refine_steps.specs.Lent.{lent-of}
 use Rattle.refine_steps.proofs.Kept.{call-sound, reset-sound}
 use Rattle.paint_command.specs.Painting.{lent}
 use Rattle.paint_screen.specs.Beginning.{canvas, beginning}
 use Rattle.paint_screen.specs.Stepping.{attributes, stepped}
-use Rattle.refine_paint.specs.Canvases.{depth-of, painting-of, canvas-of, given-out, Whole}
+use Rattle.refine_paint.specs.Canvases.{depth-of, painting-of, canvas-of, given-out, WholeCanvas}
 use Rattle.refine_paint.proofs.Kept.{call-fair, reset-fair}
 use Rattle.refine_paint.proofs.Begin.{begin-by}
 use Rattle.refine_paint.proofs.Step.{step-by}
 
 -- a reset of a good frame
-pub reset-whole : (f : Frame) → good-viewport (f .viewport) ≡ true → good-room (f .c) ≡ true → good-room (f .d) ≡ true → Whole (fresh-canvas 32 f)
+pub reset-whole : (f : Frame) → good-viewport (f .viewport) ≡ true → good-room (f .c) ≡ true → good-room (f .d) ≡ true → WholeCanvas (fresh-canvas 32 f)
 unfolding reset
 reset-whole f g c d =
     let n = buckets-of 32 (f .viewport) in
@@ -53,14 +53,14 @@ frame-kept x s = go (eqb (refusal Row row-ops 32 (planned Row row-ops 32 x s) (d
     go false = refl
 
 -- every building step, refused or done
-pub step-whole : (x : Step) (k : Canvas) → Whole k → Whole (step-call 32 x k .value)
+pub step-whole : (x : Step) (k : Canvas) → WholeCanvas k → WholeCanvas (step-call 32 x k .value)
 unfolding step-call
 step-whole x k w = go (eqb (call Row row-ops 32 x (k .screen) .number) Done)
   where
     rows-kept : length (k .screen .rows) ≡ length (call Row row-ops 32 x (k .screen) .value .rows)
     rows-kept = w .sound .count ∙ ap (λ (f : Frame). boxes.rows-of (f .viewport)) (sym (frame-kept x (k .screen))) ∙ sym (call-sound x (k .screen) (w .sound) .count)
 
-    go : (t : Bool) → Whole (cond t (answer Done (record { screen = call Row row-ops 32 x (k .screen) .value; begun = false; painters = k .painters })) (answer (call Row row-ops 32 x (k .screen) .number) k) .value)
+    go : (t : Bool) → WholeCanvas (cond t (answer Done (record { screen = call Row row-ops 32 x (k .screen) .value; begun = false; painters = k .painters })) (answer (call Row row-ops 32 x (k .screen) .number) k) .value)
     go true =
         record {
           sound = call-sound x (k .screen) (w .sound);
@@ -73,8 +73,8 @@ step-whole x k w = go (eqb (call Row row-ops 32 x (k .screen) .number) Done)
     go false = w
 
 -- the calls at the lent words
-module _ (k : Canvas) (w : Whole k) where
-  abbrev words : Lent
+module _ (k : Canvas) (w : WholeCanvas k) where
+  abbrev words : ScreenLent
   words = lent-of (k .screen) (k .begun) (depth-of (k .painters)) (painting-of (k .painters))
 
   pub begin-painted : beginning (canvas (words .screen) (words .tables .depth) (words .tables .painting)) ≡ answer (begin-call 32 k .number) (canvas-of (begin-call 32 k .value))

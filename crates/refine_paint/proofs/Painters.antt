@@ -20,7 +20,7 @@ use Rattle.refine_row.specs.Encode.{first-of, end-of, state-of, Fine}
 use Rattle.paint_runs.specs.Summaries.{summary-at, Sound}
 use Rattle.paint_runs.proofs.Skips.{sound-blank}
 use Rattle.paint_command.specs.Painting.{good-id, good-paint, good-command}
-use Rattle.paint_command.specs.Standing.{Ready}
+use Rattle.paint_command.specs.Standing.{PainterReady}
 use Rattle.paint_command.proofs.ByRules.{AllIncluded, sound-step}
 use Rattle.rules_picture.proofs.Newest.{written-length}
 use Rattle.refine_paint.specs.Fair.{FairCommand, Nested, nesting-after, Fair}
@@ -96,7 +96,7 @@ module _ (a : Attrs) (n : ℕ) (r : Row) (o : Fine r) (h : Fair a n r) where
       none-yet = omega arith
 
   -- and is ready for its next step
-  pub going-ready : (p : Painter) → Going n r p → Ready a r p
+  pub going-ready : (p : Painter) → Going n r p → PainterReady a r p
   going-ready p g =
       record {
         steps-left = g .steps;

@@ -36,7 +36,7 @@ use Rattle.paint_screen.specs.Stepping.{part, with-part}
 use Rattle.paint_screen.specs.Rows.{Wrote, or-runs, unset-of, visible-of, write-in-place, write-of, record-skip, skip-of-row}
 use Rattle.rules_picture.proofs.Newest.{written-length}
 use Rattle.refine_paint.specs.Fair.{Fair}
-use Rattle.refine_paint.specs.Canvases.{buckets-in, standing-in, depth-of, painting-of, Whole, listed-of, wrote-of}
+use Rattle.refine_paint.specs.Canvases.{buckets-in, standing-in, depth-of, painting-of, WholeCanvas, listed-of, wrote-of}
 use Rattle.refine_paint.proofs.Kept.{fine-at, own-words, row-stands}
 use Rattle.refine_paint.proofs.Painters.{summary-same, taken}
 use Rattle.refine_paint.proofs.Begin.{judged-0, all-standing, depth-long}
@@ -77,7 +77,7 @@ module _ (a : Attrs) (n : ℕ) (r : Row) (o : Fine r) (h : Fair a n r) (t : Span
           let i = taken a n r o h (getD (r .fills) 0 no-fill .attribute) (f .attributed) in
           ap (λ d. can-skip d t id) (summary-same (r .depth) (r .depth .union) refl (rw e) (omega (arith, f .included .below)))
 
-module _ (k : calls.Canvas) (w : Whole k) (i : ℕ) where
+module _ (k : calls.Canvas) (w : WholeCanvas k) (i : ℕ) where
   abbrev s : rule.Screen Row
   s = k .screen
 
@@ -177,11 +177,11 @@ module _ (k : calls.Canvas) (w : Whole k) (i : ℕ) where
         go true = refl
         go false = refl
 
-    pub write-whole : Whole (write-call 32 id i m t k .canvas)
+    pub write-whole : WholeCanvas (write-call 32 id i m t k .canvas)
     unfolding write-call
     write-whole = go (leb (length (s .rows)) i) refl
       where
-        changed : leb (length (s .rows)) i ≡ false → (b : Bool) → Whole (cond b (with-painter 32 k false i q) k)
+        changed : leb (length (s .rows)) i ≡ false → (b : Bool) → WholeCanvas (cond b (with-painter 32 k false i q) k)
         changed e false = w
         changed e true =
             record {
@@ -193,7 +193,7 @@ module _ (k : calls.Canvas) (w : Whole k) (i : ℕ) where
               going = λ z. never (sym z);
             }
 
-        go : (b : Bool) → leb (length (s .rows)) i ≡ b → Whole (calls.of-row b [] wrote-answer k (with-painter 32 k false i q) .canvas)
+        go : (b : Bool) → leb (length (s .rows)) i ≡ b → WholeCanvas (calls.of-row b [] wrote-answer k (with-painter 32 k false i q) .canvas)
         go true e = w
         go false e = changed e (eqb (wrote-answer .number) Done)
 

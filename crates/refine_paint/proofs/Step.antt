@@ -31,11 +31,11 @@ use Rattle.refine_steps.specs.Lent.{table, attr-words, screen-of, rows-of}
 use Rattle.refine_steps.proofs.Tables.{table-length, join-length}
 use Rattle.paint_runs.specs.Summaries.{summary-at, Sound}
 use Rattle.paint_command.specs.Painting.{out, refused, left, painter-at, settled}
-use Rattle.paint_command.specs.Standing.{Stands, Ready, Holds}
+use Rattle.paint_command.specs.Standing.{Stands, PainterReady, Holds}
 use Rattle.paint_screen.specs.Judging.{arenas-long, tables-long, step-number}
 use Rattle.paint_screen.specs.Stepping.{part, with-part, in-place, number, stepped}
 use Rattle.paint_screen.proofs.Laws.{step-by-rules}
-use Rattle.refine_paint.specs.Canvases.{buckets-in, standing-in, depth-of, painting-of, Whole, given-out, attributes-of, words-of}
+use Rattle.refine_paint.specs.Canvases.{buckets-in, standing-in, depth-of, painting-of, WholeCanvas, given-out, attributes-of, words-of}
 use Rattle.refine_paint.proofs.Standing.{join-at}
 use Rattle.refine_paint.proofs.Kept.{fine-at, own-words, row-stands}
 use Rattle.refine_paint.proofs.Painters.{going-ready}
@@ -81,7 +81,7 @@ none-open : (ls : List Layer) → eqb (length ls) 0 ≡ is-empty ls
 none-open [] = refl
 none-open (x ∷ ls) = ne-eqb (suc (length ls)) 0 (λ e. omega arith)
 
-module _ (k : calls.Canvas) (w : Whole k) (i : ℕ) (l : List ℕ) where
+module _ (k : calls.Canvas) (w : WholeCanvas k) (i : ℕ) (l : List ℕ) where
   abbrev s : rule.Screen Row
   s = k .screen
 
@@ -155,7 +155,7 @@ module _ (k : calls.Canvas) (w : Whole k) (i : ℕ) (l : List ℕ) where
         let m : length (p .buckets) ≡ n = all-at (w .wide) i (begin 0) there in
         let g : Stands a (length (part n i (depth-of (k .painters)))) r (part 54 i (rows-of s .state)) (part (4 * s .state .frame .c) i (rows-of s .render)) (part (2 * s .state .frame .d) i (rows-of s .fills)) =
         rw (own-depth, m) (row-stands s i h (w .sound) (w .fair)) in
-        let q : Ready a r (painter-at (part n i (depth-of (k .painters))) (part 2 i (painting-of (k .painters)))) =
+        let q : PainterReady a r (painter-at (part n i (depth-of (k .painters))) (part 2 i (painting-of (k .painters)))) =
         rw (own-depth, own-painting) (going-ready a n r (fine-at (w .sound .built .fine) i) (w .fair i) p (w .going on i h)) in
         let u : Sound (summary-at (part 54 i (rows-of s .state))) (part n i (depth-of (k .painters))) = rw (own-state, own-depth) (w .going on i h .sound) in
         step-by-rules (screen-of (s .state) (k .begun)) i (attributes-of s) (words-of k l) done-number a (holds s) r g q u ∙ rw (own-depth, own-painting)

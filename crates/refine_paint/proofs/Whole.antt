@@ -16,7 +16,7 @@ use Rattle.rules.specs.Calls.{Canvas, paints-on, begin-call, paint-call, blank,
 use Rattle.rules_picture.proofs.Cases.{and-right}
 use Rattle.rules.proofs.All.{All, nil, cons, all-replicate}
 use Rattle.refine_paint.specs.Painters.{Going}
-use Rattle.refine_paint.specs.Canvases.{Whole}
+use Rattle.refine_paint.specs.Canvases.{WholeCanvas}
 use Rattle.refine_paint.proofs.Kept.{fine-at}
 use Rattle.refine_paint.proofs.Painters.{begin-going, step-going}
 
@@ -25,15 +25,15 @@ all-set i x p nil = nil
 all-set zero x p (cons q a) = cons p a
 all-set (suc i) x p (cons q a) = cons q (all-set i x p a)
 
-module _ (k : Canvas) (w : Whole k) where
+module _ (k : Canvas) (w : WholeCanvas k) where
   abbrev n : ℕ
   n = buckets-of 32 (k .screen .state .frame .viewport)
 
-  pub begin-whole : Whole (begin-call 32 k .value)
+  pub begin-whole : WholeCanvas (begin-call 32 k .value)
   unfolding begin-call
   begin-whole = go (is-empty (k .screen .state .layers)) refl
     where
-      begun-now : is-empty (k .screen .state .layers) ≡ true → Whole (record { screen = k .screen; begun = true; painters = blank 32 (k .screen) })
+      begun-now : is-empty (k .screen .state .layers) ≡ true → WholeCanvas (record { screen = k .screen; begun = true; painters = blank 32 (k .screen) })
       begun-now none-open =
           record {
             sound = w .sound;
@@ -46,7 +46,7 @@ module _ (k : Canvas) (w : Whole k) where
                 (begin-going (k .screen .state .attrs) n (getD (k .screen .rows) i fresh-row) (fine-at (w .sound .built .fine) i) (w .fair i));
           }
 
-      go : (b : Bool) → is-empty (k .screen .state .layers) ≡ b → Whole (settle (cond b Done Open) k (record { screen = k .screen; begun = true; painters = blank 32 (k .screen) }) .value)
+      go : (b : Bool) → is-empty (k .screen .state .layers) ≡ b → WholeCanvas (settle (cond b Done Open) k (record { screen = k .screen; begun = true; painters = blank 32 (k .screen) }) .value)
       go true e = begun-now e
       go false e = w
 
@@ -54,7 +54,7 @@ module _ (k : Canvas) (w : Whole k) where
     abbrev o : Painted
     o = paint-step 32 (k .screen .state .attrs) (getD (k .screen .rows) i fresh-row) (getD (k .painters) i (begin 0))
 
-    step-on : k .begun ≡ true → i < length (k .screen .rows) → Whole (with-painter 32 k (k .begun) i (o .painter))
+    step-on : k .begun ≡ true → i < length (k .screen .rows) → WholeCanvas (with-painter 32 k (k .begun) i (o .painter))
     step-on b h =
         let g = step-going (k .screen .state .attrs) n (getD (k .screen .rows) i fresh-row) (fine-at (w .sound .built .fine) i) (w .fair i) (getD (k .painters) i (begin 0)) (w .going b i h) in
         record {
@@ -74,12 +74,12 @@ module _ (k : Canvas) (w : Whole k) where
         go g j l true e = rw (eqb-true j i e, getD-set-same (k .painters) i (o .painter) (begin 0) there) g
         go g j l false e = rw (getD-set-other (k .painters) i j (o .painter) (begin 0) (eqb-false j i e)) (w .going b j l)
 
-    pub paint-whole : (m : ℕ) → Whole (paint-call 32 i m k .canvas)
+    pub paint-whole : (m : ℕ) → WholeCanvas (paint-call 32 i m k .canvas)
     unfolding paint-call
     paint-whole m = go (leb (length (k .screen .rows)) i) (paints-on k) (ltb m (length (o .pieces))) refl refl
       where
         go : (t b u : Bool) → leb (length (k .screen .rows)) i ≡ t → paints-on k ≡ b
-            → Whole (cond (eqb (first-of ((t, BadRun) ∷ (not b, Open) ∷ (u, NoRoom) ∷ [])) Done) (with-painter 32 k (k .begun) i (o .painter)) k)
+            → WholeCanvas (cond (eqb (first-of ((t, BadRun) ∷ (not b, Open) ∷ (u, NoRoom) ∷ [])) Done) (with-painter 32 k (k .begun) i (o .painter)) k)
         go true b u e f = w
         go false false u e f = w
         go false true true e f = w

@@ -20,7 +20,7 @@ use Rattle.refine_steps.specs.Lent.{screen-of, table, attr-words, rows-of}
 use Rattle.depth.specs.Listing as depth
 use Rattle.depth.specs.Listing.{listing}
 use Rattle.paint_command.specs.Pieces.{laid}
-use Rattle.paint_command.specs.Painting.{Lent, lent, Out, out}
+use Rattle.paint_command.specs.Painting.{RowLent, lent, StepOut, out}
 use Rattle.paint_screen.specs.Stepping.{Attributes, attributes}
 use Rattle.paint_screen.specs.Beginning.{Canvas, canvas}
 use Rattle.paint_screen.specs.Rows.{Wrote}
@@ -45,7 +45,7 @@ abbrev pub canvas-of : rule.Canvas → Canvas
 canvas-of k = canvas (screen-of (k .screen .state) (k .begun)) (depth-of (k .painters)) (painting-of (k .painters))
 
 -- a sound screen with fair rows, a painter for each, and where painting has begun no layer is open and each goes on
-pub record Whole (k : rule.Canvas) : Type 0 where
+pub record WholeCanvas (k : rule.Canvas) : Type 0 where
   pub sound : Sound (k .screen)
   pub fair : FairRows (k .screen)
   pub count : length (k .painters) ≡ length (k .screen .rows)
@@ -55,7 +55,7 @@ pub record Whole (k : rule.Canvas) : Type 0 where
       → Going (buckets-of bucket-tiles (k .screen .state .frame .viewport)) (getD (k .screen .rows) i fresh-row) (getD (k .painters) i (begin 0))
 
 -- what a painting step of the rules gives, as words: the answer, the depth and painting words, the list
-abbrev pub given-out : rule.Given Painted → List ℕ → Out
+abbrev pub given-out : rule.Given Painted → List ℕ → StepOut
 given-out g l =
     out (record { number = g .number; finished = g .value .finished; pieces = length (g .value .pieces) })
     (depth-of (g .canvas .painters))
@@ -63,7 +63,7 @@ given-out g l =
     (laid (g .value .pieces) l)
 
 -- what runs of the rules give, as words: the answer and the list
-abbrev pub listed-of : rule.Given (List Span) → List ℕ → depth.Out
+abbrev pub listed-of : rule.Given (List Span) → List ℕ → depth.RunsOut
 listed-of g l = listing (answer (g .number) (g .value)) l
 
 -- .. and where they write, the screen and the depth words
@@ -75,6 +75,6 @@ wrote-of g l =
 abbrev pub attributes-of : Screen Row → Attributes
 attributes-of s = attributes (table 0 paint-attr-table (join paint-attr-words (s .state .attrs .paints))) (table 0 layer-attr-table (join attr-words (s .state .attrs .layers)))
 
-abbrev pub words-of : rule.Canvas → List ℕ → Lent
+abbrev pub words-of : rule.Canvas → List ℕ → RowLent
 words-of k l =
     lent (rows-of (k .screen) .state) (rows-of (k .screen) .render) (rows-of (k .screen) .fills) (depth-of (k .painters)) (painting-of (k .painters)) l

@@ -29,7 +29,7 @@ use Rattle.step_pop_rows.specs.Closing.{touched-in, good-pops}
 use Rattle.refine_row.proofs.Refines.{refines}
 use Rattle.screen.specs.declared.Screen.{Screen}
 use Rattle.screen.specs.Screens.{some-paint, some-layer, some-filter, state-of, screen-after}
-use Rattle.screen.specs.Tables.{Tables, Lent, float-0}
+use Rattle.screen.specs.Tables.{Tables, ScreenLent, float-0}
 use Rattle.screen_layers.specs.Layers.{no-words, open-at}
 use Rattle.step_pop.specs.Pop as pop
 use Rattle.step_pop.specs.Pop.{layers-in, own-rows, good-open, good-lengths, popped}
@@ -57,7 +57,7 @@ map-more g (y ∷ ys) x = ap (λ t. g y ∷ t) (map-more g ys x)
 
 module _ (f : Frame) (n : ℕ) (a : Attrs) (rows : List Row) (b : Bool) (de pa : List ℕ) (ss : List Segment) where
   -- the words that are lent, and the rows' words
-  abbrev at : List Layer → Lent
+  abbrev at : List Layer → ScreenLent
   at ls = lent-of (screen f n a ls rows) b de pa
 
   abbrev layers-table : List Layer → List ℕ
@@ -258,7 +258,7 @@ module _ (f : Frame) (n : ℕ) (a : Attrs) (rows : List Row) (b : Bool) (de pa :
     pop-after e = rw (pop-screen (l ∷ ls) h, pop-rows (l ∷ ls) h e, new-is, layers-left, opacities-left (room-left e), attrs-left, theirs-leave .0, theirs-leave .1)
 
 -- an answer at the words, from its number and what stands afterwards
-pop-settled : (t : Tables) (k n : ℕ) (x y : Screen) (u v : pop.Lent) (s s' : rule.Screen Row) (b : Bool) (de pa : List ℕ) → k ≡ n
+pop-settled : (t : Tables) (k n : ℕ) (x y : Screen) (u v : pop.PopLent) (s s' : rule.Screen Row) (b : Bool) (de pa : List ℕ) → k ≡ n
     → pop-into t (pop.out n x u) ≡ answer n (lent-of s b de pa) → (n ≡ Done → pop-into t (pop.out Done y v) ≡ answer Done (lent-of s' false de pa))
     → pop-into t (cond (eqb k Done) (pop.out Done y v) (pop.out k x u)) ≡ answer-of (settle n s s') b de pa
 pop-settled t k n x y u v s s' b de pa e p q = rw e (go (eqb n Done) refl)

@@ -25,7 +25,7 @@ use Rattle.rect.specs.Rects.{box-of}
 use Rattle.screen.specs.Screens.{frame, fresh-screen}
 use Rattle.screen.specs.declared.Lengths.{Lengths}
 use Rattle.screen.specs.Judging.{good-fixed, good-tables, arenas, judged-reset}
-use Rattle.screen.specs.Tables.{zeros, lengths, Lent, lent, float-0, reset-to}
+use Rattle.screen.specs.Tables.{zeros, lengths, ScreenLent, lent, float-0, reset-to}
 use Rattle.step_filter.specs.Filter.{filter-paint-words}
 use Rattle.refine_steps.specs.Sound.{Sound}
 use Rattle.refine_steps.specs.Lent.{table, layers-words, layers-opacities, attr-words, attr-opacity, screen-of, lent-of}
@@ -77,7 +77,7 @@ pub record Lengthy (l : Lengths) (n c d : ℕ) : Type 0 where
   pub attrs : l .«layer_attrs» ≡ 6144
   pub filters : l .«filter_paints» ≡ 1024
 
-module _ (v : Rect) (c d : ℕ) (l : Lent) (z : judged-reset v c d (lengths (l .tables)) ≡ 0) where
+module _ (v : Rect) (c d : ℕ) (l : ScreenLent) (z : judged-reset v c d (lengths (l .tables)) ≡ 0) where
   abbrev n : ℕ
   n = rows-of (box-of v)
 

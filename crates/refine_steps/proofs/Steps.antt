@@ -26,7 +26,7 @@ use Rattle.rules.proofs.laws.Bounds.{BoundedSpan, plan-ok}
 use Rattle.rules.proofs.laws.Maps.{PutOk}
 use Rattle.cmd.specs.Attrs.{words-at}
 use Rattle.screen.specs.Screens.{state-of}
-use Rattle.screen.specs.Tables.{Lent, float-0}
+use Rattle.screen.specs.Tables.{ScreenLent, float-0}
 use Rattle.step_filter.specs.Filter as filter
 use Rattle.step_filter.specs.Filter.{given, filter-number, filter-paint-words, filtered}
 use Rattle.step_fill.specs.Fills as fills
@@ -45,7 +45,7 @@ use Rattle.refine_steps.proofs.Alike.{box-same, Grown, grown-new, Alike
 use Rattle.refine_steps.proofs.Planned.{filter-alike, fill-alike, push-alike}
 
 -- an answer at the words, from its number and what stands afterwards
-pub settled : {X : Type 0} (f : X → Lent) (k n : ℕ) (x y : X) (s t : rule.Screen Row) (b : Bool) (de pa : List ℕ)
+pub settled : {X : Type 0} (f : X → ScreenLent) (k n : ℕ) (x y : X) (s t : rule.Screen Row) (b : Bool) (de pa : List ℕ)
     → k ≡ n → f x ≡ lent-of s b de pa → (n ≡ Done → f y ≡ lent-of t false de pa) → with-value f (settle k x y) ≡ answer-of (settle n s t) b de pa
 settled f k n x y s t b de pa e p q = rw e (go (eqb n Done) refl)
   where

@@ -16,7 +16,7 @@ use Rattle.rules.specs.Steps.{call}
 use Rattle.rules.specs.Recording.{Recording, LayerRec, Node, layer-rec}
 use Rattle.rules.specs.Walk.{go-on, _then_, when, each, props-of, walk-filter, walk-node, walk-nodes, walk-layer, walk-all}
 use Rattle.rules.proofs.All.{never}
-use Rattle.screen.specs.Tables.{Lent}
+use Rattle.screen.specs.Tables.{ScreenLent}
 use Rattle.file_steps.specs.Steps.{call-at}
 use Rattle.refine_steps.proofs.Refined.{Refines, step-refines}
 
@@ -82,5 +82,5 @@ module _ {S T : Type 0} (R : S → T → Type 0) where
     walk-follows = nodes-follow (layer-follows 16) (r .start) (r .end)
 
 -- .. at the words beside the rules' screens
-pub walk-refines : (r : Recording) → Follow Refines (walk-all (rule.Screen Row) (call Row row-ops 32) r) (walk-all Lent call-at r)
+pub walk-refines : (r : Recording) → Follow Refines (walk-all (rule.Screen Row) (call Row row-ops 32) r) (walk-all ScreenLent call-at r)
 walk-refines = walk-follows Refines (call Row row-ops 32) call-at (λ x s l h. let a = step-refines x s l h in record { number = a .number; value = λ e. a .value })

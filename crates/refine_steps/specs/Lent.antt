@@ -21,7 +21,7 @@ use Rattle.row_screen.specs.Arena.{lay}
 use Rattle.refine_row.specs.Encode.{encode}
 use Rattle.screen.specs.declared.Screen.{Screen}
 use Rattle.screen.specs.Screens.{rect-of}
-use Rattle.screen.specs.Tables.{tables, Lent, lent, float-0}
+use Rattle.screen.specs.Tables.{tables, ScreenLent, lent, float-0}
 use Rattle.screen_layers.specs.Layers.{layer-words}
 use Rattle.step_filter.specs.Filter.{filter-paint-words}
 use Rattle.file_read.specs.Reading.{pattern-of}
@@ -71,7 +71,7 @@ abbrev pub rows-of : rule.Screen Row → Words
 rows-of s = lay (map (encode (s .state .frame .c) (s .state .frame .d)) (s .rows))
 
 -- a screen and its words: whether painting has begun, the depth words and the painter's are no part of the rules' screen
-unfoldable pub lent-of : rule.Screen Row → Bool → List ℕ → List ℕ → Lent
+unfoldable pub lent-of : rule.Screen Row → Bool → List ℕ → List ℕ → ScreenLent
 lent-of s begun depth painting =
     lent (screen-of (s .state) begun)
     (tables (rows-of s .render) (rows-of s .fills) depth (rows-of s .state) painting (table 0 open-layer-table (layers-words (s .state .layers)))
@@ -81,11 +81,11 @@ lent-of s begun depth painting =
     (table (pos 0) filter-paint-table (join filter-paint-words (s .state .attrs .filters))))
 
 -- an answer of the rules, at the words: a done step ends painting
-abbrev pub answer-of : Answer (rule.Screen Row) → Bool → List ℕ → List ℕ → Answer Lent
+abbrev pub answer-of : Answer (rule.Screen Row) → Bool → List ℕ → List ℕ → Answer ScreenLent
 answer-of a begun depth painting = answer (a .number) (lent-of (a .value) (cond (eqb (a .number) Done) false begun) depth painting)
 
 -- l holds the words of the screen s
-pub record Holds (s : rule.Screen Row) (l : Lent) : Type 0 where
+pub record Holds (s : rule.Screen Row) (l : ScreenLent) : Type 0 where
   pub begun : Bool
   pub depth : List ℕ
   pub painting : List ℕ

@@ -23,7 +23,7 @@ use Rattle.row.specs.Words.{words}
 use Rattle.screen.specs.Screens.{frame, rect-of}
 use Rattle.screen.specs.declared.Screen as declared
 use Rattle.screen.specs.Judging.{good-tables, good-fixed, arenas, judged-reset}
-use Rattle.screen.specs.Tables.{Tables, lengths, Lent, lent}
+use Rattle.screen.specs.Tables.{Tables, lengths, ScreenLent, lent}
 use Rattle.screen.proofs.Laws.{few-buckets}
 use Rattle.screen.proofs.Numbers.{and-left, and-right}
 use Rattle.refine_steps.specs.Sound.{Fitting}
@@ -57,7 +57,7 @@ abbrev pub text-first : List ℕ → List ℕ → ℕ × List ℕ
 text-first ts bs = (length ts, ts ++ drop (length ts) bs)
 
 -- a done answer of the rules and the words beside it
-record Done-with (a : Answer (Screen Row)) (w : Answer Lent) (v : Box) : Type 0 where
+record Done-with (a : Answer (Screen Row)) (w : Answer ScreenLent) (v : Box) : Type 0 where
   pub refines : Refines (a .value) (w .value)
   pub kept : Kept (record { viewport = v; c = 64; d = 64 }) (a .value)
 
@@ -78,13 +78,13 @@ module _ (bs : List ℕ) (room : 264256 ≤ length bs) where
   unfolding refusing written text-of
   refusing-shows n s = rw (le-ltb (length bs) (length (line-bytes (refused n))) (omega (arith, line-few (refused n), room)), append-nil (line-bytes (refused n)))
 
-  done-shows : (a : Answer (Screen Row)) (w : Answer Lent) (v : Box) → rows-of v ≤ 32 → Done-with a w v
+  done-shows : (a : Answer (Screen Row)) (w : Answer ScreenLent) (v : Box) → rows-of v ≤ 32 → Done-with a w v
       → shows (showing (w .value .screen) (row-words (w .value)) bs) ≡ text-first (text-of (rules.screen-lines 32 (a .value))) bs
   unfolding showing
   done-shows a w v few h =
       rw (listed-held (h .refines) (h .kept .fair) bs) (fits (text-of (rules.screen-lines 32 (a .value))) (screen-few v (a .value) few (h .kept)) (w .value .screen))
 
-  answer-shows : (a : Answer (Screen Row)) (w : Answer Lent) (v : Box) → rows-of v ≤ 32 → w .number ≡ a .number → (a .number ≡ 0 → Done-with a w v)
+  answer-shows : (a : Answer (Screen Row)) (w : Answer ScreenLent) (v : Box) → rows-of v ≤ 32 → w .number ≡ a .number → (a .number ≡ 0 → Done-with a w v)
       → shows (answered w bs .showed) ≡ text-first (text-of (answer-lines 32 a)) bs
   answer-shows a w v few e h = rw e (go (eqb (a .number) Done) refl)
     where
@@ -196,7 +196,7 @@ module _ (ws : List ℕ) (t : Tables) (enough-room : is-roomy t ≡ true) (fixed
       abbrev cut : Tables
       cut = cut-to (size 0 (rows-of v) (buckets-of 32 v)) t
 
-      abbrev given : Lent
+      abbrev given : ScreenLent
       given = lent nothing cut
 
       -- the tables' first words have the lengths that the file's screen asks for

@@ -15,7 +15,7 @@ use Rattle.rules.specs.Steps.{Screen}
 use Rattle.rules.specs.Lines as rules
 use Rattle.row.specs.Words.{Words, words}
 use Rattle.row_screen.specs.Arena.{sizes, row-at}
-use Rattle.screen.specs.Tables.{Lent}
+use Rattle.screen.specs.Tables.{ScreenLent}
 use Rattle.refine_steps.specs.Sound.{Sound}
 use Rattle.refine_steps.specs.Lent.{screen-of, rows-of, lent-of}
 use Rattle.refine_steps.proofs.Judged.{judged-done}
@@ -89,10 +89,10 @@ module _ (s : Screen Row) (o : Sound s) (f : FairRows s) where
   listed-printed b bs = rw (number-printed b, screen-printed b)
 
 -- the words of the rows, among all that is lent
-abbrev pub row-words : Lent → Words
+abbrev pub row-words : ScreenLent → Words
 row-words l = words (l .tables .rows) (l .tables .render) (l .tables .fills)
 
-module _ {s : Screen Row} {l : Lent} (h : Refines s l) (f : FairRows s) where
+module _ {s : Screen Row} {l : ScreenLent} (h : Refines s l) (f : FairRows s) where
   -- words that hold a sound screen with fair rows
   pub lines-held : screen-lines (l .screen) (row-words l) ≡ rules.screen-lines 32 s
   unfolding lent-of
@@ -103,9 +103,9 @@ module _ {s : Screen Row} {l : Lent} (h : Refines s l) (f : FairRows s) where
   listed-held bs = rw (h .holds .same) (listed-printed s (h .sound) f (h .holds .begun) bs)
 
 -- After a done reset and done steps: the lines of the lent words are the rules' lines of the screen, ..
-pub built-lines : {s : Screen Row} {l : Lent} → BuiltBy s l → screen-lines (l .screen) (row-words l) ≡ rules.screen-lines 32 s
+pub built-lines : {s : Screen Row} {l : ScreenLent} → BuiltBy s l → screen-lines (l .screen) (row-words l) ≡ rules.screen-lines 32 s
 built-lines b = lines-held (built-refines b) (built-fair b)
 
 -- .. and `list_screen` writes their text wherever it fits: 14 is its only refusal there.
-pub built-listed : {s : Screen Row} {l : Lent} → BuiltBy s l → (bs : List ℕ) → listed (l .screen) (row-words l) bs ≡ written (text-of (rules.screen-lines 32 s)) bs
+pub built-listed : {s : Screen Row} {l : ScreenLent} → BuiltBy s l → (bs : List ℕ) → listed (l .screen) (row-words l) bs ≡ written (text-of (rules.screen-lines 32 s)) bs
 built-listed b bs = listed-held (built-refines b) (built-fair b) bs

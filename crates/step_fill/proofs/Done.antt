@@ -34,12 +34,12 @@ use Rattle.segments.specs.Segs as segs
 use Rattle.segments.specs.Segs.{segs-of}
 use Rattle.segments.proofs.Laws as listed
 use Rattle.step_fill_rows.specs.Filling as filling
-use Rattle.step_fill_rows.specs.Filling.{puts-of, Ready}
+use Rattle.step_fill_rows.specs.Filling.{puts-of, FillReady}
 use Rattle.step_fill_judge.specs.Tallies.{cuts-of}
 use Rattle.step_fill_judge.proofs.Rising.{rising}
 use Rattle.step_fill_judge.proofs.Judged.{all-landed, roomy-judged}
 use Rattle.step_fill.specs.declared.Draw.{Draw}
-use Rattle.step_fill.specs.Fills.{draw-of, paints-of, job-of, Passing, Lent, lent, fill-plan, good-lists, first-number, first-of-lent, fill-number, fill-done, filled}
+use Rattle.step_fill.specs.Fills.{draw-of, paints-of, job-of, Passing, FillLent, lent, fill-plan, good-lists, first-number, first-of-lent, fill-number, fill-done, filled}
 use Rattle.step_fill.proofs.Inputs.{GoodDraw, draw-facts}
 use Rattle.step_fill.proofs.Planned.{state-frame, state-next, plan-layers, plan-next, refused-bad, refused-are, puts-are, rows-are, attrs-same, attrs-more, full-attrs, paints-more, filters-same}
 use Rattle.step_fill.proofs.Numbers.{passing, long, rowed, good-are}
@@ -79,7 +79,7 @@ refusal-small p t h =
     (if-small (passes Words word-ops 32 (word 0) c (p .puts) (t .rows)) 10 (omega arith) (if-small (passes Words word-ops 32 (word 1) d (p .puts) (t .rows)) 11 (omega arith) zero-small)))))
     h
 
-module _ (l : Lent) (ps ss : List ℕ) (d : Draw) where
+module _ (l : FillLent) (ps ss : List ℕ) (d : Draw) where
   first-small : first-of-lent l ps ss ≤ 14
   unfolding first-number
   first-small =
@@ -144,15 +144,15 @@ tests p t h =
     (a .0, b .0, b .1, b .2, b .3)
 
 -- what the number 0 says
-pub record Zero (l : Lent) (ps ss : List ℕ) (d : Draw) : Type 0 where
+pub record Zero (l : FillLent) (ps ss : List ℕ) (d : Draw) : Type 0 where
   pub first : first-of-lent l ps ss ≡ 0
   pub draw : good-fill (paints-of ps) (segs-of ss) (draw-of d) ≡ true
   pub list : judge-segments false (segs.segs ss (d .start) (d .end - d .start)) ≡ 0
   pub ids : l .screen .«next_draw_id» ≤ 1048576
   pub attrs : attrs-full (fill-plan (l .screen) ps ss d .attrs) ≡ false
-  pub ready : Ready (job-of (l .screen) ps d) (rows-of (box-of (l .screen .viewport))) ss (d .start) (d .end) (l .words)
+  pub ready : FillReady (job-of (l .screen) ps d) (rows-of (box-of (l .screen .viewport))) ss (d .start) (d .end) (l .words)
 
-module _ (l : Lent) (ps ss : List ℕ) (d : Draw) where
+module _ (l : FillLent) (ps ss : List ℕ) (d : Draw) where
   parts : fill-number l ps ss d ≡ 0 → (first-of-lent l ps ss ≡ 0)
       × (good-rows (frame-of (l .screen)) (l .screen .layers) (fill-plan (l .screen) ps ss d .puts) (screen-at (state-of (l .screen)) (l .words) .rows) ≡ true)
       × (refusal Words word-ops 32 (fill-plan (l .screen) ps ss d) (done Words word-ops 32 (fill-plan (l .screen) ps ss d) (screen-at (state-of (l .screen)) (l .words))) ≡ 0)
@@ -224,7 +224,7 @@ attr-of s d =
       «origin_y» = s .viewport .y0;
     }
 
-module _ (l : Lent) (ps ss : List ℕ) (d : Draw) (z : Zero l ps ss d) where
+module _ (l : FillLent) (ps ss : List ℕ) (d : Draw) (z : Zero l ps ss d) where
   good : GoodDraw ps ss d
   good = draw-facts ps ss d (z .draw)
 

@@ -18,16 +18,16 @@ use Rattle.screen.specs.Screens.{good-clip, good-screen, state-of, screen-after
 use Rattle.screen.specs.Judging.{judged}
 use Rattle.segments.specs.Segs.{seg-at, segs}
 use Rattle.step_fill.specs.declared.Draw.{Draw}
-use Rattle.step_fill.specs.Fills.{paints, Lent, lent, first-number, fill-number, fill-done, filled}
+use Rattle.step_fill.specs.Fills.{paints, FillLent, lent, first-number, fill-number, fill-done, filled}
 
 abbrev viewport : Rect
 viewport = record { x0 = 0; y0 = 0; x1 = 256; y1 = 8 }
 
 -- two rows, room for c commands and 64 depth fills in each
-abbrev fresh : ℕ → List ℕ → Lent
+abbrev fresh : ℕ → List ℕ → FillLent
 fresh c render = lent (fresh-screen viewport c 64) (words (replicate 108 0) render (replicate 256 0)) (replicate 8192 0)
 
-abbrev blank : Lent
+abbrev blank : FillLent
 blank = fresh 64 (replicate 512 0)
 
 -- one opaque paint; a solid segment on row 0, tiles 10 to 64

@@ -38,7 +38,7 @@ use Rattle.step_fill_judge.proofs.Hands.{bad-either}
 use Rattle.step_fill_judge.proofs.Rising.{rising}
 use Rattle.step_fill_judge.proofs.Judged.{run, flags, verdict-any, verdict-is, all-landed}
 use Rattle.step_fill.specs.declared.Draw.{Draw}
-use Rattle.step_fill.specs.Fills.{draw-of, paints-of, job-of, Passing, Lent, fill-plan, good-lists, first-number, first-of-lent, fill-number}
+use Rattle.step_fill.specs.Fills.{draw-of, paints-of, job-of, Passing, FillLent, fill-plan, good-lists, first-number, first-of-lent, fill-number}
 use Rattle.step_fill.proofs.Inputs.{GoodDraw, draw-facts, scene-of-it}
 use Rattle.step_fill.proofs.Planned.{good-unless, state-frame, plan-layers, plan-next, refused-bad, refused-are, puts-are, rows-are, attrs-same, attrs-more, not-full, full-attrs, room-for-one}
 
@@ -51,7 +51,7 @@ opened j g h = go (eqb j Done) g refl h
     go true false e k = absurd (omega arith)
     go false g e k = absurd (eqb-false j 0 e k)
 
-module _ (l : Lent) (ps ss : List ℕ) where
+module _ (l : FillLent) (ps ss : List ℕ) where
   pub right-lengths : first-of-lent l ps ss ≡ 0 → Passed (l .screen) (length (l .words .state)) (length (l .words .render)) (length (l .words .fills)) (rows-of (box-of (l .screen .viewport))) × (length (l .paint-attrs) ≡ 8192)
   unfolding first-number
   right-lengths z =
@@ -128,7 +128,7 @@ either-way : (g : Bool) {n : ℕ} → n ≡ 4 → 4 ≡ cond g n 4
 either-way true e = sym e
 either-way false e = refl
 
-module _ (l : Lent) (ps ss : List ℕ) (d : Draw) where
+module _ (l : FillLent) (ps ss : List ℕ) (d : Draw) where
   -- the records of the rows that are put on are good
   abbrev pub good-records : Bool
   good-records = good-rows (frame-of (l .screen)) (l .screen .layers) (fill-plan (l .screen) ps ss d .puts) (screen-at (state-of (l .screen)) (l .words) .rows)

@@ -72,12 +72,12 @@ pub record Passing (s : Screen) : Type 0 where
   pub screen : good-screen s ≡ true
 
 -- a screen and the words that a fill writes
-pub record Lent : Type 0 where
+pub record FillLent : Type 0 where
   pub screen : Screen
   pub words : Words
   pub paint-attrs : List ℕ
 
-abbrev pub lent : Screen → Words → List ℕ → Lent
+abbrev pub lent : Screen → Words → List ℕ → FillLent
 lent s w table = record { screen = s; words = w; paint-attrs = table }
 
 -- what the fill would do
@@ -95,18 +95,18 @@ first-number s rows render fills table ps ss =
     cond (eqb n Done) (cond (good-lists table ps ss) Done BadRecord) n
 
 -- .. of what is lent
-abbrev pub first-of-lent : Lent → List ℕ → List ℕ → ℕ
+abbrev pub first-of-lent : FillLent → List ℕ → List ℕ → ℕ
 first-of-lent l ps ss = first-number (l .screen) (length (l .words .state)) (length (l .words .render)) (length (l .words .fills)) (length (l .paint-attrs)) (length ps) (length ss)
 
 -- a fill's number
-unfoldable pub fill-number : Lent → List ℕ → List ℕ → Draw → ℕ
+unfoldable pub fill-number : FillLent → List ℕ → List ℕ → Draw → ℕ
 fill-number l ps ss d =
     let p = fill-plan (l .screen) ps ss d in
     let s = screen-at (state-of (l .screen)) (l .words) in
     step-number (first-of-lent l ps ss) (good-rows (frame-of (l .screen)) (l .screen .layers) (p .puts) (s .rows)) p s
 
 -- done without limits: the rows after, and the words of the attribute that is new
-unfoldable pub fill-done : Lent → List ℕ → List ℕ → Draw → Lent
+unfoldable pub fill-done : FillLent → List ℕ → List ℕ → Draw → FillLent
 fill-done l ps ss d =
     let p = fill-plan (l .screen) ps ss d in
     let n = l .screen .«paint_attrs» in
@@ -114,5 +114,5 @@ fill-done l ps ss d =
     (words-at (l .paint-attrs) (8 * n) (join paint-attr-words (drop n (p .attrs .paints))))
 
 -- a fill: what is refused alters nothing
-abbrev pub filled : Lent → List ℕ → List ℕ → Draw → Answer Lent
+abbrev pub filled : FillLent → List ℕ → List ℕ → Draw → Answer FillLent
 filled l ps ss d = settle (fill-number l ps ss d) l (fill-done l ps ss d)

@@ -26,7 +26,7 @@ use Rattle.segments.specs.declared.Placed.{Placed}
 use Rattle.segments.specs.Segs.{seg-at, segs, origin, bounds, placed-of}
 use Rattle.segments.proofs.Laws.{segs-end, segs-first, good-first, good-rest, landed}
 use Rattle.step_fill_rows.specs.declared.Job.{Job}
-use Rattle.step_fill_rows.specs.Filling.{draws, puts-of, one-put, puts, done, unsplit, Roomy, none-put, one-more, Fits, Ready}
+use Rattle.step_fill_rows.specs.Filling.{draws, puts-of, one-put, puts, done, unsplit, Roomy, none-put, one-more, Fits, FillReady}
 
 -- one command, on a row that has its layers
 module _ (n : ℕ) (s : Span) (i id : ℕ) (w : Words) (h : word 5 w ≡ n) where
@@ -125,10 +125,10 @@ module _ (j : Job) (m : j .layers ≤ 16) where
 
 -- the loop over the segments from a to b, at segment i, on its way from the words w₀
 pub record Filling (j : Job) (n : ℕ) (ws : List ℕ) (a b : ℕ) (w₀ : Words) (i : ℕ) (w : Words) : Type 0 where
-  pub rest : Ready j n ws i b w
+  pub rest : FillReady j n ws i b w
   pub all : done j (puts j ws i (b - i)) (cut (sizes (j .c) (j .d)) n w) ≡ done j (puts j ws a (b - a)) (cut (sizes (j .c) (j .d)) n w₀)
 
-pub begun : {j : Job} {n : ℕ} {ws : List ℕ} {a b : ℕ} {w : Words} → Ready j n ws a b w → Filling j n ws a b w a w
+pub begun : {j : Job} {n : ℕ} {ws : List ℕ} {a b : ℕ} {w : Words} → FillReady j n ws a b w → Filling j n ws a b w a w
 begun r = record { rest = r; all = refl }
 
 module _ {j : Job} {n : ℕ} {ws : List ℕ} {a b : ℕ} {w₀ : Words} {i : ℕ} {w : Words} (v : Filling j n ws a b w₀ i w) where

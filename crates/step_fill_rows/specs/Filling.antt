@@ -54,7 +54,7 @@ pub record Fits (j : Job) (n : ℕ) (w : Words) : Type 0 where
   pub bottom : j .scene .rows .end ≤ j .scene .y / 4 + n
 
 -- what the judging half has shown of the segments from a to b
-pub record Ready (j : Job) (n : ℕ) (ws : List ℕ) (a b : ℕ) (w : Words) : Type 0 where
+pub record FillReady (j : Job) (n : ℕ) (ws : List ℕ) (a b : ℕ) (w : Words) : Type 0 where
   pub fits : Fits j n w
   pub before : a ≤ b
   pub within : 5 * b ≤ length ws

@@ -23,7 +23,7 @@ ghost use Rattle.row.specs.Cmds.{Short};
 ghost use Rattle.row_acts.specs.Acts.{alpha-of, drawn};
 ghost use Rattle.row_screen.specs.Arena.{nowhere, sizes, cut, lay, count-rows};
 ghost use Rattle.segments.specs.Segs.{seg-at};
-ghost use Rattle.step_fill_rows.specs.Filling.{draws, one-put, puts, done, unsplit, Roomy, Fits, Ready};
+ghost use Rattle.step_fill_rows.specs.Filling.{draws, one-put, puts, done, unsplit, Roomy, Fits, FillReady};
 
 // What stays the same over all the segments of a fill: the scene, room for commands and depth fills in a row, open layers, whether
 // solid segments are eligible, attribute and id.
@@ -152,7 +152,7 @@ pub fn fill_rows(
     end: usize,
     job: Job,
 )
-    requires { ⌜ Ready job (count-rows (now rows)) (now segs) start «end» (words (now rows) (now render) (now fills)) ⌝ }
+    requires { ⌜ FillReady job (count-rows (now rows)) (now segs) start «end» (words (now rows) (now render) (now fills)) ⌝ }
     ensures { λ _. ⌜ words (now (rows .exit)) (now (render .exit)) (now (fills .exit))
         ≡ lay (done job (puts job (now (segs .entry)) start («end» - start)) (cut (sizes (job .c) (job .d)) (count-rows (now (rows .entry))) (words (now (rows .entry)) (now (render .entry)) (now (fills .entry))))) ⌝ }
 {

@@ -23,11 +23,11 @@ use Rattle.screen.specs.Screens.{frame-of, counted}
 use Rattle.screen.proofs.Laws.{bounds}
 use Rattle.row_judge.specs.Building.{rows-at}
 use Rattle.step_rows.specs.Band.{each, OnRows}
-use Rattle.step_filter.specs.Filter.{Given, filter-of, paint-from, attrs-of, lent, filter-number, after, own-box, Drawing}
-use Rattle.step_filter.proofs.Laws.{told-by, Sound, sound, Ready, ready, Free, free, bottom-small, paint-asked, after-drawn, after-nothing, fit}
+use Rattle.step_filter.specs.Filter.{FilterGiven, filter-of, paint-from, attrs-of, lent, filter-number, after, own-box, Drawing}
+use Rattle.step_filter.proofs.Laws.{told-by, Sound, sound, FilterReady, ready, Free, free, bottom-small, paint-asked, after-drawn, after-nothing, fit}
 
-module _ {g : Given} {s : Screen} {w : Words} {ps : List ℕ} {fs : List ℤ} {b : Rect} (q : Drawing g (lent s w ps fs) b) where
-  able : Ready g s w ps fs
+module _ {g : FilterGiven} {s : Screen} {w : Words} {ps : List ℕ} {fs : List ℤ} {b : Rect} (q : Drawing g (lent s w ps fs) b) where
+  able : FilterReady g s w ps fs
   able = ready g s w ps fs (q .number)
 
   fine : Sound g
@@ -68,7 +68,7 @@ module _ {g : Given} {s : Screen} {w : Words} {ps : List ℕ} {fs : List ℤ} {b
   leaves x ws t = after-drawn g s w ps fs able draws x ws t b (q .bounds)
 
 -- where nothing is drawn
-module _ (g : Given) (s : Screen) (w : Words) (ps : List ℕ) (fs : List ℤ) (q : filter-number g (lent s w ps fs) ≡ 0) where
+module _ (g : FilterGiven) (s : Screen) (w : Words) (ps : List ℕ) (fs : List ℤ) (q : filter-number g (lent s w ps fs) ≡ 0) where
   pub nothing-needs : (0 ≤ 1) × (s .«next_draw_id» ≤ 1048577) × (s .«paint_attrs» ≤ 1024) × (s .«filter_paints» ≤ 256)
   nothing-needs = let k = bounds s (fit g s w ps fs (ready g s w ps fs q .zero) .screen) in (omega arith, k .ids, k .paints, k .filters)
 

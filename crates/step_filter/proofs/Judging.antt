@@ -12,11 +12,11 @@ use Rattle.rect.specs.declared.Rect.{Rect}
 use Rattle.rect.specs.Rects.{box-of}
 use Rattle.screen.specs.declared.Screen.{Screen}
 use Rattle.step_rows.specs.Band.{band-number}
-use Rattle.step_filter.specs.Filter.{Given, filter-of, good-given, lent, filter-number, own-box}
+use Rattle.step_filter.specs.Filter.{FilterGiven, filter-of, good-given, lent, filter-number, own-box}
 use Rattle.step_filter.proofs.Laws as laws
 use Rattle.step_filter.proofs.Laws.{judged-at, told-by, number-of-rows}
 
-module _ (g : Given) (s : Screen) (w : Words) (ps : List ℕ) (fs : List ℤ) (b : Rect)
+module _ (g : FilterGiven) (s : Screen) (w : Words) (ps : List ℕ) (fs : List ℤ) (b : Rect)
     (z : judged-at s w ≡ 0) (e : length ps ≡ 8192) (f : length fs ≡ 1024) (h : good-given g ≡ true) (x : box-of b ≡ own-box g s) where
   pub nothing-number : draws-nothing (filter-of g) (box-of b) ≡ true → 0 ≡ filter-number g (lent s w ps fs)
   nothing-number d = laws.nothing-number g s w ps fs z e f h (told-by g s b true x d)

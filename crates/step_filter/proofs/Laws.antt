@@ -41,7 +41,7 @@ use Rattle.step_rows.specs.Band.{band-number, each, OnRows}
 use Rattle.step_rows.proofs.Laws.{puts-each}
 use Rattle.step_rows.proofs.Numbers.{band-answer, band-step, band-room, paint-adds, run-told}
 use Rattle.step_rows.proofs.Passing.{passed-whole, rows-within, judged-small, if-small, step-small, decide, surely, below}
-use Rattle.step_filter.specs.Filter.{Given, given, filter-of, good-given, paint-from, attrs-of, Lent, lent, plan-of, first-number, filter-number, filter-paint-words, after, filtered, own-box}
+use Rattle.step_filter.specs.Filter.{FilterGiven, given, filter-of, good-given, paint-from, attrs-of, FilterLent, lent, plan-of, first-number, filter-number, filter-paint-words, after, filtered, own-box}
 
 frame-is : (s : Screen) → state-of s .frame ≡ frame-of s
 unfolding state-of
@@ -52,7 +52,7 @@ unfolding state-of
 next-is s = refl
 
 -- the plan, by what the code finds
-module _ (g : Given) (s : Screen) where
+module _ (g : FilterGiven) (s : Screen) where
   plan-bad : good-given g ≡ false → plan-of g s ≡ still 4 (state-of s)
   unfolding plan-filter
   plan-bad h = rw h
@@ -75,7 +75,7 @@ module _ (g : Given) (s : Screen) where
     plan-drawn e = plan-made ∙ rw e
 
 -- what a fill puts on a row of its box
-abbrev pub own-act : Given → Screen → Act
+abbrev pub own-act : FilterGiven → Screen → Act
 own-act g s = paint (span-of (own-box g s)) none (s .«paint_attrs»)
 
 -- the counts of a plan that draws nothing, and of one that draws
@@ -85,7 +85,7 @@ module _ (s : Screen) (k : good-screen s ≡ true) where
       let b = bounds s k in
       rw (paint-count s, layer-attr-count s, filter-count s, le-ltb _ _ (b .paints), le-ltb _ _ (b .layer-attrs), le-ltb _ _ (b .filters))
 
-  module _ (g : Given) where
+  module _ (g : FilterGiven) where
     abbrev drawn-plan : Plan
     drawn-plan = plan-filter-in (own-box g s) (g .count) (filter-of g) (state-of s)
 
@@ -118,7 +118,7 @@ module _ (s : Screen) (k : good-screen s ≡ true) where
     drawn-fine = refl
 
 -- the box lies on the screen
-module _ (g : Given) (s : Screen) (k : good-screen s ≡ true) (v : good-viewport (box-of (s .viewport)) ≡ true) where
+module _ (g : FilterGiven) (s : Screen) (k : good-screen s ≡ true) (v : good-viewport (box-of (s .viewport)) ≡ true) where
   pub box-bottom : own-box g s .y1 ≤ height (box-of (s .viewport))
   box-bottom = omega (arith, min-le-right (g .placement .dest .y1 - s .viewport .y0) (s .«clip_bbox» .y1), clip (box-of (s .viewport)) (box-of (s .«clip_bbox»)) (s .layers) v (good-clip-of s k) .bottom)
 
@@ -132,7 +132,7 @@ module _ (g : Given) (s : Screen) (k : good-screen s ≡ true) (v : good-viewpor
 abbrev pub judged-at : Screen → Words → ℕ
 judged-at s w = judged s (length (w .state)) (length (w .render)) (length (w .fills))
 
-module _ (g : Given) (s : Screen) (w : Words) (ps : List ℕ) (fs : List ℤ) where
+module _ (g : FilterGiven) (s : Screen) (w : Words) (ps : List ℕ) (fs : List ℤ) where
   pub bad-screen : (judged-at s w ≡ 0 → ⊥) → judged-at s w ≡ filter-number g (lent s w ps fs)
   unfolding filter-number step-number
   bad-screen h = rw (ne-eqb (judged-at s w) 0 h, ne-eqb (judged-at s w) 0 h)
@@ -257,7 +257,7 @@ module _ (g : Given) (s : Screen) (w : Words) (ps : List ℕ) (fs : List ℤ) wh
                       (rw (← r) at (run-told (s .c) (s .d) (s .layers) (w .state) (range (own-box g s .y0 / 4) ((own-box g s .y1 + 3) / 4)) (λ t. q (r ∙ t)))))
 
 -- the box and the rows that the code finds
-module _ (g : Given) (s : Screen) (w : Words) (z : judged-at s w ≡ 0) (b : Rect) (e : box-of b ≡ own-box g s) where
+module _ (g : FilterGiven) (s : Screen) (w : Words) (z : judged-at s w ≡ 0) (b : Rect) (e : box-of b ≡ own-box g s) where
   ok : Passed s (length (w .state)) (length (w .render)) (length (w .fills)) (rows-of (box-of (s .viewport)))
   ok = passed s (length (w .state)) (length (w .render)) (length (w .fills)) z
 
@@ -282,7 +282,7 @@ module _ (g : Given) (s : Screen) (w : Words) (z : judged-at s w ≡ 0) (b : Rec
   number-of-rows k h = rw (top-is, bottom-is) at h
 
 -- what was given, judged good
-pub record Sound (g : Given) : Type 0 where
+pub record Sound (g : FilterGiven) : Type 0 where
   pub pixmap : g .pixmap < 2147483648
   pub left : g .placement .dest .x0 ≤ 32768
   pub top : g .placement .dest .y0 ≤ 32768
@@ -290,7 +290,7 @@ pub record Sound (g : Given) : Type 0 where
   pub down : g .placement .«source_y» ≤ 32768
   pub count : g .count ≤ 4096
 
-pub sound : (g : Given) → good-given g ≡ true → Sound g
+pub sound : (g : FilterGiven) → good-given g ≡ true → Sound g
 sound g h =
     let f = filter-of g in
     let a = ltb (g .pixmap) 2147483648 in
@@ -312,24 +312,24 @@ sound g h =
     }
 
 -- what a filter fill judged 0 may rely on
-pub record Ready (g : Given) (s : Screen) (w : Words) (ps : List ℕ) (fs : List ℤ) : Type 0 where
+pub record FilterReady (g : FilterGiven) (s : Screen) (w : Words) (ps : List ℕ) (fs : List ℤ) : Type 0 where
   pub zero : judged-at s w ≡ 0
   pub attrs : length ps ≡ 8192
   pub paints : length fs ≡ 1024
   pub good : good-given g ≡ true
 
 -- .. and that draws something
-pub record Free (g : Given) (s : Screen) (w : Words) : Type 0 where
+pub record Free (g : FilterGiven) (s : Screen) (w : Words) : Type 0 where
   pub id : s .«next_draw_id» < 1048577
   pub attr : s .«paint_attrs» < 1024
   pub paint : s .«filter_paints» < 256
   pub on : OnRows s (s .layers) (acted (s .layers) (own-act g s)) (own-box g s .y0 / 4) ((own-box g s .y1 + 3) / 4) w
 
-module _ (g : Given) (s : Screen) (w : Words) (ps : List ℕ) (fs : List ℤ) (q : filter-number g (lent s w ps fs) ≡ 0) where
+module _ (g : FilterGiven) (s : Screen) (w : Words) (ps : List ℕ) (fs : List ℤ) (q : filter-number g (lent s w ps fs) ≡ 0) where
   not-zero : {n : ℕ} → suc n ≡ filter-number g (lent s w ps fs) → ⊥
   not-zero e = omega (arith, e, q)
 
-  pub ready : Ready g s w ps fs
+  pub ready : FilterReady g s w ps fs
   ready =
       let z : judged-at s w ≡ 0 = decide (judged-at s w) 0 (λ h. h (bad-screen g s w ps fs h ∙ q)) in
       let a : length ps ≡ 8192 = decide (length ps) 8192 (λ h. not-zero (bad-attrs g s w ps fs z h)) in
@@ -373,7 +373,7 @@ module _ (g : Given) (s : Screen) (w : Words) (ps : List ℕ) (fs : List ℤ) (q
 nothing-at : {A : Type 0} (xs : List A) (at : ℕ) → words-at xs at [] ≡ xs
 nothing-at xs at = let e : at + 0 ≡ at = omega arith in rw (e, append-nil) (take-append-drop at xs)
 
-module _ (g : Given) (s : Screen) (w : Words) (ps : List ℕ) (fs : List ℤ) (y : Ready g s w ps fs) where
+module _ (g : FilterGiven) (s : Screen) (w : Words) (ps : List ℕ) (fs : List ℤ) (y : FilterReady g s w ps fs) where
   ok-screen : good-screen s ≡ true
   ok-screen = fit g s w ps fs (y .zero) .screen
 
@@ -454,11 +454,11 @@ module _ (g : Given) (s : Screen) (w : Words) (ps : List ℕ) (fs : List ℤ) (y
         )
 
 -- a box that the code finds draws what the rules' box does
-pub told-by : (g : Given) (s : Screen) (b : Rect) (t : Bool) → box-of b ≡ own-box g s → draws-nothing (filter-of g) (box-of b) ≡ t → draws-nothing (filter-of g) (own-box g s) ≡ t
+pub told-by : (g : FilterGiven) (s : Screen) (b : Rect) (t : Bool) → box-of b ≡ own-box g s → draws-nothing (filter-of g) (box-of b) ≡ t → draws-nothing (filter-of g) (own-box g s) ≡ t
 told-by g s b t e h = sym (ap (λ (x : Box). draws-nothing (filter-of g) x) e) ∙ h
 
 -- what painting its rows asks
-pub paint-asked : (g : Given) (s : Screen) (w : Words) (ps : List ℕ) (fs : List ℤ) (q : filter-number g (lent s w ps fs) ≡ 0) (d : draws-nothing (filter-of g) (own-box g s) ≡ false)
+pub paint-asked : (g : FilterGiven) (s : Screen) (w : Words) (ps : List ℕ) (fs : List ℤ) (q : filter-number g (lent s w ps fs) ≡ 0) (d : draws-nothing (filter-of g) (own-box g s) ≡ false)
     (b : Rect) (t : Span) → box-of b ≡ own-box g s → t ≡ span-of (box-of b)
     → Short t × OnRows s (s .layers) (acted (s .layers) (paint t none (s .«paint_attrs»))) (b .y0 / 4) ((b .y1 + 3) / 4) w
 paint-asked g s w ps fs q d b t e f =
@@ -466,7 +466,7 @@ paint-asked g s w ps fs q d b t e f =
     rw (f ∙ ap span-of e, top-is g s w z b e, bottom-is g s w z b e) (short g s w ps fs q d, free g s w ps fs q d .on)
 
 -- the call
-module _ (g : Given) (l : Lent) where
+module _ (g : FilterGiven) (l : FilterLent) where
   plan-small : (a b : Bool) (x : Box) → cond a (still 4 (state-of (l .screen))) (cond b (still 0 (state-of (l .screen))) (plan-filter-in x (g .count) (filter-of g) (state-of (l .screen)))) .refused ≤ 14
   unfolding plan-filter-in
   plan-small true b x = omega arith
@@ -497,6 +497,6 @@ module _ (g : Given) (l : Lent) where
   unfolding filtered
   refused-is n m e f h = rw (e, ← f, ne-eqb n 0 h)
 
-  pub done-is : (t : Lent) → filter-number g l ≡ 0 → t ≡ after g l → answer 0 t ≡ filtered g l
+  pub done-is : (t : FilterLent) → filter-number g l ≡ 0 → t ≡ after g l → answer 0 t ≡ filtered g l
   unfolding filtered
   done-is t q e = rw (e, q)

@@ -29,15 +29,15 @@ use Rattle.screen.specs.Judging.{judged}
 use Rattle.step_filter.specs.declared.Placement.{Placement}
 
 -- what a filter fill is given: placement, pixmap, the paint list's length
-pub record Given : Type 0 where
+pub record FilterGiven : Type 0 where
   pub placement : Placement
   pub pixmap : ℕ
   pub count : ℕ
 
-abbrev pub given : Placement → ℕ → ℕ → Given
+abbrev pub given : Placement → ℕ → ℕ → FilterGiven
 given p m n = record { placement = p; pixmap = m; count = n }
 
-abbrev pub filter-of : Given → Filter
+abbrev pub filter-of : FilterGiven → Filter
 filter-of g =
     record {
       pixmap = g .pixmap;
@@ -46,7 +46,7 @@ filter-of g =
       source-y = g .placement .«source_y»;
     }
 
-abbrev pub good-given : Given → Bool
+abbrev pub good-given : FilterGiven → Bool
 good-given g = good-filter (filter-of g) && leb (g .count) most-records
 
 -- the paint and the attribute that the code adds
@@ -66,26 +66,26 @@ attrs-of s count =
     }
 
 -- a screen and what a filter fill is lent of its words
-pub record Lent : Type 0 where
+pub record FilterLent : Type 0 where
   pub screen : Screen
   pub words : Words
   pub paint-attrs : List ℕ
   pub filter-paints : List ℤ
 
-abbrev pub lent : Screen → Words → List ℕ → List ℤ → Lent
+abbrev pub lent : Screen → Words → List ℕ → List ℤ → FilterLent
 lent s w ps fs = record { screen = s; words = w; paint-attrs = ps; filter-paints = fs }
 
 -- the rules' filter fill
-abbrev pub plan-of : Given → Screen → Plan
+abbrev pub plan-of : FilterGiven → Screen → Plan
 plan-of g s = plan-filter (g .count) (filter-of g) (state-of s)
 
 -- 2, 1 and 4 for the screen's numbers and for how many words are lent
-abbrev pub first-number : Lent → ℕ
+abbrev pub first-number : FilterLent → ℕ
 first-number l =
     let n = judged (l .screen) (length (l .words .state)) (length (l .words .render)) (length (l .words .fills)) in
     cond (eqb n Done) (cond (eqb (length (l .paint-attrs)) paint-attr-table && eqb (length (l .filter-paints)) filter-paint-table) Done BadRecord) n
 
-unfoldable pub filter-number : Given → Lent → ℕ
+unfoldable pub filter-number : FilterGiven → FilterLent → ℕ
 filter-number g l =
     let s = l .screen in
     step-number (first-number l) (good-rows (frame-of s) (s .layers) (plan-of g s .puts) (rows-at (frame-of s) (l .words))) (plan-of g s)
@@ -96,7 +96,7 @@ abbrev pub filter-paint-words : FilterPaint → List ℤ
 filter-paint-words p = pos 0 ∷ pos (p .pixmap) ∷ p .shift-x ∷ p .shift-y ∷ []
 
 -- what a filter fill leaves: the words of the new attributes and filter paints stand after the others
-unfoldable pub after : Given → Lent → Lent
+unfoldable pub after : FilterGiven → FilterLent → FilterLent
 after g l =
     let s = l .screen in
     let p = plan-of g s in
@@ -105,15 +105,15 @@ after g l =
     (words-at (l .filter-paints) (4 * s .«filter_paints») (join filter-paint-words (drop (s .«filter_paints») (p .attrs .filters))))
 
 -- what is refused alters nothing
-unfoldable pub filtered : Given → Lent → Answer Lent
+unfoldable pub filtered : FilterGiven → FilterLent → Answer FilterLent
 filtered g l = settle (filter-number g l) l (after g l)
 
 -- the box that is drawn
-abbrev pub own-box : Given → Screen → Box
+abbrev pub own-box : FilterGiven → Screen → Box
 own-box g s = filter-box (box-of (s .viewport)) (box-of (s .«clip_bbox»)) (filter-of g)
 
 -- judged 0, and something is drawn
-pub record Drawing (g : Given) (l : Lent) (b : Rect) : Type 0 where
+pub record Drawing (g : FilterGiven) (l : FilterLent) (b : Rect) : Type 0 where
   pub number : filter-number g l ≡ 0
   pub bounds : box-of b ≡ own-box g (l .screen)
   pub drawn : draws-nothing (filter-of g) (box-of b) ≡ false

@@ -35,7 +35,7 @@ use Rattle.screen_layers.specs.Layers.{layer-at, clip-in, open-at, good-layer, 
 use Rattle.screen_layers.proofs.Laws.{without-clip, has-clip}
 use Rattle.step_pop_rows.specs.Closing.{row-of, touched-in, good-pops, full-by, runs-full, done-puts, clip-puts, Roomy, Fillable, Poppable, Each, Clips}
 use Rattle.step_pop_rows.proofs.Running.{cuts-sorted}
-use Rattle.step_pop.specs.Pop.{Lent, lent, layers-in, good-open, late, state-in, pop-plan, number-after, Judged, closing-puts, words-after}
+use Rattle.step_pop.specs.Pop.{PopLent, lent, layers-in, good-open, late, state-in, pop-plan, number-after, Judged, closing-puts, words-after}
 use Rattle.step_pop.proofs.Ready.{Closeable, Fits, fits, full-plain, full-clip, full-test, ready-fill, ready-puts, ready-pop, closed-words}
 use Rattle.step_pop.proofs.Numbers.{Screened, screened, layers-length, open-first, plan-is, plain-closeable, clip-closeable, number-plain, number-long, number-clip, the-list, listed-is, cuts-is, Passed, late-zero}
 use Rattle.step_pop.proofs.Opening.{OwnBox, own-facts, Ranged, layer-facts, last-row, own-span, own-small}

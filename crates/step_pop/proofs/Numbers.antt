@@ -38,7 +38,7 @@ use Rattle.step_pop_rows.proofs.Running.{Sorted, cuts-sorted}
 use Rattle.step_pop_rows.proofs.Rooms.{touched-inside}
 use Rattle.step_pop_rows.proofs.Clipping.{close-all, close-in}
 use Rattle.step_pop_rows.proofs.Judging.{not-true, not-false}
-use Rattle.step_pop.specs.Pop.{Lent, lent, layers-in, own-rows, good-open, good-lengths, late, first, state-in, own, touched-own, pop-plan, number-after, number, Judged}
+use Rattle.step_pop.specs.Pop.{PopLent, lent, layers-in, own-rows, good-open, good-lengths, late, first, state-in, own, touched-own, pop-plan, number-after, number, Judged}
 use Rattle.step_pop.proofs.Ready.{Closeable, all-fine, full-is, deep-is, full-plain, full-clip, full-test}
 
 -- 2, 1 and 4 are not given: a good viewport, the words of its rows, good counts
@@ -108,7 +108,7 @@ module _ (t : List ℕ) where
   open-first v (suc n) h = let e : suc n - 1 ≡ n = omega arith in rw e
 
 -- the tests before the rows
-module _ (s : code.Screen) (l : Lent) (ws : List ℕ) where
+module _ (s : code.Screen) (l : PopLent) (ws : List ℕ) where
   abbrev lens : Bool
   lens = good-lengths (length (l .layers)) (length (l .opacities)) (length (l .attrs)) (length ws)
 
@@ -188,7 +188,7 @@ module _ (p : Plan) (scr : Screen Words) (next a : ℕ) (few : length (p .layers
       go false i = refl
 
 -- a pop's plan, with a layer open
-module _ (s : code.Screen) (l : Lent) (ws : List ℕ) (low : 1 ≤ s .layers) (o : Screened s (l .words)) where
+module _ (s : code.Screen) (l : PopLent) (ws : List ℕ) (low : 1 ≤ s .layers) (o : Screened s (l .words)) where
   abbrev layer : Layer
   layer = layer-at (l .layers) (s .layers - 1)
 
@@ -352,14 +352,14 @@ module _ (s : code.Screen) (l : Lent) (ws : List ℕ) (low : 1 ≤ s .layers) (o
               rw puts-scene (deep-is v (length (layers-in (l .layers) (s .layers - 1)))))
 
 -- a number 0, taken apart
-pub zero-first : (s : code.Screen) (l : Lent) (ws : List ℕ) → number s l ws ≡ 0 → first s l ws ≡ 0
+pub zero-first : (s : code.Screen) (l : PopLent) (ws : List ℕ) → number s l ws ≡ 0 → first s l ws ≡ 0
 zero-first s l ws e = go (eqb (first s l ws) 0) refl
   where
     go : (b : Bool) → eqb (first s l ws) 0 ≡ b → first s l ws ≡ 0
     go true p = eqb-true (first s l ws) 0 p
     go false p = by-first s l ws refl (eqb-false (first s l ws) 0 p) ∙ e
 
-module _ (s : code.Screen) (l : Lent) (ws : List ℕ) (e : first s l ws ≡ 0) where
+module _ (s : code.Screen) (l : PopLent) (ws : List ℕ) (e : first s l ws ≡ 0) where
   pub zero-tests : (judged s (length (l .words .state)) (length (l .words .render)) (length (l .words .fills)) ≡ 0)
       × (good-lengths (length (l .layers)) (length (l .opacities)) (length (l .attrs)) (length ws) ≡ true) × (good-open (box-of (s .viewport)) (l .layers) (s .layers) ≡ true)
   unfolding first
@@ -449,7 +449,7 @@ pub above-0 : (n : ℕ) → (n ≡ 0 → ⊥) → 1 ≤ n
 above-0 zero h = absurd (h refl)
 above-0 (suc n) h = omega arith
 
-module _ (s : code.Screen) (l : Lent) (ws : List ℕ) where
+module _ (s : code.Screen) (l : PopLent) (ws : List ℕ) where
   -- opacities and attributes are not read after the first tests
   less-lent : number-after s (lent (l .words) (l .layers) [] []) ws 0 ≡ number-after s l ws 0
   unfolding number-after

@@ -34,7 +34,7 @@ use Rattle.screen_layers.specs.Layers.{layer-at, box-in, clip-in, open-at, good
 use Rattle.screen_layers.proofs.Laws.{without-clip, has-clip}
 use Rattle.step_pop_rows.specs.Closing.{touched-in, good-pops, full-by, runs-full}
 use Rattle.step_pop_rows.proofs.Judging.{not-true, not-false}
-use Rattle.step_pop.specs.Pop.{Lent, lent, layers-in, good-open, late, number-after}
+use Rattle.step_pop.specs.Pop.{PopLent, lent, layers-in, good-open, late, number-after}
 use Rattle.step_pop.proofs.Numbers.{Screened, layers-first, open-first, number-plain, number-long, number-clip}
 
 -- an open layer's box, as facts

@@ -32,7 +32,7 @@ use Rattle.segments.specs.Segs.{segs-of}
 use Rattle.row_judge.specs.Building.{screen-at, step-number}
 use Rattle.screen_layers.specs.declared.OpenLayer.{OpenLayer}
 use Rattle.screen_layers.specs.Layers.{clip-in, open-at, no-words}
-use Rattle.step_pop.specs.Pop.{Lent, lent, out, layers-in, good-open, good-lengths, state-in, touched-own, first, number-after, number, pop-plan, new-words, popped, Judged, words-after, attr-words, tables-after}
+use Rattle.step_pop.specs.Pop.{PopLent, lent, out, layers-in, good-open, good-lengths, state-in, touched-own, first, number-after, number, pop-plan, new-words, popped, Judged, words-after, attr-words, tables-after}
 use Rattle.step_pop.proofs.Numbers.{Screened, plan-is, layers-length, zero-judged}
 use Rattle.step_pop.proofs.Doing.{seen}
 
@@ -40,7 +40,7 @@ thread-is : (b : Bool) (c : Clip) → clip-thread (cond b none (some c)) ≡ con
 thread-is true c = refl
 thread-is false c = refl
 
-module _ (s : code.Screen) (l : Lent) (ws : List ℕ) (j : Judged s (l .layers) ws (l .words)) where
+module _ (s : code.Screen) (l : PopLent) (ws : List ℕ) (j : Judged s (l .layers) ws (l .words)) where
   o : Screened s (l .words)
   o = seen j
 
@@ -76,12 +76,12 @@ module _ (s : code.Screen) (l : Lent) (ws : List ℕ) (j : Judged s (l .layers) 
       → lent nowhere t x a ≡ tables-after s (lent nowhere (l .layers) (l .opacities) (l .attrs)) → out 0 r (lent w t x a) ≡ popped s l ws
   unfolding popped
   pop-out e {r} {w} {t} {x} {a} h i k =
-      let p : t ≡ words-at (l .layers) (16 * (s .layers - 1)) no-words = ap (λ (z : Lent). z .layers) k in
-      let q : x ≡ set (set (l .opacities) (16 + s .«layer_attrs») (getD (l .opacities) (s .layers - 1) nan)) (s .layers - 1) float-0 = ap (λ (z : Lent). z .opacities) k in
-      let u : a ≡ words-at (l .attrs) (6 * s .«layer_attrs») (attr-words s (l .layers)) = ap (λ (z : Lent). z .attrs) k in
+      let p : t ≡ words-at (l .layers) (16 * (s .layers - 1)) no-words = ap (λ (z : PopLent). z .layers) k in
+      let q : x ≡ set (set (l .opacities) (16 + s .«layer_attrs») (getD (l .opacities) (s .layers - 1) nan)) (s .layers - 1) float-0 = ap (λ (z : PopLent). z .opacities) k in
+      let u : a ≡ words-at (l .attrs) (6 * s .«layer_attrs») (attr-words s (l .layers)) = ap (λ (z : PopLent). z .attrs) k in
       rw (e, new-is, h, i, p, q, u)
 
-pub refused-out : (s : code.Screen) (l : Lent) (ws : List ℕ) {k m : ℕ} → k ≡ number s l ws → (k ≡ 0 → ⊥) → m ≡ k → out m s l ≡ popped s l ws
+pub refused-out : (s : code.Screen) (l : PopLent) (ws : List ℕ) {k m : ℕ} → k ≡ number s l ws → (k ≡ 0 → ⊥) → m ≡ k → out m s l ≡ popped s l ws
 unfolding popped
 refused-out s l ws {k} e h i = rw (← e, i, ne-eqb k 0 h)
 
@@ -108,7 +108,7 @@ small-judged s a b c =
     (if-small (not (good-rooms (rows-of (box-of (s .viewport))) (s .c) (s .d) b c)) 1 _ (omega arith)
     (if-small (not (eqb a (rows-of (box-of (s .viewport)) * 54) && good-screen s)) 4 0 (omega arith) (omega arith)))
 
-small-first : (s : code.Screen) (l : Lent) (ws : List ℕ) → first s l ws ≤ 14
+small-first : (s : code.Screen) (l : PopLent) (ws : List ℕ) → first s l ws ≤ 14
 unfolding first
 small-first s l ws =
     let n = judged s (length (l .words .state)) (length (l .words .render)) (length (l .words .fills)) in
@@ -141,7 +141,7 @@ small-step : (k : ℕ) (g : Bool) (p : Plan) (t : Screen Words) → k ≤ 14 →
 unfolding step-number
 small-step k g p t h i = if-small (eqb k 0) _ k (if-small g _ 4 (small-refusal p (done Words word-ops 32 p t) i) (omega arith)) h
 
-pub number-small : (s : code.Screen) (l : Lent) (ws : List ℕ) → number s l ws ≤ 14
+pub number-small : (s : code.Screen) (l : PopLent) (ws : List ℕ) → number s l ws ≤ 14
 unfolding number-after
 number-small s l ws =
     small-step (first s l ws) _ (pop-plan s l ws) (screen-at (state-in s (l .layers)) (l .words)) (small-first s l ws)

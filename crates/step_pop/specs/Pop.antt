@@ -28,22 +28,22 @@ use Rattle.screen_layers.specs.Layers.{layer-at, open-at, no-words, good-layer,
 use Rattle.step_pop_rows.specs.Closing.{touched-in, good-pops}
 
 -- What is lent: a screen's words, the table of open layers, opacities, layer attributes.
-pub record Lent : Type 0 where
+pub record PopLent : Type 0 where
   pub words : Words
   pub layers : List ℕ
   pub opacities : List Float
   pub attrs : List ℕ
 
-abbrev pub lent : Words → List ℕ → List Float → List ℕ → Lent
+abbrev pub lent : Words → List ℕ → List Float → List ℕ → PopLent
 lent w t o a = record { words = w; layers = t; opacities = o; attrs = a }
 
 -- a call's answer, the screen and what is lent, afterwards
-pub record Out : Type 0 where
+pub record PopOut : Type 0 where
   pub number : ℕ
   pub screen : Screen
-  pub lent : Lent
+  pub lent : PopLent
 
-abbrev pub out : ℕ → Screen → Lent → Out
+abbrev pub out : ℕ → Screen → PopLent → PopOut
 out n s l = record { number = n; screen = s; lent = l }
 
 -- the n open layers of a table, the innermost first
@@ -74,7 +74,7 @@ unfoldable pub late : Bool → ℕ → ℕ → ℕ → Bool → ℕ
 late good listed next attrs full =
     cond good (cond (eqb listed Done) (first-of ((ltb last-id next, Ids) ∷ (leb most-attrs attrs, FullAttrs) ∷ (full, FullRow) ∷ [])) listed) BadRecord
 
-module _ (s : Screen) (l : Lent) (ws : List ℕ) where
+module _ (s : Screen) (l : PopLent) (ws : List ℕ) where
   -- 2, 1 and 4: the screen, how many words are lent, the layer
   unfoldable pub first : ℕ
   first =
@@ -109,7 +109,7 @@ module _ (s : Screen) (l : Lent) (ws : List ℕ) where
   new-words = join layer-attr-words (drop (s .«layer_attrs») (pop-plan .attrs .layers)) ++ (open-at (l .layers) (s .layers - 1) .nan ∷ [])
 
   -- done: the rows of the plan, the layer's words and its opacity 0, its opacity copied
-  abbrev pub lent-after : Lent
+  abbrev pub lent-after : PopLent
   lent-after =
       lent (lay (done Words word-ops bucket-tiles pop-plan (screen-at (state-in s (l .layers)) (l .words)) .rows))
       (words-at (l .layers) (open-layer-size * (s .layers - 1)) no-words)
@@ -117,7 +117,7 @@ module _ (s : Screen) (l : Lent) (ws : List ℕ) where
       (words-at (l .attrs) (6 * s .«layer_attrs») new-words)
 
   -- a pop: done, or refused by its number with nothing changed
-  unfoldable pub popped : Out
+  unfoldable pub popped : PopOut
   popped = cond (eqb number Done) (out Done (screen-after s pop-plan) lent-after) (out number s l)
 
 -- what the doing half requires: nothing is refused. Opacities and attributes are not read here
@@ -146,7 +146,7 @@ attr-words s t =
     y .blend .mix ∷ y .blend .compose ∷ y .mask ∷ s .«next_draw_id» ∷ cond (eqb (y .flag) 0) 0 (y .thread) ∷ y .nan ∷ []
 
 -- the tables after it
-abbrev pub tables-after : Screen → Lent → Lent
+abbrev pub tables-after : Screen → PopLent → PopLent
 tables-after s l =
     lent (l .words) (words-at (l .layers) (open-layer-size * (s .layers - 1)) no-words)
     (set (set (l .opacities) (most-layers + s .«layer_attrs») (getD (l .opacities) (s .layers - 1) nan)) (s .layers - 1) float-0)

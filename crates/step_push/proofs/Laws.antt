@@ -41,7 +41,7 @@ use Rattle.step_rows.proofs.Laws.{puts-each}
 use Rattle.step_rows.proofs.Numbers.{Adding, band-answer, band-step, band-room, touch-adds, run-told}
 use Rattle.step_rows.proofs.Passing.{passed-whole, rows-within, judged-small, if-small, step-small, decide, surely, below}
 use Rattle.step_push.specs.declared.Run.{Run}
-use Rattle.step_push.specs.Push.{Lent, lent, plan-of, first-number, push-number, after, pushed, no-run, box-run, touch-run, on-layer}
+use Rattle.step_push.specs.Push.{PushLent, lent, plan-of, first-number, push-number, after, pushed, no-run, box-run, touch-run, on-layer}
 
 -- the new layer's box, and the rows that it touches at once
 abbrev pub own-box : LayerProps → Screen → Box
@@ -223,7 +223,7 @@ module _ (p : LayerProps) (s : Screen) (w : Words) (z : judged-at s w ≡ 0) (b 
     number-of-rows k h = rw run-is at h
 
 -- what a push judged 0 may rely on
-pub record Ready (p : LayerProps) (s : Screen) (w : Words) (ls : List ℕ) (os : List Float) : Type 0 where
+pub record PushReady (p : LayerProps) (s : Screen) (w : Words) (ls : List ℕ) (os : List Float) : Type 0 where
   pub zero : judged-at s w ≡ 0
   pub layers : length ls ≡ 256
   pub opacities : length os ≡ 1040
@@ -234,7 +234,7 @@ module _ (p : LayerProps) (s : Screen) (w : Words) (ls : List ℕ) (os : List Fl
   not-zero : {n : ℕ} → suc n ≡ push-number p (lent s w ls os) → ⊥
   not-zero e = omega (arith, e, q)
 
-  pub ready : Ready p s w ls os
+  pub ready : PushReady p s w ls os
   ready =
       let z : judged-at s w ≡ 0 = decide (judged-at s w) 0 (λ h. h (bad-screen p s w ls os h ∙ q)) in
       let a : length ls ≡ 256 = decide (length ls) 256 (λ h. not-zero (bad-layers p s w ls os z h)) in
@@ -256,7 +256,7 @@ module _ (p : LayerProps) (s : Screen) (w : Words) (ls : List ℕ) (os : List Fl
       }
 
 -- what it leaves
-module _ (p : LayerProps) (s : Screen) (w : Words) (ls : List ℕ) (os : List Float) (y : Ready p s w ls os) (b : Rect) (e : box-of b ≡ own-box p s) where
+module _ (p : LayerProps) (s : Screen) (w : Words) (ls : List ℕ) (os : List Float) (y : PushReady p s w ls os) (b : Rect) (e : box-of b ≡ own-box p s) where
   ok-screen : good-screen s ≡ true
   ok-screen = passed s (length (w .state)) (length (w .render)) (length (w .fills)) (y .zero) .screen
 
@@ -280,7 +280,7 @@ module _ (p : LayerProps) (s : Screen) (w : Words) (ls : List ℕ) (os : List Fl
       rw (screen-is, rows-are, plan-layers p s ok-screen, f, h, run-is p s w (y .zero) b e r g, ← e)
 
 -- the call
-module _ (p : LayerProps) (l : Lent) where
+module _ (p : LayerProps) (l : PushLent) where
   refused-small : plan-of p (l .screen) .refused ≤ 14
   unfolding plan-push
   refused-small = if-small (good-props (props-of p)) 0 4 (omega arith) (omega arith)
@@ -303,6 +303,6 @@ module _ (p : LayerProps) (l : Lent) where
   unfolding pushed
   refused-is n m e f h = rw (e, ← f, ne-eqb n 0 h)
 
-  pub done-is : (t : Lent) → push-number p l ≡ 0 → t ≡ after p l → answer 0 t ≡ pushed p l
+  pub done-is : (t : PushLent) → push-number p l ≡ 0 → t ≡ after p l → answer 0 t ≡ pushed p l
   unfolding pushed
   done-is t q e = rw (e, q)

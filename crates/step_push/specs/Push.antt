@@ -24,13 +24,13 @@ use Rattle.screen_layers.specs.Layers.{props-of, good-pattern, layer-words, no-
 use Rattle.step_push.specs.declared.Run.{Run}
 
 -- a screen and what a push is lent of its words
-pub record Lent : Type 0 where
+pub record PushLent : Type 0 where
   pub screen : Screen
   pub words : Words
   pub layers : List ℕ
   pub opacities : List Float
 
-abbrev pub lent : Screen → Words → List ℕ → List Float → Lent
+abbrev pub lent : Screen → Words → List ℕ → List Float → PushLent
 lent s w ls os = record { screen = s; words = w; layers = ls; opacities = os }
 
 -- the rules' push
@@ -38,13 +38,13 @@ abbrev pub plan-of : LayerProps → Screen → Plan
 plan-of p s = plan-push (props-of p) (state-of s)
 
 -- 2, 1 and 4 for the screen's numbers, for how many words are lent, and for a pattern that is not the opacity's
-abbrev pub first-number : LayerProps → Lent → ℕ
+abbrev pub first-number : LayerProps → PushLent → ℕ
 first-number p l =
     let n = judged (l .screen) (length (l .words .state)) (length (l .words .render)) (length (l .words .fills)) in
     cond (eqb n Done)
     (cond (eqb (length (l .layers)) open-layer-table && eqb (length (l .opacities)) opacity-count && good-pattern (p .opacity) (p .nan)) Done BadRecord) n
 
-unfoldable pub push-number : LayerProps → Lent → ℕ
+unfoldable pub push-number : LayerProps → PushLent → ℕ
 push-number p l =
     let s = l .screen in
     step-number (first-number p l) (good-rows (frame-of s) (s .layers) (plan-of p s .puts) (rows-at (frame-of s) (l .words))) (plan-of p s)
@@ -56,14 +56,14 @@ top-words [] nan = no-words
 top-words (l ∷ ls) nan = layer-words l nan
 
 -- what a push leaves
-unfoldable pub after : LayerProps → Lent → Lent
+unfoldable pub after : LayerProps → PushLent → PushLent
 after p l =
     let s = l .screen in
     lent (screen-after s (plan-of p s)) (lay (done Words word-ops bucket-tiles (plan-of p s) (screen-at (state-of s) (l .words)) .rows))
     (words-at (l .layers) (open-layer-size * s .layers) (top-words (plan-of p s .layers) (p .nan))) (set (l .opacities) (s .layers) (p .opacity))
 
 -- what is refused alters nothing
-unfoldable pub pushed : LayerProps → Lent → Answer Lent
+unfoldable pub pushed : LayerProps → PushLent → Answer PushLent
 pushed p l = settle (push-number p l) l (after p l)
 
 -- the code's parts: the rows of a box, if the compose code is destructive and the box not empty

@@ -15,7 +15,7 @@ use Rattle.file_form.specs.declared.Layout.{Layout}
 use Rattle.file_form.specs.Layouts.{form-of}
 use Rattle.file_call.specs.Recorded.{recorded}
 use Rattle.text_screen.specs.declared.Listing.{Listing}
-use Rattle.text_screen.specs.Listed.{Out, left, listed, refused-listed}
+use Rattle.text_screen.specs.Listed.{TextOut, left, listed, refused-listed}
 use Rattle.text_file.specs.declared.FileText.{FileText}
 use Rattle.text_file.specs.declared.Size.{Size}
 use Rattle.text_file.specs.Files.{nothing, Showed, showed, file-text, refusing, showing, file-out, FileOut, recording-text, viewport-of, size, size-of, cut-to, over, in-front, front-text, is-roomy, words-text}
@@ -23,7 +23,7 @@ use Rattle.text_file.specs.Files.{nothing, Showed, showed, file-text, re
 module _ (n : ℕ) (s : Screen) (bs : List ℕ) {r : Listing} {cs : List ℕ} where
   pub refused-as : left r cs ≡ refused-listed n bs → showed (file-text n (r .bytes) s) cs ≡ refusing n s bs
   unfolding refusing
-  refused-as e = ap (λ (o : Out). showed (file-text n (o .answer .bytes) s) (o .bytes)) e
+  refused-as e = ap (λ (o : TextOut). showed (file-text n (o .answer .bytes) s) (o .bytes)) e
 
 module _ (s : Screen) (w : Words) (bs : List ℕ) {r : Listing} {cs : List ℕ} (e : left r cs ≡ listed s w bs) where
   pub show-refused : {x : FileText} {ds : List ℕ} → (r .number ≡ 0 → ⊥) → showed x ds ≡ refusing (r .number) s cs → showed x ds ≡ showing s w bs

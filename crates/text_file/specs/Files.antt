@@ -11,14 +11,14 @@ use Rattle.rect.specs.declared.Rect.{Rect}
 use Rattle.row.specs.Words.{Words, words}
 use Rattle.screen.specs.declared.Screen.{Screen}
 use Rattle.screen.specs.Screens.{fresh-screen}
-use Rattle.screen.specs.Tables.{Tables, tables, Lent, lent}
+use Rattle.screen.specs.Tables.{Tables, tables, ScreenLent, lent}
 use Rattle.file_form.specs.declared.Form.{Form}
 use Rattle.file_form.specs.declared.Form.the-variants as form
 use Rattle.file_form.specs.Layouts.{form-of}
 use Rattle.file_form.specs.Words.{words-in}
 use Rattle.file_judge.specs.Judging.{box-from}
 use Rattle.file_call.specs.Recorded.{recorded}
-use Rattle.text_screen.specs.Listed.{Out, listed, refused-listed}
+use Rattle.text_screen.specs.Listed.{TextOut, listed, refused-listed}
 use Rattle.text_file.specs.declared.FileText.{FileText}
 use Rattle.text_file.specs.declared.Size.{Size}
 
@@ -45,7 +45,7 @@ unfoldable pub refusing : ℕ → Screen → List ℕ → Showed
 refusing n s bs = let o = refused-listed n bs in showed (file-text n (o .answer .bytes) s) (o .bytes)
 
 -- a listed screen
-abbrev pub shown-as : Screen → Out → Showed
+abbrev pub shown-as : Screen → TextOut → Showed
 shown-as s o = cond (eqb (o .answer .number) Done) (showed (file-text Done (o .answer .bytes) s) (o .bytes)) (refusing (o .answer .number) s (o .bytes))
 
 -- a screen's lines
@@ -61,7 +61,7 @@ abbrev pub file-out : Showed → Tables → FileOut
 file-out x t = record { showed = x; tables = t }
 
 -- what is shown of a recording call's answer
-abbrev pub answered : Answer Lent → List ℕ → FileOut
+abbrev pub answered : Answer ScreenLent → List ℕ → FileOut
 answered a bs =
     let s = a .value .screen in
     let t = a .value .tables in

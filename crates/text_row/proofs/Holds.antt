@@ -10,12 +10,12 @@ use lib.Seq.{length-take-le}
 use Rattle.rules.specs.Answers.{Done}
 use Rattle.rules.specs.Painting as rules
 use Rattle.screen.specs.declared.Screen.{Screen}
-use Rattle.paint_command.specs.Painting.{Lent, lent, Out, out, refused, left, settled, painted-row}
+use Rattle.paint_command.specs.Painting.{RowLent, lent, StepOut, out, refused, left, settled, painted-row}
 use Rattle.paint_command.proofs.Spreading.{length-pieces}
 use Rattle.paint_screen.specs.Stepping.{Attributes, number, row-step, stepped}
 use Rattle.paint_whole.specs.Running.{goes-on, ended, one-more, run, most, standing, call-step, row-painted}
 
-abbrev Holds : Out → Type 0
+abbrev Holds : StepOut → Type 0
 Holds o = 6 * o .answer .pieces ≤ length (o .list)
 
 settled-holds : (x : Option rules.Painted) (d p l : List ℕ) → Holds (settled x d p l)
@@ -27,7 +27,7 @@ settled-holds (some o) d p l = go (ltb (length l / 6) (length (o .pieces)))
     go true = omega arith
     go false = rw (length-append, length-pieces (o .pieces)) (omega arith)
 
-step-holds : (s : Screen) (r : ℕ) (a : Attributes) (l : Lent) → Holds (stepped s r a l)
+step-holds : (s : Screen) (r : ℕ) (a : Attributes) (l : RowLent) → Holds (stepped s r a l)
 unfolding stepped row-step painted-row
 step-holds s r a l = go (eqb (number s r a l) Done)
   where
@@ -35,13 +35,13 @@ step-holds s r a l = go (eqb (number s r a l) Done)
     go true = settled-holds _ _ _ _
     go false = omega arith
 
-module _ (step : List ℕ → List ℕ → List ℕ → Out) (h : (d p l : List ℕ) → Holds (step d p l)) where
-  one-holds : (g : Out) → Holds g → Holds (one-more step g)
+module _ (step : List ℕ → List ℕ → List ℕ → StepOut) (h : (d p l : List ℕ) → Holds (step d p l)) where
+  one-holds : (g : StepOut) → Holds g → Holds (one-more step g)
   unfolding one-more
   one-holds g i =
       rw (length-append, length-take-le (6 * g .answer .pieces) (g .list) i) (omega (arith, h (g .depth) (g .painting) (drop (6 * g .answer .pieces) (g .list))))
 
-  run-holds : (f k : ℕ) (g : Out) → Holds g → Holds (run step f k g)
+  run-holds : (f k : ℕ) (g : StepOut) → Holds g → Holds (run step f k g)
   unfolding run
   run-holds zero k g i = i
   run-holds (suc f) k g i = go (goes-on (one-more step g .answer)) (run-holds f (k + 1) (one-more step g) (one-holds g i))
@@ -50,7 +50,7 @@ module _ (step : List ℕ → List ℕ → List ℕ → Out) (h : (d p l : List 
       go true j = j
       go false j = one-holds g i
 
-pub row-holds : (s : Screen) (r : ℕ) (a : Attributes) (l : Lent) → 6 * row-painted s r a l .answer .pieces ≤ length (row-painted s r a l .list)
+pub row-holds : (s : Screen) (r : ℕ) (a : Attributes) (l : RowLent) → 6 * row-painted s r a l .answer .pieces ≤ length (row-painted s r a l .list)
 unfolding row-painted
 row-holds s r a l =
     run-holds (call-step s r a (l .state) (l .render) (l .fills)) (λ d p ws. step-holds s r a (lent (l .state) (l .render) (l .fills) d p ws)) most 0

@@ -12,27 +12,27 @@ use Rattle.text.specs.Texts.{Text, text, Wrote}
 use Rattle.text.proofs.Laws.{then, within}
 use Rattle.cmd.specs.Answers.{number-of}
 use Rattle.paint_command.specs.Painting as painting
-use Rattle.paint_command.specs.Painting.{Lent, lent, out}
+use Rattle.paint_command.specs.Painting.{RowLent, lent, out}
 use Rattle.paint_screen.specs.declared.step.Stepped.{Stepped}
 use Rattle.paint_screen.specs.Stepping.{Attributes, painted-of, stepped}
 use Rattle.paint_whole.specs.Running.{row-painted}
 use Rattle.text_screen.specs.declared.Listing.{Listing}
-use Rattle.text_screen.specs.Listed.{Out, listing, left}
+use Rattle.text_screen.specs.Listed.{TextOut, listing, left}
 use Rattle.text_screen.proofs.Writing.{written-done, written-full}
 use Rattle.text_details.specs.Bytes.{details-text}
 use Rattle.text_details.specs.Tables.{paint-lines, layer-lines, filter-lines}
 use Rattle.text_row.specs.Pieces.{row-lines}
-use Rattle.text_row.specs.Dumped.{row-out, row-dumped, pieces-written, Stopped, stopped-out, stopped, Tables, good-tables, attrs-room, attrs-text, attrs-dumped}
+use Rattle.text_row.specs.Dumped.{row-out, row-dumped, pieces-written, Stopped, stopped-out, stopped, AttrTables, good-tables, attrs-room, attrs-text, attrs-dumped}
 use Rattle.text_row.proofs.Holds.{row-holds}
 
 -- the number of a step that is tried
-pub stopped-at : (s : Screen) (r : ℕ) (a : Attributes) (l : Lent) (q : Stepped) {d p ws : List ℕ} {n : ℕ} → n ≡ number-of (q .answer)
+pub stopped-at : (s : Screen) (r : ℕ) (a : Attributes) (l : RowLent) (q : Stepped) {d p ws : List ℕ} {n : ℕ} → n ≡ number-of (q .answer)
     → out (painted-of q) d p ws ≡ stepped s r a l → stopped-out (listing n 0) d p ≡ stopped s r a l
 unfolding stopped
-stopped-at s r a l q i e = rw i (ap (λ (o : painting.Out). stopped-out (listing (o .answer .number) 0) (o .depth) (o .painting)) e)
+stopped-at s r a l q i e = rw i (ap (λ (o : painting.StepOut). stopped-out (listing (o .answer .number) 0) (o .depth) (o .painting)) e)
 
 -- a row
-module _ (s : Screen) (r : ℕ) (a : Attributes) (l : Lent) (q : Stepped) {n : ℕ} (i : n ≡ number-of (q .answer)) {d p ws : List ℕ}
+module _ (s : Screen) (r : ℕ) (a : Attributes) (l : RowLent) (q : Stepped) {n : ℕ} (i : n ≡ number-of (q .answer)) {d p ws : List ℕ}
     (e : out (painted-of q) d p ws ≡ row-painted s r a l) (bs : List ℕ) where
   same : out (record { number = n; finished = q .finished; pieces = q .pieces }) d p ws ≡ row-painted s r a l
   same = rw i e
@@ -42,7 +42,7 @@ module _ (s : Screen) (r : ℕ) (a : Attributes) (l : Lent) (q : Stepped) {n : �
   row-refused h = rw (← same, ne-eqb n 0 h)
 
   pub row-few : 6 * q .pieces ≤ length ws
-  row-few = subst (λ (o : painting.Out). 6 * o .answer .pieces ≤ length (o .list)) (sym e) (row-holds s r a l)
+  row-few = subst (λ (o : painting.StepOut). 6 * o .answer .pieces ≤ length (o .list)) (sym e) (row-holds s r a l)
 
   module _ (h : n ≡ 0) where
     pub row-ended : {z : Listing} {f g : List ℕ} → q .finished ≡ false → stopped-out z f g ≡ stopped s r a (lent (l .state) (l .render) (l .fills) d p [])
@@ -52,7 +52,7 @@ module _ (s : Screen) (r : ℕ) (a : Attributes) (l : Lent) (q : Stepped) {n : �
 
     pub row-done : {z : Listing} {cs : List ℕ} → q .finished ≡ true → left z cs ≡ pieces-written r ws (q .pieces) bs → row-out z d p ws cs ≡ row-dumped s r a l bs
     unfolding row-dumped
-    row-done k j = ap (λ (o : Out). row-out (o .answer) d p ws (o .bytes)) j ∙ rw (← same, eq-eqb n 0 h, k)
+    row-done k j = ap (λ (o : TextOut). row-out (o .answer) d p ws (o .bytes)) j ∙ rw (← same, eq-eqb n 0 h, k)
 
 -- its lines
 module _ (r : ℕ) (ws : List ℕ) (n : ℕ) (bs : List ℕ) where
@@ -80,7 +80,7 @@ pub record Good (s : Screen) (a b c d : ℕ) : Type 0 where
   pub opacity-table : c ≡ 1040
   pub filter-table : d ≡ 1024
 
-pub good : (s : Screen) (t : Tables) → good-tables s t ≡ true → Good s (length (t .paints)) (length (t .layers)) (length (t .opacities)) (length (t .filters))
+pub good : (s : Screen) (t : AttrTables) → good-tables s t ≡ true → Good s (length (t .paints)) (length (t .layers)) (length (t .opacities)) (length (t .filters))
 good s t e =
     let h1 = both _ _ e in
     let h2 = both _ _ (h1 .1) in
@@ -98,7 +98,7 @@ good s t e =
       filter-table = eqb-true _ _ (h6 .1);
     }
 
-module _ (s : Screen) (t : Tables) (bs : List ℕ) where
+module _ (s : Screen) (t : AttrTables) (bs : List ℕ) where
   pub attrs-bad : good-tables s t ≡ false → left (listing 4 0) bs ≡ attrs-dumped s t bs
   unfolding attrs-dumped
   attrs-bad e = rw e
@@ -113,7 +113,7 @@ module _ (s : Screen) (t : Tables) (bs : List ℕ) where
     attrs-done h x = written-done (attrs-text s t) h x ∙ rw e
 
 -- the three tables' lines, one after the other
-pub attrs-written : (s : Screen) (t : Tables) {x y z : Text} {u : Text}
+pub attrs-written : (s : Screen) (t : AttrTables) {x y z : Text} {u : Text}
     → Wrote (details-text (paint-lines (t .paints) (s .«paint_attrs»))) (96 * (1 + s .«paint_attrs»)) x y
     → Wrote (details-text (layer-lines (t .layers) (t .opacities) (s .«layer_attrs»))) (96 * (1 + s .«layer_attrs»)) y z
     → Wrote (details-text (filter-lines (t .filters) (s .«filter_paints»))) (96 * (1 + s .«filter_paints»)) z u → Wrote (attrs-text s t) (attrs-room s) x u

@@ -19,7 +19,7 @@ use Rattle.screen.specs.declared.Screen.{Screen}
 use Rattle.screen.specs.Judging.{judged}
 use Rattle.screen.proofs.Laws.{few-rows, few-buckets, bounds}
 use Rattle.screen.proofs.Passed.{passed}
-use Rattle.text_screen.specs.Listed.{good-depths, good-commands, good-row, good-rows, screen-room, list-number, Few, Ready}
+use Rattle.text_screen.specs.Listed.{good-depths, good-commands, good-row, good-rows, screen-room, list-number, Few, ListedRow}
 use Rattle.text_screen.proofs.Runs.{below-at}
 
 pub not-there : {A : Type 0} {x y : Option A} → x ≡ y → x ≡ none → false ≡ is-some y
@@ -60,7 +60,7 @@ pub small : (m c d : ℕ) → m ≤ 512 → c ≤ 1024 → d ≤ 1024 → m * (6
 small m c d h e g = mul-le-mul {n₂ = 512} {m₂ = 131136} h (omega arith)
 
 -- row r has its words
-pub row-ready : {m c d : ℕ} {w : Words} → Arenas c d m w → (r : ℕ) → r < m → Few c d (row-at (sizes c d) r w) → Ready (row-at (sizes c d) r w)
+pub row-ready : {m c d : ℕ} {w : Words} → Arenas c d m w → (r : ℕ) → r < m → Few c d (row-at (sizes c d) r w) → ListedRow (row-at (sizes c d) r w)
 row-ready {m} {c} {d} {w} o r h f =
     let x = at-render (sizes c d) m r w (o .long) h in
     let y = at-fills (sizes c d) m r w (o .long) h in

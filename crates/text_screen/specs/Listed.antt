@@ -88,31 +88,31 @@ list-number s w =
     cond (eqb first Done) (cond good Done BadRecord) first
 
 -- what a call leaves: its answer, and the lent bytes
-pub record Out : Type 0 where
+pub record TextOut : Type 0 where
   pub answer : Listing
   pub bytes : List ℕ
 
-abbrev pub left : Listing → List ℕ → Out
+abbrev pub left : Listing → List ℕ → TextOut
 left r bs = record { answer = r; bytes = bs }
 
 abbrev pub listing : ℕ → ℕ → Listing
 listing n k = record { number = n; bytes = k }
 
 -- the text stands first, what was after it stays
-abbrev pub begun-with : List ℕ → List ℕ → Out
+abbrev pub begun-with : List ℕ → List ℕ → TextOut
 begun-with ts bs = left (listing Done (length ts)) (ts ++ drop (length ts) bs)
 
 -- 14 for a text that is longer than the bytes
-unfoldable pub written : List ℕ → List ℕ → Out
+unfoldable pub written : List ℕ → List ℕ → TextOut
 written ts bs = cond (ltb (length bs) (length ts)) (left (listing NoRoom 0) bs) (begun-with ts bs)
 
-unfoldable pub listed : Screen → Words → List ℕ → Out
+unfoldable pub listed : Screen → Words → List ℕ → TextOut
 listed s w bs =
     let n = list-number s w in
     cond (eqb n Done) (written (text-of (screen-lines s w)) bs) (left (listing n 0) bs)
 
 -- the line of a refusal
-abbrev pub refused-listed : ℕ → List ℕ → Out
+abbrev pub refused-listed : ℕ → List ℕ → TextOut
 refused-listed n bs = written (line-bytes (refused n)) bs
 
 -- a row's counts within C and D
@@ -121,7 +121,7 @@ pub record Few (c d : ℕ) (w : Words) : Type 0 where
   pub depths : word depths-at w ≤ d
 
 -- a row with its counted commands and depth fills
-pub record Ready (w : Words) : Type 0 where
+pub record ListedRow (w : Words) : Type 0 where
   pub state : length (w .state) ≡ row-size
   pub commands : 4 * word renders-at w ≤ length (w .render)
   pub depths : 2 * word depths-at w ≤ length (w .fills)

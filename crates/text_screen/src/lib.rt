@@ -30,7 +30,7 @@ ghost use Rattle.text.specs.Texts.{text, far, Wrote};
 ghost use Rattle.row.specs.Words.{words};
 ghost use Rattle.row_screen.specs.Arena.{sizes, row-at, Arenas};
 ghost use Rattle.text_screen.specs.Places.{is-some};
-ghost use Rattle.text_screen.specs.Listed.{depth-fill-at, command-at, shown, depth-lines, command-lines, row-lines, rows-lines, screen-lines, text-of, good-depths, good-commands, good-row, good-rows, row-room, screen-room, list-number, left, listed, refused-listed, Few, Ready};
+ghost use Rattle.text_screen.specs.Listed.{depth-fill-at, command-at, shown, depth-lines, command-lines, row-lines, rows-lines, screen-lines, text-of, good-depths, good-commands, good-row, good-rows, row-room, screen-room, list-number, left, listed, refused-listed, Few, ListedRow};
 
 // number: document 01's answer. bytes: how many are written, at the start of the lent ones.
 pub struct Listing {
@@ -245,7 +245,7 @@ fn put_row(
     buckets: u32,
     r: u32,
 ) -> usize
-    requires { ⌜ Ready (words (now state) (now render) (now fills)) × (at + 64 * (1 + (getD (now state) 0 0 + getD (now state) 1 0)) ≤ far) ⌝ }
+    requires { ⌜ ListedRow (words (now state) (now render) (now fills)) × (at + 64 * (1 + (getD (now state) 0 0 + getD (now state) 1 0)) ≤ far) ⌝ }
     ensures { λ p. ⌜ Wrote (text-of (row-lines buckets r (words (now (state .entry)) (now (render .entry)) (now (fills .entry))))) (64 * (1 + (getD (now (state .entry)) 0 0 + getD (now (state .entry)) 1 0))) (text (now (out .entry)) at) (text (now (out .exit)) p) ⌝ }
 {
     let renders = state[RENDERS];

@@ -111,7 +111,7 @@ turn-in (whole-row t) = t
 abbrev pub own-attributes : Host → Attributes
 own-attributes h = attributes (h .tables .paint-attrs) (h .tables .layer-attrs)
 
-abbrev pub own-words : List ℕ → Host → paint.Lent
+abbrev pub own-words : List ℕ → Host → paint.RowLent
 own-words list h = let t = h .tables in paint.lent (t .rows) (t .render) (t .fills) (t .depth) (t .painting) list
 
 -- its number; the depth and painting words, the list and the result afterwards

@@ -50,8 +50,8 @@ built-once r q n s = rw (number-once (r .answer) (q .answer) n, s)
 -- with all ten tables lent, as a reset and a recording are
 pub all-once : (r q : Built) (t u : Tables) → answer (number-of (r .answer)) (all.lent (r .screen) t) ≡ answer (number-of (q .answer)) (all.lent (q .screen) u) → (r ≡ q) × (t ≡ u)
 all-once r q t u h = (
-  built-once r q (ap (λ (x : rules.Answer all.Lent). x .number) h) (ap (λ (x : rules.Answer all.Lent). x .value .screen) h),
-  ap (λ (x : rules.Answer all.Lent). x .value .tables) h,
+  built-once r q (ap (λ (x : rules.Answer all.ScreenLent). x .number) h) (ap (λ (x : rules.Answer all.ScreenLent). x .value .screen) h),
+  ap (λ (x : rules.Answer all.ScreenLent). x .value .tables) h,
 )
 
 -- `reset`: the ten tables before and after
@@ -70,9 +70,9 @@ module _ (screen : Screen) (rows : Words) (attrs paints segments : List ℕ) (dr
   pub one-fill : (r q : Built) (w v : Words) (p o : List ℕ) → Fills r w p → Fills q v o → (r ≡ q) × (w ≡ v) × (p ≡ o)
   one-fill r q w v p o e f =
       let h = e ∙ sym f in (
-        built-once r q (ap (λ (x : rules.Answer fills.Lent). x .number) h) (ap (λ (x : rules.Answer fills.Lent). x .value .screen) h),
-        ap (λ (x : rules.Answer fills.Lent). x .value .words) h,
-        ap (λ (x : rules.Answer fills.Lent). x .value .paint-attrs) h,
+        built-once r q (ap (λ (x : rules.Answer fills.FillLent). x .number) h) (ap (λ (x : rules.Answer fills.FillLent). x .value .screen) h),
+        ap (λ (x : rules.Answer fills.FillLent). x .value .words) h,
+        ap (λ (x : rules.Answer fills.FillLent). x .value .paint-attrs) h,
       )
 
 -- `push_layer`: the rows' words, the open layers and their opacities
@@ -83,22 +83,22 @@ module _ (screen : Screen) (rows : Words) (layers : List ℕ) (opacities : List 
   pub one-push : (r q : Built) (w v : Words) (l m : List ℕ) (o p : List Float) → Pushes r w l o → Pushes q v m p → (r ≡ q) × (w ≡ v) × (l ≡ m) × (o ≡ p)
   one-push r q w v l m o p e f =
       let h = e ∙ sym f in (
-        built-once r q (ap (λ (x : rules.Answer pushes.Lent). x .number) h) (ap (λ (x : rules.Answer pushes.Lent). x .value .screen) h),
-        ap (λ (x : rules.Answer pushes.Lent). x .value .words) h,
-        ap (λ (x : rules.Answer pushes.Lent). x .value .layers) h,
-        ap (λ (x : rules.Answer pushes.Lent). x .value .opacities) h,
+        built-once r q (ap (λ (x : rules.Answer pushes.PushLent). x .number) h) (ap (λ (x : rules.Answer pushes.PushLent). x .value .screen) h),
+        ap (λ (x : rules.Answer pushes.PushLent). x .value .words) h,
+        ap (λ (x : rules.Answer pushes.PushLent). x .value .layers) h,
+        ap (λ (x : rules.Answer pushes.PushLent). x .value .opacities) h,
       )
 
 -- `pop_layer`: the rows' words, the open layers and the opacities, and the table of layer attributes
-module _ (screen : Screen) (lent : pops.Lent) (list : List ℕ) where
-  abbrev pub Pops : Built → pops.Lent → Type 0
+module _ (screen : Screen) (lent : pops.PopLent) (list : List ℕ) where
+  abbrev pub Pops : Built → pops.PopLent → Type 0
   Pops r l = pops.out (number-of (r .answer)) (r .screen) l ≡ popped screen lent list
 
-  pub one-pop : (r q : Built) (l m : pops.Lent) → Pops r l → Pops q m → (r ≡ q) × (l ≡ m)
+  pub one-pop : (r q : Built) (l m : pops.PopLent) → Pops r l → Pops q m → (r ≡ q) × (l ≡ m)
   one-pop r q l m e f =
       let h = e ∙ sym f in (
-        built-once r q (ap (λ (x : pops.Out). x .number) h) (ap (λ (x : pops.Out). x .screen) h),
-        ap (λ (x : pops.Out). x .lent) h,
+        built-once r q (ap (λ (x : pops.PopOut). x .number) h) (ap (λ (x : pops.PopOut). x .screen) h),
+        ap (λ (x : pops.PopOut). x .lent) h,
       )
 
 -- `filter_fill`: the rows' words, the table of paint attributes and the filter paints
@@ -109,10 +109,10 @@ module _ (screen : Screen) (rows : Words) (attrs : List ℕ) (paints : List ℤ)
   pub one-filter : (r q : Built) (w v : Words) (p o : List ℕ) (z y : List ℤ) → Filters r w p z → Filters q v o y → (r ≡ q) × (w ≡ v) × (p ≡ o) × (z ≡ y)
   one-filter r q w v p o z y e f =
       let h = e ∙ sym f in (
-        built-once r q (ap (λ (x : rules.Answer filters.Lent). x .number) h) (ap (λ (x : rules.Answer filters.Lent). x .value .screen) h),
-        ap (λ (x : rules.Answer filters.Lent). x .value .words) h,
-        ap (λ (x : rules.Answer filters.Lent). x .value .paint-attrs) h,
-        ap (λ (x : rules.Answer filters.Lent). x .value .filter-paints) h,
+        built-once r q (ap (λ (x : rules.Answer filters.FilterLent). x .number) h) (ap (λ (x : rules.Answer filters.FilterLent). x .value .screen) h),
+        ap (λ (x : rules.Answer filters.FilterLent). x .value .words) h,
+        ap (λ (x : rules.Answer filters.FilterLent). x .value .paint-attrs) h,
+        ap (λ (x : rules.Answer filters.FilterLent). x .value .filter-paints) h,
       )
 
 -- No call asks anything, and the promises are the sources' clauses: at the arguments a, the result r and the arguments at exit e.

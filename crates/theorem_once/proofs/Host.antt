@@ -87,11 +87,11 @@ module _ (flag : ℕ) (given : LayerProps) (state : List ℕ) (rows : Words) (la
   one-push = once (push-call flag given state rows layers opacities)
 
 -- `coarse_pop_layer`: the rows' words, the open layers, the opacities and the layer attributes
-module _ (segments state : List ℕ) (lent : pops.Lent) where
-  abbrev pub Pops : ℕ → List ℕ × pops.Lent → Type 0
+module _ (segments state : List ℕ) (lent : pops.PopLent) where
+  abbrev pub Pops : ℕ → List ℕ × pops.PopLent → Type 0
   Pops r x = answer r x ≡ pop-call segments state lent
 
-  pub one-pop : (r q : ℕ) (x y : List ℕ × pops.Lent) → Pops r x → Pops q y → (r ≡ q) × (x ≡ y)
+  pub one-pop : (r q : ℕ) (x y : List ℕ × pops.PopLent) → Pops r x → Pops q y → (r ≡ q) × (x ≡ y)
   one-pop = once (pop-call segments state lent)
 
 -- `coarse_filter_fill`: the rows' words, the paint attributes and the filter paints
@@ -111,7 +111,7 @@ module _ (state depth painting : List ℕ) where
   one-begin = once (begin-call state depth painting)
 
 -- `coarse_paint_step`: the depth words, the painting table, the list of pieces and the result
-module _ (row : ℕ) (attrs : Attributes) (state : List ℕ) (given : paint.Lent) (result : List ℕ) where
+module _ (row : ℕ) (attrs : Attributes) (state : List ℕ) (given : paint.RowLent) (result : List ℕ) where
   abbrev pub Steps : ℕ → List ℕ × List ℕ × List ℕ × List ℕ → Type 0
   Steps r x = answer r x ≡ step-call row attrs state given result
 
@@ -119,7 +119,7 @@ module _ (row : ℕ) (attrs : Attributes) (state : List ℕ) (given : paint.Lent
   one-step = once (step-call row attrs state given result)
 
 -- `coarse_paint_row`: the same
-module _ (row : ℕ) (attrs : Attributes) (state : List ℕ) (given : paint.Lent) (result : List ℕ) where
+module _ (row : ℕ) (attrs : Attributes) (state : List ℕ) (given : paint.RowLent) (result : List ℕ) where
   abbrev pub PaintsRow : ℕ → List ℕ × List ℕ × List ℕ × List ℕ → Type 0
   PaintsRow r x = answer r x ≡ row-call row attrs state given result
 

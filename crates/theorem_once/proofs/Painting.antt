@@ -26,7 +26,7 @@ use Rattle.depth.specs.Listing as depth
 use Rattle.depth.proofs.Once.{out-once, skip-once}
 use Rattle.screen.specs.declared.Screen.{Screen}
 use Rattle.screen.specs.declared.Built.{Built}
-use Rattle.paint_command.specs.Painting.{Lent, lent, out}
+use Rattle.paint_command.specs.Painting.{RowLent, lent, out}
 use Rattle.paint_screen.specs.declared.step.Stepped.{Stepped}
 use Rattle.paint_screen.specs.declared.rows.Written.{Written}
 use Rattle.paint_screen.specs.Beginning.{canvas, beginning}
@@ -51,7 +51,7 @@ module _ (screen : Screen) (depth painting : List ℕ) where
   one-begin r q d e p o h k = begin-once r q d e p o (h ∙ sym k)
 
 -- `paint_step`: the depth words, the painting table and the list of pieces
-module _ (screen : Screen) (row : ℕ) (attrs : Attributes) (given : Lent) where
+module _ (screen : Screen) (row : ℕ) (attrs : Attributes) (given : RowLent) where
   abbrev pub Steps : Stepped → List ℕ → List ℕ → List ℕ → Type 0
   Steps r d p l = out (painted-of r) d p l ≡ stepped screen row attrs given
 
@@ -59,7 +59,7 @@ module _ (screen : Screen) (row : ℕ) (attrs : Attributes) (given : Lent) where
   one-step r q d e p o l m h k = step-once r q d e p o l m (h ∙ sym k)
 
 -- `paint_row`: the same of a row's next steps in one call
-module _ (screen : Screen) (row : ℕ) (attrs : Attributes) (given : Lent) where
+module _ (screen : Screen) (row : ℕ) (attrs : Attributes) (given : RowLent) where
   abbrev pub PaintsRow : Stepped → List ℕ → List ℕ → List ℕ → Type 0
   PaintsRow r d p l = out (painted-of r) d p l ≡ row-painted screen row attrs given
 

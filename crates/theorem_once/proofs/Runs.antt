@@ -26,7 +26,7 @@ use Rattle.depth.specs.declared.state.Skip.{Skip}
 use Rattle.depth.specs.declared.runs.Runs.{Runs}
 use Rattle.depth.specs.declared.runs.Runs.the-variants as runs
 use Rattle.depth.specs.Answers.{split-of, summary, skip-of}
-use Rattle.depth.specs.Listing.{Out, out, out-write, listing, writing}
+use Rattle.depth.specs.Listing.{RunsOut, out, out-write, listing, writing}
 use Rattle.depth.proofs.Once.{split-once, summary-once, skip-once, out-once, write-once}
 use Rattle.depth_forms.specs.declared.spans.Visible.{Visible}
 use Rattle.depth_forms.specs.Spans.{no-span}
@@ -107,7 +107,7 @@ module _ (state : DepthState) (span : TileSpan) (id : ℕ) where
   one-there d e h k = summary-once d e (h ∙ sym k)
 
 -- an answer and a count are a result
-numbers-once : {a b c d : ℕ} → a ≡ c → b ≡ d → _≡_ {A = Out} (record { number = a; count = b; list = [] }) (record { number = c; count = d; list = [] })
+numbers-once : {a b c d : ℕ} → a ≡ c → b ≡ d → _≡_ {A = RunsOut} (record { number = a; count = b; list = [] }) (record { number = c; count = d; list = [] })
 numbers-once p q = rw (p, q)
 
 runs-once : (r q : Runs) → out r [] .number ≡ out q [] .number → out r [] .count ≡ out q [] .count → out r [] ≡ out q []
@@ -119,8 +119,8 @@ runs-once (runs.Listed m) (runs.Listed k) n c = numbers-once n c
 -- what a result and its spans say together gives both
 spans-once : (r q : Runs) (l m : List TileSpan) → spans.out r l ≡ spans.out q m → (r ≡ q) × (l ≡ m)
 spans-once r q l m h =
-    let o = out-once r q [] [] (runs-once r q (ap (λ (x : spans.Out). x .number) h) (ap (λ (x : spans.Out). x .count) h)) in
-    (o .0, ap (λ (x : spans.Out). x .spans) h)
+    let o = out-once r q [] [] (runs-once r q (ap (λ (x : spans.SpansOut). x .number) h) (ap (λ (x : spans.SpansOut). x .count) h)) in
+    (o .0, ap (λ (x : spans.SpansOut). x .spans) h)
 
 -- `forms::visible_spans`
 module _ (depth : List ℕ) (span : TileSpan) (id : ℕ) where

@@ -19,7 +19,7 @@ use Rattle.screen.specs.declared.Screen.{Screen}
 use Rattle.screen.specs.Tables.{Tables, tables}
 use Rattle.paint_screen.specs.Stepping.{Attributes, attributes}
 use Rattle.text_screen.specs.declared.Listing.{Listing}
-use Rattle.text_screen.specs.Listed.{Out, left, listed, refused-listed}
+use Rattle.text_screen.specs.Listed.{TextOut, left, listed, refused-listed}
 use Rattle.paint_command.specs.Painting as paint
 use Rattle.text_row.specs.Dumped as dumped
 use Rattle.text_row.specs.Dumped.{RowOut, row-out, row-dumped, attrs-dumped}
@@ -36,7 +36,7 @@ use Rattle.text_file.proofs.file_text as file-call
 
 -- an answer and the bytes are what a call leaves
 text-once : (r q : Listing) (b c : List ℕ) → left r b ≡ left q c → (r ≡ q) × (b ≡ c)
-text-once r q b c h = (ap (λ (x : Out). x .answer) h, ap (λ (x : Out). x .bytes) h)
+text-once r q b c h = (ap (λ (x : TextOut). x .answer) h, ap (λ (x : TextOut). x .bytes) h)
 
 -- `list_screen`: the bytes
 module _ (screen : Screen) (given : Words) (bytes : List ℕ) where
@@ -55,7 +55,7 @@ module _ (n : ℕ) (bytes : List ℕ) where
   one-refusal r q b c e f = text-once r q b c (e ∙ sym f)
 
 -- `attrs_text`: the bytes
-module _ (screen : Screen) (given : dumped.Tables) (bytes : List ℕ) where
+module _ (screen : Screen) (given : dumped.AttrTables) (bytes : List ℕ) where
   abbrev pub Details : Listing → List ℕ → Type 0
   Details r b = left r b ≡ attrs-dumped screen given bytes
 
@@ -63,7 +63,7 @@ module _ (screen : Screen) (given : dumped.Tables) (bytes : List ℕ) where
   one-details r q b c e f = text-once r q b c (e ∙ sym f)
 
 -- `row_text`: the depth words, the painting table, the list of pieces and the bytes
-module _ (screen : Screen) (row : ℕ) (ids : Attributes) (given : paint.Lent) (bytes : List ℕ) where
+module _ (screen : Screen) (row : ℕ) (ids : Attributes) (given : paint.RowLent) (bytes : List ℕ) where
   abbrev pub Paints : Listing → List ℕ → List ℕ → List ℕ → List ℕ → Type 0
   Paints r d p l b = row-out r d p l b ≡ row-dumped screen row ids given bytes
 

@@ -11,7 +11,7 @@ use Rattle.rules.specs.Inputs.{Props}
 use Rattle.rules.specs.Plans.{Frame, Step, a-push}
 use Rattle.rules.specs.Steps.{call}
 use Rattle.rules.specs.Calls.{Canvas, step-call, begin-call, paint-call, unset-call, visible-call, write-call, can-skip-call}
-use Rattle.screen.specs.Tables.{Lent}
+use Rattle.screen.specs.Tables.{ScreenLent}
 use Rattle.screen_layers.specs.declared.LayerProps.{LayerProps}
 use Rattle.step_fill.specs.declared.Draw.{Draw}
 use Rattle.step_filter.specs.declared.Placement.{Placement}
@@ -28,7 +28,7 @@ use Rattle.theorem_picture.specs.Standing.{canvas-words, Stands}
 use Rattle.theorem_picture.proofs.Calls.{fill-whole, push-steps, pop-whole, filter-steps}
 use Rattle.theorem_picture.proofs.Words.{step-words, begin-words, paint-gives, write-gives}
 
-module _ {f : Frame} {xs : List Step} {l : Lent} (h : Stands f xs l) where
+module _ {f : Frame} {xs : List Step} {l : ScreenLent} (h : Stands f xs l) where
   abbrev k : Canvas
   k = h .canvas
 
@@ -61,25 +61,25 @@ module _ {f : Frame} {xs : List Step} {l : Lent} (h : Stands f xs l) where
   -- the direct runs of row i over tiles or buckets t, and `can_skip`
   pub unset-answer : (i : ℕ) (t : Span) (list : List ℕ) → unset-of (l .screen) i (l .tables .depth) t list ≡ listed-of (unset-call 32 i (length list / 2) t k) list
   unfolding lent-of
-  unset-answer i t list = ap (λ (m : Lent). unset-of (m .screen) i (m .tables .depth) t list) (h .same) ∙ unset-by k (h .whole) i t list
+  unset-answer i t list = ap (λ (m : ScreenLent). unset-of (m .screen) i (m .tables .depth) t list) (h .same) ∙ unset-by k (h .whole) i t list
 
   pub visible-answer : (i id : ℕ) (t : Span) (list : List ℕ) → visible-of (l .screen) i (l .tables .depth) t id list ≡ listed-of (visible-call 32 id i (length list / 2) t k) list
   unfolding lent-of
-  visible-answer i id t list = ap (λ (m : Lent). visible-of (m .screen) i (m .tables .depth) t id list) (h .same) ∙ visible-by k (h .whole) i id t list
+  visible-answer i id t list = ap (λ (m : ScreenLent). visible-of (m .screen) i (m .tables .depth) t id list) (h .same) ∙ visible-by k (h .whole) i id t list
 
   pub write-answer : (i id : ℕ) (t : Span) (list : List ℕ) → write-out i id t list l ≡ wrote-of (write-call 32 id i (length list / 2) t k) list
   write-answer i id t list = ap (write-out i id t list) (h .same) ∙ write-gives k (h .whole) i id t list
 
   pub skip-answer : (i : ℕ) (t : Span) (id : ℕ) → skip-of-row (l .screen) i (l .tables .rows) t id ≡ answer (can-skip-call 32 i t id k .number) (can-skip-call 32 i t id k .value)
   unfolding lent-of
-  skip-answer i t id = ap (λ (m : Lent). skip-of-row (m .screen) i (m .tables .rows) t id) (h .same) ∙ skip-by k (h .whole) i t id
+  skip-answer i t id = ap (λ (m : ScreenLent). skip-of-row (m .screen) i (m .tables .rows) t id) (h .same) ∙ skip-by k (h .whole) i t id
 
   -- a refused building step alters no word
   pub refused-step : (x : Step) → (call-at x l .number ≡ Done → ⊥) → call-at x l .value ≡ l
   unfolding step-call
   refused-step x n =
       let a = step-answer x in
-      let d : (step-call 32 x k .number ≡ Done → ⊥) = λ e. n (ap (λ (b : Answer Lent). b .number) a ∙ e) in
-      ap (λ (b : Answer Lent). b .value) a
+      let d : (step-call 32 x k .number ≡ Done → ⊥) = λ e. n (ap (λ (b : Answer ScreenLent). b .number) a ∙ e) in
+      ap (λ (b : Answer ScreenLent). b .value) a
       ∙ ap canvas-words (settle-kept (call Row row-ops 32 x (k .screen) .number) k _ (ne-eqb _ Done d))
       ∙ sym (h .same)

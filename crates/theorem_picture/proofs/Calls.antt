@@ -21,7 +21,7 @@ use Rattle.rect.specs.Rects.{box-of}
 use Rattle.segments.specs.Segs.{segs, segs-of}
 use Rattle.screen.specs.declared.Screen as shown
 use Rattle.screen.specs.Judging.{judged}
-use Rattle.screen.specs.Tables.{Lent}
+use Rattle.screen.specs.Tables.{ScreenLent}
 use Rattle.screen_layers.specs.declared.LayerProps.{LayerProps}
 use Rattle.step_fill.specs.declared.Draw.{Draw}
 use Rattle.step_fill.specs.Fills as fills
@@ -88,7 +88,7 @@ segs-long : (ss : List ℕ) → length ss % 5 ≡ 0 → length ss ≡ length (jo
 segs-long ss h = rw (segments-words-length (segs-of ss), segs-count ss 0 (length ss / 5)) (omega (arith, h))
 
 -- a done fill is lent whole records
-module _ (l : fills.Lent) (ps ss : List ℕ) (d : Draw) where
+module _ (l : fills.FillLent) (ps ss : List ℕ) (d : Draw) where
   fill-lists : filled l ps ss d .number ≡ Done → (length ps % 4 ≡ 0) × (length ss % 5 ≡ 0)
   unfolding fill-number first-number
   fill-lists e =
@@ -99,14 +99,14 @@ module _ (l : fills.Lent) (ps ss : List ℕ) (d : Draw) where
       (eqb-true _ _ (both (eqb (length (l .paint-attrs)) 8192) (eqb (length ps % 4) 0) (a .0) .1), eqb-true _ _ (a .1))
 
 -- a fill that is lent whole records is the step, refused or done
-pub fill-whole : (ps ss : List ℕ) (d : Draw) (l : Lent) → length ps % 4 ≡ 0 → length ss % 5 ≡ 0 → fill-at ps ss d l ≡ call-at (fill-said ps ss d) l
+pub fill-whole : (ps ss : List ℕ) (d : Draw) (l : ScreenLent) → length ps % 4 ≡ 0 → length ss % 5 ≡ 0 → fill-at ps ss d l ≡ call-at (fill-said ps ss d) l
 unfolding fill-at call-at
 fill-whole ps ss d l p s =
     ap (with-value (fill-into (l .tables)))
     (same-fill (fill-part l) ps (join paint-words (paints-of ps)) ss (join segment-words (segs-of ss)) d
     (sym (paints-said (paints-of ps))) (paints-long ps p) (sym (segments-said (segs-of ss))) (segs-long ss s))
 
-pub fill-steps : (ps ss : List ℕ) (d : Draw) (l : Lent) → fill-at ps ss d l .number ≡ Done → fill-at ps ss d l ≡ call-at (fill-said ps ss d) l
+pub fill-steps : (ps ss : List ℕ) (d : Draw) (l : ScreenLent) → fill-at ps ss d l .number ≡ Done → fill-at ps ss d l ≡ call-at (fill-said ps ss d) l
 fill-steps ps ss d l e =
     let h = fill-lists (fill-part l) ps ss d (unfold fill-at in e) in
     fill-whole ps ss d l (h .0) (h .1)
@@ -118,12 +118,12 @@ unfolding paints
 shifted opaque handle x y ss d = refl
 
 -- a push is the step whose properties it is given
-pub push-steps : (p : LayerProps) (q : Props) → p ≡ props-in q → (l : Lent) → push-at p l ≡ call-at (a-push q) l
+pub push-steps : (p : LayerProps) (q : Props) → p ≡ props-in q → (l : ScreenLent) → push-at p l ≡ call-at (a-push q) l
 unfolding push-at call-at
 push-steps p q e l = rw e
 
 -- a done pop is lent whole records
-module _ (n : ℕ) (s u : shown.Screen) (l m : pop.Lent) where
+module _ (n : ℕ) (s u : shown.Screen) (l m : pop.PopLent) where
   pop-number : cond (eqb n Done) (pop.out Done s l) (pop.out n u m) .number ≡ n
   pop-number = go (eqb n Done) refl
     where
@@ -138,7 +138,7 @@ module _ (n : ℕ) (s u : shown.Screen) (l m : pop.Lent) where
       go true e = never e
       go false e = refl
 
-pop-list : (l : Lent) (ss : List ℕ) → popped (l .screen) (pop-part l) ss .number ≡ Done → length ss % 5 ≡ 0
+pop-list : (l : ScreenLent) (ss : List ℕ) → popped (l .screen) (pop-part l) ss .number ≡ Done → length ss % 5 ≡ 0
 unfolding popped number-after first good-lengths
 pop-list l ss e =
     let w = rows-words (l .tables) in
@@ -146,22 +146,22 @@ pop-list l ss e =
     let g = tested-second (judged (l .screen) (length (w .state)) (length (w .render)) (length (w .fills))) _ (good-open (box-of (l .screen .viewport)) (l .tables .layers) (l .screen .layers)) (first-done _ _ _ _ n) in
     eqb-true _ _ (both (eqb (length (l .tables .layers)) 256 && eqb (length (l .tables .opacities)) 1040 && eqb (length (l .tables .layer-attrs)) 6144) (eqb (length ss % 5) 0) g .1)
 
-pub pop-whole : (ss : List ℕ) (l : Lent) → length ss % 5 ≡ 0 → pop-at ss l ≡ call-at (pop-said ss) l
+pub pop-whole : (ss : List ℕ) (l : ScreenLent) → length ss % 5 ≡ 0 → pop-at ss l ≡ call-at (pop-said ss) l
 unfolding pop-at call-at
 pop-whole ss l h =
     ap (pop-into (l .tables))
     (same-pop (l .screen) (pop-part l) ss (join segment-words (segs-of ss)) (sym (segments-said (segs-of ss))) (segs-long ss h))
 
-pub pop-steps : (ss : List ℕ) (l : Lent) → pop-at ss l .number ≡ Done → pop-at ss l ≡ call-at (pop-said ss) l
+pub pop-steps : (ss : List ℕ) (l : ScreenLent) → pop-at ss l .number ≡ Done → pop-at ss l ≡ call-at (pop-said ss) l
 pop-steps ss l e = pop-whole ss l (pop-list l ss (unfold pop-at in e))
 
 -- a filter fill is lent no list
-pub filter-steps : (p : Placement) (m n : ℕ) (l : Lent) → filter-at p m n l ≡ call-at (filter-said p m n) l
+pub filter-steps : (p : Placement) (m n : ℕ) (l : ScreenLent) → filter-at p m n l ≡ call-at (filter-said p m n) l
 unfolding filter-at call-at
 filter-steps p m n l = refl
 
 -- What is refused alters no word, whatever was lent.
-module _ (l : Lent) where
+module _ (l : ScreenLent) where
   pub fill-kept : (ps ss : List ℕ) (d : Draw) → eqb (fill-at ps ss d l .number) Done ≡ false → fill-at ps ss d l .value ≡ l
   unfolding fill-at
   fill-kept ps ss d e = ap (fill-into (l .tables)) (settle-kept (fill-number (fill-part l) ps ss d) (fill-part l) (fill-done (fill-part l) ps ss d) e)
@@ -173,7 +173,7 @@ module _ (l : Lent) where
   pub pop-kept : (ss : List ℕ) → eqb (pop-at ss l .number) Done ≡ false → pop-at ss l .value ≡ l
   unfolding pop-at popped
   pop-kept ss e =
-      ap (λ (o : pop.Out). pop-into (l .tables) o .value) (pop-same (number (l .screen) (pop-part l) ss) _ _ _ _ e)
+      ap (λ (o : pop.PopOut). pop-into (l .tables) o .value) (pop-same (number (l .screen) (pop-part l) ss) _ _ _ _ e)
 
   pub filter-kept : (p : Placement) (m n : ℕ) → eqb (filter-at p m n l .number) Done ≡ false → filter-at p m n l .value ≡ l
   unfolding filter-at filtered

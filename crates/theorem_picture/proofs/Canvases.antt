@@ -11,11 +11,11 @@ use Rattle.rules.specs.Plans.{Step}
 use Rattle.rules.specs.Recording.{shape, sections, recording}
 use Rattle.rules.specs.Calls.{Canvas, fresh-canvas, step-call, record-call}
 use Rattle.screen.specs.Judging.{good-tables, arenas}
-use Rattle.screen.specs.Tables.{lengths, Lent}
+use Rattle.screen.specs.Tables.{lengths, ScreenLent}
 use Rattle.file_steps.specs.Steps.{call-at}
 use Rattle.file_call.specs.Recorded.{recorded}
 use Rattle.refine_steps.proofs.Walks.{Follow}
-use Rattle.refine_paint.specs.Canvases.{Whole}
+use Rattle.refine_paint.specs.Canvases.{WholeCanvas}
 use Rattle.refine_paint.proofs.Painted.{step-whole}
 use Rattle.refine_file.specs.Played.{Outcome, unaltered, made, Plays}
 use Rattle.refine_file.proofs.Laws.{words-play}
@@ -24,16 +24,16 @@ use Rattle.theorem_picture.proofs.Words.{step-words}
 use Rattle.theorem_picture.proofs.Reached.{fresh-whole, reset-words}
 
 -- words that are those of a whole canvas
-record Held (k : Canvas) (l : Lent) : Type 0 where
-  whole : Whole k
+record Held (k : Canvas) (l : ScreenLent) : Type 0 where
+  whole : WholeCanvas k
   same : l ≡ canvas-words k
 
 step-held : (x : Step) → Follow Held (step-call 32 x) (call-at x)
 step-held x k l h =
     let q = ap (call-at x) (h .same) ∙ step-words k (h .whole) x in
     record {
-      number = ap (λ (a : Answer Lent). a .number) q;
-      value = λ e. record { whole = step-whole x k (h .whole); same = ap (λ (a : Answer Lent). a .value) q };
+      number = ap (λ (a : Answer ScreenLent). a .number) q;
+      value = λ e. record { whole = step-whole x k (h .whole); same = ap (λ (a : Answer ScreenLent). a .value) q };
     }
 
 module _ (ws : List ℕ) (c d : ℕ) (k : Canvas)
@@ -52,7 +52,7 @@ module _ (ws : List ℕ) (c d : ℕ) (k : Canvas)
   -- The number and every word. The tables beside the arenas are as long as the file's viewport asks.
   pub recorded-canvas : recorded ws c d (canvas-words k) ≡ answer (theirs .number) (canvas-words (theirs .value))
   recorded-canvas =
-      ap (λ (n : ℕ). answer n (recorded ws c d (canvas-words k) .value)) (plays .number) ∙ ap (λ (l : Lent). answer (theirs .number) l) (go (plays .value))
+      ap (λ (n : ℕ). answer n (recorded ws c d (canvas-words k) .value)) (plays .number) ∙ ap (λ (l : ScreenLent). answer (theirs .number) l) (go (plays .value))
     where
       go : Outcome Held (theirs .number) k (canvas-words k) (theirs .value) (recorded ws c d (canvas-words k) .value)
           → recorded ws c d (canvas-words k) .value ≡ canvas-words (theirs .value)
@@ -60,9 +60,9 @@ module _ (ws : List ℕ) (c d : ℕ) (k : Canvas)
       go (made h) = h .same
 
   -- A whole canvas stays whole: the calls after it are the rules' too.
-  pub recorded-whole : Whole k → Whole (theirs .value)
+  pub recorded-whole : WholeCanvas k → WholeCanvas (theirs .value)
   recorded-whole w = go (plays .value)
     where
-      go : Outcome Held (theirs .number) k (canvas-words k) (theirs .value) (recorded ws c d (canvas-words k) .value) → Whole (theirs .value)
+      go : Outcome Held (theirs .number) k (canvas-words k) (theirs .value) (recorded ws c d (canvas-words k) .value) → WholeCanvas (theirs .value)
       go (unaltered n s e) = rw s w
       go (made h) = h .whole

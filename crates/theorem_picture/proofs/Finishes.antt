@@ -10,9 +10,9 @@ use Rattle.rules.specs.Answers.{Answer, Done}
 use Rattle.rules.specs.Boxes.{rows-of}
 use Rattle.rules.specs.Plans.{Frame, Step}
 use Rattle.rules.specs.Calls.{paints-on, Canvas, begin-call, painter-of, paint-call}
-use Rattle.screen.specs.Tables.{Lent}
-use Rattle.paint_command.specs.Painting.{Out}
-use Rattle.refine_paint.specs.Canvases.{Whole}
+use Rattle.screen.specs.Tables.{ScreenLent}
+use Rattle.paint_command.specs.Painting.{StepOut}
+use Rattle.refine_paint.specs.Canvases.{WholeCanvas}
 use Rattle.refine_paint.proofs.Whole.{begin-whole}
 use Rattle.rules_picture.specs.Turns as rule
 use Rattle.rules_picture.specs.Turns.{turns, said-finished, has-finished}
@@ -40,25 +40,25 @@ same-turns (t ∷ ts) =
     rw (length-replicate {A = ℕ} (6 * t .room) 0, e, same-turns ts)
 
 -- a row of which nothing is left says finished, whatever the room
-says-finished : (k : Canvas) → Whole k → (r : ℕ) → r < length (k .screen .rows) → paints-on k ≡ true → has-finished 32 k r ≡ true → finished-at (canvas-words k) r ≡ true
+says-finished : (k : Canvas) → WholeCanvas k → (r : ℕ) → r < length (k .screen .rows) → paints-on k ≡ true → has-finished 32 k r ≡ true → finished-at (canvas-words k) r ≡ true
 unfolding has-finished paint-call
 says-finished k w r h b e =
     let f = step-ended 32 (k .screen .state .attrs) _ (painter-of 32 k r) e in
-    ap (λ (o : Out). o .answer .finished) (paint-gives k w r []) ∙ rw (lt-leb (length (k .screen .rows)) r h, b, f)
+    ap (λ (o : StepOut). o .answer .finished) (paint-gives k w r []) ∙ rw (lt-leb (length (k .screen .rows)) r h, b, f)
 
 or-last : (a b : Bool) → b ≡ true → (a || b) ≡ true
 or-last true b e = refl
 or-last false b e = e
 
 -- a schedule after which every row has finished
-pub finishes : (f : Frame) (xs : List Step) (l : Lent) → Reached f xs l → begin-at l .number ≡ Done
+pub finishes : (f : Frame) (xs : List Step) (l : ScreenLent) → Reached f xs l → begin-at l .number ≡ Done
     → (ts : List Turn) × ((r : ℕ) → r < rows-of (f .viewport) → finished r ts (begin-at l .value) ≡ true)
 finishes f xs l h e =
     let s = reached h in
     let k = s .canvas in
     let q = begin-answer s in
-    let d : begin-call 32 k .number ≡ Done = sym (ap (λ (a : Answer Lent). a .number) q) ∙ e in
-    let v : begin-at l .value ≡ canvas-words (begin-call 32 k .value) = ap (λ (a : Answer Lent). a .value) q in
+    let d : begin-call 32 k .number ≡ Done = sym (ap (λ (a : Answer ScreenLent). a .number) q) ∙ e in
+    let v : begin-at l .value ≡ canvas-words (begin-call 32 k .value) = ap (λ (a : Answer ScreenLent). a .value) q in
     let b = begin-call 32 k .value in
     let us = in-order 32 (length (k .screen .rows)) b in
     let w = begin-whole k (s .whole) in

@@ -10,9 +10,9 @@ use Rattle.rules.specs.Answers.{Answer, Done}
 use Rattle.rules.specs.Painting.{Painted}
 use Rattle.rules.specs.Calls.{Canvas, begin-call, paint-call}
 use Rattle.rules.proofs.All.{never}
-use Rattle.screen.specs.Tables.{Lent}
-use Rattle.paint_command.specs.Painting.{Out}
-use Rattle.refine_paint.specs.Canvases.{Whole}
+use Rattle.screen.specs.Tables.{ScreenLent}
+use Rattle.paint_command.specs.Painting.{StepOut}
+use Rattle.refine_paint.specs.Canvases.{WholeCanvas}
 use Rattle.refine_paint.proofs.Whole.{begin-whole}
 use Rattle.rules_picture.specs.Turns.{turns, said-finished, has-finished}
 use Rattle.rules_picture.proofs.Cases.{by}
@@ -29,16 +29,16 @@ use Rattle.theorem_picture.proofs.Answers.{begin-answer}
 use Rattle.theorem_picture.proofs.Turns.{turned-words, log-words, turns-whole}
 
 -- a step without room that says finished: nothing is left of the row
-finished-words : (k : Canvas) → Whole k → (r : ℕ) → finished-at (canvas-words k) r ≡ true → has-finished 32 k r ≡ true
+finished-words : (k : Canvas) → WholeCanvas k → (r : ℕ) → finished-at (canvas-words k) r ≡ true → has-finished 32 k r ≡ true
 unfolding has-finished
 finished-words k w r e =
-    let f : paint-call 32 r 0 k .value .finished ≡ true = sym (ap (λ (o : Out). o .answer .finished) (paint-gives k w r [])) ∙ e in
+    let f : paint-call 32 r 0 k .value .finished ≡ true = sym (ap (λ (o : StepOut). o .answer .finished) (paint-gives k w r [])) ∙ e in
     by (eqb (paint-call 32 r 0 k .number) Done)
     (λ d. sym (ap (λ (o : Painted). o .finished) (call-given 32 r 0 k d .0)) ∙ f)
     (λ d. never (sym f ∙ call-refused 32 r 0 k d .2))
 
 -- a row that has finished at the words has finished by the rules
-finished-rules : (ts : List Turn) (k : Canvas) → Whole k → (r : ℕ) → r < length (k .painters) → finished r ts (canvas-words k) ≡ true
+finished-rules : (ts : List Turn) (k : Canvas) → WholeCanvas k → (r : ℕ) → r < length (k .painters) → finished r ts (canvas-words k) ≡ true
     → has-finished 32 (turns 32 (map turn-of ts) k .canvas) r ≡ true
 finished-rules ts k w r h e =
     by (said-finished r (log ts (canvas-words k)))
@@ -52,8 +52,8 @@ picture f xs l h e ts r t there on fin =
     let s = reached h in
     let k = s .canvas in
     let q = begin-answer s in
-    let d : begin-call 32 k .number ≡ Done = sym (ap (λ (a : Answer Lent). a .number) q) ∙ e in
-    let v : begin-at l .value ≡ canvas-words (begin-call 32 k .value) = ap (λ (a : Answer Lent). a .value) q in
+    let d : begin-call 32 k .number ≡ Done = sym (ap (λ (a : Answer ScreenLent). a .number) q) ∙ e in
+    let v : begin-at l .value ≡ canvas-words (begin-call 32 k .value) = ap (λ (a : Answer ScreenLent). a .value) q in
     let w = begin-whole k (s .whole) in
     let row = begun-there 32 k r d (built-on 32 (omega arith) f xs (k .screen) (s .built) r there .1) in
     rw (v, log-words ts (begin-call 32 k .value) w)

@@ -9,7 +9,7 @@ use lib.Dec.{T}
 use lib.Ieee.{binary32, fits}
 use Rattle.rules.specs.Answers.{Done}
 use Rattle.rules.specs.Plans.{Frame, Step, a-push}
-use Rattle.screen.specs.Tables.{Lent}
+use Rattle.screen.specs.Tables.{ScreenLent}
 use Rattle.screen_layers.specs.declared.LayerProps.{LayerProps}
 use Rattle.screen_layers.specs.Layers.{good-given}
 use Rattle.step_push.specs.Push.{pushed, push-number, after}
@@ -22,7 +22,7 @@ use Rattle.rules_picture.proofs.Cases.{by}
 use Rattle.theorem_picture.specs.Calls.{push-at}
 use Rattle.theorem_picture.specs.Reached.{Reached, by-push}
 
-module _ (p : LayerProps) (l : Lent) (e : push-at p l .number ≡ Done) where
+module _ (p : LayerProps) (l : ScreenLent) (e : push-at p l .number ≡ Done) where
   number-done : push-number p (push-part l) ≡ Done
   unfolding push-at pushed
   number-done = sym (settle-number (push-number p (push-part l)) (push-part l) (after p (push-part l))) ∙ e
@@ -40,6 +40,6 @@ module _ (p : LayerProps) (l : Lent) (e : push-at p l .number ≡ Done) where
   push-says f = sym (good-props-said p f accepted .0)
 
 -- any done push extends the history by the step that its properties say
-pub push-reached : {f : Frame} {xs : List Step} {l : Lent} (p : LayerProps) → T (fits binary32 (p .opacity)) → Reached f xs l → push-at p l .number ≡ Done
+pub push-reached : {f : Frame} {xs : List Step} {l : ScreenLent} (p : LayerProps) → T (fits binary32 (p .opacity)) → Reached f xs l → push-at p l .number ≡ Done
     → Reached f (xs ++ (a-push (props-said p) ∷ [])) (push-at p l .value)
 push-reached {l = l} p z r e = by-push p (props-said p) (push-says p l e z) r e

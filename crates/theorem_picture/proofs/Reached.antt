@@ -21,13 +21,13 @@ use Rattle.rect.specs.declared.Rect.{Rect}
 use Rattle.rect.specs.Rects.{box-of}
 use Rattle.screen.specs.Screens.{frame}
 use Rattle.screen.specs.Judging.{good-fixed, judged-reset}
-use Rattle.screen.specs.Tables.{zeros, lengths, Lent, reset-to}
+use Rattle.screen.specs.Tables.{zeros, lengths, ScreenLent, reset-to}
 use Rattle.file_read.specs.Reading.{draw-in, props-in}
 use Rattle.file_steps.specs.Steps.{placement-in, call-at}
 use Rattle.file_steps.proofs.Lists.{paints-said, segments-said}
 use Rattle.refine_steps.proofs.Alike.{settle-number}
 use Rattle.refine_steps.proofs.Reset.{judged-facts, rooms, fresh-sound, fresh-words}
-use Rattle.refine_paint.specs.Canvases.{depth-of, painting-of, Whole}
+use Rattle.refine_paint.specs.Canvases.{depth-of, painting-of, WholeCanvas}
 use Rattle.refine_paint.proofs.Begin.{blank-depth, blank-painting}
 use Rattle.refine_paint.proofs.Whole.{begin-whole, paint-whole}
 use Rattle.refine_paint.proofs.Painted.{reset-whole, step-whole}
@@ -42,7 +42,7 @@ use Rattle.theorem_picture.proofs.Calls.{fill-steps, push-steps, pop-st
 use Rattle.theorem_picture.proofs.Words.{step-words, begin-words, paint-words, write-words, begin-screen}
 
 -- a done reset
-module _ (v : Rect) (c d : ℕ) (l : Lent) (z : judged-reset v c d (lengths (l .tables)) ≡ 0) where
+module _ (v : Rect) (c d : ℕ) (l : ScreenLent) (z : judged-reset v c d (lengths (l .tables)) ≡ 0) where
   abbrev rows : ℕ
   rows = rows-of (box-of v)
 
@@ -76,11 +76,11 @@ module _ (v : Rect) (c d : ℕ) (l : Lent) (z : judged-reset v c d (lengths (l .
   unfolding zeros reset
   zero-painting = ap (λ (n : ℕ). replicate n 0) (painting-long ∙ ap (λ (m : ℕ). m * 2) (sym count)) ∙ sym (blank-painting buckets (length (fresh .rows)))
 
-  pub fresh-whole : Whole (fresh-canvas 32 (frame v c d))
+  pub fresh-whole : WholeCanvas (fresh-canvas 32 (frame v c d))
   fresh-whole = reset-whole (frame v c d) (judged-facts v c d l z .0) (rooms v c d l z .0) (rooms v c d l z .1)
 
   pub reset-words : reset-to v c d l .value ≡ canvas-words (fresh-canvas 32 (frame v c d))
-  reset-words = ap (λ (a : Answer Lent). a .value) (fresh-words v c d l z) ∙ rw (zero-depth, zero-painting)
+  reset-words = ap (λ (a : Answer ScreenLent). a .value) (fresh-words v c d l z) ∙ rw (zero-depth, zero-painting)
 
   reset-stands : Stands (frame v c d) [] (reset-to v c d l .value)
   reset-stands = record { canvas = fresh-canvas 32 (frame v c d); whole = fresh-whole; built = no-step; same = reset-words }
@@ -93,24 +93,24 @@ step-done x k e =
     let n : call Row row-ops 32 x (k .screen) .number ≡ Done = sym (settle-number (call Row row-ops 32 x (k .screen) .number) k (record { screen = call Row row-ops 32 x (k .screen) .value; begun = false; painters = k .painters })) ∙ e in
     (n, rw n)
 
-module _ {f : Frame} {xs : List Step} {l : Lent} (h : Stands f xs l) where
+module _ {f : Frame} {xs : List Step} {l : ScreenLent} (h : Stands f xs l) where
   abbrev k : Canvas
   k = h .canvas
 
   step-stands : (x : Step) → call-at x l .number ≡ Done → Stands f (xs ++ (x ∷ [])) (call-at x l .value)
   step-stands x e =
       let q = ap (call-at x) (h .same) ∙ step-words k (h .whole) x in
-      let d = step-done x k (sym (ap (λ (a : Answer Lent). a .number) q) ∙ e) in
+      let d = step-done x k (sym (ap (λ (a : Answer ScreenLent). a .number) q) ∙ e) in
       record {
         canvas = step-call 32 x k .value;
         whole = step-whole x k (h .whole);
         built = rw (d .1) (built-append 32 (h .built) (then (d .0) no-step));
-        same = ap (λ (a : Answer Lent). a .value) q;
+        same = ap (λ (a : Answer ScreenLent). a .value) q;
       }
 
   -- a done building call that is this step
-  called-stands : (x : Step) (a : Answer Lent) → a ≡ call-at x l → a .number ≡ Done → Stands f (xs ++ (x ∷ [])) (a .value)
-  called-stands x a q e = rw q (step-stands x (sym (ap (λ (b : Answer Lent). b .number) q) ∙ e))
+  called-stands : (x : Step) (a : Answer ScreenLent) → a ≡ call-at x l → a .number ≡ Done → Stands f (xs ++ (x ∷ [])) (a .value)
+  called-stands x a q e = rw q (step-stands x (sym (ap (λ (b : Answer ScreenLent). b .number) q) ∙ e))
 
   begin-stands : Stands f xs (begin-at l .value)
   begin-stands =
@@ -118,7 +118,7 @@ module _ {f : Frame} {xs : List Step} {l : Lent} (h : Stands f xs l) where
         canvas = begin-call 32 k .value;
         whole = begin-whole k (h .whole);
         built = rw (begin-screen k (h .whole)) (h .built);
-        same = ap (λ (m : Lent). begin-at m .value) (h .same) ∙ ap (λ (a : Answer Lent). a .value) (begin-words k (h .whole));
+        same = ap (λ (m : ScreenLent). begin-at m .value) (h .same) ∙ ap (λ (a : Answer ScreenLent). a .value) (begin-words k (h .whole));
       }
 
   paint-stands : (i : ℕ) (list : List ℕ) → Stands f xs (paint-at i list l)
@@ -141,7 +141,7 @@ module _ {f : Frame} {xs : List Step} {l : Lent} (h : Stands f xs l) where
 
 -- The refinement about the calls as they are: whatever calls were made, the lent words are those of a whole canvas of the rules, and its
 -- screen is built from the reset by the same done steps.
-pub reached : {f : Frame} {xs : List Step} {l : Lent} → Reached f xs l → Stands f xs l
+pub reached : {f : Frame} {xs : List Step} {l : ScreenLent} → Reached f xs l → Stands f xs l
 unfolding reset-to
 reached (by-reset v c d l e) = reset-stands v c d l (sym (settle-number (judged-reset v c d (lengths (l .tables))) l _) ∙ e)
 reached (by-fill ps ss d r e) = called-stands (reached r) (fill-said ps ss d) _ (fill-steps ps ss d _ e) e
@@ -153,7 +153,7 @@ reached (by-paint i list r) = paint-stands (reached r) i list
 reached (by-write i id t list r) = write-stands (reached r) i id t list
 
 -- Every step of the rules is a call: its paints and segments lent as the words that say them.
-pub step-reached : {f : Frame} {xs : List Step} {l : Lent} (x : Step) → Reached f xs l → call-at x l .number ≡ Done → Reached f (xs ++ (x ∷ [])) (call-at x l .value)
+pub step-reached : {f : Frame} {xs : List Step} {l : ScreenLent} (x : Step) → Reached f xs l → call-at x l .number ≡ Done → Reached f (xs ++ (x ∷ [])) (call-at x l .value)
 unfolding call-at fill-at push-at pop-at filter-at
 step-reached (a-fill ps ss d) r e =
     let h = by-fill (join words-of.paint-words ps) (join words-of.segment-words ss) (draw-in d) r e in

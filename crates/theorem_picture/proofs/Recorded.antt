@@ -20,7 +20,7 @@ use Rattle.rules.specs.Calls.{begin-call}
 use Rattle.rect.specs.declared.Rect.{Rect}
 use Rattle.screen.specs.Screens.{rect-of}
 use Rattle.screen.specs.Judging.{judged-reset}
-use Rattle.screen.specs.Tables.{lengths, Lent, reset-to}
+use Rattle.screen.specs.Tables.{lengths, ScreenLent, reset-to}
 use Rattle.file_steps.specs.Steps.{call-at}
 use Rattle.file_judge.specs.Judging.{judged}
 use Rattle.file_call.specs.Recorded.{or-fresh, played, recorded-in, of-sections, recorded}
@@ -38,7 +38,7 @@ use Rattle.theorem_picture.proofs.Answers.{begin-answer}
 use Rattle.theorem_picture.proofs.Reached.{reached, step-reached}
 
 -- words that hold a logged screen, and are reached by its log
-record Logs (f : Frame) (s : Logged Row) (l : Lent) : Type 0 where
+record Logs (f : Frame) (s : Logged Row) (l : ScreenLent) : Type 0 where
   refines : Refines (s .screen) l
   reached : Reached f (s .log) l
 
@@ -50,20 +50,20 @@ step-logs f x s l h =
     record { number = a .number; value = λ e. record { refines = a .value; reached = step-reached x (h .reached) (a .number ∙ e) } }
 
 -- painting can begin where no layer is open
-open-none : (s : Screen Row) (l : Lent) → Refines s l → s .state .layers ≡ [] → l .screen .layers ≡ 0
+open-none : (s : Screen Row) (l : ScreenLent) → Refines s l → s .state .layers ≡ [] → l .screen .layers ≡ 0
 unfolding lent-of
-open-none s l h e = ap (λ (m : Lent). m .screen .layers) (h .holds .same) ∙ ap (λ (ls : List Layer). length ls) e
+open-none s l h e = ap (λ (m : ScreenLent). m .screen .layers) (h .holds .same) ∙ ap (λ (ls : List Layer). length ls) e
 
 begins-empty : (ls : List Layer) → length ls ≡ 0 → is-empty ls ≡ true
 begins-empty [] e = refl
 begins-empty (l ∷ ls) e = absurd (omega arith)
 
-begins : {f : Frame} {xs : List Step} {l : Lent} → Stands f xs l → l .screen .layers ≡ 0 → begin-at l .number ≡ Done
+begins : {f : Frame} {xs : List Step} {l : ScreenLent} → Stands f xs l → l .screen .layers ≡ 0 → begin-at l .number ≡ Done
 unfolding lent-of begin-call
 begins {l = l} h e =
     let k = h .canvas in
-    let n : length (k .screen .state .layers) ≡ 0 = sym (ap (λ (m : Lent). m .screen .layers) (h .same)) ∙ e in
-    ap (λ (a : Answer Lent). a .number) (begin-answer h) ∙ rw (begins-empty (k .screen .state .layers) n)
+    let n : length (k .screen .state .layers) ≡ 0 = sym (ap (λ (m : ScreenLent). m .screen .layers) (h .same)) ∙ e in
+    ap (λ (a : Answer ScreenLent). a .number) (begin-answer h) ∙ rw (begins-empty (k .screen .state .layers) n)
 
 -- what the records refuse is past 3
 judged-late : (r : Recording) → Late (judged r)
@@ -74,7 +74,7 @@ judged-late r = go (good-records r) (good-order r)
     go true false e = omega arith
     go true true e = absurd (eqb-false Done Done e refl)
 
-module _ (ws : List ℕ) (r : Readable ws) (c d : ℕ) (l : Lent) where
+module _ (ws : List ℕ) (r : Readable ws) (c d : ℕ) (l : ScreenLent) where
   abbrev p : Place
   p = place c d l
 
@@ -84,11 +84,11 @@ module _ (ws : List ℕ) (r : Readable ws) (c d : ℕ) (l : Lent) where
   abbrev v : Rect
   v = rect-of (said r .viewport)
 
-  abbrev fresh : Answer Lent
+  abbrev fresh : Answer ScreenLent
   fresh = reset-to v c d l
 
-  abbrev walk : Answer Lent
-  walk = walk-all Lent call-at (said r) (fresh .value)
+  abbrev walk : Answer ScreenLent
+  walk = walk-all ScreenLent call-at (said r) (fresh .value)
 
   abbrev logged : Answer (Logged Row)
   logged = walk-logged Row row-ops 32 fresh-row f (said r)
@@ -110,7 +110,7 @@ module _ (ws : List ℕ) (r : Readable ws) (c d : ℕ) (l : Lent) where
       (a .layers, a .late)
 
   -- by the answer
-  abbrev Result : Answer Lent → Type 0
+  abbrev Result : Answer ScreenLent → Type 0
   Result a = (a .number ≡ Done → Accepted p ws (a .value)) × ((a .number ≡ Done → ⊥) → Refused c d ws l a)
 
   reset-refused : eqb (fresh .number) Done ≡ false → fresh .value ≡ l
@@ -130,7 +130,7 @@ module _ (ws : List ℕ) (r : Readable ws) (c d : ℕ) (l : Lent) where
       walks e true q = ((λ z. done e (sym (walked e .number) ∙ z)), λ z. absurd (z (eqb-true _ _ q)))
       walks e false q = ((λ z. absurd (eqb-false _ _ q z)), λ z. emptied r (rw (walked e .number) (walked-rules .1 (rw (walked e .number) at q))) e refl)
 
-      plays : fresh .number ≡ Done → (b : Bool) → eqb (judged (said r)) Done ≡ b → Result (or-fresh (fresh .value) (go-on b (answer (judged (said r)) (fresh .value)) (walk-all Lent call-at (said r))))
+      plays : fresh .number ≡ Done → (b : Bool) → eqb (judged (said r)) Done ≡ b → Result (or-fresh (fresh .value) (go-on b (answer (judged (said r)) (fresh .value)) (walk-all ScreenLent call-at (said r))))
       plays e true q = walks e (eqb (walk .number) Done) refl
       plays e false q = rw q ((λ z. absurd (eqb-false _ _ q z)), λ z. emptied r (judged-late (said r) q) e refl)
 
@@ -138,7 +138,7 @@ module _ (ws : List ℕ) (r : Readable ws) (c d : ℕ) (l : Lent) where
       go true e = plays (eqb-true _ _ e) (eqb (judged (said r)) Done) refl
       go false e = ((λ z. absurd (eqb-false _ _ e z)), λ z. kept (reset-refused e))
 
-module _ (ws : List ℕ) (c d : ℕ) (l : Lent) where
+module _ (ws : List ℕ) (c d : ℕ) (l : ScreenLent) where
   -- An accepted recording leaves words that the steps of its walk reach, and painting can begin there: `picture` speaks of it.
   pub recorded-reached : recorded ws c d l .number ≡ Done → Accepted (place c d l) ws (recorded ws c d l .value)
   unfolding recorded

@@ -15,13 +15,13 @@ use Rattle.rules.specs.Rows.{fresh-row}
 use Rattle.rules.specs.Plans.{Frame, Step}
 use Rattle.rules.specs.Painting.{Piece, Painted, paint-steps}
 use Rattle.rules.specs.Calls.{paints-on, Canvas, Given, painter-of, paint-call}
-use Rattle.screen.specs.Tables.{Lent}
+use Rattle.screen.specs.Tables.{ScreenLent}
 use Rattle.refine_steps.specs.Lent.{lent-of}
 use Rattle.paint_command.specs.Pieces.{piece-words, laid}
-use Rattle.paint_command.specs.Painting.{Out}
+use Rattle.paint_command.specs.Painting.{StepOut}
 use Rattle.paint_command.proofs.Spreading.{length-pieces}
 use Rattle.paint_whole.specs.Running.{one-more, run, most, standing, row-painted}
-use Rattle.refine_paint.specs.Canvases.{given-out, Whole}
+use Rattle.refine_paint.specs.Canvases.{given-out, WholeCanvas}
 use Rattle.refine_paint.proofs.Whole.{paint-whole}
 use Rattle.rules_picture.specs.Turns.{next-step}
 use Rattle.rules_picture.proofs.Cases.{by, and-right}
@@ -54,16 +54,16 @@ left-after : (n m : ℕ) (xs ys : List ℕ) → 6 * n ≤ length xs → length (
 left-after n m xs ys h =
     length-drop (6 * (n + m)) (take (6 * n) xs ++ ys) ∙ rw (length-append (take (6 * n) xs) ys, length-take-le (6 * n) xs h) (omega arith)
 
-module _ (r : ℕ) (l : Lent) where
+module _ (r : ℕ) (l : ScreenLent) where
   -- the row's painting stands at g on the canvas k
-  record At (g : Out) (k : Canvas) : Type 0 where
+  record At (g : StepOut) (k : Canvas) : Type 0 where
     words : at r l g ≡ canvas-words k
-    whole : Whole k
+    whole : WholeCanvas k
     goes-on : paints-on k ≡ true
     there : r < length (k .screen .rows)
     holds : Holds r l g
 
-  module _ (g : Out) (k : Canvas) (z : At g k) where
+  module _ (g : StepOut) (k : Canvas) (z : At g k) where
     abbrev ys : List ℕ
     ys = next r l g .list
 
@@ -77,11 +77,11 @@ module _ (r : ℕ) (l : Lent) where
 
     one-number : one-more (step r l) g .answer .number ≡ c .number
     unfolding one-more
-    one-number = ap (λ (o : Out). o .answer .number) step-is
+    one-number = ap (λ (o : StepOut). o .answer .number) step-is
 
     one-finished : one-more (step r l) g .answer .finished ≡ c .value .finished
     unfolding one-more
-    one-finished = ap (λ (o : Out). o .answer .finished) step-is
+    one-finished = ap (λ (o : StepOut). o .answer .finished) step-is
 
     -- the next one stands on the canvas after it
     on : At (one-more (step r l) g) (c .canvas)
@@ -127,11 +127,11 @@ module _ (r : ℕ) (l : Lent) where
       later = call-own 32 r (length ys / 6) k (rw (z .whole .count) (z .there)) done
 
   -- a step that says finished needs no room
-  few : (g : Out) (k : Canvas) → next-step 32 k r .finished ≡ true → 6 * length (next-step 32 k r .pieces) ≤ length (next r l g .list)
+  few : (g : StepOut) (k : Canvas) → next-step 32 k r .finished ≡ true → 6 * length (next-step 32 k r .pieces) ≤ length (next r l g .list)
   few g k e = rw (step-ended 32 (k .screen .state .attrs) (getD (k .screen .rows) r fresh-row) (painter-of 32 k r) e) (omega arith)
 
   -- enough steps, and room for all their pieces
-  ends : (f n j : ℕ) (g : Out) (k : Canvas) → At g k → work k r ≤ painter-of 32 k r .steps + n → n < f → 6 * length (left-of n k r) ≤ length (next r l g .list)
+  ends : (f n j : ℕ) (g : StepOut) (k : Canvas) → At g k → work k r ≤ painter-of 32 k r .steps + n → n < f → 6 * length (left-of n k r) ≤ length (next r l g .list)
       → run (step r l) f j g .answer .finished ≡ true
   unfolding paint-steps
   ends zero n j g k z w h room = absurd (omega arith)
@@ -153,7 +153,7 @@ module _ (r : ℕ) (l : Lent) where
       (ends f n (j + 1) (one-more (step r l) g) _ (on g k z) (rw (p, s) (omega arith)) (omega arith) (rw (p, s) (omega (arith, rw (given g k z first) at v)))))
 
 -- the call at the words of a canvas
-row-ended : (k : Canvas) → Whole k → paints-on k ≡ true → (r : ℕ) → r < length (k .screen .rows) → (list : List ℕ)
+row-ended : (k : Canvas) → WholeCanvas k → paints-on k ≡ true → (r : ℕ) → r < length (k .screen .rows) → (list : List ℕ)
     → 6 * length (left-of (work k r) k r) ≤ length list → row-out r list (canvas-words k) .answer .finished ≡ true
 unfolding row-out row-painted
 row-ended k w b r h list room =
@@ -167,12 +167,12 @@ row-ended k w b r h list room =
     (omega arith) (omega (arith, c, d, q .commands, q .fills)) room
 
 -- While painting goes on, one call of `paint_row` into any list that is long enough says finished.
-pub row-ends : {f : Frame} {xs : List Step} {l : Lent} → Reached f xs l → l .screen .painting ≡ true → (r : ℕ) → r < rows-of (f .viewport)
+pub row-ends : {f : Frame} {xs : List Step} {l : ScreenLent} → Reached f xs l → l .screen .painting ≡ true → (r : ℕ) → r < rows-of (f .viewport)
     → (n : ℕ) × ((list : List ℕ) → n ≤ length list → row-out r list l .answer .finished ≡ true)
 row-ends {f} {xs} {l} h b r there =
     let s = reached h in
     let k = s .canvas in
-    let begun : k .begun ≡ true = unfold lent-of in (sym (ap (λ (m : Lent). m .screen .painting) (s .same)) ∙ b) in
+    let begun : k .begun ≡ true = unfold lent-of in (sym (ap (λ (m : ScreenLent). m .screen .painting) (s .same)) ∙ b) in
     let on : paints-on k ≡ true = rw (s .whole .closed begun) begun in
     let row = built-on 32 (omega arith) f xs (k .screen) (s .built) r there .1 in
-    (6 * length (left-of (work k r) k r), λ list long. ap (λ (m : Lent). row-out r list m .answer .finished) (s .same) ∙ row-ended k (s .whole) on r row list long)
+    (6 * length (left-of (work k r) k r), λ list long. ap (λ (m : ScreenLent). row-out r list m .answer .finished) (s .same) ∙ row-ended k (s .whole) on r row list long)

@@ -16,9 +16,9 @@ use Rattle.rules.specs.Plans.{Frame, Step}
 use Rattle.rules.specs.Painting as rules
 use Rattle.rules.specs.Painting.{received}
 use Rattle.screen.specs.declared.Screen.{Screen}
-use Rattle.screen.specs.Tables.{Lent}
+use Rattle.screen.specs.Tables.{ScreenLent}
 use Rattle.paint_command.specs.Painting as paint
-use Rattle.paint_command.specs.Painting.{Out, out, refused, left, settled, painted-row}
+use Rattle.paint_command.specs.Painting.{StepOut, out, refused, left, settled, painted-row}
 use Rattle.paint_command.proofs.Spreading.{length-pieces}
 use Rattle.paint_screen.specs.Stepping.{Attributes, attributes, number, row-step, stepped}
 use Rattle.paint_whole.specs.Running.{goes-on, ended, one-more, run, most, standing, call-step, row-painted}
@@ -55,7 +55,7 @@ settled-holds (some o) d p l = go (ltb (length l / 6) (length (o .pieces)))
     go true = omega arith
     go false = rw (length-append, length-pieces (o .pieces)) (omega arith)
 
-step-holds : (s : Screen) (r : ℕ) (a : Attributes) (l : paint.Lent) → 6 * stepped s r a l .answer .pieces ≤ length (stepped s r a l .list)
+step-holds : (s : Screen) (r : ℕ) (a : Attributes) (l : paint.RowLent) → 6 * stepped s r a l .answer .pieces ≤ length (stepped s r a l .list)
 unfolding stepped row-step painted-row
 step-holds s r a l = go (eqb (number s r a l) Done)
   where
@@ -74,51 +74,51 @@ or-no true = refl
 or-no false = refl
 
 -- the calls of row i at the words l, one after the other
-module _ (i : ℕ) (l : Lent) where
-  abbrev pub step : List ℕ → List ℕ → List ℕ → Out
+module _ (i : ℕ) (l : ScreenLent) where
+  abbrev pub step : List ℕ → List ℕ → List ℕ → StepOut
   step = call-step (l .screen) i (attributes (l .tables .paint-attrs) (l .tables .layer-attrs)) (l .tables .rows) (l .tables .render) (l .tables .fills)
 
   -- the words where the row's painting stands at g
-  abbrev pub at : Out → Lent
+  abbrev pub at : StepOut → ScreenLent
   at g = with-canvas l (l .screen) (g .depth) (g .painting)
 
   -- the next step, on what is left of the list
-  abbrev pub next : Out → Turn
+  abbrev pub next : StepOut → Turn
   next g = record { row = i; list = drop (6 * g .answer .pieces) (g .list) }
 
   -- the list holds the pieces so far
-  abbrev pub Holds : Out → Type 0
+  abbrev pub Holds : StepOut → Type 0
   Holds g = 6 * g .answer .pieces ≤ length (g .list)
 
-  pub one-words : (g : Out) → paint-at i (next g .list) (at g) ≡ at (one-more step g)
+  pub one-words : (g : StepOut) → paint-at i (next g .list) (at g) ≡ at (one-more step g)
   unfolding one-more paint-out
   one-words g = refl
 
-  pub one-holds : (g : Out) → Holds g → Holds (one-more step g)
+  pub one-holds : (g : StepOut) → Holds g → Holds (one-more step g)
   unfolding one-more
   one-holds g h =
       let o = step-holds (l .screen) i (attributes (l .tables .paint-attrs) (l .tables .layer-attrs)) (paint.lent (l .tables .rows) (l .tables .render) (l .tables .fills) (g .depth) (g .painting) (next g .list)) in
       rw (length-append, length-take-le (6 * g .answer .pieces) (g .list) h) (omega (arith, o))
 
-  one-pieces : (g : Out) → Holds g
+  one-pieces : (g : StepOut) → Holds g
       → pieces-in (one-more step g .answer .pieces) (one-more step g .list)
       ≡ pieces-in (g .answer .pieces) (g .list) ++ gave-out i (paint-out i (next g .list) (at g)) .pieces
   unfolding one-more paint-out
   one-pieces g h = pieces-split (g .answer .pieces) _ (g .list) _ h
 
-  one-said : (g : Out) → gave-out i (paint-out i (next g .list) (at g)) .finished ≡ one-more step g .answer .finished
+  one-said : (g : StepOut) → gave-out i (paint-out i (next g .list) (at g)) .finished ≡ one-more step g .answer .finished
   unfolding one-more paint-out
   one-said g = refl
 
   -- steps that lead from g to o
-  record Leads (g o : Out) : Type 0 where
+  record Leads (g o : StepOut) : Type 0 where
     turns : List Turn
     own : every (λ (t : Turn). eqb (t .row) i) turns ≡ true
     words : turned turns (at g) ≡ at o
     pieces : pieces-in (o .answer .pieces) (o .list) ≡ pieces-in (g .answer .pieces) (g .list) ++ from i (log turns (at g))
     said : said-finished i (log turns (at g)) ≡ o .answer .finished
 
-  none-yet : (g : Out) → g .answer .finished ≡ false → Leads g g
+  none-yet : (g : StepOut) → g .answer .finished ≡ false → Leads g g
   none-yet g e =
       record {
         turns = [];
@@ -129,7 +129,7 @@ module _ (i : ℕ) (l : Lent) where
       }
 
   -- one more before them
-  first : (g o : Out) → Holds g → one-more step g .answer .finished ≡ false → Leads (one-more step g) o → Leads g o
+  first : (g o : StepOut) → Holds g → one-more step g .answer .finished ≡ false → Leads (one-more step g) o → Leads g o
   unfolding turned log from said-finished
   first g o h e z =
       record {
@@ -141,7 +141,7 @@ module _ (i : ℕ) (l : Lent) where
       }
 
   -- the last one
-  last : (g : Out) (k : ℕ) → Holds g → Leads g (ended k (one-more step g))
+  last : (g : StepOut) (k : ℕ) → Holds g → Leads g (ended k (one-more step g))
   unfolding turned log from said-finished
   last g k h =
       record {
@@ -152,7 +152,7 @@ module _ (i : ℕ) (l : Lent) where
         said = rw (eq-eqb i i refl, one-said g) (or-no _);
       }
 
-  run-leads : (f k : ℕ) (g : Out) → Holds g → g .answer .finished ≡ false → Leads g (run step f k g)
+  run-leads : (f k : ℕ) (g : StepOut) → Holds g → g .answer .finished ≡ false → Leads g (run step f k g)
   unfolding run
   run-leads zero k g h e = none-yet g e
   run-leads (suc f) k g h e = go (goes-on (one-more step g .answer)) refl (run-leads f (k + 1) (one-more step g) (one-holds g h))
@@ -173,7 +173,7 @@ module _ (i : ℕ) (l : Lent) where
       record { turns = z .turns; own = z .own; words = z .words; pieces = sym (z .pieces); said = z .said }
 
   -- a refusal after the first step is none of the call
-  later-done : (f k : ℕ) (g : Out) → 0 < k → g .answer .number ≡ Done → run step f k g .answer .number ≡ Done
+  later-done : (f k : ℕ) (g : StepOut) → 0 < k → g .answer .number ≡ Done → run step f k g .answer .number ≡ Done
   unfolding run
   later-done zero k g h e = e
   later-done (suc f) k g h e = go (goes-on (one-more step g .answer)) refl (later-done f (k + 1) (one-more step g) (omega arith))
@@ -193,16 +193,16 @@ module _ (i : ℕ) (l : Lent) where
       by (goes-on (one-more step g .answer))
       (λ y.
       let d : one-more step g .answer .number ≡ Done = eqb-true _ Done (and-left _ _ y) in
-      ap (λ (o : Out). o .answer .number) (more step most 0 g (omega arith) y) ∙ later-done (most - 1) (0 + 1) (one-more step g) (omega arith) d ∙ sym d ∙ same)
-      (λ n. ap (λ (o : Out). o .answer .number) (stops step most 0 g (omega arith) n) ∙ same)
+      ap (λ (o : StepOut). o .answer .number) (more step most 0 g (omega arith) y) ∙ later-done (most - 1) (0 + 1) (one-more step g) (omega arith) d ∙ sym d ∙ same)
+      (λ n. ap (λ (o : StepOut). o .answer .number) (stops step most 0 g (omega arith) n) ∙ same)
 
 -- Schedules one after the other.
-turned-append : (ts us : List Turn) (l : Lent) → turned (ts ++ us) l ≡ turned us (turned ts l)
+turned-append : (ts us : List Turn) (l : ScreenLent) → turned (ts ++ us) l ≡ turned us (turned ts l)
 unfolding turned
 turned-append [] us l = refl
 turned-append (t ∷ ts) us l = turned-append ts us _
 
-log-append : (ts us : List Turn) (l : Lent) → log (ts ++ us) l ≡ log ts l ++ log us (turned ts l)
+log-append : (ts us : List Turn) (l : ScreenLent) → log (ts ++ us) l ≡ log ts l ++ log us (turned ts l)
 unfolding turned log
 log-append [] us l = refl
 log-append (t ∷ ts) us l = rw (log-append ts us (paint-at (t .row) (t .list) l))
@@ -227,18 +227,18 @@ module _ (i r : ℕ) (d : eqb i r ≡ false) where
   other-row : (t : Turn) → eqb (t .row) i ≡ true → eqb (t .row) r ≡ false
   other-row t e = ap (λ (j : ℕ). eqb j r) (eqb-true (t .row) i e) ∙ d
 
-  other-from : (ts : List Turn) (l : Lent) → every (λ (t : Turn). eqb (t .row) i) ts ≡ true → from r (log ts l) ≡ []
+  other-from : (ts : List Turn) (l : ScreenLent) → every (λ (t : Turn). eqb (t .row) i) ts ≡ true → from r (log ts l) ≡ []
   unfolding from log
   other-from [] l e = refl
   other-from (t ∷ ts) l e = rw (other-row t (and-left _ _ e), other-from ts (paint-at (t .row) (t .list) l) (and-right (eqb (t .row) i) _ e))
 
-  other-said : (ts : List Turn) (l : Lent) → every (λ (t : Turn). eqb (t .row) i) ts ≡ true → said-finished r (log ts l) ≡ false
+  other-said : (ts : List Turn) (l : ScreenLent) → every (λ (t : Turn). eqb (t .row) i) ts ≡ true → said-finished r (log ts l) ≡ false
   unfolding said-finished log
   other-said [] l e = refl
   other-said (t ∷ ts) l e = rw (other-row t (and-left _ _ e)) (other-said ts (paint-at (t .row) (t .list) l) (and-right (eqb (t .row) i) _ e))
 
 -- what the steps of a row's call give to any row
-module _ (i : ℕ) (list : List ℕ) (l : Lent) (z : RowTurns i list l) (r : ℕ) where
+module _ (i : ℕ) (list : List ℕ) (l : ScreenLent) (z : RowTurns i list l) (r : ℕ) where
   row-from : from r (log (z .turns) l) ≡ cond (eqb i r) (pieces-in (row-out i list l .answer .pieces) (row-out i list l .list)) []
   row-from =
       by (eqb i r)
@@ -252,7 +252,7 @@ module _ (i : ℕ) (list : List ℕ) (l : Lent) (z : RowTurns i list l) (r : ℕ
       (λ n. rw n (other-said i r n (z .turns) l (z .own)))
 
 -- one call before a mixture
-module _ (t : Turn) (cs : List Call) (l : Lent) where
+module _ (t : Turn) (cs : List Call) (l : ScreenLent) where
   step-first : CallTurns cs (paint-at (t .row) (t .list) l) → CallTurns (one-step t ∷ cs) l
   unfolding turned log from said-finished called call-log
   step-first z =
@@ -279,7 +279,7 @@ module _ (t : Turn) (cs : List Call) (l : Lent) where
       }
 
 -- A mixture of calls is painting steps alone.
-pub calls-turns : (cs : List Call) (l : Lent) → CallTurns cs l
+pub calls-turns : (cs : List Call) (l : ScreenLent) → CallTurns cs l
 calls-turns [] l = record { turns = []; words = unfold turned called in refl; pieces = λ r. unfold log call-log in refl; said = λ r. unfold log call-log in refl }
 calls-turns (one-step t ∷ cs) l = step-first t cs l (calls-turns cs (paint-at (t .row) (t .list) l))
 calls-turns (whole-row t ∷ cs) l = row-first t cs l (row-turns (t .row) l (t .list)) (calls-turns cs (row-at (t .row) (t .list) l))
@@ -291,11 +291,11 @@ rows-picture f xs l h e cs r t there on fin =
     ap (received t) (sym (z .pieces r)) ∙ picture f xs l h e (z .turns) r t there on y
 
 -- Words from which painting steps are called stay reached, ..
-turned-reached : {f : Frame} {xs : List Step} (ts : List Turn) {l : Lent} → Reached f xs l → Reached f xs (turned ts l)
+turned-reached : {f : Frame} {xs : List Step} (ts : List Turn) {l : ScreenLent} → Reached f xs l → Reached f xs (turned ts l)
 unfolding turned
 turned-reached [] h = h
 turned-reached (t ∷ ts) h = turned-reached ts (by-paint (t .row) (t .list) h)
 
 -- .. and so they do by a row's call: `Reached` needs no case for it
-pub row-reached : {f : Frame} {xs : List Step} {l : Lent} (i : ℕ) (list : List ℕ) → Reached f xs l → Reached f xs (row-at i list l)
+pub row-reached : {f : Frame} {xs : List Step} {l : ScreenLent} (i : ℕ) (list : List ℕ) → Reached f xs l → Reached f xs (row-at i list l)
 row-reached {l = l} i list h = let z = row-turns i l list in rw (← z .words) (turned-reached (z .turns) h)

@@ -18,10 +18,10 @@ use Rattle.file_steps.specs.Steps.{call-at}
 use Rattle.refine_steps.specs.Lent.{screen-of, lent-of}
 use Rattle.refine_steps.proofs.Alike.{settle-kept}
 use Rattle.refine_steps.proofs.Refined.{stepped}
-use Rattle.paint_command.specs.Painting.{Out}
+use Rattle.paint_command.specs.Painting.{StepOut}
 use Rattle.paint_screen.specs.Beginning as painter
 use Rattle.paint_screen.specs.Rows.{Wrote}
-use Rattle.refine_paint.specs.Canvases.{depth-of, painting-of, given-out, wrote-of, Whole}
+use Rattle.refine_paint.specs.Canvases.{depth-of, painting-of, given-out, wrote-of, WholeCanvas}
 use Rattle.refine_paint.proofs.Painted.{begin-painted, step-painted}
 use Rattle.rules_picture.proofs.Turns.{call-screen, call-begun}
 use Rattle.refine_paint.proofs.Runs.{write-by, same-standing, same-screen}
@@ -38,7 +38,7 @@ refused-same : (x : Step) (s : Screen Row) → eqb (call Row row-ops 32 x s .num
 unfolding call perform
 refused-same x s = settle-kept (refusal Row row-ops 32 (planned Row row-ops 32 x s) (done Row row-ops 32 (planned Row row-ops 32 x s) s)) s (done Row row-ops 32 (planned Row row-ops 32 x s) s)
 
-module _ (k : Canvas) (w : Whole k) where
+module _ (k : Canvas) (w : WholeCanvas k) where
   -- a building step
   module _ (x : Step) where
     abbrev a : Answer (Screen Row)
@@ -94,7 +94,7 @@ module _ (k : Canvas) (w : Whole k) where
     pub paint-words : (l : List ℕ) → paint-at i l (canvas-words k) ≡ canvas-words (paint-call 32 i (length l / 6) k .canvas)
     paint-words l =
         let j = paint-call 32 i (length l / 6) k .canvas in
-        ap (λ (o : Out). with-canvas (canvas-words k) (canvas-words k .screen) (o .depth) (o .painting)) (paint-gives l)
+        ap (λ (o : StepOut). with-canvas (canvas-words k) (canvas-words k .screen) (o .depth) (o .painting)) (paint-gives l)
         ∙ with-screen (depth-of (j .painters)) (painting-of (j .painters))
         ∙ rw (call-screen 32 i (length l / 6) k, call-begun 32 i (length l / 6) k)
 

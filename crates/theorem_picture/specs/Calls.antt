@@ -5,7 +5,7 @@ use mathlib.Core.List.{List}
 use Rattle.rules.specs.Answers.{Answer}
 use Rattle.rules.specs.Plans.{Step, a-fill, a-pop, a-filter}
 use Rattle.segments.specs.Segs.{segs-of}
-use Rattle.screen.specs.Tables.{Lent}
+use Rattle.screen.specs.Tables.{ScreenLent}
 use Rattle.screen_layers.specs.declared.LayerProps.{LayerProps}
 use Rattle.step_fill.specs.declared.Draw.{Draw}
 use Rattle.step_fill.specs.Fills.{draw-of, paints-of, filled}
@@ -16,19 +16,19 @@ use Rattle.step_filter.specs.Filter.{given, filter-of, filtered}
 use Rattle.file_steps.specs.Steps.{fill-part, fill-into, push-part, push-into, pop-part, pop-into, filter-part, filter-into, with-value}
 
 -- `fill` with any words as paints, four each, and as segments, five each
-unfoldable pub fill-at : List ℕ → List ℕ → Draw → Lent → Answer Lent
+unfoldable pub fill-at : List ℕ → List ℕ → Draw → ScreenLent → Answer ScreenLent
 fill-at ps ss d l = with-value (fill-into (l .tables)) (filled (fill-part l) ps ss d)
 
 -- `push_layer` with any properties
-unfoldable pub push-at : LayerProps → Lent → Answer Lent
+unfoldable pub push-at : LayerProps → ScreenLent → Answer ScreenLent
 push-at p l = with-value (push-into (l .tables)) (pushed p (push-part l))
 
 -- `pop_layer` with any words as segments
-unfoldable pub pop-at : List ℕ → Lent → Answer Lent
+unfoldable pub pop-at : List ℕ → ScreenLent → Answer ScreenLent
 pop-at ss l = pop-into (l .tables) (popped (l .screen) (pop-part l) ss)
 
 -- `filter_fill` with any placement and pixmap, beside a list of n paints
-unfoldable pub filter-at : Placement → ℕ → ℕ → Lent → Answer Lent
+unfoldable pub filter-at : Placement → ℕ → ℕ → ScreenLent → Answer ScreenLent
 filter-at p m n l = with-value (filter-into (l .tables)) (filtered (given p m n) (filter-part l))
 
 -- what the words say: a paint's two shift words are read by no rule

@@ -9,13 +9,13 @@ use Rattle.rules.specs.Boxes.{width, rows-of}
 use Rattle.rules.specs.Plans.{Frame, Step}
 use Rattle.rules.specs.Painting.{received}
 use Rattle.rules.specs.Plain.{plain}
-use Rattle.screen.specs.Tables.{Lent}
+use Rattle.screen.specs.Tables.{ScreenLent}
 use Rattle.rules_picture.specs.Turns.{from, said-finished}
 use Rattle.theorem_picture.specs.Reached.{Reached, begin-at}
 use Rattle.theorem_picture.specs.Turns.{Turn, turned, log, finished-at}
 
 -- row r has finished after the calls ts on the words l: one of its calls said so, or its next one does
-abbrev pub finished : ℕ → List Turn → Lent → Bool
+abbrev pub finished : ℕ → List Turn → ScreenLent → Bool
 finished r ts l = said-finished r (log ts l) || finished-at (turned ts l) r
 
 -- Take any screen built from its reset by done steps xs, each call given the words that the last one left, with painting freshly begun
@@ -25,7 +25,7 @@ finished r ts l = said-finished r (log ts l) || finished-at (turned ts l) r
 -- the tile's whole bucket; where there is none, it has received everything.
 abbrev pub Demand-3 : Type 0
 Demand-3 =
-    (f : Frame) (xs : List Step) (l : Lent) → Reached f xs l → begin-at l .number ≡ Done
+    (f : Frame) (xs : List Step) (l : ScreenLent) → Reached f xs l → begin-at l .number ≡ Done
     → (ts : List Turn) (r t : ℕ) → r < rows-of (f .viewport) → t < width (f .viewport) / 4
     → finished r ts (begin-at l .value) ≡ true
     → received t (from r (log ts (begin-at l .value))) ≡ plain bucket-tiles (f .viewport) r t xs

@@ -11,7 +11,7 @@ use Rattle.rules.specs.Boxes.{width, rows-of}
 use Rattle.rules.specs.Plans.{Frame, Step}
 use Rattle.rules.specs.Painting.{received}
 use Rattle.rules.specs.Plain.{plain}
-use Rattle.screen.specs.Tables.{Lent}
+use Rattle.screen.specs.Tables.{ScreenLent}
 use Rattle.paint_command.specs.Painting as paint
 use Rattle.paint_screen.specs.Stepping.{attributes}
 use Rattle.paint_whole.specs.Running.{row-painted}
@@ -20,17 +20,17 @@ use Rattle.theorem_picture.specs.Reached.{Reached, with-canvas, begin-at
 use Rattle.theorem_picture.specs.Turns.{Turn, pieces-in, gave-out, turned, log, finished-at}
 
 -- `paint_row` of row i into a list: what it gives, and the words afterwards
-unfoldable pub row-out : ℕ → List ℕ → Lent → paint.Out
+unfoldable pub row-out : ℕ → List ℕ → ScreenLent → paint.StepOut
 row-out i list l =
     row-painted (l .screen) i (attributes (l .tables .paint-attrs) (l .tables .layer-attrs))
     (paint.lent (l .tables .rows) (l .tables .render) (l .tables .fills) (l .tables .depth) (l .tables .painting) list)
 
-abbrev pub row-at : ℕ → List ℕ → Lent → Lent
+abbrev pub row-at : ℕ → List ℕ → ScreenLent → ScreenLent
 row-at i list l = let o = row-out i list l in with-canvas l (l .screen) (o .depth) (o .painting)
 
 -- Painting steps that do what such a call does. All are of its row; they leave the same words; the pieces that they give are those that the
 -- call's list holds afterwards; and one of them says finished exactly if the call does.
-pub record RowTurns (i : ℕ) (list : List ℕ) (l : Lent) : Type 0 where
+pub record RowTurns (i : ℕ) (list : List ℕ) (l : ScreenLent) : Type 0 where
   pub turns : List Turn
   pub own : every (λ (t : Turn). eqb (t .row) i) turns ≡ true
   pub words : turned turns l ≡ row-at i list l
@@ -47,32 +47,32 @@ turn-in (one-step t) = t
 turn-in (whole-row t) = t
 
 -- what it gives, and the words afterwards
-abbrev pub call-out : Call → Lent → paint.Out
+abbrev pub call-out : Call → ScreenLent → paint.StepOut
 call-out (one-step t) l = paint-out (t .row) (t .list) l
 call-out (whole-row t) l = row-out (t .row) (t .list) l
 
-abbrev pub after-call : Call → Lent → Lent
+abbrev pub after-call : Call → ScreenLent → ScreenLent
 after-call c l = let o = call-out c l in with-canvas l (l .screen) (o .depth) (o .painting)
 
 -- the words after the calls, one after the other, each done or refused
-unfoldable pub called : List Call → Lent → Lent
+unfoldable pub called : List Call → ScreenLent → ScreenLent
 called [] l = l
 called (c ∷ cs) l = called cs (after-call c l)
 
 -- .. and what each call gave, in the order of the calls
-unfoldable pub call-log : List Call → Lent → List Gave
+unfoldable pub call-log : List Call → ScreenLent → List Gave
 call-log [] l = []
 call-log (c ∷ cs) l = gave-out (turn-in c .row) (call-out c l) ∷ call-log cs (after-call c l)
 
 -- Painting steps that do what the calls do: they leave the same words, and of each row they give the same pieces and say finished alike.
-pub record CallTurns (cs : List Call) (l : Lent) : Type 0 where
+pub record CallTurns (cs : List Call) (l : ScreenLent) : Type 0 where
   pub turns : List Turn
   pub words : turned turns l ≡ called cs l
   pub pieces : (r : ℕ) → from r (log turns l) ≡ from r (call-log cs l)
   pub said : (r : ℕ) → said-finished r (log turns l) ≡ said-finished r (call-log cs l)
 
 -- row r has finished after the calls cs on the words l: one of its calls said so, or its next step does
-abbrev pub row-finished : ℕ → List Call → Lent → Bool
+abbrev pub row-finished : ℕ → List Call → ScreenLent → Bool
 row-finished r cs l = said-finished r (call-log cs l) || finished-at (called cs l) r
 
 -- Take any screen built from its reset by done steps xs, each call given the words that the last one left, with painting freshly begun
@@ -82,7 +82,7 @@ row-finished r cs l = said-finished r (call-log cs l) || finished-at (called cs 
 -- to the screen, covers the tile's whole bucket; where there is none, it has received everything.
 abbrev pub Demand-3-rows : Type 0
 Demand-3-rows =
-    (f : Frame) (xs : List Step) (l : Lent) → Reached f xs l → begin-at l .number ≡ Done
+    (f : Frame) (xs : List Step) (l : ScreenLent) → Reached f xs l → begin-at l .number ≡ Done
     → (cs : List Call) (r t : ℕ) → r < rows-of (f .viewport) → t < width (f .viewport) / 4
     → row-finished r cs (begin-at l .value) ≡ true
     → received t (from r (call-log cs (begin-at l .value))) ≡ plain bucket-tiles (f .viewport) r t xs

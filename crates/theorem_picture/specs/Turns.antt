@@ -7,8 +7,8 @@ use lib.ListN.{length, getD, drop}
 use lib.Dec.{leb, eqb}
 use Rattle.rules.specs.Spans.{span}
 use Rattle.rules.specs.Painting.{Piece}
-use Rattle.screen.specs.Tables.{Lent}
-use Rattle.paint_command.specs.Painting.{Out}
+use Rattle.screen.specs.Tables.{ScreenLent}
+use Rattle.paint_command.specs.Painting.{StepOut}
 use Rattle.rules_picture.specs.Turns as rule
 use Rattle.rules_picture.specs.Turns.{Gave}
 use Rattle.theorem_picture.specs.Reached.{paint-out, paint-at}
@@ -39,19 +39,19 @@ abbrev pub turn-of : Turn → rule.Turn
 turn-of t = record { row = t .row; room = length (t .list) / 6 }
 
 -- what a call gave: its row, its answer's number, whether it said finished, and the pieces that its list holds afterwards
-abbrev pub gave-out : ℕ → Out → Gave
+abbrev pub gave-out : ℕ → StepOut → Gave
 gave-out r o = record { row = r; number = o .answer .number; finished = o .answer .finished; pieces = pieces-in (o .answer .pieces) (o .list) }
 
 -- the words after the calls, one after the other, each done or refused
-unfoldable pub turned : List Turn → Lent → Lent
+unfoldable pub turned : List Turn → ScreenLent → ScreenLent
 turned [] l = l
 turned (t ∷ ts) l = turned ts (paint-at (t .row) (t .list) l)
 
 -- .. and what each call gave, in the order of the calls
-unfoldable pub log : List Turn → Lent → List Gave
+unfoldable pub log : List Turn → ScreenLent → List Gave
 log [] l = []
 log (t ∷ ts) l = gave-out (t .row) (paint-out (t .row) (t .list) l) ∷ log ts (paint-at (t .row) (t .list) l)
 
 -- nothing is left of row r: a further step, with no room for a piece, says finished
-abbrev pub finished-at : Lent → ℕ → Bool
+abbrev pub finished-at : ScreenLent → ℕ → Bool
 finished-at l r = paint-out r [] l .answer .finished

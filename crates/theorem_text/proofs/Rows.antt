@@ -18,7 +18,7 @@ use Rattle.rules.specs.Rows.{Row, fresh-row}
 use Rattle.rules.specs.Painting.{Piece, Painted, begin, paint-steps, paint-row}
 use Rattle.rules.specs.Calls.{Canvas, painter-of, begin-call, paint-call}
 use Rattle.text_details.specs.Details.{Detail, painted, piece-line, painted-row}
-use Rattle.screen.specs.Tables.{Lent}
+use Rattle.screen.specs.Tables.{ScreenLent}
 use Rattle.paint_command.specs.Painting as paint
 use Rattle.paint_screen.specs.Stepping.{attributes}
 use Rattle.paint_whole.specs.Running.{row-painted}
@@ -27,7 +27,7 @@ use Rattle.text_screen.specs.Listed.{written}
 use Rattle.text_details.specs.Bytes.{details-text}
 use Rattle.text_row.specs.Pieces.{word, piece-at, row-lines}
 use Rattle.text_row.specs.Dumped.{with-text, pieces-written, row-dumped}
-use Rattle.refine_paint.specs.Canvases.{Whole}
+use Rattle.refine_paint.specs.Canvases.{WholeCanvas}
 use Rattle.rules_picture.specs.Turns.{Gave, from, steps-of, said-finished, turns, has-finished}
 use Rattle.refine_paint.proofs.Whole.{begin-whole}
 use Rattle.rules_picture.proofs.Cases.{and-left, and-right}
@@ -95,12 +95,12 @@ lines-same r n ws = rw (many n ws, pieces-same n ws)
 sub-zero : (n : ℕ) → n - 0 ≡ n
 sub-zero n = omega arith
 
-module _ (k : Canvas) (w : Whole k) (r : ℕ) (there : r < length (k .screen .rows)) (fresh : painter-of 32 k r ≡ begin (buckets-of 32 (k .screen .state .frame .viewport)))
+module _ (k : Canvas) (w : WholeCanvas k) (r : ℕ) (there : r < length (k .screen .rows)) (fresh : painter-of 32 k r ≡ begin (buckets-of 32 (k .screen .state .frame .viewport)))
     (list : List ℕ) where
-  abbrev l : Lent
+  abbrev l : ScreenLent
   l = canvas-words k
 
-  abbrev o : paint.Out
+  abbrev o : paint.StepOut
   o = row-out r list l
 
   -- what the rules paint of the row
@@ -137,9 +137,9 @@ module _ (k : Canvas) (w : Whole k) (r : ℕ) (there : r < length (k .screen .ro
       rw (eq-eqb (o .answer .number) 0 z, f, le-ltb 65536 (o .answer .pieces) h, e)
 
 -- Words at which row r stands at its first step, painting having begun, on the screen s.
-pub record Waits (s : Screen Row) (r : ℕ) (m : Lent) : Type 0 where
+pub record Waits (s : Screen Row) (r : ℕ) (m : ScreenLent) : Type 0 where
   pub canvas : Canvas
-  pub whole : Whole canvas
+  pub whole : WholeCanvas canvas
   pub screen : canvas .screen ≡ s
   pub there : r < length (canvas .screen .rows)
   pub fresh : painter-of 32 canvas r ≡ begin (buckets-of 32 (canvas .screen .state .frame .viewport))
@@ -156,13 +156,13 @@ others i r d (t ∷ ts) e k =
     others i r d ts (and-right (eqb (t .row) i) _ e) (g .canvas) ∙ call-other 32 (t .row) (length (t .list) / 6) k r o
 
 -- Once painting has begun at reached words, every row does, ..
-pub begin-waits : {f : Frame} {xs : List Step} {l : Lent} (h : Reached f xs l) → begin-at l .number ≡ Done → (r : ℕ) → r < rows-of (f .viewport)
+pub begin-waits : {f : Frame} {xs : List Step} {l : ScreenLent} (h : Reached f xs l) → begin-at l .number ≡ Done → (r : ℕ) → r < rows-of (f .viewport)
     → Waits (reached h .canvas .screen) r (begin-at l .value)
 begin-waits {f} {xs} {l} h e r there =
     let s = reached h in
     let k = s .canvas in
     let words = ap begin-at (s .same) ∙ begin-words k (s .whole) in
-    let d : begin-call 32 k .number ≡ Done = sym (ap (λ (a : Answer Lent). a .number) words) ∙ e in
+    let d : begin-call 32 k .number ≡ Done = sym (ap (λ (a : Answer ScreenLent). a .number) words) ∙ e in
     let row = built-on 32 (omega arith) f xs (k .screen) (s .built) r there .1 in
     let p : begin-call 32 k .value .screen ≡ k .screen = ap (λ (c : Canvas). c .screen) (begun-is 32 k d) in
     record {
@@ -171,11 +171,11 @@ begin-waits {f} {xs} {l} h e r there =
       screen = p;
       there = rw p row;
       fresh = begun-painter 32 k r d row ∙ rw p;
-      same = ap (λ (a : Answer Lent). a .value) words;
+      same = ap (λ (a : Answer ScreenLent). a .value) words;
     }
 
 -- .. and still does after another row was painted: so `rowdump` prints of each row, in their order, the rules' text.
-pub row-waits : {s : Screen Row} {r : ℕ} {m : Lent} → Waits s r m → (i : ℕ) (list : List ℕ) → (i ≡ r → ⊥) → Waits s r (row-at i list m)
+pub row-waits : {s : Screen Row} {r : ℕ} {m : ScreenLent} → Waits s r m → (i : ℕ) (list : List ℕ) → (i ≡ r → ⊥) → Waits s r (row-at i list m)
 row-waits {s} {r} {m} h i list d =
     let z = row-turns i m list in
     let k = h .canvas in
@@ -191,7 +191,7 @@ row-waits {s} {r} {m} h i list d =
     }
 
 -- The text that `row_text` writes of a row that waits is that of the rules' own lines of the row.
-pub waiting-printed : {s : Screen Row} {r : ℕ} {m : Lent} (h : Waits s r m) (list bs : List ℕ) → row-out r list m .answer .number ≡ 0 → row-out r list m .answer .finished ≡ true
+pub waiting-printed : {s : Screen Row} {r : ℕ} {m : ScreenLent} (h : Waits s r m) (list bs : List ℕ) → row-out r list m .answer .number ≡ 0 → row-out r list m .answer .finished ≡ true
     → row-out r list m .answer .pieces ≤ 65536
     → row-dumped (m .screen) r (attributes (m .tables .paint-attrs) (m .tables .layer-attrs))
     (paint.lent (m .tables .rows) (m .tables .render) (m .tables .fills) (m .tables .depth) (m .tables .painting) list)

@@ -1,7 +1,7 @@
 -- The step on no list, its number alone.
 use mathlib.Core.Path.{_≡_, sym, ap, _∙_}
 use mathlib.Core.List.{[]}
-use Rattle.paint_command.specs.Painting.{Out, lent}
+use Rattle.paint_command.specs.Painting.{StepOut, lent}
 use Rattle.paint_screen.specs.Stepping.{attributes}
 use Rattle.text_row.proofs.Texts.{stopped-at}
 use borrow.Author.Needs.{needs}

@@ -1,3 +1,4 @@
+-- The records are judged, then the nodes from the root are walked.
 use native.Mathlib.Omega.{arith}
 use Rattle.file_call.proofs.Recordings.{an-answer, bad-records, ready, root, good-walk}
 use borrow.Author.Needs.{needs}
@@ -11,7 +12,11 @@ answer-of-requires : tie.Need-answer-of-requires
 answer-of-requires c κs = an-answer _ _ (c .before .judge-records .ensures)
 
 returns : tie.Need-returns
-returns c = let s = c .before .before .before .before .before .before .before .before .before .before .before in λ t. bad-records (s .args .l) (s .args .w .now) (s .pre) _ (c .before .before .judge-records .ensures) (c .before .if1 .taken) _ (c .answer-of .ensures) _
+returns c =
+    let at-judge-records = c .before .before in
+    let back = at-judge-records .before .before .before .before .before .before .before .before .before in
+    let s = back in
+    λ t. bad-records (s .args .l) (s .args .w .now) (s .pre) _ (at-judge-records .judge-records .ensures) (c .before .if1 .taken) _ (c .answer-of .ensures) _
 
 mul-wide : tie.Need-mul-wide
 mul-wide c = search needs
@@ -35,7 +40,16 @@ wide-requires-2 : tie.Need-wide-requires-2
 wide-requires-2 c κs = search needs
 
 walk-nodes-requires : tie.Need-walk-nodes-requires
-walk-nodes-requires c κs = let s = c .before .before .before .before .before .before .before .before .before .before .before .before .before .before .before .before .before .before .before .before .before .before .before in (ready (s .args .l) (s .args .w .now) (s .pre) _ (c .before .before .before .before .before .before .before .before .before .before .before .before .before .before .judge-records .ensures) (c .before .before .before .before .before .before .before .before .before .before .before .before .before .if1 .left), (omega (arith, c .before .before .before .before .before .before .before .before .before .before .wide .ensures, c .before .before .before .before .before .before .before .before .wide2 .ensures, root (s .args .l) (s .args .w .now) (s .pre) _ (c .before .before .before .before .before .before .before .before .before .before .before .before .before .before .judge-records .ensures) (c .before .before .before .before .before .before .before .before .before .before .before .before .before .if1 .left) .0), omega (arith, c .before .before .before .before .before .before .before .before .wide2 .ensures, root (s .args .l) (s .args .w .now) (s .pre) _ (c .before .before .before .before .before .before .before .before .before .before .before .before .before .before .judge-records .ensures) (c .before .before .before .before .before .before .before .before .before .before .before .before .before .if1 .left) .1)))
+walk-nodes-requires c κs =
+    let at-wide2 = c .before .before .before .before .before .before .before .before in
+    let at-wide = at-wide2 .before .before in
+    let at-if1 = at-wide .before .before .before in
+    let at-judge-records = at-if1 .before in
+    let back = at-judge-records .before .before .before .before .before .before .before .before .before in
+    let s = back in
+    (ready (s .args .l) (s .args .w .now) (s .pre) _ (at-judge-records .judge-records .ensures) (at-if1 .if1 .left), (omega (arith, at-wide .wide .ensures,
+    at-wide2 .wide2 .ensures, root (s .args .l) (s .args .w .now) (s .pre) _ (at-judge-records .judge-records .ensures) (at-if1 .if1 .left) .0), omega (arith,
+    at-wide2 .wide2 .ensures, root (s .args .l) (s .args .w .now) (s .pre) _ (at-judge-records .judge-records .ensures) (at-if1 .if1 .left) .1)))
 
 same-length : tie.Need-same-length
 same-length c = search needs
@@ -62,7 +76,16 @@ same-length-8 : tie.Need-same-length-8
 same-length-8 c = search needs
 
 returns-2 : tie.Need-returns-2
-returns-2 c = let s = c .before .before .before .before .before .before .before .before .before .before .before .before .before .before .before .before .before .before .before .before .before .before .before .before .before .before .before .before .before .before .before .before .before .before .before .before .before .before .before in λ t. good-walk (s .args .l) (s .args .w .now) (s .pre) _ (c .before .before .before .before .before .before .before .before .before .before .before .before .before .before .before .before .before .before .before .before .before .before .before .before .before .before .before .before .before .before .judge-records .ensures) (c .before .before .before .before .before .before .before .before .before .before .before .before .before .before .before .before .before .before .before .before .before .before .before .before .before .before .before .before .before .if1 .left) _ _ (rw (c .before .before .before .before .before .before .before .before .before .before .before .before .before .before .before .before .before .before .before .before .before .before .before .before .before .before .wide .ensures, c .before .before .before .before .before .before .before .before .before .before .before .before .before .before .before .before .before .before .before .before .before .before .before .before .wide2 .ensures) at (c .before .before .before .before .before .before .before .before .before .before .before .before .before .before .before .walk-nodes .ensures t))
+returns-2 c =
+    let at-walk-nodes = c .before .before .before .before .before .before .before .before .before .before .before .before .before .before .before in
+    let at-wide2 = at-walk-nodes .before .before .before .before .before .before .before .before .before in
+    let at-wide = at-wide2 .before .before in
+    let at-if1 = at-wide .before .before .before in
+    let at-judge-records = at-if1 .before in
+    let back = at-judge-records .before .before .before .before .before .before .before .before .before in
+    let s = back in
+    λ t. good-walk (s .args .l) (s .args .w .now) (s .pre) _ (at-judge-records .judge-records .ensures) (at-if1 .if1 .left) _ _ (rw (at-wide .wide .ensures,
+    at-wide2 .wide2 .ensures) at (at-walk-nodes .walk-nodes .ensures t))
 
 pub play-spec : {M : Type 1} → statement M
 play-spec =

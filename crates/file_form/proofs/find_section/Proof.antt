@@ -35,11 +35,20 @@ sub-room : tie.Need-sub-room
 sub-room c = search needs
 
 mul-if3 : tie.Need-mul-if3
-mul-if3 c = rw (c .wide .ensures) (record { fits = omega (arith, product (c .before .before .before .before .before .before .args .fixed) (getD (c .before .before .before .before .before .before .args .words .now) (c .before .before .before .before .before .before .args .at) 0) (c .before .before .before .before .before .before .args .size) (sym (c .before .before .is-good-count .ensures) ∙ not-false _ (c .before .if2 .left)) (c .before .before .before .before .before .before .pre)) })
+mul-if3 c =
+    let at-is-good-count = c .before .before in
+    let at-args = at-is-good-count .before .before .before .before in
+    rw (c .wide .ensures) (record { fits = omega (arith, product (at-args .args .fixed) (getD (at-args .args .words .now) (at-args .args .at) 0)
+    (at-args .args .size) (sym (at-is-good-count .is-good-count .ensures) ∙ not-false _ (c .before .if2 .left)) (at-args .pre)) })
 
 returns-3 : tie.Need-returns-3
 unfolding stands
-returns-3 c = rw (lt-ltb _ _ (c .before .before .before .before .before .if1 .left), sym (c .before .before .before .is-good-count .ensures) ∙ not-false _ (c .before .before .if2 .left), lt-leb _ _ (rw (c .before .wide .ensures) at (c .if3 .taken)))
+returns-3 c =
+    let at-if2 = c .before .before in
+    let at-is-good-count = at-if2 .before in
+    let at-if1 = at-is-good-count .before .before in
+    rw (lt-ltb _ _ (at-if1 .if1 .left), sym (at-is-good-count .is-good-count .ensures) ∙ not-false _ (at-if2 .if2 .left),
+    lt-leb _ _ (rw (c .before .wide .ensures) at (c .if3 .taken)))
 
 add-first : tie.Need-add-first
 add-first c = search needs
@@ -52,7 +61,13 @@ add-t9 c = search needs
 
 returns-4 : tie.Need-returns-4
 unfolding stands
-returns-4 c = rw (lt-ltb _ _ (c .before .before .before .before .before .if1 .left), sym (c .before .before .before .is-good-count .ensures) ∙ not-false _ (c .before .before .if2 .left), le-leb _ _ (rw (c .before .wide .ensures) at (c .if3 .left)), c .before .wide .ensures)
+returns-4 c =
+    let at-wide = c .before in
+    let at-if2 = at-wide .before in
+    let at-is-good-count = at-if2 .before in
+    let at-if1 = at-is-good-count .before .before in
+    rw (lt-ltb _ _ (at-if1 .if1 .left), sym (at-is-good-count .is-good-count .ensures) ∙ not-false _ (at-if2 .if2 .left),
+    le-leb _ _ (rw (at-wide .wide .ensures) at (c .if3 .left)), at-wide .wide .ensures)
 
 pub find-section-spec : {M : Type 1} → statement M
 find-section-spec =

@@ -1,3 +1,4 @@
+-- The sections follow each other, each after its count; the first that does not fit ends the reading, and words after the last are refused.
 use native.Mathlib.Omega.{arith}
 use mathlib.Core.Path.{sym, _∙_}
 use mathlib.Core.Bool.{true, false}
@@ -26,7 +27,10 @@ abbrev found-paints : tie.After-known-told2 → List Section
 found-paints c = found-viewport (c .before .before .before .before) ++ (c .before .paints .given .0 .0 ∷ [])
 
 paints-read : (c : tie.After-known-told2) → Upto (words-paints c) ((5, false) ∷ (7, false) ∷ (22, false) ∷ (3, false) ∷ (2, true) ∷ []) (found-paints c) (c .before .paints .given .0 .1 .0)
-paints-read c = more (viewport-read (c .before .before .before .before)) (sym (c .before .paints .given .1) ∙ c .before .before .before .find-section2 .ensures)
+paints-read c =
+    let at-find-section2 = c .before .before .before in
+    let back = at-find-section2 .before in
+    more (viewport-read (back)) (sym (c .before .paints .given .1) ∙ at-find-section2 .find-section2 .ensures)
 
 abbrev words-segments : tie.After-known-told3 → List ℕ
 words-segments c = words-paints (c .before .before .before .before)
@@ -35,7 +39,10 @@ abbrev found-segments : tie.After-known-told3 → List Section
 found-segments c = found-paints (c .before .before .before .before) ++ (c .before .segments .given .0 .0 ∷ [])
 
 segments-read : (c : tie.After-known-told3) → Upto (words-segments c) ((7, false) ∷ (22, false) ∷ (3, false) ∷ (2, true) ∷ []) (found-segments c) (c .before .segments .given .0 .1 .0)
-segments-read c = more (paints-read (c .before .before .before .before)) (sym (c .before .segments .given .1) ∙ c .before .before .before .find-section3 .ensures)
+segments-read c =
+    let at-find-section3 = c .before .before .before in
+    let back = at-find-section3 .before in
+    more (paints-read (back)) (sym (c .before .segments .given .1) ∙ at-find-section3 .find-section3 .ensures)
 
 abbrev words-draws : tie.After-known-told4 → List ℕ
 words-draws c = words-segments (c .before .before .before .before)
@@ -44,7 +51,10 @@ abbrev found-draws : tie.After-known-told4 → List Section
 found-draws c = found-segments (c .before .before .before .before) ++ (c .before .draws .given .0 .0 ∷ [])
 
 draws-read : (c : tie.After-known-told4) → Upto (words-draws c) ((22, false) ∷ (3, false) ∷ (2, true) ∷ []) (found-draws c) (c .before .draws .given .0 .1 .0)
-draws-read c = more (segments-read (c .before .before .before .before)) (sym (c .before .draws .given .1) ∙ c .before .before .before .find-section4 .ensures)
+draws-read c =
+    let at-find-section4 = c .before .before .before in
+    let back = at-find-section4 .before in
+    more (segments-read (back)) (sym (c .before .draws .given .1) ∙ at-find-section4 .find-section4 .ensures)
 
 abbrev words-layers : tie.After-known-told5 → List ℕ
 words-layers c = words-draws (c .before .before .before .before)
@@ -53,7 +63,10 @@ abbrev found-layers : tie.After-known-told5 → List Section
 found-layers c = found-draws (c .before .before .before .before) ++ (c .before .layers .given .0 .0 ∷ [])
 
 layers-read : (c : tie.After-known-told5) → Upto (words-layers c) ((3, false) ∷ (2, true) ∷ []) (found-layers c) (c .before .layers .given .0 .1 .0)
-layers-read c = more (draws-read (c .before .before .before .before)) (sym (c .before .layers .given .1) ∙ c .before .before .before .find-section5 .ensures)
+layers-read c =
+    let at-find-section5 = c .before .before .before in
+    let back = at-find-section5 .before in
+    more (draws-read (back)) (sym (c .before .layers .given .1) ∙ at-find-section5 .find-section5 .ensures)
 
 abbrev words-nodes : tie.After-known-told6 → List ℕ
 words-nodes c = words-layers (c .before .before .before .before)
@@ -62,7 +75,10 @@ abbrev found-nodes : tie.After-known-told6 → List Section
 found-nodes c = found-layers (c .before .before .before .before) ++ (c .before .nodes .given .0 .0 ∷ [])
 
 nodes-read : (c : tie.After-known-told6) → Upto (words-nodes c) ((2, true) ∷ []) (found-nodes c) (c .before .nodes .given .0 .1 .0)
-nodes-read c = more (layers-read (c .before .before .before .before)) (sym (c .before .nodes .given .1) ∙ c .before .before .before .find-section6 .ensures)
+nodes-read c =
+    let at-find-section6 = c .before .before .before in
+    let back = at-find-section6 .before in
+    more (layers-read (back)) (sym (c .before .nodes .given .1) ∙ at-find-section6 .find-section6 .ensures)
 
 abbrev words-root : tie.After-known-told7 → List ℕ
 words-root c = words-nodes (c .before .before .before .before)
@@ -71,7 +87,10 @@ abbrev found-root : tie.After-known-told7 → List Section
 found-root c = found-nodes (c .before .before .before .before) ++ (c .before .root .given .0 .0 ∷ [])
 
 root-read : (c : tie.After-known-told7) → Upto (words-root c) ([]) (found-root c) (c .before .root .given .0 .1 .0)
-root-read c = more (nodes-read (c .before .before .before .before)) (sym (c .before .root .given .1) ∙ c .before .before .before .find-section7 .ensures)
+root-read c =
+    let at-find-section7 = c .before .before .before in
+    let back = at-find-section7 .before in
+    more (nodes-read (back)) (sym (c .before .root .given .1) ∙ at-find-section7 .find-section7 .ensures)
 
 find-section-requires : tie.Need-find-section-requires
 find-section-requires c κs = search needs

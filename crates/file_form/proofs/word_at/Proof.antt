@@ -56,7 +56,11 @@ add-result-3 c = search needs
 
 returns : tie.Need-returns
 unfolding word-from
-returns c = rw (c .before .before .before .before .before .before .byte .ensures .0, c .before .before .before .before .byte2 .ensures .0, c .before .before .byte3 .ensures .0, c .byte4 .ensures .0)
+returns c =
+    let at-byte3 = c .before .before in
+    let at-byte2 = at-byte3 .before .before in
+    let at-byte = at-byte2 .before .before in
+    rw (at-byte .byte .ensures .0, at-byte2 .byte2 .ensures .0, at-byte3 .byte3 .ensures .0, c .byte4 .ensures .0)
 
 pub word-at-spec : {M : Type 1} → statement M
 word-at-spec =

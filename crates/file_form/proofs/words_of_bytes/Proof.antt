@@ -1,3 +1,4 @@
+-- So far the first i words are made of their four bytes each.
 use Prim.Native.Nat.{_≤_, _-_, _/_}
 use native.Mathlib.Omega.{arith}
 use lib.ListN.{length}

@@ -1,3 +1,4 @@
+-- The layers before i have their clips' segments in order.
 use Prim.Native.Nat.{_≤_, _-_, _/_}
 use native.Mathlib.Omega.{arith}
 use mathlib.Core.Path.{sym, _∙_}
@@ -26,10 +27,16 @@ add-is-clip-ordered : tie.Need-add-is-clip-ordered Inv-loop μ-loop
 add-is-clip-ordered c = omega arith
 
 is-clip-ordered-requires : tie.Need-is-clip-ordered-requires Inv-loop μ-loop
-is-clip-ordered-requires c κs = (omega arith, (every-at layer-from 22 _ (clip-range (length (c .before .before .before .before .args .list .now) / 5)) _ _ _ (omega arith) (c .before .before .before .before .pre .1 .0), c .before .before .before .before .pre .1 .1))
+is-clip-ordered-requires c κs =
+    let at-args = c .before .before .before .before in
+    (omega arith, (every-at layer-from 22 _ (clip-range (length (at-args .args .list .now) / 5)) _ _ _ (omega arith) (at-args .pre .1 .0), at-args .pre .1 .1))
 
 returns : tie.Need-returns Inv-loop μ-loop
-returns c = refused layer-from 22 _ (clip-ordered (segs-of (c .before .before .before .before .before .before .args .list .now))) _ _ _ (omega arith) (c .before .before .before .loop .inv .1) (sym (c .before .is-clip-ordered .ensures) ∙ not-true _ (c .if1 .taken))
+returns c =
+    let at-loop = c .before .before .before in
+    let at-args = at-loop .before .before .before in
+    refused layer-from 22 _ (clip-ordered (segs-of (at-args .args .list .now))) _ _ _ (omega arith) (at-loop .loop .inv .1) (sym
+    (c .before .is-clip-ordered .ensures) ∙ not-true _ (c .if1 .taken))
 
 add-i : tie.Need-add-i Inv-loop μ-loop
 add-i c = omega arith
@@ -38,7 +45,11 @@ loop-less : tie.Need-loop-less Inv-loop μ-loop
 loop-less c = omega arith
 
 loop-again : tie.Need-loop-again Inv-loop μ-loop
-loop-again c = (omega arith, turned layer-from 22 _ (clip-ordered (segs-of (c .before .before .before .before .before .before .args .list .now))) _ _ _ (omega arith) (c .before .before .before .loop .inv .1) (sym (c .before .is-clip-ordered .ensures) ∙ not-false _ (c .if1 .left)))
+loop-again c =
+    let at-loop = c .before .before .before in
+    let at-args = at-loop .before .before .before in
+    (omega arith, turned layer-from 22 _ (clip-ordered (segs-of (at-args .args .list .now))) _ _ _ (omega arith) (at-loop .loop .inv .1) (sym
+    (c .before .is-clip-ordered .ensures) ∙ not-false _ (c .if1 .left)))
 
 returns-2 : tie.Need-returns-2 Inv-loop μ-loop
 returns-2 c = ended layer-from 22 _ (clip-ordered (segs-of (c .before .before .before .before .args .list .now))) _ _ _ (omega arith) (c .before .loop .inv .1)

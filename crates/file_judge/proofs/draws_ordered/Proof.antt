@@ -1,3 +1,4 @@
+-- The draws before i have their segments in order.
 use Prim.Native.Nat.{_≤_, _-_, _/_}
 use native.Mathlib.Omega.{arith}
 use mathlib.Core.Path.{sym, _∙_}
@@ -45,11 +46,17 @@ shared-slice-read-is-ordered-2 c = omega arith
 
 is-ordered-requires : tie.Need-is-ordered-requires Inv-loop μ-loop
 unfolding draw-range draw-from
-is-ordered-requires c κs = (every-at draw-from 7 _ (draw-range (length (c .before .before .before .before .before .before .args .list .now) / 5)) _ _ _ (omega arith) (c .before .before .before .before .before .before .pre .1 .0), c .before .before .before .before .before .before .pre .1 .1)
+is-ordered-requires c κs =
+    let at-args = c .before .before .before .before .before .before in
+    (every-at draw-from 7 _ (draw-range (length (at-args .args .list .now) / 5)) _ _ _ (omega arith) (at-args .pre .1 .0), at-args .pre .1 .1)
 
 returns : tie.Need-returns Inv-loop μ-loop
 unfolding draw-ordered draw-from
-returns c = refused draw-from 7 _ (draw-ordered (segs-of (c .before .before .before .before .before .before .before .before .args .list .now))) _ _ _ (omega arith) (c .before .before .before .before .before .loop .inv .1) (sym (c .before .is-ordered .ensures) ∙ not-true _ (c .if1 .taken))
+returns c =
+    let at-loop = c .before .before .before .before .before in
+    let at-args = at-loop .before .before .before in
+    refused draw-from 7 _ (draw-ordered (segs-of (at-args .args .list .now))) _ _ _ (omega arith) (at-loop .loop .inv .1) (sym (c .before .is-ordered .ensures)
+    ∙ not-true _ (c .if1 .taken))
 
 add-i : tie.Need-add-i Inv-loop μ-loop
 add-i c = omega arith
@@ -59,7 +66,11 @@ loop-less c = omega arith
 
 loop-again : tie.Need-loop-again Inv-loop μ-loop
 unfolding draw-ordered draw-from
-loop-again c = (omega arith, turned draw-from 7 _ (draw-ordered (segs-of (c .before .before .before .before .before .before .before .before .args .list .now))) _ _ _ (omega arith) (c .before .before .before .before .before .loop .inv .1) (sym (c .before .is-ordered .ensures) ∙ not-false _ (c .if1 .left)))
+loop-again c =
+    let at-loop = c .before .before .before .before .before in
+    let at-args = at-loop .before .before .before in
+    (omega arith, turned draw-from 7 _ (draw-ordered (segs-of (at-args .args .list .now))) _ _ _ (omega arith) (at-loop .loop .inv .1) (sym
+    (c .before .is-ordered .ensures) ∙ not-false _ (c .if1 .left)))
 
 returns-2 : tie.Need-returns-2 Inv-loop μ-loop
 returns-2 c = ended draw-from 7 _ (draw-ordered (segs-of (c .before .before .before .before .args .list .now))) _ _ _ (omega arith) (c .before .loop .inv .1)

@@ -1,3 +1,4 @@
+-- The draws before i are good.
 use Prim.Native.Nat.{_≤_, _-_}
 use native.Mathlib.Omega.{arith}
 use mathlib.Core.Path.{sym, _∙_}
@@ -27,7 +28,11 @@ is-good-draw-requires : tie.Need-is-good-draw-requires Inv-loop μ-loop
 is-good-draw-requires c κs = omega arith
 
 returns : tie.Need-returns Inv-loop μ-loop
-returns c = refused draw-from 7 _ (draw-fields (c .before .before .before .before .before .args .paints) (c .before .before .before .before .before .args .segments)) _ _ _ (omega arith) (c .before .before .before .loop .inv .1) (sym (c .before .is-good-draw .ensures) ∙ not-true _ (c .if1 .taken))
+returns c =
+    let at-loop = c .before .before .before in
+    let at-args = at-loop .before .before in
+    refused draw-from 7 _ (draw-fields (at-args .args .paints) (at-args .args .segments)) _ _ _ (omega arith) (at-loop .loop .inv .1) (sym
+    (c .before .is-good-draw .ensures) ∙ not-true _ (c .if1 .taken))
 
 add-i : tie.Need-add-i Inv-loop μ-loop
 add-i c = omega arith
@@ -36,7 +41,11 @@ loop-less : tie.Need-loop-less Inv-loop μ-loop
 loop-less c = omega arith
 
 loop-again : tie.Need-loop-again Inv-loop μ-loop
-loop-again c = (omega arith, turned draw-from 7 _ (draw-fields (c .before .before .before .before .before .args .paints) (c .before .before .before .before .before .args .segments)) _ _ _ (omega arith) (c .before .before .before .loop .inv .1) (sym (c .before .is-good-draw .ensures) ∙ not-false _ (c .if1 .left)))
+loop-again c =
+    let at-loop = c .before .before .before in
+    let at-args = at-loop .before .before in
+    (omega arith, turned draw-from 7 _ (draw-fields (at-args .args .paints) (at-args .args .segments)) _ _ _ (omega arith) (at-loop .loop .inv .1) (sym
+    (c .before .is-good-draw .ensures) ∙ not-false _ (c .if1 .left)))
 
 returns-2 : tie.Need-returns-2 Inv-loop μ-loop
 returns-2 c = ended draw-from 7 _ (draw-fields (c .before .before .before .args .paints) (c .before .before .before .args .segments)) _ _ _ (omega arith) (c .before .loop .inv .1)

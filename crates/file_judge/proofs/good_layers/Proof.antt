@@ -1,3 +1,4 @@
+-- The layers before i are good.
 use Prim.Native.Nat.{_≤_, _-_}
 use native.Mathlib.Omega.{arith}
 use mathlib.Core.Path.{sym, _∙_}
@@ -27,7 +28,11 @@ is-good-layer-requires : tie.Need-is-good-layer-requires Inv-loop μ-loop
 is-good-layer-requires c κs = omega arith
 
 returns : tie.Need-returns Inv-loop μ-loop
-returns c = refused layer-from 22 _ (layer-fields (c .before .before .before .before .before .args .nodes) (c .before .before .before .before .before .args .segments)) _ _ _ (omega arith) (c .before .before .before .loop .inv .1) (sym (c .before .is-good-layer .ensures) ∙ not-true _ (c .if1 .taken))
+returns c =
+    let at-loop = c .before .before .before in
+    let at-args = at-loop .before .before in
+    refused layer-from 22 _ (layer-fields (at-args .args .nodes) (at-args .args .segments)) _ _ _ (omega arith) (at-loop .loop .inv .1) (sym
+    (c .before .is-good-layer .ensures) ∙ not-true _ (c .if1 .taken))
 
 add-i : tie.Need-add-i Inv-loop μ-loop
 add-i c = omega arith
@@ -36,7 +41,11 @@ loop-less : tie.Need-loop-less Inv-loop μ-loop
 loop-less c = omega arith
 
 loop-again : tie.Need-loop-again Inv-loop μ-loop
-loop-again c = (omega arith, turned layer-from 22 _ (layer-fields (c .before .before .before .before .before .args .nodes) (c .before .before .before .before .before .args .segments)) _ _ _ (omega arith) (c .before .before .before .loop .inv .1) (sym (c .before .is-good-layer .ensures) ∙ not-false _ (c .if1 .left)))
+loop-again c =
+    let at-loop = c .before .before .before in
+    let at-args = at-loop .before .before in
+    (omega arith, turned layer-from 22 _ (layer-fields (at-args .args .nodes) (at-args .args .segments)) _ _ _ (omega arith) (at-loop .loop .inv .1) (sym
+    (c .before .is-good-layer .ensures) ∙ not-false _ (c .if1 .left)))
 
 returns-2 : tie.Need-returns-2 Inv-loop μ-loop
 returns-2 c = ended layer-from 22 _ (layer-fields (c .before .before .before .args .nodes) (c .before .before .before .args .segments)) _ _ _ (omega arith) (c .before .loop .inv .1)

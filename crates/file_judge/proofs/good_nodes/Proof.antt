@@ -1,3 +1,4 @@
+-- The nodes before this one are good.
 use Prim.Native.Nat.{_≤_, _-_}
 use native.Mathlib.Omega.{arith}
 use mathlib.Core.Path.{sym, _∙_}
@@ -27,7 +28,11 @@ is-good-node-requires : tie.Need-is-good-node-requires Inv-loop μ-loop
 is-good-node-requires c κs = omega arith
 
 returns : tie.Need-returns Inv-loop μ-loop
-returns c = refused node-from 3 _ (node-fields (c .before .before .before .before .before .args .draws) (c .before .before .before .before .before .args .layers)) _ _ _ (omega arith) (c .before .before .before .loop .inv .1) (sym (c .before .is-good-node .ensures) ∙ not-true _ (c .if1 .taken))
+returns c =
+    let at-loop = c .before .before .before in
+    let at-args = at-loop .before .before in
+    refused node-from 3 _ (node-fields (at-args .args .draws) (at-args .args .layers)) _ _ _ (omega arith) (at-loop .loop .inv .1) (sym
+    (c .before .is-good-node .ensures) ∙ not-true _ (c .if1 .taken))
 
 add-node : tie.Need-add-node Inv-loop μ-loop
 add-node c = omega arith
@@ -36,7 +41,11 @@ loop-less : tie.Need-loop-less Inv-loop μ-loop
 loop-less c = omega arith
 
 loop-again : tie.Need-loop-again Inv-loop μ-loop
-loop-again c = (omega arith, turned node-from 3 _ (node-fields (c .before .before .before .before .before .args .draws) (c .before .before .before .before .before .args .layers)) _ _ _ (omega arith) (c .before .before .before .loop .inv .1) (sym (c .before .is-good-node .ensures) ∙ not-false _ (c .if1 .left)))
+loop-again c =
+    let at-loop = c .before .before .before in
+    let at-args = at-loop .before .before in
+    (omega arith, turned node-from 3 _ (node-fields (at-args .args .draws) (at-args .args .layers)) _ _ _ (omega arith) (at-loop .loop .inv .1) (sym
+    (c .before .is-good-node .ensures) ∙ not-false _ (c .if1 .left)))
 
 returns-2 : tie.Need-returns-2 Inv-loop μ-loop
 returns-2 c = ended node-from 3 _ (node-fields (c .before .before .before .args .draws) (c .before .before .before .args .layers)) _ _ _ (omega arith) (c .before .loop .inv .1)

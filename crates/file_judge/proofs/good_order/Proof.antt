@@ -25,10 +25,15 @@ part-draws-ordered-end : tie.Need-part-draws-ordered-end
 part-draws-ordered-end c = omega arith
 
 draws-ordered-requires : tie.Need-draws-ordered-requires
-draws-ordered-requires c κs = let r = ready (c .before .before .before .before .before .before .pre .0) (c .before .before .before .before .before .before .pre .1) in (search needs, (r .draws, r .segments))
+draws-ordered-requires c κs =
+    let at-pre = c .before .before .before .before .before .before in
+    let r = ready (at-pre .pre .0) (at-pre .pre .1) in
+    (search needs, (r .draws, r .segments))
 
 returns : tie.Need-returns
-returns c = bad-draw-order (c .before .before .before .before .before .before .before .before .pre .0) (sym (c .before .draws-ordered .ensures) ∙ not-true _ (c .if1 .taken))
+returns c =
+    let at-pre = c .before .before .before .before .before .before .before .before in
+    bad-draw-order (at-pre .pre .0) (sym (c .before .draws-ordered .ensures) ∙ not-true _ (c .if1 .taken))
 
 mul-clips-ordered : tie.Need-mul-clips-ordered
 mul-clips-ordered c = omega arith
@@ -43,10 +48,17 @@ part-clips-ordered-end : tie.Need-part-clips-ordered-end
 part-clips-ordered-end c = omega arith
 
 clips-ordered-requires : tie.Need-clips-ordered-requires
-clips-ordered-requires c κs = let r = ready (c .before .before .before .before .before .before .before .before .before .pre .0) (c .before .before .before .before .before .before .before .before .before .pre .1) in (search needs, (r .layers, r .segments))
+clips-ordered-requires c κs =
+    let at-pre = c .before .before .before .before .before .before .before .before .before in
+    let r = ready (at-pre .pre .0) (at-pre .pre .1) in
+    (search needs, (r .layers, r .segments))
 
 returns-2 : tie.Need-returns-2
-returns-2 c = c .clips-ordered .ensures ∙ clips-left (c .before .before .before .before .before .before .before .before .before .before .pre .0) (sym (c .before .before .before .draws-ordered .ensures) ∙ not-false _ (c .before .before .if1 .left))
+returns-2 c =
+    let at-if1 = c .before .before in
+    let at-draws-ordered = at-if1 .before in
+    let at-pre = at-draws-ordered .before .before .before .before .before .before .before in
+    c .clips-ordered .ensures ∙ clips-left (at-pre .pre .0) (sym (at-draws-ordered .draws-ordered .ensures) ∙ not-false _ (at-if1 .if1 .left))
 
 pub good-order-spec : {M : Type 1} → statement M
 good-order-spec =

@@ -1,3 +1,4 @@
+-- The five sections in the file's order, then the root's range.
 use native.Mathlib.Omega.{arith}
 use mathlib.Core.Path.{sym, ap, _∙_}
 use borrow.Author.Tests.{not-true, not-false}
@@ -13,7 +14,9 @@ good-paints-requires : tie.Need-good-paints-requires
 good-paints-requires c κs = search needs
 
 returns : tie.Need-returns
-returns c = bad-paints (c .before .before .before .before .before .before .before .before .before .pre) (sym (c .before .good-paints .ensures) ∙ not-true _ (c .if1 .taken))
+returns c =
+    let at-pre = c .before .before .before .before .before .before .before .before .before in
+    bad-paints (at-pre .pre) (sym (c .before .good-paints .ensures) ∙ not-true _ (c .if1 .taken))
 
 mul-e : tie.Need-mul-e
 mul-e c = omega arith
@@ -37,25 +40,61 @@ good-segments-requires : tie.Need-good-segments-requires
 good-segments-requires c κs = search needs
 
 returns-2 : tie.Need-returns-2
-returns-2 c = bad-segments (c .before .before .before .before .before .before .before .before .before .before .before .before .before .pre) (sym (c .before .before .before .before .before .good-paints .ensures) ∙ not-false _ (c .before .before .before .before .if1 .left)) (sym (c .before .good-segments .ensures ∙ ap (every good-segment) (lent-segments _ _ _ (c .before .before .before .before .before .before .before .before .before .before .before .before .before .pre .segments .ends))) ∙ not-true _ (c .if2 .taken))
+returns-2 c =
+    let at-if1 = c .before .before .before .before in
+    let at-good-paints = at-if1 .before in
+    let at-pre = at-good-paints .before .before .before .before .before .before .before .before in
+    bad-segments (at-pre .pre) (sym (at-good-paints .good-paints .ensures) ∙ not-false _ (at-if1 .if1 .left)) (sym (c .before .good-segments .ensures ∙ ap
+    (every good-segment) (lent-segments _ _ _ (at-pre .pre .segments .ends))) ∙ not-true _ (c .if2 .taken))
 
 good-draws-requires : tie.Need-good-draws-requires
 good-draws-requires c κs = search needs
 
 returns-3 : tie.Need-returns-3
-returns-3 c = bad-draws (c .before .before .before .before .before .before .before .before .before .before .before .before .before .before .before .pre) (sym (c .before .before .before .before .before .before .before .good-paints .ensures) ∙ not-false _ (c .before .before .before .before .before .before .if1 .left)) (sym (c .before .before .before .good-segments .ensures ∙ ap (every good-segment) (lent-segments _ _ _ (c .before .before .before .before .before .before .before .before .before .before .before .before .before .before .before .pre .segments .ends))) ∙ not-false _ (c .before .before .if2 .left)) (sym (c .before .good-draws .ensures) ∙ not-true _ (c .if3 .taken))
+returns-3 c =
+    let at-if2 = c .before .before in
+    let at-good-segments = at-if2 .before in
+    let at-if1 = at-good-segments .before .before .before in
+    let at-good-paints = at-if1 .before in
+    let at-pre = at-good-paints .before .before .before .before .before .before .before .before in
+    bad-draws (at-pre .pre) (sym (at-good-paints .good-paints .ensures) ∙ not-false _ (at-if1 .if1 .left)) (sym (at-good-segments .good-segments .ensures ∙ ap
+    (every good-segment) (lent-segments _ _ _ (at-pre .pre .segments .ends))) ∙ not-false _ (at-if2 .if2 .left)) (sym (c .before .good-draws .ensures) ∙
+    not-true _ (c .if3 .taken))
 
 good-layers-requires : tie.Need-good-layers-requires
 good-layers-requires c κs = search needs
 
 returns-4 : tie.Need-returns-4
-returns-4 c = bad-layers (c .before .before .before .before .before .before .before .before .before .before .before .before .before .before .before .before .before .pre) (sym (c .before .before .before .before .before .before .before .before .before .good-paints .ensures) ∙ not-false _ (c .before .before .before .before .before .before .before .before .if1 .left)) (sym (c .before .before .before .before .before .good-segments .ensures ∙ ap (every good-segment) (lent-segments _ _ _ (c .before .before .before .before .before .before .before .before .before .before .before .before .before .before .before .before .before .pre .segments .ends))) ∙ not-false _ (c .before .before .before .before .if2 .left)) (sym (c .before .before .before .good-draws .ensures) ∙ not-false _ (c .before .before .if3 .left)) (sym (c .before .good-layers .ensures) ∙ not-true _ (c .if4 .taken))
+returns-4 c =
+    let at-if3 = c .before .before in
+    let at-good-draws = at-if3 .before in
+    let at-if2 = at-good-draws .before in
+    let at-good-segments = at-if2 .before in
+    let at-if1 = at-good-segments .before .before .before in
+    let at-good-paints = at-if1 .before in
+    let at-pre = at-good-paints .before .before .before .before .before .before .before .before in
+    bad-layers (at-pre .pre) (sym (at-good-paints .good-paints .ensures) ∙ not-false _ (at-if1 .if1 .left)) (sym (at-good-segments .good-segments .ensures ∙ ap
+    (every good-segment) (lent-segments _ _ _ (at-pre .pre .segments .ends))) ∙ not-false _ (at-if2 .if2 .left)) (sym (at-good-draws .good-draws .ensures) ∙
+    not-false _ (at-if3 .if3 .left)) (sym (c .before .good-layers .ensures) ∙ not-true _ (c .if4 .taken))
 
 good-nodes-requires : tie.Need-good-nodes-requires
 good-nodes-requires c κs = search needs
 
 returns-5 : tie.Need-returns-5
-returns-5 c = bad-nodes (c .before .before .before .before .before .before .before .before .before .before .before .before .before .before .before .before .before .before .before .pre) (sym (c .before .before .before .before .before .before .before .before .before .before .before .good-paints .ensures) ∙ not-false _ (c .before .before .before .before .before .before .before .before .before .before .if1 .left)) (sym (c .before .before .before .before .before .before .before .good-segments .ensures ∙ ap (every good-segment) (lent-segments _ _ _ (c .before .before .before .before .before .before .before .before .before .before .before .before .before .before .before .before .before .before .before .pre .segments .ends))) ∙ not-false _ (c .before .before .before .before .before .before .if2 .left)) (sym (c .before .before .before .before .before .good-draws .ensures) ∙ not-false _ (c .before .before .before .before .if3 .left)) (sym (c .before .before .before .good-layers .ensures) ∙ not-false _ (c .before .before .if4 .left)) (sym (c .before .good-nodes .ensures) ∙ not-true _ (c .if5 .taken))
+returns-5 c =
+    let at-if4 = c .before .before in
+    let at-good-layers = at-if4 .before in
+    let at-if3 = at-good-layers .before in
+    let at-good-draws = at-if3 .before in
+    let at-if2 = at-good-draws .before in
+    let at-good-segments = at-if2 .before in
+    let at-if1 = at-good-segments .before .before .before in
+    let at-good-paints = at-if1 .before in
+    let at-pre = at-good-paints .before .before .before .before .before .before .before .before in
+    bad-nodes (at-pre .pre) (sym (at-good-paints .good-paints .ensures) ∙ not-false _ (at-if1 .if1 .left)) (sym (at-good-segments .good-segments .ensures ∙ ap
+    (every good-segment) (lent-segments _ _ _ (at-pre .pre .segments .ends))) ∙ not-false _ (at-if2 .if2 .left)) (sym (at-good-draws .good-draws .ensures) ∙
+    not-false _ (at-if3 .if3 .left)) (sym (at-good-layers .good-layers .ensures) ∙ not-false _ (at-if4 .if4 .left)) (sym (c .before .good-nodes .ensures) ∙
+    not-true _ (c .if5 .taken))
 
 mul-is-good-range : tie.Need-mul-is-good-range
 mul-is-good-range c = omega arith
@@ -76,7 +115,22 @@ is-good-range-requires : tie.Need-is-good-range-requires
 is-good-range-requires c κs = search needs
 
 returns-6 : tie.Need-returns-6
-returns-6 c = c .is-good-range .ensures ∙ up-to-root (c .before .before .before .before .before .before .before .before .before .before .before .before .before .before .before .before .before .before .before .before .before .before .pre) (sym (c .before .before .before .before .before .before .before .before .before .before .before .before .before .before .good-paints .ensures) ∙ not-false _ (c .before .before .before .before .before .before .before .before .before .before .before .before .before .if1 .left)) (sym (c .before .before .before .before .before .before .before .before .before .before .good-segments .ensures ∙ ap (every good-segment) (lent-segments _ _ _ (c .before .before .before .before .before .before .before .before .before .before .before .before .before .before .before .before .before .before .before .before .before .before .pre .segments .ends))) ∙ not-false _ (c .before .before .before .before .before .before .before .before .before .if2 .left)) (sym (c .before .before .before .before .before .before .before .before .good-draws .ensures) ∙ not-false _ (c .before .before .before .before .before .before .before .if3 .left)) (sym (c .before .before .before .before .before .before .good-layers .ensures) ∙ not-false _ (c .before .before .before .before .before .if4 .left)) (sym (c .before .before .before .before .good-nodes .ensures) ∙ not-false _ (c .before .before .before .if5 .left))
+returns-6 c =
+    let at-if5 = c .before .before .before in
+    let at-good-nodes = at-if5 .before in
+    let at-if4 = at-good-nodes .before in
+    let at-good-layers = at-if4 .before in
+    let at-if3 = at-good-layers .before in
+    let at-good-draws = at-if3 .before in
+    let at-if2 = at-good-draws .before in
+    let at-good-segments = at-if2 .before in
+    let at-if1 = at-good-segments .before .before .before in
+    let at-good-paints = at-if1 .before in
+    let at-pre = at-good-paints .before .before .before .before .before .before .before .before in
+    c .is-good-range .ensures ∙ up-to-root (at-pre .pre) (sym (at-good-paints .good-paints .ensures) ∙ not-false _ (at-if1 .if1 .left)) (sym
+    (at-good-segments .good-segments .ensures ∙ ap (every good-segment) (lent-segments _ _ _ (at-pre .pre .segments .ends))) ∙ not-false _ (at-if2 .if2 .left))
+    (sym (at-good-draws .good-draws .ensures) ∙ not-false _ (at-if3 .if3 .left)) (sym (at-good-layers .good-layers .ensures) ∙ not-false _ (at-if4 .if4 .left))
+    (sym (at-good-nodes .good-nodes .ensures) ∙ not-false _ (at-if5 .if5 .left))
 
 pub good-records-spec : {M : Type 1} → statement M
 good-records-spec =

@@ -34,7 +34,10 @@ shared-slice-read-is-ordered-2 c = omega arith
 
 is-ordered-requires : tie.Need-is-ordered-requires
 unfolding clip-range layer-from clip-from
-is-ordered-requires c κs = (rw (eq-eqb _ _ (c .before .before .if1 .taken)) at (c .before .before .before .before .before .before .pre .1 .0), c .before .before .before .before .before .before .pre .1 .1)
+is-ordered-requires c κs =
+    let at-if1 = c .before .before in
+    let at-pre = at-if1 .before .before .before .before in
+    (rw (eq-eqb _ _ (at-if1 .if1 .taken)) at (at-pre .pre .1 .0), at-pre .pre .1 .1)
 
 returns : tie.Need-returns
 unfolding clip-ordered layer-from clip-from

@@ -1,3 +1,4 @@
+-- A clip's fields are judged if its flag says that there is one, else they have to be 0.
 use native.Mathlib.Omega.{arith}
 use mathlib.Core.Path.{sym, ap, _∙_}
 use borrow.Author.Tests.{le-leb, lt-leb, lt-ltb, le-ltb, not-true, not-false}
@@ -42,7 +43,12 @@ shared-slice-read-if2-2 c = omega arith
 
 returns-2 : tie.Need-returns-2
 unfolding clip-fields clip-from
-returns-2 c = rw (sym (c .before .before .before .before .is-good .ensures ∙ ap good-box (c .before .before .before .before .before .box-at .ensures ∙ clip-box _ _)) ∙ not-false _ (c .before .before .before .if1 .left), lt-leb _ _ (c .if2 .taken))
+returns-2 c =
+    let at-if1 = c .before .before .before in
+    let at-is-good = at-if1 .before in
+    let at-box-at = at-is-good .before in
+    rw (sym (at-is-good .is-good .ensures ∙ ap good-box (at-box-at .box-at .ensures ∙ clip-box _ _)) ∙ not-false _ (at-if1 .if1 .left),
+    lt-leb _ _ (c .if2 .taken))
 
 add-if3 : tie.Need-add-if3
 add-if3 c = omega arith
@@ -55,7 +61,13 @@ shared-slice-read-if3 c = omega arith
 
 returns-3 : tie.Need-returns-3
 unfolding clip-fields clip-from
-returns-3 c = rw (sym (c .before .before .before .before .before .before .is-good .ensures ∙ ap good-box (c .before .before .before .before .before .before .before .box-at .ensures ∙ clip-box _ _)) ∙ not-false _ (c .before .before .before .before .before .if1 .left), le-leb _ _ (c .before .before .if2 .left), le-ltb _ _ (c .if3 .taken))
+returns-3 c =
+    let at-if2 = c .before .before in
+    let at-if1 = at-if2 .before .before .before in
+    let at-is-good = at-if1 .before in
+    let at-box-at = at-is-good .before in
+    rw (sym (at-is-good .is-good .ensures ∙ ap good-box (at-box-at .box-at .ensures ∙ clip-box _ _)) ∙ not-false _ (at-if1 .if1 .left),
+    le-leb _ _ (at-if2 .if2 .left), le-ltb _ _ (c .if3 .taken))
 
 add-wide : tie.Need-add-wide
 add-wide c = omega arith
@@ -71,7 +83,14 @@ wide-requires c κs = search needs
 
 returns-4 : tie.Need-returns-4
 unfolding clip-fields clip-from
-returns-4 c = rw (sym (c .before .before .before .before .before .before .before .before .is-good .ensures ∙ ap good-box (c .before .before .before .before .before .before .before .before .before .box-at .ensures ∙ clip-box _ _)) ∙ not-false _ (c .before .before .before .before .before .before .before .if1 .left), le-leb _ _ (c .before .before .before .before .if2 .left), lt-ltb _ _ (c .before .before .if3 .left), c .wide .ensures)
+returns-4 c =
+    let at-if3 = c .before .before in
+    let at-if2 = at-if3 .before .before in
+    let at-if1 = at-if2 .before .before .before in
+    let at-is-good = at-if1 .before in
+    let at-box-at = at-is-good .before in
+    rw (sym (at-is-good .is-good .ensures ∙ ap good-box (at-box-at .box-at .ensures ∙ clip-box _ _)) ∙ not-false _ (at-if1 .if1 .left),
+    le-leb _ _ (at-if2 .if2 .left), lt-ltb _ _ (at-if3 .if3 .left), c .wide .ensures)
 
 pub is-good-clip-spec : {M : Type 1} → statement M
 is-good-clip-spec =

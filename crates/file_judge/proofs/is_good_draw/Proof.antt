@@ -1,3 +1,4 @@
+-- One test for each field of the record, in the order in which it stands; the first that fails decides.
 use native.Mathlib.Omega.{arith}
 use mathlib.Core.Path.{sym, _∙_}
 use borrow.Author.Tests.{lt-ltb, le-ltb, not-true, not-false}
@@ -56,7 +57,12 @@ wide-requires c κs = search needs
 
 returns-3 : tie.Need-returns-3
 unfolding draw-fields draw-from
-returns-3 c = rw (lt-ltb _ _ (c .before .before .before .before .before .before .before .if1 .left), sym (c .before .before .before .before .is-good-range .ensures) ∙ not-false _ (c .before .before .before .if2 .left), le-ltb _ _ (rw (c .before .wide .ensures) at (c .if3 .taken)))
+returns-3 c =
+    let at-if2 = c .before .before .before in
+    let at-is-good-range = at-if2 .before in
+    let at-if1 = at-is-good-range .before .before .before in
+    rw (lt-ltb _ _ (at-if1 .if1 .left), sym (at-is-good-range .is-good-range .ensures) ∙ not-false _ (at-if2 .if2 .left),
+    le-ltb _ _ (rw (c .before .wide .ensures) at (c .if3 .taken)))
 
 add-is-good-blend : tie.Need-add-is-good-blend
 add-is-good-blend c = omega arith
@@ -81,7 +87,14 @@ is-good-blend-requires c κs = search needs
 
 returns-4 : tie.Need-returns-4
 unfolding draw-fields draw-from
-returns-4 c = rw (lt-ltb _ _ (c .before .before .before .before .before .before .before .before .before .before .before .if1 .left), sym (c .before .before .before .before .before .before .before .before .is-good-range .ensures) ∙ not-false _ (c .before .before .before .before .before .before .before .if2 .left), lt-ltb _ _ (rw (c .before .before .before .before .before .wide .ensures) at (c .before .before .before .before .if3 .left)), sym (c .before .is-good-blend .ensures) ∙ not-true _ (c .if4 .taken))
+returns-4 c =
+    let at-if3 = c .before .before .before .before in
+    let at-wide = at-if3 .before in
+    let at-if2 = at-wide .before .before in
+    let at-is-good-range = at-if2 .before in
+    let at-if1 = at-is-good-range .before .before .before in
+    rw (lt-ltb _ _ (at-if1 .if1 .left), sym (at-is-good-range .is-good-range .ensures) ∙ not-false _ (at-if2 .if2 .left),
+    lt-ltb _ _ (rw (at-wide .wide .ensures) at (at-if3 .if3 .left)), sym (c .before .is-good-blend .ensures) ∙ not-true _ (c .if4 .taken))
 
 add-result : tie.Need-add-result
 add-result c = omega arith
@@ -94,7 +107,15 @@ shared-slice-read-result c = omega arith
 
 returns-5 : tie.Need-returns-5
 unfolding draw-fields draw-from
-returns-5 c = rw (lt-ltb _ _ (c .before .before .before .before .before .before .before .before .before .before .before .before .if1 .left), sym (c .before .before .before .before .before .before .before .before .before .is-good-range .ensures) ∙ not-false _ (c .before .before .before .before .before .before .before .before .if2 .left), lt-ltb _ _ (rw (c .before .before .before .before .before .before .wide .ensures) at (c .before .before .before .before .before .if3 .left)), sym (c .before .before .is-good-blend .ensures) ∙ not-false _ (c .before .if4 .left))
+returns-5 c =
+    let at-is-good-blend = c .before .before in
+    let at-if3 = at-is-good-blend .before .before .before in
+    let at-wide = at-if3 .before in
+    let at-if2 = at-wide .before .before in
+    let at-is-good-range = at-if2 .before in
+    let at-if1 = at-is-good-range .before .before .before in
+    rw (lt-ltb _ _ (at-if1 .if1 .left), sym (at-is-good-range .is-good-range .ensures) ∙ not-false _ (at-if2 .if2 .left),
+    lt-ltb _ _ (rw (at-wide .wide .ensures) at (at-if3 .if3 .left)), sym (at-is-good-blend .is-good-blend .ensures) ∙ not-false _ (c .before .if4 .left))
 
 pub is-good-draw-spec : {M : Type 1} → statement M
 is-good-draw-spec =

@@ -45,7 +45,13 @@ shared-slice-read-if3 c = omega arith
 
 returns-3 : tie.Need-returns-3
 unfolding filter-from
-returns-3 c = rw (lt-ltb _ _ (c .before .before .before .before .before .if1 .left), sym (c .before .before .before .is-good-dest .ensures ∙ ap good-dest (c .before .before .before .before .box-at .ensures ∙ filter-box _ _)) ∙ not-false _ (c .before .before .if2 .left), lt-leb _ _ (c .if3 .taken))
+returns-3 c =
+    let at-if2 = c .before .before in
+    let at-is-good-dest = at-if2 .before in
+    let at-box-at = at-is-good-dest .before in
+    let at-if1 = at-box-at .before in
+    rw (lt-ltb _ _ (at-if1 .if1 .left), sym (at-is-good-dest .is-good-dest .ensures ∙ ap good-dest (at-box-at .box-at .ensures ∙ filter-box _ _)) ∙ not-false _
+    (at-if2 .if2 .left), lt-leb _ _ (c .if3 .taken))
 
 add-result : tie.Need-add-result
 add-result c = omega arith
@@ -58,7 +64,13 @@ shared-slice-read-result c = omega arith
 
 returns-4 : tie.Need-returns-4
 unfolding filter-from
-returns-4 c = rw (lt-ltb _ _ (c .before .before .before .before .before .before .if1 .left), sym (c .before .before .before .before .is-good-dest .ensures ∙ ap good-dest (c .before .before .before .before .before .box-at .ensures ∙ filter-box _ _)) ∙ not-false _ (c .before .before .before .if2 .left), le-leb _ _ (c .before .if3 .left))
+returns-4 c =
+    let at-if2 = c .before .before .before in
+    let at-is-good-dest = at-if2 .before in
+    let at-box-at = at-is-good-dest .before in
+    let at-if1 = at-box-at .before in
+    rw (lt-ltb _ _ (at-if1 .if1 .left), sym (at-is-good-dest .is-good-dest .ensures ∙ ap good-dest (at-box-at .box-at .ensures ∙ filter-box _ _)) ∙ not-false _
+    (at-if2 .if2 .left), le-leb _ _ (c .before .if3 .left))
 
 pub is-good-filter-spec : {M : Type 1} → statement M
 is-good-filter-spec =

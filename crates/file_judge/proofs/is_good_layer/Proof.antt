@@ -1,3 +1,4 @@
+-- One test for each field of the record, in the order in which it stands; the first that fails decides.
 use native.Mathlib.Omega.{arith}
 use mathlib.Core.Path.{sym, _∙_}
 use borrow.Author.Tests.{le-leb, lt-leb, lt-ltb, le-ltb, not-true, not-false}
@@ -65,7 +66,12 @@ is-good-blend-requires c κs = search needs
 
 returns-3 : tie.Need-returns-3
 unfolding layer-fields layer-from
-returns-3 c = rw (le-leb _ _ (c .before .before .before .before .before .before .before .before .if1 .left), sym (c .before .before .before .before .before .is-good-range .ensures) ∙ not-false _ (c .before .before .before .before .if2 .left), sym (c .before .is-good-blend .ensures) ∙ not-true _ (c .if3 .taken))
+returns-3 c =
+    let at-if2 = c .before .before .before .before in
+    let at-is-good-range = at-if2 .before in
+    let at-if1 = at-is-good-range .before .before .before in
+    rw (le-leb _ _ (at-if1 .if1 .left), sym (at-is-good-range .is-good-range .ensures) ∙ not-false _ (at-if2 .if2 .left),
+    sym (c .before .is-good-blend .ensures) ∙ not-true _ (c .if3 .taken))
 
 add-if4 : tie.Need-add-if4
 add-if4 c = omega arith
@@ -78,7 +84,14 @@ shared-slice-read-if4 c = omega arith
 
 returns-4 : tie.Need-returns-4
 unfolding layer-fields layer-from
-returns-4 c = rw (le-leb _ _ (c .before .before .before .before .before .before .before .before .before .before .if1 .left), sym (c .before .before .before .before .before .before .before .is-good-range .ensures) ∙ not-false _ (c .before .before .before .before .before .before .if2 .left), sym (c .before .before .before .is-good-blend .ensures) ∙ not-false _ (c .before .before .if3 .left), le-ltb _ _ (c .if4 .taken))
+returns-4 c =
+    let at-if3 = c .before .before in
+    let at-is-good-blend = at-if3 .before in
+    let at-if2 = at-is-good-blend .before .before .before in
+    let at-is-good-range = at-if2 .before in
+    let at-if1 = at-is-good-range .before .before .before in
+    rw (le-leb _ _ (at-if1 .if1 .left), sym (at-is-good-range .is-good-range .ensures) ∙ not-false _ (at-if2 .if2 .left),
+    sym (at-is-good-blend .is-good-blend .ensures) ∙ not-false _ (at-if3 .if3 .left), le-ltb _ _ (c .if4 .taken))
 
 add-if5 : tie.Need-add-if5
 add-if5 c = omega arith
@@ -91,21 +104,50 @@ shared-slice-read-if5 c = omega arith
 
 returns-5 : tie.Need-returns-5
 unfolding layer-fields layer-from
-returns-5 c = rw (le-leb _ _ (c .before .before .before .before .before .before .before .before .before .before .before .before .if1 .left), sym (c .before .before .before .before .before .before .before .before .before .is-good-range .ensures) ∙ not-false _ (c .before .before .before .before .before .before .before .before .if2 .left), sym (c .before .before .before .before .before .is-good-blend .ensures) ∙ not-false _ (c .before .before .before .before .if3 .left), lt-ltb _ _ (c .before .before .if4 .left), lt-leb _ _ (c .if5 .taken))
+returns-5 c =
+    let at-if4 = c .before .before in
+    let at-if3 = at-if4 .before .before in
+    let at-is-good-blend = at-if3 .before in
+    let at-if2 = at-is-good-blend .before .before .before in
+    let at-is-good-range = at-if2 .before in
+    let at-if1 = at-is-good-range .before .before .before in
+    rw (le-leb _ _ (at-if1 .if1 .left), sym (at-is-good-range .is-good-range .ensures) ∙ not-false _ (at-if2 .if2 .left),
+    sym (at-is-good-blend .is-good-blend .ensures) ∙ not-false _ (at-if3 .if3 .left), lt-ltb _ _ (at-if4 .if4 .left), lt-leb _ _ (c .if5 .taken))
 
 is-good-clip-part-requires : tie.Need-is-good-clip-part-requires
 is-good-clip-part-requires c κs = search needs
 
 returns-6 : tie.Need-returns-6
 unfolding layer-fields layer-from
-returns-6 c = rw (le-leb _ _ (c .before .before .before .before .before .before .before .before .before .before .before .before .before .before .if1 .left), sym (c .before .before .before .before .before .before .before .before .before .before .before .is-good-range .ensures) ∙ not-false _ (c .before .before .before .before .before .before .before .before .before .before .if2 .left), sym (c .before .before .before .before .before .before .before .is-good-blend .ensures) ∙ not-false _ (c .before .before .before .before .before .before .if3 .left), lt-ltb _ _ (c .before .before .before .before .if4 .left), le-leb _ _ (c .before .before .if5 .left), sym (c .before .is-good-clip-part .ensures) ∙ not-true _ (c .if6 .taken))
+returns-6 c =
+    let at-if5 = c .before .before in
+    let at-if4 = at-if5 .before .before in
+    let at-if3 = at-if4 .before .before in
+    let at-is-good-blend = at-if3 .before in
+    let at-if2 = at-is-good-blend .before .before .before in
+    let at-is-good-range = at-if2 .before in
+    let at-if1 = at-is-good-range .before .before .before in
+    rw (le-leb _ _ (at-if1 .if1 .left), sym (at-is-good-range .is-good-range .ensures) ∙ not-false _ (at-if2 .if2 .left),
+    sym (at-is-good-blend .is-good-blend .ensures) ∙ not-false _ (at-if3 .if3 .left), lt-ltb _ _ (at-if4 .if4 .left), le-leb _ _ (at-if5 .if5 .left),
+    sym (c .before .is-good-clip-part .ensures) ∙ not-true _ (c .if6 .taken))
 
 is-good-filter-part-requires : tie.Need-is-good-filter-part-requires
 is-good-filter-part-requires c κs = search needs
 
 returns-7 : tie.Need-returns-7
 unfolding layer-fields layer-from
-returns-7 c = rw (le-leb _ _ (c .before .before .before .before .before .before .before .before .before .before .before .before .before .before .before .if1 .left), sym (c .before .before .before .before .before .before .before .before .before .before .before .before .is-good-range .ensures) ∙ not-false _ (c .before .before .before .before .before .before .before .before .before .before .before .if2 .left), sym (c .before .before .before .before .before .before .before .before .is-good-blend .ensures) ∙ not-false _ (c .before .before .before .before .before .before .before .if3 .left), lt-ltb _ _ (c .before .before .before .before .before .if4 .left), le-leb _ _ (c .before .before .before .if5 .left), sym (c .before .before .is-good-clip-part .ensures) ∙ not-false _ (c .before .if6 .left)) (c .is-good-filter-part .ensures)
+returns-7 c =
+    let at-is-good-clip-part = c .before .before in
+    let at-if5 = at-is-good-clip-part .before in
+    let at-if4 = at-if5 .before .before in
+    let at-if3 = at-if4 .before .before in
+    let at-is-good-blend = at-if3 .before in
+    let at-if2 = at-is-good-blend .before .before .before in
+    let at-is-good-range = at-if2 .before in
+    let at-if1 = at-is-good-range .before .before .before in
+    rw (le-leb _ _ (at-if1 .if1 .left), sym (at-is-good-range .is-good-range .ensures) ∙ not-false _ (at-if2 .if2 .left),
+    sym (at-is-good-blend .is-good-blend .ensures) ∙ not-false _ (at-if3 .if3 .left), lt-ltb _ _ (at-if4 .if4 .left), le-leb _ _ (at-if5 .if5 .left),
+    sym (at-is-good-clip-part .is-good-clip-part .ensures) ∙ not-false _ (c .before .if6 .left)) (c .is-good-filter-part .ensures)
 
 pub is-good-layer-spec : {M : Type 1} → statement M
 is-good-layer-spec =

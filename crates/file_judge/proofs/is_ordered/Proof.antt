@@ -13,7 +13,10 @@ judge-segments-requires : tie.Need-judge-segments-requires
 judge-segments-requires c κs = rw (c .before .wide .ensures, c .wide2 .ensures) (range-fits (c .before .before .before .args .list .now) _ _ (c .before .before .before .pre .0))
 
 returns : tie.Need-returns
-returns c = rw (c .judge-segments .ensures, c .before .before .wide .ensures, c .before .wide2 .ensures) (range-judged _ _ _ (c .before .before .before .before .pre .0) (c .before .before .before .before .pre .1))
+returns c =
+    let at-wide = c .before .before in
+    let at-pre = at-wide .before .before in
+    rw (c .judge-segments .ensures, at-wide .wide .ensures, c .before .wide2 .ensures) (range-judged _ _ _ (at-pre .pre .0) (at-pre .pre .1))
 
 pub is-ordered-spec : {M : Type 1} → statement M
 is-ordered-spec =

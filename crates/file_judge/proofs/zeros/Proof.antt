@@ -1,3 +1,4 @@
+-- The words before i are 0.
 use Prim.Native.Nat.{_≤_, _-_}
 use native.Mathlib.Omega.{arith}
 use native.Mathlib.Nat.{one-mul}

@@ -66,7 +66,14 @@ same-length-4 : tie.Need-same-length-4
 same-length-4 c = search needs
 
 returns : tie.Need-returns
-returns c = let s = c .before .before .before .before .before .before .before .before .before .before .before .before .before .before .before .before .before .before .before .before .before .before .before .before .before .before .before in c .before .before .before .before .before .before .before .before .fill .ensures ∙ rw (c .before .before .before .before .before .before .before .before .before .before .before .before .before .before .before .draw-at .ensures) (same-fill _ _ _ _ _ _ (paints-lent (s .args .l) (s .args .w .now) (s .pre .0)) (paints-lent-length (s .args .l) (s .args .w .now) (s .pre .0)) (segments-lent (s .args .l) (s .args .w .now) (s .pre .0)) (segments-lent-length (s .args .l) (s .args .w .now) (s .pre .0)))
+returns c =
+    let at-fill = c .before .before .before .before .before .before .before .before in
+    let at-draw-at = at-fill .before .before .before .before .before .before .before in
+    let back = at-draw-at .before .before .before .before .before .before .before .before .before .before .before .before in
+    let s = back in
+    at-fill .fill .ensures ∙ rw (at-draw-at .draw-at .ensures) (same-fill _ _ _ _ _ _ (paints-lent (s .args .l) (s .args .w .now) (s .pre .0))
+    (paints-lent-length (s .args .l) (s .args .w .now) (s .pre .0)) (segments-lent (s .args .l) (s .args .w .now) (s .pre .0)) (segments-lent-length
+    (s .args .l) (s .args .w .now) (s .pre .0)))
 
 pub fill-draw-spec : {M : Type 1} → statement M
 fill-draw-spec =

@@ -40,7 +40,12 @@ same-length-5 c = search needs
 
 returns : tie.Need-returns
 unfolding filter-from
-returns c = let s = c .before .before .before .before .before .before .before .before .before .before .before .before .before .before .before .before .before .before .before .before .before .before .before .before in c .before .before .before .before .before .before .before .before .before .filter-fill .ensures ∙ rw (c .before .before .before .before .before .before .before .before .before .before .before .before .before .before .before .before .before .placement-at .ensures, paints-count (s .args .l) (s .args .w .now) (s .pre .0))
+returns c =
+    let at-filter-fill = c .before .before .before .before .before .before .before .before .before in
+    let at-placement-at = at-filter-fill .before .before .before .before .before .before .before .before in
+    let back = at-placement-at .before .before .before .before .before .before .before in
+    let s = back in
+    at-filter-fill .filter-fill .ensures ∙ rw (at-placement-at .placement-at .ensures, paints-count (s .args .l) (s .args .w .now) (s .pre .0))
 
 pub filter-at-spec : {M : Type 1} → statement M
 filter-at-spec =

@@ -45,7 +45,13 @@ same-length-6 : tie.Need-same-length-6
 same-length-6 c = search needs
 
 returns : tie.Need-returns
-returns c = let s = c .before .before .before .before .before .before .before .before .before .before .before .before .before .before .before .before .before .before .before .before .before .before .before .before .before .before .before .before .before in c .before .before .before .before .before .before .before .before .before .before .before .before .pop-layer .ensures ∙ same-pop _ _ _ _ (segments-lent (s .args .l) (s .args .w .now) (s .pre)) (segments-lent-length (s .args .l) (s .args .w .now) (s .pre))
+returns c =
+    let at-pop-layer = c .before .before .before .before .before .before .before .before .before .before .before .before in
+    let back = at-pop-layer .before .before .before .before .before .before .before .before .before .before .before .before .before .before .before
+        .before .before in
+    let s = back in
+    at-pop-layer .pop-layer .ensures ∙ same-pop _ _ _ _ (segments-lent (s .args .l) (s .args .w .now) (s .pre)) (segments-lent-length (s .args .l)
+    (s .args .w .now) (s .pre))
 
 pub pop-at-spec : {M : Type 1} → statement M
 pop-at-spec =

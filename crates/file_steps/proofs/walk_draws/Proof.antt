@@ -1,3 +1,4 @@
+-- So far the draws before this one are filled as the rules' steps, none of them refused.
 use Rattle.file_steps.proofs.Draws.{Left, all-drawn, draw-refused, draw-turned}
 use Prim.Native.Nat.{_-_, _≤_}
 use mathlib.Core.Path.{_≡_, refl, sym, _∙_}
@@ -26,34 +27,72 @@ loop-holds : tie.Need-loop-holds Inv-loop μ-loop
 loop-holds c = (c .before .before .before .before .before .pre .1 .0, (refl, (refl, (refl, (refl, record { same = λ t. refl })))))
 
 fill-draw-requires : tie.Need-fill-draw-requires Inv-loop μ-loop
-fill-draw-requires c κs = let s = c .before .before .before .before .before .before .before .before .before .before .before in (s .pre .0, omega (arith, s .pre .1 .1))
+fill-draw-requires c κs =
+    let back = c .before .before .before .before .before .before .before .before .before .before .before in
+    let s = back in
+    (s .pre .0, omega (arith, s .pre .1 .1))
 
 number-requires : tie.Need-number-requires Inv-loop μ-loop
 number-requires c κs = search needs
 
 same-length : tie.Need-same-length Inv-loop μ-loop
-same-length c = c .before .before .before .before .before .before .before .before .before .before .fill-draw .kept .1 .1 .1 .1 .0 ∙ c .before .before .before .before .before .before .before .before .before .before .before .before .before .before .before .before .loop .inv .1 .0
+same-length c =
+    let at-fill-draw = c .before .before .before .before .before .before .before .before .before .before in
+    let at-loop = at-fill-draw .before .before .before .before .before .before in
+    at-fill-draw .fill-draw .kept .1 .1 .1 .1 .0 ∙ at-loop .loop .inv .1 .0
 
 same-length-2 : tie.Need-same-length-2 Inv-loop μ-loop
-same-length-2 c = c .before .before .before .before .before .before .before .before .before .before .fill-draw .kept .1 .1 .1 .1 .1 .0 ∙ c .before .before .before .before .before .before .before .before .before .before .before .before .before .before .before .before .loop .inv .1 .1 .0
+same-length-2 c =
+    let at-fill-draw = c .before .before .before .before .before .before .before .before .before .before in
+    let at-loop = at-fill-draw .before .before .before .before .before .before in
+    at-fill-draw .fill-draw .kept .1 .1 .1 .1 .1 .0 ∙ at-loop .loop .inv .1 .1 .0
 
 same-length-3 : tie.Need-same-length-3 Inv-loop μ-loop
-same-length-3 c = c .before .before .before .before .before .before .before .before .before .before .fill-draw .kept .1 .1 .1 .1 .1 .1 .0 ∙ c .before .before .before .before .before .before .before .before .before .before .before .before .before .before .before .before .loop .inv .1 .1 .1 .0
+same-length-3 c =
+    let at-fill-draw = c .before .before .before .before .before .before .before .before .before .before in
+    let at-loop = at-fill-draw .before .before .before .before .before .before in
+    at-fill-draw .fill-draw .kept .1 .1 .1 .1 .1 .1 .0 ∙ at-loop .loop .inv .1 .1 .1 .0
 
 same-length-4 : tie.Need-same-length-4 Inv-loop μ-loop
-same-length-4 c = c .before .before .before .before .before .before .before .before .before .before .fill-draw .kept .1 .1 .1 .1 .1 .1 .1 .0 ∙ c .before .before .before .before .before .before .before .before .before .before .before .before .before .before .before .before .loop .inv .1 .1 .1 .1 .0
+same-length-4 c =
+    let at-fill-draw = c .before .before .before .before .before .before .before .before .before .before in
+    let at-loop = at-fill-draw .before .before .before .before .before .before in
+    at-fill-draw .fill-draw .kept .1 .1 .1 .1 .1 .1 .1 .0 ∙ at-loop .loop .inv .1 .1 .1 .1 .0
 
 returns : tie.Need-returns Inv-loop μ-loop
-returns c = let s = c .before .before .before .before .before .before .before .before .before .before .before .before .before .before .before .before .before .before .before .before .before .before in draw-refused (c .before .before .before .before .before .before .before .before .before .before .before .before .before .before .before .before .loop .inv .1 .1 .1 .1 .1) (s .pre .0) (c .before .before .before .before .before .before .before .before .before .before .before .before .before .before .before .loop-test .taken) (s .pre .1 .1) _ _ (c .before .before .before .before .before .before .before .before .before .before .fill-draw .ensures) (λ z. c .if1 .taken (c .before .number .ensures ∙ z))
+returns c =
+    let at-fill-draw = c .before .before .before .before .before .before .before .before .before .before in
+    let at-loop-test = at-fill-draw .before .before .before .before .before in
+    let at-loop = at-loop-test .before in
+    let back = at-loop .before .before .before .before .before .before in
+    let s = back in
+    draw-refused (at-loop .loop .inv .1 .1 .1 .1 .1) (s .pre .0) (at-loop-test .loop-test .taken) (s .pre .1 .1) _ _ (at-fill-draw .fill-draw .ensures) (λ z.
+    c .if1 .taken (c .before .number .ensures ∙ z))
 
 add-i : tie.Need-add-i Inv-loop μ-loop
-add-i c = let s = c .before .before .before .before .before .before .before .before .before .before .before .before .before .before .before .before .before .before .before .before .before .before .before in omega (arith, c .before .before .before .before .before .before .before .before .before .before .before .before .before .before .before .before .loop-test .taken, s .pre .1 .1, s .pre .0 .draws .few)
+add-i c =
+    let at-loop-test = c .before .before .before .before .before .before .before .before .before .before .before .before .before .before .before .before in
+    let back = at-loop-test .before .before .before .before .before .before .before in
+    let s = back in
+    omega (arith, at-loop-test .loop-test .taken, s .pre .1 .1, s .pre .0 .draws .few)
 
 loop-less : tie.Need-loop-less Inv-loop μ-loop
 loop-less c = omega arith
 
 loop-again : tie.Need-loop-again Inv-loop μ-loop
-loop-again c = let s = c .before .before .before .before .before .before .before .before .before .before .before .before .before .before .before .before .before .before .before .before .before .before .before in (omega (arith, c .before .before .before .before .before .before .before .before .before .before .before .before .before .before .before .before .loop-test .taken), (c .before .before .before .before .before .before .before .before .before .before .before .fill-draw .kept .1 .1 .1 .1 .0 ∙ c .before .before .before .before .before .before .before .before .before .before .before .before .before .before .before .before .before .loop .inv .1 .0, (c .before .before .before .before .before .before .before .before .before .before .before .fill-draw .kept .1 .1 .1 .1 .1 .0 ∙ c .before .before .before .before .before .before .before .before .before .before .before .before .before .before .before .before .before .loop .inv .1 .1 .0, (c .before .before .before .before .before .before .before .before .before .before .before .fill-draw .kept .1 .1 .1 .1 .1 .1 .0 ∙ c .before .before .before .before .before .before .before .before .before .before .before .before .before .before .before .before .before .loop .inv .1 .1 .1 .0, (c .before .before .before .before .before .before .before .before .before .before .before .fill-draw .kept .1 .1 .1 .1 .1 .1 .1 .0 ∙ c .before .before .before .before .before .before .before .before .before .before .before .before .before .before .before .before .before .loop .inv .1 .1 .1 .1 .0, draw-turned (c .before .before .before .before .before .before .before .before .before .before .before .before .before .before .before .before .before .loop .inv .1 .1 .1 .1 .1) (s .pre .0) (c .before .before .before .before .before .before .before .before .before .before .before .before .before .before .before .before .loop-test .taken) (s .pre .1 .1) _ _ (c .before .before .before .before .before .before .before .before .before .before .before .fill-draw .ensures) (sym (c .before .before .number .ensures) ∙ c .before .if1 .left))))))
+loop-again c =
+    let at-number = c .before .before in
+    let at-fill-draw = at-number .before .before .before .before .before .before .before .before .before in
+    let at-loop-test = at-fill-draw .before .before .before .before .before in
+    let at-loop = at-loop-test .before in
+    let back = at-loop .before .before .before .before .before .before in
+    let s = back in
+    (omega (arith, at-loop-test .loop-test .taken), (at-fill-draw .fill-draw .kept .1 .1 .1 .1 .0 ∙ at-loop .loop .inv .1 .0,
+    (at-fill-draw .fill-draw .kept .1 .1 .1 .1 .1 .0 ∙ at-loop .loop .inv .1 .1 .0,
+    (at-fill-draw .fill-draw .kept .1 .1 .1 .1 .1 .1 .0 ∙ at-loop .loop .inv .1 .1 .1 .0,
+    (at-fill-draw .fill-draw .kept .1 .1 .1 .1 .1 .1 .1 .0 ∙ at-loop .loop .inv .1 .1 .1 .1 .0,
+    draw-turned (at-loop .loop .inv .1 .1 .1 .1 .1) (s .pre .0) (at-loop-test .loop-test .taken) (s .pre .1 .1) _ _ (at-fill-draw .fill-draw .ensures) (sym
+    (at-number .number .ensures) ∙ c .before .if1 .left))))))
 
 same-length-5 : tie.Need-same-length-5 Inv-loop μ-loop
 same-length-5 c = c .before .loop .inv .1 .0

@@ -61,7 +61,9 @@ same-length : tie.Need-same-length
 same-length c = simp length-set refl
 
 returns : tie.Need-returns
-returns c = rw (c .flag .ensures) (screen-stored (c .before .before .before .before .args .screen) (c .before .before .before .before .args .state .now) (c .before .before .before .before .pre))
+returns c =
+    let at-args = c .before .before .before .before in
+    rw (c .flag .ensures) (screen-stored (at-args .args .screen) (at-args .args .state .now) (at-args .pre))
 
 pub put-screen-spec : {M : Type 1} → statement M
 put-screen-spec =

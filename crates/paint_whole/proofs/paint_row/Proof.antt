@@ -15,10 +15,21 @@ answer-of-requires : tie.Need-answer-of-requires
 answer-of-requires c κs = below _ _ (c .before .judge-step .ensures) (small-step _ _ _ _)
 
 returns : tie.Need-returns
-returns c = row-refused (c .before .before .before .before .before .before .before .before .before .before .before .args .screen) (c .before .before .before .before .before .before .before .before .before .before .before .args .row) (attributes (c .before .before .before .before .before .before .before .before .before .before .before .args .paint-attrs .now) (c .before .before .before .before .before .before .before .before .before .before .before .args .layer-attrs .now)) (lent (c .before .before .before .before .before .before .before .before .before .before .before .args .rows .now) (c .before .before .before .before .before .before .before .before .before .before .before .args .render .now) (c .before .before .before .before .before .before .before .before .before .before .before .args .fills .now) (c .before .before .before .before .before .before .before .before .before .before .before .args .depth .now) (c .before .before .before .before .before .before .before .before .before .before .before .args .painting .now) (c .before .before .before .before .before .before .before .before .before .before .before .args .list .now)) _ (c .before .before .judge-step .ensures) _ (c .answer-of .ensures) (c .before .if1 .taken)
+returns c =
+    let at-judge-step = c .before .before in
+    let at-args = at-judge-step .before .before .before .before .before .before .before .before .before in
+    row-refused (at-args .args .screen) (at-args .args .row) (attributes (at-args .args .paint-attrs .now) (at-args .args .layer-attrs .now)) (lent
+    (at-args .args .rows .now) (at-args .args .render .now) (at-args .args .fills .now) (at-args .args .depth .now) (at-args .args .painting .now)
+    (at-args .args .list .now)) _ (at-judge-step .judge-step .ensures) _ (c .answer-of .ensures) (c .before .if1 .taken)
 
 row-part-requires : tie.Need-row-part-requires
-row-part-requires c κs = ready (c .before .before .before .before .before .before .before .before .before .before .before .before .before .args .screen) (c .before .before .before .before .before .before .before .before .before .before .before .before .before .args .row) (attributes (c .before .before .before .before .before .before .before .before .before .before .before .before .before .args .paint-attrs .now) (c .before .before .before .before .before .before .before .before .before .before .before .before .before .args .layer-attrs .now)) (lent (c .before .before .before .before .before .before .before .before .before .before .before .before .before .args .rows .now) (c .before .before .before .before .before .before .before .before .before .before .before .before .before .args .render .now) (c .before .before .before .before .before .before .before .before .before .before .before .before .before .args .fills .now) (c .before .before .before .before .before .before .before .before .before .before .before .before .before .args .depth .now) (c .before .before .before .before .before .before .before .before .before .before .before .before .before .args .painting .now) (c .before .before .before .before .before .before .before .before .before .before .before .before .before .args .list .now)) (sym (c .before .before .before .before .judge-step .ensures) ∙ c .before .before .before .if1 .left)
+row-part-requires c κs =
+    let at-if1 = c .before .before .before in
+    let at-judge-step = at-if1 .before in
+    let at-args = at-judge-step .before .before .before .before .before .before .before .before .before in
+    ready (at-args .args .screen) (at-args .args .row) (attributes (at-args .args .paint-attrs .now) (at-args .args .layer-attrs .now)) (lent
+    (at-args .args .rows .now) (at-args .args .render .now) (at-args .args .fills .now) (at-args .args .depth .now) (at-args .args .painting .now)
+    (at-args .args .list .now)) (sym (at-judge-step .judge-step .ensures) ∙ at-if1 .if1 .left)
 
 same-length : tie.Need-same-length
 same-length c = search needs
@@ -30,7 +41,14 @@ same-length-3 : tie.Need-same-length-3
 same-length-3 c = search needs
 
 returns-2 : tie.Need-returns-2
-returns-2 c = row-done (c .before .before .before .before .before .before .before .before .before .before .before .before .before .before .before .before .before .before .before .before .args .screen) (c .before .before .before .before .before .before .before .before .before .before .before .before .before .before .before .before .before .before .before .before .args .row) (attributes (c .before .before .before .before .before .before .before .before .before .before .before .before .before .before .before .before .before .before .before .before .args .paint-attrs .now) (c .before .before .before .before .before .before .before .before .before .before .before .before .before .before .before .before .before .before .before .before .args .layer-attrs .now)) (lent (c .before .before .before .before .before .before .before .before .before .before .before .before .before .before .before .before .before .before .before .before .args .rows .now) (c .before .before .before .before .before .before .before .before .before .before .before .before .before .before .before .before .before .before .before .before .args .render .now) (c .before .before .before .before .before .before .before .before .before .before .before .before .before .before .before .before .before .before .before .before .args .fills .now) (c .before .before .before .before .before .before .before .before .before .before .before .before .before .before .before .before .before .before .before .before .args .depth .now) (c .before .before .before .before .before .before .before .before .before .before .before .before .before .before .before .before .before .before .before .before .args .painting .now) (c .before .before .before .before .before .before .before .before .before .before .before .before .before .before .before .before .before .before .before .before .args .list .now)) _ (c .before .before .before .before .before .before .before .before .before .before .before .judge-step .ensures) _ (c .before .before .before .before .before .before .before .before .before .before .if1 .left) (c .before .before .before .before .before .before .row-part .ensures)
+returns-2 c =
+    let at-row-part = c .before .before .before .before .before .before in
+    let at-if1 = at-row-part .before .before .before .before in
+    let at-judge-step = at-if1 .before in
+    let at-args = at-judge-step .before .before .before .before .before .before .before .before .before in
+    row-done (at-args .args .screen) (at-args .args .row) (attributes (at-args .args .paint-attrs .now) (at-args .args .layer-attrs .now)) (lent
+    (at-args .args .rows .now) (at-args .args .render .now) (at-args .args .fills .now) (at-args .args .depth .now) (at-args .args .painting .now)
+    (at-args .args .list .now)) _ (at-judge-step .judge-step .ensures) _ (at-if1 .if1 .left) (at-row-part .row-part .ensures)
 
 pub paint-row-spec : {M : Type 1} → statement M
 paint-row-spec =

@@ -1,3 +1,4 @@
+-- Row r's parts are cut out of the slices and handed on; what the steps make of them is put back, and every other row stays.
 use native.Mathlib.Omega.{arith}
 use Rattle.paint_command.specs.Painting.{lent}
 use Rattle.paint_screen.specs.Stepping.{Within, attributes}
@@ -23,25 +24,41 @@ mul-d : tie.Need-mul-d
 mul-d c = search needs
 
 mul-x : tie.Need-mul-x
-mul-x c = omega (arith, c .before .before .before .before .before .before .before .before .before .before .before .pre .state .near)
+mul-x c =
+    let at-pre = c .before .before .before .before .before .before .before .before .before .before .before in
+    omega (arith, at-pre .pre .state .near)
 
 mul-y : tie.Need-mul-y
-mul-y c = omega (arith, c .before .before .before .before .before .before .before .before .before .before .before .pre .render .near)
+mul-y c =
+    let at-pre = c .before .before .before .before .before .before .before .before .before .before .before in
+    omega (arith, at-pre .pre .render .near)
 
 mul-z : tie.Need-mul-z
-mul-z c = omega (arith, c .before .before .before .before .before .before .before .before .before .before .before .pre .fills .near)
+mul-z c =
+    let at-pre = c .before .before .before .before .before .before .before .before .before .before .before in
+    omega (arith, at-pre .pre .fills .near)
 
 mul-u : tie.Need-mul-u
-mul-u c = let w : Within (c .before .before .buckets .result) (c .before .before .before .before .before .before .before .before .before .before .before .args .row) (c .before .before .before .before .before .before .before .before .before .before .before .args .depth .now) = rw (c .before .before .buckets .ensures) (c .before .before .before .before .before .before .before .before .before .before .before .pre .depth) in omega (arith, w .near)
+mul-u c =
+    let at-buckets = c .before .before in
+    let at-args = at-buckets .before .before .before .before .before .before .before .before .before in
+    let w : Within (at-buckets .buckets .result) (at-args .args .row) (at-args .args .depth .now) = rw (at-buckets .buckets .ensures) (at-args .pre .depth) in
+    omega (arith, w .near)
 
 mul-v : tie.Need-mul-v
-mul-v c = omega (arith, c .before .before .before .before .before .before .before .before .before .before .before .pre .painting .near)
+mul-v c =
+    let at-pre = c .before .before .before .before .before .before .before .before .before .before .before in
+    omega (arith, at-pre .pre .painting .near)
 
 add-run-row : tie.Need-add-run-row
-add-run-row c = omega (arith, c .before .before .before .before .before .before .before .before .before .before .before .pre .state .near)
+add-run-row c =
+    let at-pre = c .before .before .before .before .before .before .before .before .before .before .before in
+    omega (arith, at-pre .pre .state .near)
 
 mul-run-row : tie.Need-mul-run-row
-mul-run-row c = omega (arith, c .before .before .before .before .before .before .before .before .before .before .before .pre .state .near)
+mul-run-row c =
+    let at-pre = c .before .before .before .before .before .before .before .before .before .before .before in
+    omega (arith, at-pre .pre .state .near)
 
 sub-run-row : tie.Need-sub-run-row
 sub-run-row c = search needs
@@ -50,13 +67,19 @@ part-run-row-start : tie.Need-part-run-row-start
 part-run-row-start c = search needs
 
 part-run-row-end : tie.Need-part-run-row-end
-part-run-row-end c = omega (arith, c .before .before .before .before .before .before .before .before .before .before .before .pre .state .ends)
+part-run-row-end c =
+    let at-pre = c .before .before .before .before .before .before .before .before .before .before .before in
+    omega (arith, at-pre .pre .state .ends)
 
 add-run-row-2 : tie.Need-add-run-row-2
-add-run-row-2 c = omega (arith, c .before .before .before .before .before .before .before .before .before .before .before .before .pre .render .near, c .before .before .before .before .before .before .before .before .before .before .before .before .pre .c)
+add-run-row-2 c =
+    let at-pre = c .before .before .before .before .before .before .before .before .before .before .before .before in
+    omega (arith, at-pre .pre .render .near, at-pre .pre .c)
 
 mul-run-row-2 : tie.Need-mul-run-row-2
-mul-run-row-2 c = omega (arith, c .before .before .before .before .before .before .before .before .before .before .before .before .pre .render .near)
+mul-run-row-2 c =
+    let at-pre = c .before .before .before .before .before .before .before .before .before .before .before .before in
+    omega (arith, at-pre .pre .render .near)
 
 sub-run-row-2 : tie.Need-sub-run-row-2
 sub-run-row-2 c = search needs
@@ -65,13 +88,19 @@ part-run-row-start-2 : tie.Need-part-run-row-start-2
 part-run-row-start-2 c = search needs
 
 part-run-row-end-2 : tie.Need-part-run-row-end-2
-part-run-row-end-2 c = omega (arith, c .before .before .before .before .before .before .before .before .before .before .before .before .pre .render .ends)
+part-run-row-end-2 c =
+    let at-pre = c .before .before .before .before .before .before .before .before .before .before .before .before in
+    omega (arith, at-pre .pre .render .ends)
 
 add-run-row-3 : tie.Need-add-run-row-3
-add-run-row-3 c = omega (arith, c .before .before .before .before .before .before .before .before .before .before .before .before .before .pre .fills .near, c .before .before .before .before .before .before .before .before .before .before .before .before .before .pre .d)
+add-run-row-3 c =
+    let at-pre = c .before .before .before .before .before .before .before .before .before .before .before .before .before in
+    omega (arith, at-pre .pre .fills .near, at-pre .pre .d)
 
 mul-run-row-3 : tie.Need-mul-run-row-3
-mul-run-row-3 c = omega (arith, c .before .before .before .before .before .before .before .before .before .before .before .before .before .pre .fills .near)
+mul-run-row-3 c =
+    let at-pre = c .before .before .before .before .before .before .before .before .before .before .before .before .before in
+    omega (arith, at-pre .pre .fills .near)
 
 sub-run-row-3 : tie.Need-sub-run-row-3
 sub-run-row-3 c = search needs
@@ -80,13 +109,23 @@ part-run-row-start-3 : tie.Need-part-run-row-start-3
 part-run-row-start-3 c = search needs
 
 part-run-row-end-3 : tie.Need-part-run-row-end-3
-part-run-row-end-3 c = omega (arith, c .before .before .before .before .before .before .before .before .before .before .before .before .before .pre .fills .ends)
+part-run-row-end-3 c =
+    let at-pre = c .before .before .before .before .before .before .before .before .before .before .before .before .before in
+    omega (arith, at-pre .pre .fills .ends)
 
 add-run-row-4 : tie.Need-add-run-row-4
-add-run-row-4 c = let w : Within (c .before .before .before .before .before .buckets .result) (c .before .before .before .before .before .before .before .before .before .before .before .before .before .before .args .row) (c .before .before .before .before .before .before .before .before .before .before .before .before .before .before .args .depth .now) = rw (c .before .before .before .before .before .buckets .ensures) (c .before .before .before .before .before .before .before .before .before .before .before .before .before .before .pre .depth) in omega (arith, w .near, w .short)
+add-run-row-4 c =
+    let at-buckets = c .before .before .before .before .before in
+    let at-args = at-buckets .before .before .before .before .before .before .before .before .before in
+    let w : Within (at-buckets .buckets .result) (at-args .args .row) (at-args .args .depth .now) = rw (at-buckets .buckets .ensures) (at-args .pre .depth) in
+    omega (arith, w .near, w .short)
 
 mul-run-row-4 : tie.Need-mul-run-row-4
-mul-run-row-4 c = let w : Within (c .before .before .before .before .before .buckets .result) (c .before .before .before .before .before .before .before .before .before .before .before .before .before .before .args .row) (c .before .before .before .before .before .before .before .before .before .before .before .before .before .before .args .depth .now) = rw (c .before .before .before .before .before .buckets .ensures) (c .before .before .before .before .before .before .before .before .before .before .before .before .before .before .pre .depth) in omega (arith, w .near)
+mul-run-row-4 c =
+    let at-buckets = c .before .before .before .before .before in
+    let at-args = at-buckets .before .before .before .before .before .before .before .before .before in
+    let w : Within (at-buckets .buckets .result) (at-args .args .row) (at-args .args .depth .now) = rw (at-buckets .buckets .ensures) (at-args .pre .depth) in
+    omega (arith, w .near)
 
 sub-run-row-4 : tie.Need-sub-run-row-4
 sub-run-row-4 c = search needs
@@ -95,13 +134,21 @@ part-run-row-start-4 : tie.Need-part-run-row-start-4
 part-run-row-start-4 c = search needs
 
 part-run-row-end-4 : tie.Need-part-run-row-end-4
-part-run-row-end-4 c = let w : Within (c .before .before .before .before .before .buckets .result) (c .before .before .before .before .before .before .before .before .before .before .before .before .before .before .args .row) (c .before .before .before .before .before .before .before .before .before .before .before .before .before .before .args .depth .now) = rw (c .before .before .before .before .before .buckets .ensures) (c .before .before .before .before .before .before .before .before .before .before .before .before .before .before .pre .depth) in omega (arith, w .ends)
+part-run-row-end-4 c =
+    let at-buckets = c .before .before .before .before .before in
+    let at-args = at-buckets .before .before .before .before .before .before .before .before .before in
+    let w : Within (at-buckets .buckets .result) (at-args .args .row) (at-args .args .depth .now) = rw (at-buckets .buckets .ensures) (at-args .pre .depth) in
+    omega (arith, w .ends)
 
 add-run-row-5 : tie.Need-add-run-row-5
-add-run-row-5 c = omega (arith, c .before .before .before .before .before .before .before .before .before .before .before .before .before .before .before .pre .painting .near)
+add-run-row-5 c =
+    let at-pre = c .before .before .before .before .before .before .before .before .before .before .before .before .before .before .before in
+    omega (arith, at-pre .pre .painting .near)
 
 mul-run-row-5 : tie.Need-mul-run-row-5
-mul-run-row-5 c = omega (arith, c .before .before .before .before .before .before .before .before .before .before .before .before .before .before .before .pre .painting .near)
+mul-run-row-5 c =
+    let at-pre = c .before .before .before .before .before .before .before .before .before .before .before .before .before .before .before in
+    omega (arith, at-pre .pre .painting .near)
 
 sub-run-row-5 : tie.Need-sub-run-row-5
 sub-run-row-5 c = search needs
@@ -110,10 +157,18 @@ part-run-row-start-5 : tie.Need-part-run-row-start-5
 part-run-row-start-5 c = search needs
 
 part-run-row-end-5 : tie.Need-part-run-row-end-5
-part-run-row-end-5 c = omega (arith, c .before .before .before .before .before .before .before .before .before .before .before .before .before .before .before .pre .painting .ends)
+part-run-row-end-5 c =
+    let at-pre = c .before .before .before .before .before .before .before .before .before .before .before .before .before .before .before in
+    omega (arith, at-pre .pre .painting .ends)
 
 run-row-requires : tie.Need-run-row-requires
-run-row-requires c κs = let w : Within (c .before .before .before .before .before .before .before .before .buckets .result) (c .before .before .before .before .before .before .before .before .before .before .before .before .before .before .before .before .before .args .row) (c .before .before .before .before .before .before .before .before .before .before .before .before .before .before .before .before .before .args .depth .now) = rw (c .before .before .before .before .before .before .before .before .buckets .ensures) (c .before .before .before .before .before .before .before .before .before .before .before .before .before .before .before .before .before .pre .depth) in ((part-length _ _ _ (c .before .before .before .before .before .before .before .before .before .before .before .before .before .before .before .before .before .pre .state), omega (arith, part-length _ _ _ (c .before .before .before .before .before .before .before .before .before .before .before .before .before .before .before .before .before .pre .render), c .before .before .before .before .before .before .before .before .before .before .before .before .before .before .before .before .before .pre .c), omega (arith, part-length _ _ _ (c .before .before .before .before .before .before .before .before .before .before .before .before .before .before .before .before .before .pre .fills), c .before .before .before .before .before .before .before .before .before .before .before .before .before .before .before .before .before .pre .d), omega (arith, part-length _ _ _ w, w .short), part-length _ _ _ (c .before .before .before .before .before .before .before .before .before .before .before .before .before .before .before .before .before .pre .painting)), (c .before .before .before .before .before .before .before .before .before .before .before .before .before .before .before .before .before .pre .paint-table, c .before .before .before .before .before .before .before .before .before .before .before .before .before .before .before .before .before .pre .paints, c .before .before .before .before .before .before .before .before .before .before .before .before .before .before .before .before .before .pre .layer-table, c .before .before .before .before .before .before .before .before .before .before .before .before .before .before .before .before .before .pre .layers))
+run-row-requires c κs =
+    let at-buckets = c .before .before .before .before .before .before .before .before in
+    let at-args = at-buckets .before .before .before .before .before .before .before .before .before in
+    let w : Within (at-buckets .buckets .result) (at-args .args .row) (at-args .args .depth .now) = rw (at-buckets .buckets .ensures) (at-args .pre .depth) in
+    ((part-length _ _ _ (at-args .pre .state), omega (arith, part-length _ _ _ (at-args .pre .render), at-args .pre .c), omega (arith,
+    part-length _ _ _ (at-args .pre .fills), at-args .pre .d), omega (arith, part-length _ _ _ w, w .short), part-length _ _ _ (at-args .pre .painting)),
+    (at-args .pre .paint-table, at-args .pre .paints, at-args .pre .layer-table, at-args .pre .layers))
 
 answer-of-requires : tie.Need-answer-of-requires
 answer-of-requires c κs = run-number _ _ _ _ _ _ (c .before .before .before .before .before .before .run-row .ensures)
@@ -128,7 +183,13 @@ same-length-3 : tie.Need-same-length-3
 same-length-3 c = search needs
 
 returns : tie.Need-returns
-returns c = run-back (c .before .before .before .before .before .before .before .before .before .before .before .before .before .before .before .before .before .before .before .before .before .before .before .before .before .args .screen) (c .before .before .before .before .before .before .before .before .before .before .before .before .before .before .before .before .before .before .before .before .before .before .before .before .before .args .row) (attributes (c .before .before .before .before .before .before .before .before .before .before .before .before .before .before .before .before .before .before .before .before .before .before .before .before .before .args .paint-attrs .now) (c .before .before .before .before .before .before .before .before .before .before .before .before .before .before .before .before .before .before .before .before .before .before .before .before .before .args .layer-attrs .now)) (lent (c .before .before .before .before .before .before .before .before .before .before .before .before .before .before .before .before .before .before .before .before .before .before .before .before .before .args .rows .now) (c .before .before .before .before .before .before .before .before .before .before .before .before .before .before .before .before .before .before .before .before .before .before .before .before .before .args .render .now) (c .before .before .before .before .before .before .before .before .before .before .before .before .before .before .before .before .before .before .before .before .before .before .before .before .before .args .fills .now) (c .before .before .before .before .before .before .before .before .before .before .before .before .before .before .before .before .before .before .before .before .before .before .before .before .before .args .depth .now) (c .before .before .before .before .before .before .before .before .before .before .before .before .before .before .before .before .before .before .before .before .before .before .before .before .before .args .painting .now) (c .before .before .before .before .before .before .before .before .before .before .before .before .before .before .before .before .before .before .before .before .before .before .before .before .before .args .list .now)) _ (c .before .before .before .before .before .before .before .before .before .before .before .before .before .before .before .before .buckets .ensures) _ _ _ _ _ (c .answer-of .ensures) (c .before .before .before .before .before .before .before .run-row .ensures)
+returns c =
+    let at-run-row = c .before .before .before .before .before .before .before in
+    let at-buckets = at-run-row .before .before .before .before .before .before .before .before .before in
+    let at-args = at-buckets .before .before .before .before .before .before .before .before .before in
+    run-back (at-args .args .screen) (at-args .args .row) (attributes (at-args .args .paint-attrs .now) (at-args .args .layer-attrs .now)) (lent
+    (at-args .args .rows .now) (at-args .args .render .now) (at-args .args .fills .now) (at-args .args .depth .now) (at-args .args .painting .now)
+    (at-args .args .list .now)) _ (at-buckets .buckets .ensures) _ _ _ _ _ (c .answer-of .ensures) (at-run-row .run-row .ensures)
 
 pub row-part-spec : {M : Type 1} → statement M
 row-part-spec =

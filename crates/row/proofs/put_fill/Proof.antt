@@ -27,7 +27,11 @@ same-length-2 : tie.Need-same-length-2
 same-length-2 c = search needs
 
 returns : tie.Need-returns
-returns c = (rw (c .before .before .before .before .before .before .before .include-current-span .ensures), rw (c .before .before .put-four .ensures, c .before .before .before .span-word .ensures))
+returns c =
+    let at-put-four = c .before .before in
+    let at-span-word = at-put-four .before in
+    let at-include-current-span = at-span-word .before .before .before .before in
+    (rw (at-include-current-span .include-current-span .ensures), rw (at-put-four .put-four .ensures, at-span-word .span-word .ensures))
 
 pub put-fill-spec : {M : Type 1} → statement M
 put-fill-spec =

@@ -1,3 +1,4 @@
+-- So far the row has k levels; putting the rest gives the same row as from the start.
 use mathlib.Core.Path.{refl}
 use Prim.Native.Nat.{_-_}
 use native.Mathlib.Omega.{arith}
@@ -21,7 +22,11 @@ loop-holds : tie.Need-loop-holds Inv-loop μ-loop
 loop-holds c = record { level = refl; grown = grown-refl _; room = c .before .before .before .before .pre .1; rest = refl }
 
 push-buf-requires : tie.Need-push-buf-requires Inv-loop μ-loop
-push-buf-requires c κs = (omega (arith, c .before .before .before .before .loop .inv .level), layers-room (c .before .before .before .before .loop .inv) (c .before .before .before .before .before .before .before .before .before .pre .0) (c .before .before .before .loop-test .taken))
+push-buf-requires c κs =
+    let at-loop-test = c .before .before .before in
+    let at-loop = at-loop-test .before in
+    let at-pre = at-loop .before .before .before .before .before in
+    (omega (arith, at-loop .loop .inv .level), layers-room (at-loop .loop .inv) (at-pre .pre .0) (at-loop-test .loop-test .taken))
 
 add-k : tie.Need-add-k Inv-loop μ-loop
 add-k c = record { fits = omega arith }
@@ -30,7 +35,12 @@ loop-less : tie.Need-loop-less Inv-loop μ-loop
 loop-less c = omega arith
 
 loop-again : tie.Need-loop-again Inv-loop μ-loop
-loop-again c = layers-again (c .before .before .before .before .before .before .before .before .before .before .before .loop .inv) (c .before .before .before .before .before .before .before .before .before .before .before .before .before .before .before .before .pre .0) (c .before .before .before .before .before .before .before .before .before .before .loop-test .taken) (c .before .before .before .before .before .before .push-buf .ensures)
+loop-again c =
+    let at-push-buf = c .before .before .before .before .before .before in
+    let at-loop-test = at-push-buf .before .before .before .before in
+    let at-loop = at-loop-test .before in
+    let at-pre = at-loop .before .before .before .before .before in
+    layers-again (at-loop .loop .inv) (at-pre .pre .0) (at-loop-test .loop-test .taken) (at-push-buf .push-buf .ensures)
 
 same-length : tie.Need-same-length Inv-loop μ-loop
 same-length c = c .before .loop .inv .grown .state

@@ -9,7 +9,10 @@ enum-known-edge : tie.Need-enum-known-edge
 enum-known-edge c = search needs
 
 push-paint-requires : tie.Need-push-paint-requires
-push-paint-requires c κs = rw (c .before .before .before .before .edge .given .1) at (c .before .before .before .before .before .before .before .before .before .pre)
+push-paint-requires c κs =
+    let at-edge = c .before .before .before .before in
+    let at-pre = at-edge .before .before .before .before .before in
+    rw (at-edge .edge .given .1) at (at-pre .pre)
 
 returns : tie.Need-returns
 returns c = rw (c .enum-told .given .1)
@@ -24,7 +27,10 @@ same-length-3 : tie.Need-same-length-3
 same-length-3 c = search needs
 
 returns-2 : tie.Need-returns-2
-returns-2 c = rw (c .before .before .before .before .before .before .before .before .before .before .before .edge .given .1) (c .before .before .before .before .before .before .push-paint .ensures)
+returns-2 c =
+    let at-push-paint = c .before .before .before .before .before .before in
+    let at-edge = at-push-paint .before .before .before .before .before in
+    rw (at-edge .edge .given .1) (at-push-paint .push-paint .ensures)
 
 pub push-edge-spec : {M : Type 1} → statement M
 push-edge-spec =

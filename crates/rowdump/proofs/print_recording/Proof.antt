@@ -131,8 +131,12 @@ slice-aggregate-print-screen-9 c = search needs
 
 slice-aggregate-print-screen-10 : tie.Need-slice-aggregate-print-screen-10
 slice-aggregate-print-screen-10 c =
-    let at-text = c .before .before .before .before .before .before .before .before .before .before .before .before .before .before .before .before .before .before .before .before in
-    let at-pieces = at-text .before .before .before .before .before .before .before .before .before .before .before .before .before .before .before .before .before .before .before .before .before .before .before .before .before in
+    let back = c .before .before .before .before .before .before .before .before .before .before .before .before .before .before .before .before .before
+        .before .before .before in
+    let at-text = back in
+    let at-pieces =
+    at-text .before .before .before .before .before .before .before .before .before .before .before .before .before .before .before .before .before .before .before .before .before .before .before .before .before
+    in
     at-pieces .piece-words .ensures
 
 slice-aggregate-print-screen-11 : tie.Need-slice-aggregate-print-screen-11

@@ -40,28 +40,48 @@ mul-print-details : tie.Need-mul-print-details
 mul-print-details c = search needs
 
 slice-aggregate-print-details : tie.Need-slice-aggregate-print-details
-slice-aggregate-print-details c = sym (length-take-le _ _ (omega (arith, (c .before .before .before .before .before .before .before .if1) .left, (c .before .before .before .before .before .if3) .left)))
+slice-aggregate-print-details c =
+    let at-if3 = c .before .before .before .before .before in
+    let at-if1 = at-if3 .before .before in
+    sym (length-take-le _ _ (omega (arith, (at-if1 .if1) .left, (at-if3 .if3) .left)))
 
 mul-print-details-2 : tie.Need-mul-print-details-2
 mul-print-details-2 c = search needs
 
 slice-aggregate-print-details-2 : tie.Need-slice-aggregate-print-details-2
-slice-aggregate-print-details-2 c = sym (length-take-le _ _ (omega (arith, (c .before .before .before .before .before .before .before .before .if1) .left, (c .before .before .before .before .before .if4) .left)))
+slice-aggregate-print-details-2 c =
+    let at-if4 = c .before .before .before .before .before in
+    let at-if1 = at-if4 .before .before .before in
+    sym (length-take-le _ _ (omega (arith, (at-if1 .if1) .left, (at-if4 .if4) .left)))
 
 mul-print-details-3 : tie.Need-mul-print-details-3
 mul-print-details-3 c = search needs
 
 slice-aggregate-print-details-3 : tie.Need-slice-aggregate-print-details-3
-slice-aggregate-print-details-3 c = sym (length-take-le _ _ (omega (arith, (c .before .before .before .before .before .before .before .before .before .if1) .left, (c .before .before .before .before .before .if5) .left)))
+slice-aggregate-print-details-3 c =
+    let at-if5 = c .before .before .before .before .before in
+    let at-if1 = at-if5 .before .before .before .before in
+    sym (length-take-le _ _ (omega (arith, (at-if1 .if1) .left, (at-if5 .if5) .left)))
 
 mul-print-details-4 : tie.Need-mul-print-details-4
-mul-print-details-4 c = record { fits = omega (arith, small _ _ ((c .before .before .before .before .before .before .before .before .before .if1) .left) ((c .before .before .before .before .before .before .before .before .if2) .left)) }
+mul-print-details-4 c =
+    let at-if2 = c .before .before .before .before .before .before .before .before in
+    let at-if1 = at-if2 .before in
+    record { fits = omega (arith, small _ _ ((at-if1 .if1) .left) ((at-if2 .if2) .left)) }
 
 slice-relend-prefix-print-details : tie.Need-slice-relend-prefix-print-details
-slice-relend-prefix-print-details c = omega (arith, small _ _ ((c .before .before .before .before .before .before .before .before .before .if1) .left) ((c .before .before .before .before .before .before .before .before .if2) .left), (c .before .before .before .before .if6) .left)
+slice-relend-prefix-print-details c =
+    let at-if6 = c .before .before .before .before in
+    let at-if2 = at-if6 .before .before .before .before in
+    let at-if1 = at-if2 .before in
+    omega (arith, small _ _ ((at-if1 .if1) .left) ((at-if2 .if2) .left), (at-if6 .if6) .left)
 
 slice-aggregate-print-details-4 : tie.Need-slice-aggregate-print-details-4
-slice-aggregate-print-details-4 c = sym (length-take-le _ _ (omega (arith, small _ _ ((c .before .before .before .before .before .before .before .before .before .before .if1) .left) ((c .before .before .before .before .before .before .before .before .before .if2) .left), (c .before .before .before .before .before .if6) .left)))
+slice-aggregate-print-details-4 c =
+    let at-if6 = c .before .before .before .before .before in
+    let at-if2 = at-if6 .before .before .before .before in
+    let at-if1 = at-if2 .before in
+    sym (length-take-le _ _ (omega (arith, small _ _ ((at-if1 .if1) .left) ((at-if2 .if2) .left), (at-if6 .if6) .left)))
 
 mul-print-details-5 : tie.Need-mul-print-details-5
 mul-print-details-5 c = search needs
@@ -70,7 +90,10 @@ slice-relend-prefix-print-details-2 : tie.Need-slice-relend-prefix-print-details
 slice-relend-prefix-print-details-2 c = search needs
 
 slice-aggregate-print-details-5 : tie.Need-slice-aggregate-print-details-5
-slice-aggregate-print-details-5 c = sym (length-take-le _ _ (omega (arith, (c .before .before .before .before .before .before .before .before .before .before .before .if1) .left, (c .before .before .before .before .before .if7) .left)))
+slice-aggregate-print-details-5 c =
+    let at-if7 = c .before .before .before .before .before in
+    let at-if1 = at-if7 .before .before .before .before .before .before in
+    sym (length-take-le _ _ (omega (arith, (at-if1 .if1) .left, (at-if7 .if7) .left)))
 
 print-details-requires : tie.Need-print-details-requires
 print-details-requires c κs = search needs

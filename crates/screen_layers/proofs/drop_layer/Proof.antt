@@ -1,3 +1,4 @@
+-- So far i words of the layer are 0.
 use mathlib.Core.Path.{_≡_, refl, _∙_}
 use Prim.Native.Nat.{_≤_, _+_, _*_, _-_}
 use lib.ListN.{length, length-set}

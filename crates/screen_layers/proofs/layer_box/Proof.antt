@@ -21,7 +21,10 @@ returns : tie.Need-returns
 returns c = rw (c .enum-told .given .1)
 
 returns-2 : tie.Need-returns-2
-returns-2 c = rw (c .before .before .before .before .clip .given .1) (c .intersect .ensures ∙ ap (λ (b : Box). meet b (box-of (c .before .before .before .before .before .before .args .parent))) (c .before .relative-to-origin .ensures))
+returns-2 c =
+    let at-clip = c .before .before .before .before in
+    let at-args = at-clip .before .before in
+    rw (at-clip .clip .given .1) (c .intersect .ensures ∙ ap (λ (b : Box). meet b (box-of (at-args .args .parent))) (c .before .relative-to-origin .ensures))
 
 pub layer-box-spec : {M : Type 1} → statement M
 layer-box-spec =

@@ -1,3 +1,4 @@
+-- The sixteen words of layer k, read one after the other.
 use Prim.Native.Nat.{_*_}
 use Rattle.screen_layers.proofs.Laws.{plus-none}
 use borrow.Author.Needs.{needs}
@@ -80,7 +81,10 @@ shared-slice-read-t31 : tie.Need-shared-slice-read-t31
 shared-slice-read-t31 c = search needs
 
 returns : tie.Need-returns
-returns c = rw (plus-none (16 * c .before .before .before .before .before .before .before .before .before .before .args .k), c .before .before .before .before .before .before .before .before .box-at .ensures)
+returns c =
+    let at-box-at = c .before .before .before .before .before .before .before .before in
+    let at-args = at-box-at .before .before in
+    rw (plus-none (16 * at-args .args .k), at-box-at .box-at .ensures)
 
 pub open-layer-spec : {M : Type 1} → statement M
 open-layer-spec =

@@ -1,3 +1,4 @@
+-- Sixteen words are stored one after the other; each store keeps the table's length, and together they are the layer's words.
 use mathlib.Core.List.{[], _∷_}
 use Prim.Native.Nat.{_*_}
 use native.Mathlib.Omega.{arith}
@@ -158,7 +159,14 @@ same-length : tie.Need-same-length
 same-length c = simp length-set
 
 returns : tie.Need-returns
-returns c = rw (← c .before .flat .ensures) (stored (c .before .before .before .before .args .layers .now) (16 * c .before .before .before .before .args .k) (c .before .before .before .before .args .props .blend .mix) (c .before .before .before .before .args .props .blend .compose ∷ c .before .before .before .before .args .props .mask ∷ c .before .flat .result .flag ∷ c .before .flat .result .bbox .x0 ∷ c .before .flat .result .bbox .y0 ∷ c .before .flat .result .bbox .x1 ∷ c .before .flat .result .bbox .y1 ∷ c .before .flat .result .start ∷ c .before .flat .result .«end» ∷ c .before .flat .result .thread ∷ c .before .before .before .before .args .bbox .x0 ∷ c .before .before .before .before .args .bbox .y0 ∷ c .before .before .before .before .args .bbox .x1 ∷ c .before .before .before .before .args .bbox .y1 ∷ c .before .before .before .before .args .props .nan ∷ []) (omega arith))
+returns c =
+    let at-flat = c .before in
+    let at-args = at-flat .before .before .before in
+    rw (← at-flat .flat .ensures) (stored (at-args .args .layers .now) (16 * at-args .args .k) (at-args .args .props .blend .mix)
+    (at-args .args .props .blend .compose ∷ at-args .args .props .mask ∷ at-flat .flat .result .flag ∷ at-flat .flat .result .bbox .x0 ∷
+    at-flat .flat .result .bbox .y0 ∷ at-flat .flat .result .bbox .x1 ∷ at-flat .flat .result .bbox .y1 ∷ at-flat .flat .result .start ∷
+    at-flat .flat .result .«end» ∷ at-flat .flat .result .thread ∷ at-args .args .bbox .x0 ∷ at-args .args .bbox .y0 ∷ at-args .args .bbox .x1 ∷
+    at-args .args .bbox .y1 ∷ at-args .args .props .nan ∷ []) (omega arith))
 
 pub put-layer-spec : {M : Type 1} → statement M
 put-layer-spec =

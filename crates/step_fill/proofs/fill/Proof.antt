@@ -1,3 +1,4 @@
+-- The call is judged as a whole; refused, nothing is written. Done, the rows get what the rules' puts are, and the table the draw's attribute.
 use mathlib.Core.Path.{sym, _∙_}
 use native.Mathlib.Omega.{arith}
 use Rattle.row.specs.Words.{words}
@@ -25,7 +26,10 @@ judge-fill-requires : tie.Need-judge-fill-requires
 judge-fill-requires c κs = search needs
 
 answer-of-requires : tie.Need-answer-of-requires
-answer-of-requires c κs = is-answer (lent (c .before .before .before .before .before .before .before .before .before .before .before .before .args .screen) (words (c .before .before .before .before .before .before .before .before .before .before .before .before .args .rows .now) (c .before .before .before .before .before .before .before .before .before .before .before .before .args .render .now) (c .before .before .before .before .before .before .before .before .before .before .before .before .args .fills .now)) (c .before .before .before .before .before .before .before .before .before .before .before .before .args .paint-attrs .now)) (c .before .before .before .before .before .before .before .before .before .before .before .before .args .paints .now) (c .before .before .before .before .before .before .before .before .before .before .before .before .args .segments .now) (c .before .before .before .before .before .before .before .before .before .before .before .before .args .draw) (c .before .judge-fill .ensures)
+answer-of-requires c κs =
+    let at-args = c .before .before .before .before .before .before .before .before .before .before .before .before in
+    is-answer (lent (at-args .args .screen) (words (at-args .args .rows .now) (at-args .args .render .now) (at-args .args .fills .now))
+    (at-args .args .paint-attrs .now)) (at-args .args .paints .now) (at-args .args .segments .now) (at-args .args .draw) (c .before .judge-fill .ensures)
 
 same-length : tie.Need-same-length
 same-length c = search needs
@@ -40,10 +44,25 @@ same-length-4 : tie.Need-same-length-4
 same-length-4 c = search needs
 
 returns : tie.Need-returns
-returns c = refused (lent (c .before .before .before .before .before .before .before .before .before .before .before .before .before .args .screen) (words (c .before .before .before .before .before .before .before .before .before .before .before .before .before .args .rows .now) (c .before .before .before .before .before .before .before .before .before .before .before .before .before .args .render .now) (c .before .before .before .before .before .before .before .before .before .before .before .before .before .args .fills .now)) (c .before .before .before .before .before .before .before .before .before .before .before .before .before .args .paint-attrs .now)) (c .before .before .before .before .before .before .before .before .before .before .before .before .before .args .paints .now) (c .before .before .before .before .before .before .before .before .before .before .before .before .before .args .segments .now) (c .before .before .before .before .before .before .before .before .before .before .before .before .before .args .draw) (c .before .before .judge-fill .ensures) (c .before .if1 .taken) (c .answer-of .ensures)
+returns c =
+    let at-judge-fill = c .before .before in
+    let at-args = at-judge-fill .before .before .before .before .before .before .before .before .before .before .before in
+    refused (lent (at-args .args .screen) (words (at-args .args .rows .now) (at-args .args .render .now) (at-args .args .fills .now))
+    (at-args .args .paint-attrs .now)) (at-args .args .paints .now) (at-args .args .segments .now) (at-args .args .draw) (at-judge-fill .judge-fill .ensures)
+    (c .before .if1 .taken) (c .answer-of .ensures)
 
 taken-requires : tie.Need-taken-requires
-taken-requires c κs = ((zero-says (lent (c .before .before .before .before .before .before .before .before .before .before .before .before .before .args .screen) (words (c .before .before .before .before .before .before .before .before .before .before .before .before .before .args .rows .now) (c .before .before .before .before .before .before .before .before .before .before .before .before .before .args .render .now) (c .before .before .before .before .before .before .before .before .before .before .before .before .before .args .fills .now)) (c .before .before .before .before .before .before .before .before .before .before .before .before .before .args .paint-attrs .now)) (c .before .before .before .before .before .before .before .before .before .before .before .before .before .args .paints .now) (c .before .before .before .before .before .before .before .before .before .before .before .before .before .args .segments .now) (c .before .before .before .before .before .before .before .before .before .before .before .before .before .args .draw) (sym (sym (c .before .if1 .left) ∙ (c .before .before .judge-fill .ensures)))) .ids, bounds (c .before .before .before .before .before .before .before .before .before .before .before .before .before .args .screen) (passing (lent (c .before .before .before .before .before .before .before .before .before .before .before .before .before .args .screen) (words (c .before .before .before .before .before .before .before .before .before .before .before .before .before .args .rows .now) (c .before .before .before .before .before .before .before .before .before .before .before .before .before .args .render .now) (c .before .before .before .before .before .before .before .before .before .before .before .before .before .args .fills .now)) (c .before .before .before .before .before .before .before .before .before .before .before .before .before .args .paint-attrs .now)) (c .before .before .before .before .before .before .before .before .before .before .before .before .before .args .paints .now) (c .before .before .before .before .before .before .before .before .before .before .before .before .before .args .segments .now) (c .before .before .before .before .before .before .before .before .before .before .before .before .before .args .draw) ((zero-says (lent (c .before .before .before .before .before .before .before .before .before .before .before .before .before .args .screen) (words (c .before .before .before .before .before .before .before .before .before .before .before .before .before .args .rows .now) (c .before .before .before .before .before .before .before .before .before .before .before .before .before .args .render .now) (c .before .before .before .before .before .before .before .before .before .before .before .before .before .args .fills .now)) (c .before .before .before .before .before .before .before .before .before .before .before .before .before .args .paint-attrs .now)) (c .before .before .before .before .before .before .before .before .before .before .before .before .before .args .paints .now) (c .before .before .before .before .before .before .before .before .before .before .before .before .before .args .segments .now) (c .before .before .before .before .before .before .before .before .before .before .before .before .before .args .draw) (sym (sym (c .before .if1 .left) ∙ (c .before .before .judge-fill .ensures)))) .first) .screen) .paints, omega arith)
+taken-requires c κs =
+    let at-if1 = c .before in
+    let at-judge-fill = at-if1 .before in
+    let at-args = at-judge-fill .before .before .before .before .before .before .before .before .before .before .before in
+    ((zero-says (lent (at-args .args .screen) (words (at-args .args .rows .now) (at-args .args .render .now) (at-args .args .fills .now))
+    (at-args .args .paint-attrs .now)) (at-args .args .paints .now) (at-args .args .segments .now) (at-args .args .draw) (sym (sym (at-if1 .if1 .left) ∙
+    (at-judge-fill .judge-fill .ensures)))) .ids, bounds (at-args .args .screen) (passing (lent (at-args .args .screen) (words (at-args .args .rows .now)
+    (at-args .args .render .now) (at-args .args .fills .now)) (at-args .args .paint-attrs .now)) (at-args .args .paints .now) (at-args .args .segments .now)
+    (at-args .args .draw) ((zero-says (lent (at-args .args .screen) (words (at-args .args .rows .now) (at-args .args .render .now) (at-args .args .fills .now))
+    (at-args .args .paint-attrs .now)) (at-args .args .paints .now) (at-args .args .segments .now) (at-args .args .draw) (sym (sym (at-if1 .if1 .left) ∙
+    (at-judge-fill .judge-fill .ensures)))) .first) .screen) .paints, omega arith)
 
 same-length-5 : tie.Need-same-length-5
 same-length-5 c = search needs
@@ -58,22 +77,74 @@ same-length-8 : tie.Need-same-length-8
 same-length-8 c = search needs
 
 returns-2 : tie.Need-returns-2
-returns-2 c = done-empty (lent (c .before .before .before .before .before .before .before .before .before .before .before .before .before .before .args .screen) (words (c .before .before .before .before .before .before .before .before .before .before .before .before .before .before .args .rows .now) (c .before .before .before .before .before .before .before .before .before .before .before .before .before .before .args .render .now) (c .before .before .before .before .before .before .before .before .before .before .before .before .before .before .args .fills .now)) (c .before .before .before .before .before .before .before .before .before .before .before .before .before .before .args .paint-attrs .now)) (c .before .before .before .before .before .before .before .before .before .before .before .before .before .before .args .paints .now) (c .before .before .before .before .before .before .before .before .before .before .before .before .before .before .args .segments .now) (c .before .before .before .before .before .before .before .before .before .before .before .before .before .before .args .draw) (zero-says (lent (c .before .before .before .before .before .before .before .before .before .before .before .before .before .before .args .screen) (words (c .before .before .before .before .before .before .before .before .before .before .before .before .before .before .args .rows .now) (c .before .before .before .before .before .before .before .before .before .before .before .before .before .before .args .render .now) (c .before .before .before .before .before .before .before .before .before .before .before .before .before .before .args .fills .now)) (c .before .before .before .before .before .before .before .before .before .before .before .before .before .before .args .paint-attrs .now)) (c .before .before .before .before .before .before .before .before .before .before .before .before .before .before .args .paints .now) (c .before .before .before .before .before .before .before .before .before .before .before .before .before .before .args .segments .now) (c .before .before .before .before .before .before .before .before .before .before .before .before .before .before .args .draw) (sym (sym (c .before .before .if1 .left) ∙ (c .before .before .before .judge-fill .ensures)))) (c .before .if2 .taken) (sym (c .before .before .if1 .left) ∙ (c .before .before .before .judge-fill .ensures)) (c .taken .ensures)
+returns-2 c =
+    let at-if1 = c .before .before in
+    let at-judge-fill = at-if1 .before in
+    let at-args = at-judge-fill .before .before .before .before .before .before .before .before .before .before .before in
+    done-empty (lent (at-args .args .screen) (words (at-args .args .rows .now) (at-args .args .render .now) (at-args .args .fills .now))
+    (at-args .args .paint-attrs .now)) (at-args .args .paints .now) (at-args .args .segments .now) (at-args .args .draw) (zero-says (lent
+    (at-args .args .screen) (words (at-args .args .rows .now) (at-args .args .render .now) (at-args .args .fills .now)) (at-args .args .paint-attrs .now))
+    (at-args .args .paints .now) (at-args .args .segments .now) (at-args .args .draw) (sym (sym (at-if1 .if1 .left) ∙ (at-judge-fill .judge-fill .ensures))))
+    (c .before .if2 .taken) (sym (at-if1 .if1 .left) ∙ (at-judge-fill .judge-fill .ensures)) (c .taken .ensures)
 
 job-of-requires : tie.Need-job-of-requires
-job-of-requires c κs = (passing (lent (c .before .before .before .before .before .before .before .before .before .before .before .before .before .args .screen) (words (c .before .before .before .before .before .before .before .before .before .before .before .before .before .args .rows .now) (c .before .before .before .before .before .before .before .before .before .before .before .before .before .args .render .now) (c .before .before .before .before .before .before .before .before .before .before .before .before .before .args .fills .now)) (c .before .before .before .before .before .before .before .before .before .before .before .before .before .args .paint-attrs .now)) (c .before .before .before .before .before .before .before .before .before .before .before .before .before .args .paints .now) (c .before .before .before .before .before .before .before .before .before .before .before .before .before .args .segments .now) (c .before .before .before .before .before .before .before .before .before .before .before .before .before .args .draw) ((zero-says (lent (c .before .before .before .before .before .before .before .before .before .before .before .before .before .args .screen) (words (c .before .before .before .before .before .before .before .before .before .before .before .before .before .args .rows .now) (c .before .before .before .before .before .before .before .before .before .before .before .before .before .args .render .now) (c .before .before .before .before .before .before .before .before .before .before .before .before .before .args .fills .now)) (c .before .before .before .before .before .before .before .before .before .before .before .before .before .args .paint-attrs .now)) (c .before .before .before .before .before .before .before .before .before .before .before .before .before .args .paints .now) (c .before .before .before .before .before .before .before .before .before .before .before .before .before .args .segments .now) (c .before .before .before .before .before .before .before .before .before .before .before .before .before .args .draw) (sym (sym (c .before .if1 .left) ∙ (c .before .before .judge-fill .ensures)))) .first), draw-facts (c .before .before .before .before .before .before .before .before .before .before .before .before .before .args .paints .now) (c .before .before .before .before .before .before .before .before .before .before .before .before .before .args .segments .now) (c .before .before .before .before .before .before .before .before .before .before .before .before .before .args .draw) ((zero-says (lent (c .before .before .before .before .before .before .before .before .before .before .before .before .before .args .screen) (words (c .before .before .before .before .before .before .before .before .before .before .before .before .before .args .rows .now) (c .before .before .before .before .before .before .before .before .before .before .before .before .before .args .render .now) (c .before .before .before .before .before .before .before .before .before .before .before .before .before .args .fills .now)) (c .before .before .before .before .before .before .before .before .before .before .before .before .before .args .paint-attrs .now)) (c .before .before .before .before .before .before .before .before .before .before .before .before .before .args .paints .now) (c .before .before .before .before .before .before .before .before .before .before .before .before .before .args .segments .now) (c .before .before .before .before .before .before .before .before .before .before .before .before .before .args .draw) (sym (sym (c .before .if1 .left) ∙ (c .before .before .judge-fill .ensures)))) .draw) .paint)
+job-of-requires c κs =
+    let at-if1 = c .before in
+    let at-judge-fill = at-if1 .before in
+    let at-args = at-judge-fill .before .before .before .before .before .before .before .before .before .before .before in
+    (passing (lent (at-args .args .screen) (words (at-args .args .rows .now) (at-args .args .render .now) (at-args .args .fills .now))
+    (at-args .args .paint-attrs .now)) (at-args .args .paints .now) (at-args .args .segments .now) (at-args .args .draw) ((zero-says (lent
+    (at-args .args .screen) (words (at-args .args .rows .now) (at-args .args .render .now) (at-args .args .fills .now)) (at-args .args .paint-attrs .now))
+    (at-args .args .paints .now) (at-args .args .segments .now) (at-args .args .draw) (sym (sym (at-if1 .if1 .left) ∙
+    (at-judge-fill .judge-fill .ensures)))) .first), draw-facts (at-args .args .paints .now) (at-args .args .segments .now) (at-args .args .draw) ((zero-says
+    (lent (at-args .args .screen) (words (at-args .args .rows .now) (at-args .args .render .now) (at-args .args .fills .now)) (at-args .args .paint-attrs .now))
+    (at-args .args .paints .now) (at-args .args .segments .now) (at-args .args .draw) (sym (sym (at-if1 .if1 .left) ∙
+    (at-judge-fill .judge-fill .ensures)))) .draw) .paint)
 
 cast-put-paint-attrs : tie.Need-cast-put-paint-attrs
 cast-put-paint-attrs c = search needs
 
 put-paint-attrs-requires : tie.Need-put-paint-attrs-requires
-put-paint-attrs-requires c κs = (room-for-attr (lent (c .before .before .before .before .before .before .before .before .before .before .before .before .before .before .before .before .before .before .args .screen) (words (c .before .before .before .before .before .before .before .before .before .before .before .before .before .before .before .before .before .before .args .rows .now) (c .before .before .before .before .before .before .before .before .before .before .before .before .before .before .before .before .before .before .args .render .now) (c .before .before .before .before .before .before .before .before .before .before .before .before .before .before .before .before .before .before .args .fills .now)) (c .before .before .before .before .before .before .before .before .before .before .before .before .before .before .before .before .before .before .args .paint-attrs .now)) (c .before .before .before .before .before .before .before .before .before .before .before .before .before .before .before .before .before .before .args .paints .now) (c .before .before .before .before .before .before .before .before .before .before .before .before .before .before .before .before .before .before .args .segments .now) (c .before .before .before .before .before .before .before .before .before .before .before .before .before .before .before .before .before .before .args .draw) (zero-says (lent (c .before .before .before .before .before .before .before .before .before .before .before .before .before .before .before .before .before .before .args .screen) (words (c .before .before .before .before .before .before .before .before .before .before .before .before .before .before .before .before .before .before .args .rows .now) (c .before .before .before .before .before .before .before .before .before .before .before .before .before .before .before .before .before .before .args .render .now) (c .before .before .before .before .before .before .before .before .before .before .before .before .before .before .before .before .before .before .args .fills .now)) (c .before .before .before .before .before .before .before .before .before .before .before .before .before .before .before .before .before .before .args .paint-attrs .now)) (c .before .before .before .before .before .before .before .before .before .before .before .before .before .before .before .before .before .before .args .paints .now) (c .before .before .before .before .before .before .before .before .before .before .before .before .before .before .before .before .before .before .args .segments .now) (c .before .before .before .before .before .before .before .before .before .before .before .before .before .before .before .before .before .before .args .draw) (sym (sym (c .before .before .before .before .before .before .if1 .left) ∙ (c .before .before .before .before .before .before .before .judge-fill .ensures)))) (c .before .before .before .before .before .if2 .left), right-lengths (lent (c .before .before .before .before .before .before .before .before .before .before .before .before .before .before .before .before .before .before .args .screen) (words (c .before .before .before .before .before .before .before .before .before .before .before .before .before .before .before .before .before .before .args .rows .now) (c .before .before .before .before .before .before .before .before .before .before .before .before .before .before .before .before .before .before .args .render .now) (c .before .before .before .before .before .before .before .before .before .before .before .before .before .before .before .before .before .before .args .fills .now)) (c .before .before .before .before .before .before .before .before .before .before .before .before .before .before .before .before .before .before .args .paint-attrs .now)) (c .before .before .before .before .before .before .before .before .before .before .before .before .before .before .before .before .before .before .args .paints .now) (c .before .before .before .before .before .before .before .before .before .before .before .before .before .before .before .before .before .before .args .segments .now) ((zero-says (lent (c .before .before .before .before .before .before .before .before .before .before .before .before .before .before .before .before .before .before .args .screen) (words (c .before .before .before .before .before .before .before .before .before .before .before .before .before .before .before .before .before .before .args .rows .now) (c .before .before .before .before .before .before .before .before .before .before .before .before .before .before .before .before .before .before .args .render .now) (c .before .before .before .before .before .before .before .before .before .before .before .before .before .before .before .before .before .before .args .fills .now)) (c .before .before .before .before .before .before .before .before .before .before .before .before .before .before .before .before .before .before .args .paint-attrs .now)) (c .before .before .before .before .before .before .before .before .before .before .before .before .before .before .before .before .before .before .args .paints .now) (c .before .before .before .before .before .before .before .before .before .before .before .before .before .before .before .before .before .before .args .segments .now) (c .before .before .before .before .before .before .before .before .before .before .before .before .before .before .before .before .before .before .args .draw) (sym (sym (c .before .before .before .before .before .before .if1 .left) ∙ (c .before .before .before .before .before .before .before .judge-fill .ensures)))) .first) .1)
+put-paint-attrs-requires c κs =
+    let at-if2 = c .before .before .before .before .before in
+    let at-if1 = at-if2 .before in
+    let at-judge-fill = at-if1 .before in
+    let at-args = at-judge-fill .before .before .before .before .before .before .before .before .before .before .before in
+    (room-for-attr (lent (at-args .args .screen) (words (at-args .args .rows .now) (at-args .args .render .now) (at-args .args .fills .now))
+    (at-args .args .paint-attrs .now)) (at-args .args .paints .now) (at-args .args .segments .now) (at-args .args .draw) (zero-says (lent
+    (at-args .args .screen) (words (at-args .args .rows .now) (at-args .args .render .now) (at-args .args .fills .now)) (at-args .args .paint-attrs .now))
+    (at-args .args .paints .now) (at-args .args .segments .now) (at-args .args .draw) (sym (sym (at-if1 .if1 .left) ∙ (at-judge-fill .judge-fill .ensures))))
+    (at-if2 .if2 .left), right-lengths (lent (at-args .args .screen) (words (at-args .args .rows .now) (at-args .args .render .now) (at-args .args .fills .now))
+    (at-args .args .paint-attrs .now)) (at-args .args .paints .now) (at-args .args .segments .now) ((zero-says (lent (at-args .args .screen) (words
+    (at-args .args .rows .now) (at-args .args .render .now) (at-args .args .fills .now)) (at-args .args .paint-attrs .now)) (at-args .args .paints .now)
+    (at-args .args .segments .now) (at-args .args .draw) (sym (sym (at-if1 .if1 .left) ∙ (at-judge-fill .judge-fill .ensures)))) .first) .1)
 
 fill-rows-requires : tie.Need-fill-rows-requires
-fill-rows-requires c κs = rw (c .before .before .before .before .before .before .before .before .before .before .job-of .ensures, (rows-counted (c .before .before .before .before .before .before .before .before .before .before .before .before .before .before .before .before .before .before .before .before .before .before .before .before .args .rows .now) (rows-of (box-of (c .before .before .before .before .before .before .before .before .before .before .before .before .before .before .before .before .before .before .before .before .before .before .before .before .args .screen .viewport))) ((zero-says (lent (c .before .before .before .before .before .before .before .before .before .before .before .before .before .before .before .before .before .before .before .before .before .before .before .before .args .screen) (words (c .before .before .before .before .before .before .before .before .before .before .before .before .before .before .before .before .before .before .before .before .before .before .before .before .args .rows .now) (c .before .before .before .before .before .before .before .before .before .before .before .before .before .before .before .before .before .before .before .before .before .before .before .before .args .render .now) (c .before .before .before .before .before .before .before .before .before .before .before .before .before .before .before .before .before .before .before .before .before .before .before .before .args .fills .now)) (c .before .before .before .before .before .before .before .before .before .before .before .before .before .before .before .before .before .before .before .before .before .before .before .before .args .paint-attrs .now)) (c .before .before .before .before .before .before .before .before .before .before .before .before .before .before .before .before .before .before .before .before .before .before .before .before .args .paints .now) (c .before .before .before .before .before .before .before .before .before .before .before .before .before .before .before .before .before .before .before .before .before .before .before .before .args .segments .now) (c .before .before .before .before .before .before .before .before .before .before .before .before .before .before .before .before .before .before .before .before .before .before .before .before .args .draw) (sym (sym (c .before .before .before .before .before .before .before .before .before .before .before .before .if1 .left) ∙ (c .before .before .before .before .before .before .before .before .before .before .before .before .before .judge-fill .ensures)))) .ready .fits .arenas .long .state))) ((zero-says (lent (c .before .before .before .before .before .before .before .before .before .before .before .before .before .before .before .before .before .before .before .before .before .before .before .before .args .screen) (words (c .before .before .before .before .before .before .before .before .before .before .before .before .before .before .before .before .before .before .before .before .before .before .before .before .args .rows .now) (c .before .before .before .before .before .before .before .before .before .before .before .before .before .before .before .before .before .before .before .before .before .before .before .before .args .render .now) (c .before .before .before .before .before .before .before .before .before .before .before .before .before .before .before .before .before .before .before .before .before .before .before .before .args .fills .now)) (c .before .before .before .before .before .before .before .before .before .before .before .before .before .before .before .before .before .before .before .before .before .before .before .before .args .paint-attrs .now)) (c .before .before .before .before .before .before .before .before .before .before .before .before .before .before .before .before .before .before .before .before .before .before .before .before .args .paints .now) (c .before .before .before .before .before .before .before .before .before .before .before .before .before .before .before .before .before .before .before .before .before .before .before .before .args .segments .now) (c .before .before .before .before .before .before .before .before .before .before .before .before .before .before .before .before .before .before .before .before .before .before .before .before .args .draw) (sym (sym (c .before .before .before .before .before .before .before .before .before .before .before .before .if1 .left) ∙ (c .before .before .before .before .before .before .before .before .before .before .before .before .before .judge-fill .ensures)))) .ready)
+fill-rows-requires c κs =
+    let at-job-of = c .before .before .before .before .before .before .before .before .before .before in
+    let at-if1 = at-job-of .before .before in
+    let at-judge-fill = at-if1 .before in
+    let at-args = at-judge-fill .before .before .before .before .before .before .before .before .before .before .before in
+    rw (at-job-of .job-of .ensures, (rows-counted (at-args .args .rows .now) (rows-of (box-of (at-args .args .screen .viewport))) ((zero-says (lent
+    (at-args .args .screen) (words (at-args .args .rows .now) (at-args .args .render .now) (at-args .args .fills .now)) (at-args .args .paint-attrs .now))
+    (at-args .args .paints .now) (at-args .args .segments .now) (at-args .args .draw) (sym (sym (at-if1 .if1 .left) ∙
+    (at-judge-fill .judge-fill .ensures)))) .ready .fits .arenas .long .state))) ((zero-says (lent (at-args .args .screen) (words (at-args .args .rows .now)
+    (at-args .args .render .now) (at-args .args .fills .now)) (at-args .args .paint-attrs .now)) (at-args .args .paints .now) (at-args .args .segments .now)
+    (at-args .args .draw) (sym (sym (at-if1 .if1 .left) ∙ (at-judge-fill .judge-fill .ensures)))) .ready)
 
 taken-requires-2 : tie.Need-taken-requires-2
-taken-requires-2 c κs = ((zero-says (lent (c .before .before .before .before .before .before .before .before .before .before .before .before .before .before .before .before .before .before .before .before .before .before .before .before .before .before .before .before .before .before .before .args .screen) (words (c .before .before .before .before .before .before .before .before .before .before .before .before .before .before .before .before .before .before .before .before .before .before .before .before .before .before .before .before .before .before .before .args .rows .now) (c .before .before .before .before .before .before .before .before .before .before .before .before .before .before .before .before .before .before .before .before .before .before .before .before .before .before .before .before .before .before .before .args .render .now) (c .before .before .before .before .before .before .before .before .before .before .before .before .before .before .before .before .before .before .before .before .before .before .before .before .before .before .before .before .before .before .before .args .fills .now)) (c .before .before .before .before .before .before .before .before .before .before .before .before .before .before .before .before .before .before .before .before .before .before .before .before .before .before .before .before .before .before .before .args .paint-attrs .now)) (c .before .before .before .before .before .before .before .before .before .before .before .before .before .before .before .before .before .before .before .before .before .before .before .before .before .before .before .before .before .before .before .args .paints .now) (c .before .before .before .before .before .before .before .before .before .before .before .before .before .before .before .before .before .before .before .before .before .before .before .before .before .before .before .before .before .before .before .args .segments .now) (c .before .before .before .before .before .before .before .before .before .before .before .before .before .before .before .before .before .before .before .before .before .before .before .before .before .before .before .before .before .before .before .args .draw) (sym (sym (c .before .before .before .before .before .before .before .before .before .before .before .before .before .before .before .before .before .before .before .if1 .left) ∙ (c .before .before .before .before .before .before .before .before .before .before .before .before .before .before .before .before .before .before .before .before .judge-fill .ensures)))) .ids, bounds (c .before .before .before .before .before .before .before .before .before .before .before .before .before .before .before .before .before .before .before .before .before .before .before .before .before .before .before .before .before .before .before .args .screen) (passing (lent (c .before .before .before .before .before .before .before .before .before .before .before .before .before .before .before .before .before .before .before .before .before .before .before .before .before .before .before .before .before .before .before .args .screen) (words (c .before .before .before .before .before .before .before .before .before .before .before .before .before .before .before .before .before .before .before .before .before .before .before .before .before .before .before .before .before .before .before .args .rows .now) (c .before .before .before .before .before .before .before .before .before .before .before .before .before .before .before .before .before .before .before .before .before .before .before .before .before .before .before .before .before .before .before .args .render .now) (c .before .before .before .before .before .before .before .before .before .before .before .before .before .before .before .before .before .before .before .before .before .before .before .before .before .before .before .before .before .before .before .args .fills .now)) (c .before .before .before .before .before .before .before .before .before .before .before .before .before .before .before .before .before .before .before .before .before .before .before .before .before .before .before .before .before .before .before .args .paint-attrs .now)) (c .before .before .before .before .before .before .before .before .before .before .before .before .before .before .before .before .before .before .before .before .before .before .before .before .before .before .before .before .before .before .before .args .paints .now) (c .before .before .before .before .before .before .before .before .before .before .before .before .before .before .before .before .before .before .before .before .before .before .before .before .before .before .before .before .before .before .before .args .segments .now) (c .before .before .before .before .before .before .before .before .before .before .before .before .before .before .before .before .before .before .before .before .before .before .before .before .before .before .before .before .before .before .before .args .draw) ((zero-says (lent (c .before .before .before .before .before .before .before .before .before .before .before .before .before .before .before .before .before .before .before .before .before .before .before .before .before .before .before .before .before .before .before .args .screen) (words (c .before .before .before .before .before .before .before .before .before .before .before .before .before .before .before .before .before .before .before .before .before .before .before .before .before .before .before .before .before .before .before .args .rows .now) (c .before .before .before .before .before .before .before .before .before .before .before .before .before .before .before .before .before .before .before .before .before .before .before .before .before .before .before .before .before .before .before .args .render .now) (c .before .before .before .before .before .before .before .before .before .before .before .before .before .before .before .before .before .before .before .before .before .before .before .before .before .before .before .before .before .before .before .args .fills .now)) (c .before .before .before .before .before .before .before .before .before .before .before .before .before .before .before .before .before .before .before .before .before .before .before .before .before .before .before .before .before .before .before .args .paint-attrs .now)) (c .before .before .before .before .before .before .before .before .before .before .before .before .before .before .before .before .before .before .before .before .before .before .before .before .before .before .before .before .before .before .before .args .paints .now) (c .before .before .before .before .before .before .before .before .before .before .before .before .before .before .before .before .before .before .before .before .before .before .before .before .before .before .before .before .before .before .before .args .segments .now) (c .before .before .before .before .before .before .before .before .before .before .before .before .before .before .before .before .before .before .before .before .before .before .before .before .before .before .before .before .before .before .before .args .draw) (sym (sym (c .before .before .before .before .before .before .before .before .before .before .before .before .before .before .before .before .before .before .before .if1 .left) ∙ (c .before .before .before .before .before .before .before .before .before .before .before .before .before .before .before .before .before .before .before .before .judge-fill .ensures)))) .first) .screen) .paints, omega arith)
+taken-requires-2 c κs =
+    let at-if1 = c .before .before .before .before .before .before .before .before .before .before .before .before .before .before .before .before
+        .before .before .before in
+    let at-judge-fill = at-if1 .before in
+    let at-args = at-judge-fill .before .before .before .before .before .before .before .before .before .before .before in
+    ((zero-says (lent (at-args .args .screen) (words (at-args .args .rows .now) (at-args .args .render .now) (at-args .args .fills .now))
+    (at-args .args .paint-attrs .now)) (at-args .args .paints .now) (at-args .args .segments .now) (at-args .args .draw) (sym (sym (at-if1 .if1 .left) ∙
+    (at-judge-fill .judge-fill .ensures)))) .ids, bounds (at-args .args .screen) (passing (lent (at-args .args .screen) (words (at-args .args .rows .now)
+    (at-args .args .render .now) (at-args .args .fills .now)) (at-args .args .paint-attrs .now)) (at-args .args .paints .now) (at-args .args .segments .now)
+    (at-args .args .draw) ((zero-says (lent (at-args .args .screen) (words (at-args .args .rows .now) (at-args .args .render .now) (at-args .args .fills .now))
+    (at-args .args .paint-attrs .now)) (at-args .args .paints .now) (at-args .args .segments .now) (at-args .args .draw) (sym (sym (at-if1 .if1 .left) ∙
+    (at-judge-fill .judge-fill .ensures)))) .first) .screen) .paints, omega arith)
 
 same-length-9 : tie.Need-same-length-9
 same-length-9 c = search needs
@@ -88,7 +159,24 @@ same-length-12 : tie.Need-same-length-12
 same-length-12 c = search needs
 
 returns-3 : tie.Need-returns-3
-returns-3 c = done-some (lent (c .before .before .before .before .before .before .before .before .before .before .before .before .before .before .before .before .before .before .before .before .before .before .before .before .before .before .before .before .before .before .before .before .args .screen) (words (c .before .before .before .before .before .before .before .before .before .before .before .before .before .before .before .before .before .before .before .before .before .before .before .before .before .before .before .before .before .before .before .before .args .rows .now) (c .before .before .before .before .before .before .before .before .before .before .before .before .before .before .before .before .before .before .before .before .before .before .before .before .before .before .before .before .before .before .before .before .args .render .now) (c .before .before .before .before .before .before .before .before .before .before .before .before .before .before .before .before .before .before .before .before .before .before .before .before .before .before .before .before .before .before .before .before .args .fills .now)) (c .before .before .before .before .before .before .before .before .before .before .before .before .before .before .before .before .before .before .before .before .before .before .before .before .before .before .before .before .before .before .before .before .args .paint-attrs .now)) (c .before .before .before .before .before .before .before .before .before .before .before .before .before .before .before .before .before .before .before .before .before .before .before .before .before .before .before .before .before .before .before .before .args .paints .now) (c .before .before .before .before .before .before .before .before .before .before .before .before .before .before .before .before .before .before .before .before .before .before .before .before .before .before .before .before .before .before .before .before .args .segments .now) (c .before .before .before .before .before .before .before .before .before .before .before .before .before .before .before .before .before .before .before .before .before .before .before .before .before .before .before .before .before .before .before .before .args .draw) (zero-says (lent (c .before .before .before .before .before .before .before .before .before .before .before .before .before .before .before .before .before .before .before .before .before .before .before .before .before .before .before .before .before .before .before .before .args .screen) (words (c .before .before .before .before .before .before .before .before .before .before .before .before .before .before .before .before .before .before .before .before .before .before .before .before .before .before .before .before .before .before .before .before .args .rows .now) (c .before .before .before .before .before .before .before .before .before .before .before .before .before .before .before .before .before .before .before .before .before .before .before .before .before .before .before .before .before .before .before .before .args .render .now) (c .before .before .before .before .before .before .before .before .before .before .before .before .before .before .before .before .before .before .before .before .before .before .before .before .before .before .before .before .before .before .before .before .args .fills .now)) (c .before .before .before .before .before .before .before .before .before .before .before .before .before .before .before .before .before .before .before .before .before .before .before .before .before .before .before .before .before .before .before .before .args .paint-attrs .now)) (c .before .before .before .before .before .before .before .before .before .before .before .before .before .before .before .before .before .before .before .before .before .before .before .before .before .before .before .before .before .before .before .before .args .paints .now) (c .before .before .before .before .before .before .before .before .before .before .before .before .before .before .before .before .before .before .before .before .before .before .before .before .before .before .before .before .before .before .before .before .args .segments .now) (c .before .before .before .before .before .before .before .before .before .before .before .before .before .before .before .before .before .before .before .before .before .before .before .before .before .before .before .before .before .before .before .before .args .draw) (sym (sym (c .before .before .before .before .before .before .before .before .before .before .before .before .before .before .before .before .before .before .before .before .if1 .left) ∙ (c .before .before .before .before .before .before .before .before .before .before .before .before .before .before .before .before .before .before .before .before .before .judge-fill .ensures)))) (c .before .before .before .before .before .before .before .before .before .before .before .before .before .before .before .before .before .before .before .if2 .left) (sym (c .before .before .before .before .before .before .before .before .before .before .before .before .before .before .before .before .before .before .before .before .if1 .left) ∙ (c .before .before .before .before .before .before .before .before .before .before .before .before .before .before .before .before .before .before .before .before .before .judge-fill .ensures)) (c .taken2 .ensures) (rw (c .before .before .before .before .before .before .before .before .before .before .before .before .before .before .before .before .before .before .job-of .ensures, (rows-counted (c .before .before .before .before .before .before .before .before .before .before .before .before .before .before .before .before .before .before .before .before .before .before .before .before .before .before .before .before .before .before .before .before .args .rows .now) (rows-of (box-of (c .before .before .before .before .before .before .before .before .before .before .before .before .before .before .before .before .before .before .before .before .before .before .before .before .before .before .before .before .before .before .before .before .args .screen .viewport))) ((zero-says (lent (c .before .before .before .before .before .before .before .before .before .before .before .before .before .before .before .before .before .before .before .before .before .before .before .before .before .before .before .before .before .before .before .before .args .screen) (words (c .before .before .before .before .before .before .before .before .before .before .before .before .before .before .before .before .before .before .before .before .before .before .before .before .before .before .before .before .before .before .before .before .args .rows .now) (c .before .before .before .before .before .before .before .before .before .before .before .before .before .before .before .before .before .before .before .before .before .before .before .before .before .before .before .before .before .before .before .before .args .render .now) (c .before .before .before .before .before .before .before .before .before .before .before .before .before .before .before .before .before .before .before .before .before .before .before .before .before .before .before .before .before .before .before .before .args .fills .now)) (c .before .before .before .before .before .before .before .before .before .before .before .before .before .before .before .before .before .before .before .before .before .before .before .before .before .before .before .before .before .before .before .before .args .paint-attrs .now)) (c .before .before .before .before .before .before .before .before .before .before .before .before .before .before .before .before .before .before .before .before .before .before .before .before .before .before .before .before .before .before .before .before .args .paints .now) (c .before .before .before .before .before .before .before .before .before .before .before .before .before .before .before .before .before .before .before .before .before .before .before .before .before .before .before .before .before .before .before .before .args .segments .now) (c .before .before .before .before .before .before .before .before .before .before .before .before .before .before .before .before .before .before .before .before .before .before .before .before .before .before .before .before .before .before .before .before .args .draw) (sym (sym (c .before .before .before .before .before .before .before .before .before .before .before .before .before .before .before .before .before .before .before .before .if1 .left) ∙ (c .before .before .before .before .before .before .before .before .before .before .before .before .before .before .before .before .before .before .before .before .before .judge-fill .ensures)))) .ready .fits .arenas .long .state))) at (c .before .before .before .before .before .before .before .fill-rows .ensures)) (c .before .before .before .before .before .before .before .before .before .before .before .before .before .put-paint-attrs .ensures)
+returns-3 c =
+    let at-fill-rows = c .before .before .before .before .before .before .before in
+    let at-put-paint-attrs = at-fill-rows .before .before .before .before .before .before in
+    let at-job-of = at-put-paint-attrs .before .before .before .before .before in
+    let at-if2 = at-job-of .before in
+    let at-if1 = at-if2 .before in
+    let at-judge-fill = at-if1 .before in
+    let at-args = at-judge-fill .before .before .before .before .before .before .before .before .before .before .before in
+    done-some (lent (at-args .args .screen) (words (at-args .args .rows .now) (at-args .args .render .now) (at-args .args .fills .now))
+    (at-args .args .paint-attrs .now)) (at-args .args .paints .now) (at-args .args .segments .now) (at-args .args .draw) (zero-says (lent
+    (at-args .args .screen) (words (at-args .args .rows .now) (at-args .args .render .now) (at-args .args .fills .now)) (at-args .args .paint-attrs .now))
+    (at-args .args .paints .now) (at-args .args .segments .now) (at-args .args .draw) (sym (sym (at-if1 .if1 .left) ∙ (at-judge-fill .judge-fill .ensures))))
+    (at-if2 .if2 .left) (sym (at-if1 .if1 .left) ∙ (at-judge-fill .judge-fill .ensures)) (c .taken2 .ensures) (rw (at-job-of .job-of .ensures,
+    (rows-counted (at-args .args .rows .now) (rows-of (box-of (at-args .args .screen .viewport))) ((zero-says (lent (at-args .args .screen) (words
+    (at-args .args .rows .now) (at-args .args .render .now) (at-args .args .fills .now)) (at-args .args .paint-attrs .now)) (at-args .args .paints .now)
+    (at-args .args .segments .now) (at-args .args .draw) (sym (sym (at-if1 .if1 .left) ∙
+    (at-judge-fill .judge-fill .ensures)))) .ready .fits .arenas .long .state))) at (at-fill-rows .fill-rows .ensures))
+    (at-put-paint-attrs .put-paint-attrs .ensures)
 
 pub fill-spec : {M : Type 1} → statement M
 fill-spec =

@@ -20,7 +20,12 @@ returns-2 : tie.Need-returns-2
 returns-2 c = rw (eq-eqb _ _ (c .before .before .if1 .left), ← c .before .is-default .ensures, not-true (c .before .is-default .result) (c .if2 .taken))
 
 returns-3 : tie.Need-returns-3
-returns-3 c = rw (eq-eqb _ _ (c .before .before .before .before .if1 .left), ← c .before .before .before .is-default .ensures, not-false (c .before .before .before .is-default .result) (c .before .before .if2 .left), ne-eqb _ _ (c .if3 .taken))
+returns-3 c =
+    let at-if2 = c .before .before in
+    let at-is-default = at-if2 .before in
+    let at-if1 = at-is-default .before in
+    rw (eq-eqb _ _ (at-if1 .if1 .left), ← at-is-default .is-default .ensures, not-false (at-is-default .is-default .result) (at-if2 .if2 .left),
+    ne-eqb _ _ (c .if3 .taken))
 
 mul-result : tie.Need-mul-result
 mul-result c = search needs
@@ -32,7 +37,13 @@ shared-slice-read-result : tie.Need-shared-slice-read-result
 shared-slice-read-result c = search needs
 
 returns-4 : tie.Need-returns-4
-returns-4 c = rw (eq-eqb _ _ (c .before .before .before .before .before .if1 .left), ← c .before .before .before .before .is-default .ensures, not-false (c .before .before .before .before .is-default .result) (c .before .before .before .if2 .left), eq-eqb _ _ (c .before .if3 .left), paint-there _ _ _ (c .before .before .before .before .before .before .before .before .before .pre))
+returns-4 c =
+    let at-if2 = c .before .before .before in
+    let at-is-default = at-if2 .before in
+    let at-if1 = at-is-default .before in
+    let at-pre = at-if1 .before .before .before .before in
+    rw (eq-eqb _ _ (at-if1 .if1 .left), ← at-is-default .is-default .ensures, not-false (at-is-default .is-default .result) (at-if2 .if2 .left),
+    eq-eqb _ _ (c .before .if3 .left), paint-there _ _ _ (at-pre .pre))
 
 pub is-eligible-spec : {M : Type 1} → statement M
 is-eligible-spec =

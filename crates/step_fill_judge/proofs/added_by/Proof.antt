@@ -25,7 +25,11 @@ mul-b : tie.Need-mul-b
 mul-b c = search needs
 
 returns : tie.Need-returns
-returns c = rw (c .before .before .before .before .enum-told2 .given .1, c .before .before .before .if1 .taken, added-one (tiles (c .before .before .before .before .before .before .before .args .stretch .tiles)) (c .if2 .taken))
+returns c =
+    let at-if1 = c .before .before .before in
+    let at-enum-told2 = at-if1 .before in
+    let at-args = at-enum-told2 .before .before .before in
+    rw (at-enum-told2 .enum-told2 .given .1, at-if1 .if1 .taken, added-one (tiles (at-args .args .stretch .tiles)) (c .if2 .taken))
 
 edge-requires : tie.Need-edge-requires
 edge-requires c κs = search needs
@@ -34,10 +38,19 @@ edge-requires-2 : tie.Need-edge-requires-2
 edge-requires-2 c κs = search needs
 
 add-t14 : tie.Need-add-t14
-add-t14 c = record { fits = omega (arith, c .before .edge .ensures, c .edge2 .ensures, edge-small (c .before .before .before .before .before .before .before .before .before .args .stretch .tiles .first) ((c .before .before .before .before .before .before .before .before .before .args .stretch .tiles .first + 31) / 32 * 32), edge-small (c .before .before .before .before .before .before .before .before .before .args .stretch .tiles .end / 32 * 32) (c .before .before .before .before .before .before .before .before .before .args .stretch .tiles .end)) }
+add-t14 c =
+    let at-args = c .before .before .before .before .before .before .before .before .before in
+    record { fits = omega (arith, c .before .edge .ensures, c .edge2 .ensures, edge-small (at-args .args .stretch .tiles .first)
+    ((at-args .args .stretch .tiles .first + 31) / 32 * 32), edge-small (at-args .args .stretch .tiles .end / 32 * 32) (at-args .args .stretch .tiles .end)) }
 
 returns-2 : tie.Need-returns-2
-returns-2 c = rw (c .before .before .before .before .before .before .enum-told2 .given .1, c .before .before .before .before .before .if1 .taken, added-more (tiles (c .before .before .before .before .before .before .before .before .before .args .stretch .tiles)) (c .before .before .if2 .left), c .before .edge .ensures, c .edge2 .ensures)
+returns-2 c =
+    let at-if2 = c .before .before in
+    let at-if1 = at-if2 .before .before .before in
+    let at-enum-told2 = at-if1 .before in
+    let at-args = at-enum-told2 .before .before .before in
+    rw (at-enum-told2 .enum-told2 .given .1, at-if1 .if1 .taken, added-more (tiles (at-args .args .stretch .tiles)) (at-if2 .if2 .left),
+    c .before .edge .ensures, c .edge2 .ensures)
 
 returns-3 : tie.Need-returns-3
 returns-3 c = rw (c .enum-told .given .1, added-alpha)

@@ -1,3 +1,4 @@
+-- So far the segments before i are good and tallied: the row at hand with its counts, and the number found so far.
 use mathlib.Core.Path.{sym, _∙_}
 use Prim.Native.Nat.{_-_}
 use native.Mathlib.Omega.{arith}
@@ -32,7 +33,12 @@ is-good-requires : tie.Need-is-good-requires Inv-loop μ-loop
 is-good-requires c κs = search needs
 
 returns : tie.Need-returns Inv-loop μ-loop
-returns c = bad-here (c .before .before .before .before .loop .inv) (c .before .before .before .loop-test .taken) (c .before .before .segment-at .ensures) (sym (c .before .is-good .ensures) ∙ not-true _ (c .if1 .taken))
+returns c =
+    let at-segment-at = c .before .before in
+    let at-loop-test = at-segment-at .before in
+    let at-loop = at-loop-test .before in
+    bad-here (at-loop .loop .inv) (at-loop-test .loop-test .taken) (at-segment-at .segment-at .ensures) (sym (c .before .is-good .ensures) ∙ not-true _
+    (c .if1 .taken))
 
 precedes-requires : tie.Need-precedes-requires Inv-loop μ-loop
 precedes-requires c κs = search needs
@@ -41,10 +47,25 @@ mark-requires : tie.Need-mark-requires Inv-loop μ-loop
 mark-requires c κs = search needs
 
 judge-segment-requires : tie.Need-judge-segment-requires Inv-loop μ-loop
-judge-segment-requires c κs = (c .before .before .before .before .before .before .loop .inv .rowed, sym (c .before .before .before .is-good .ensures) ∙ not-false _ (c .before .before .if1 .left), rw (c .mark .ensures) (low-marked (c .before .before .before .before .before .before .loop .inv) (c .before .precedes .result) (omega (arith, c .before .before .before .before .before .before .loop .inv .within))))
+judge-segment-requires c κs =
+    let at-if1 = c .before .before in
+    let at-is-good = at-if1 .before in
+    let at-loop = at-is-good .before .before .before in
+    (at-loop .loop .inv .rowed, sym (at-is-good .is-good .ensures) ∙ not-false _ (at-if1 .if1 .left),
+    rw (c .mark .ensures) (low-marked (at-loop .loop .inv) (c .before .precedes .result) (omega (arith, at-loop .loop .inv .within))))
 
 returns-2 : tie.Need-returns-2 Inv-loop μ-loop
-returns-2 c = bad-record (c .before .before .before .before .before .before .before .before .before .loop .inv) (c .before .before .before .before .before .before .before .before .loop-test .taken) (c .before .before .before .before .before .before .before .segment-at .ensures) (sym (c .before .before .before .before .before .before .is-good .ensures) ∙ not-false _ (c .before .before .before .before .before .if1 .left)) (c .before .before .before .before .precedes .result) (rw (c .before .before .before .mark .ensures) at (c .before .before .judge-segment .ensures)) (c .if2 .taken)
+returns-2 c =
+    let at-judge-segment = c .before .before in
+    let at-mark = at-judge-segment .before in
+    let at-precedes = at-mark .before in
+    let at-if1 = at-precedes .before in
+    let at-is-good = at-if1 .before in
+    let at-segment-at = at-is-good .before in
+    let at-loop-test = at-segment-at .before in
+    let at-loop = at-loop-test .before in
+    bad-record (at-loop .loop .inv) (at-loop-test .loop-test .taken) (at-segment-at .segment-at .ensures) (sym (at-is-good .is-good .ensures) ∙ not-false _
+    (at-if1 .if1 .left)) (at-precedes .precedes .result) (rw (at-mark .mark .ensures) at (at-judge-segment .judge-segment .ensures)) (c .if2 .taken)
 
 add-i : tie.Need-add-i Inv-loop μ-loop
 add-i c = record { fits = omega arith }
@@ -53,7 +74,18 @@ loop-less : tie.Need-loop-less Inv-loop μ-loop
 loop-less c = omega arith
 
 loop-again : tie.Need-loop-again Inv-loop μ-loop
-loop-again c = again (c .before .before .before .before .before .before .before .before .before .loop .inv) (c .before .before .before .before .before .before .before .before .loop-test .taken) (c .before .before .before .before .before .before .before .segment-at .ensures) (sym (c .before .before .before .before .before .before .is-good .ensures) ∙ not-false _ (c .before .before .before .before .before .if1 .left)) (c .before .before .before .before .precedes .result) (rw (c .before .before .before .mark .ensures) at (c .before .before .judge-segment .ensures)) (c .before .before .before .before .precedes .ensures) (c .if2 .left)
+loop-again c =
+    let at-judge-segment = c .before .before in
+    let at-mark = at-judge-segment .before in
+    let at-precedes = at-mark .before in
+    let at-if1 = at-precedes .before in
+    let at-is-good = at-if1 .before in
+    let at-segment-at = at-is-good .before in
+    let at-loop-test = at-segment-at .before in
+    let at-loop = at-loop-test .before in
+    again (at-loop .loop .inv) (at-loop-test .loop-test .taken) (at-segment-at .segment-at .ensures) (sym (at-is-good .is-good .ensures) ∙ not-false _
+    (at-if1 .if1 .left)) (at-precedes .precedes .result) (rw (at-mark .mark .ensures) at (at-judge-segment .judge-segment .ensures))
+    (at-precedes .precedes .ensures) (c .if2 .left)
 
 returns-3 : tie.Need-returns-3 Inv-loop μ-loop
 returns-3 c = told-at-last (c .before .loop .inv) (c .loop-test .left)

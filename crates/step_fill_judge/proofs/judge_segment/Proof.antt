@@ -22,19 +22,47 @@ enum-known-placed : tie.Need-enum-known-placed
 enum-known-placed c = search needs
 
 turn-to-requires : tie.Need-turn-to-requires
-turn-to-requires c κs = (c .before .before .before .before .before .before .pre .0, lands (c .before .before .before .before .before .before .args .job) _ _ (segment-of (c .before .before .before .before .before .before .args .segment)) _ (c .before .before .before .before .before .before .pre .0) (c .before .before .before .before .before .before .pre .1) (placed-at (c .before .before .before .before .before .before .args .job .scene) (c .before .placed .given .1) (c .before .before .before .place .ensures) refl) .0)
+turn-to-requires c κs =
+    let at-place = c .before .before .before in
+    let at-pre = at-place .before .before .before in
+    (at-pre .pre .0, lands (at-pre .args .job) _ _ (segment-of (at-pre .args .segment)) _ (at-pre .pre .0) (at-pre .pre .1) (placed-at
+    (at-pre .args .job .scene) (c .before .placed .given .1) (at-place .place .ensures) refl) .0)
 
 returns : tie.Need-returns
-returns c = took-four (c .before .before .before .before .before .before .before .before .before .args .job) (c .before .before .before .before .before .before .before .before .before .args .rows .now) (c .before .before .before .before .before .before .before .before .before .args .hand) _ (placed-at (c .before .before .before .before .before .before .before .before .before .args .job .scene) (c .before .before .before .before .placed .given .1) (c .before .before .before .before .before .before .place .ensures) refl) (c .before .before .turn-to .ensures) (c .if1 .taken)
+returns c =
+    let at-turn-to = c .before .before in
+    let at-placed = at-turn-to .before .before in
+    let at-place = at-placed .before .before in
+    let at-args = at-place .before .before .before in
+    took-four (at-args .args .job) (at-args .args .rows .now) (at-args .args .hand) _ (placed-at (at-args .args .job .scene) (at-placed .placed .given .1)
+    (at-place .place .ensures) refl) (at-turn-to .turn-to .ensures) (c .if1 .taken)
 
 tally-on-requires : tie.Need-tally-on-requires
-tally-on-requires c κs = let l = lands (c .before .before .before .before .before .before .before .before .before .args .job) _ _ (segment-of (c .before .before .before .before .before .before .before .before .before .args .segment)) _ (c .before .before .before .before .before .before .before .before .before .pre .0) (c .before .before .before .before .before .before .before .before .before .pre .1) (placed-at (c .before .before .before .before .before .before .before .before .before .args .job .scene) (c .before .before .before .before .placed .given .1) (c .before .before .before .before .before .before .place .ensures) refl) in (rw (c .before .before .turn-to .ensures) (low-turned (c .before .before .before .before .before .before .before .before .before .args .job) _ (c .before .before .before .before .before .before .before .before .before .args .rows .now) (c .before .before .before .before .before .before .before .before .before .args .hand) (c .before .before .before .before .placed .given .0 .0) (c .before .before .before .before .before .before .before .before .before .pre .0) (c .before .before .before .before .before .before .before .before .before .pre .2)), l .1, l .2)
+tally-on-requires c κs =
+    let at-turn-to = c .before .before in
+    let at-placed = at-turn-to .before .before in
+    let at-place = at-placed .before .before in
+    let at-args = at-place .before .before .before in
+    let l = lands (at-args .args .job) _ _ (segment-of (at-args .args .segment)) _ (at-args .pre .0) (at-args .pre .1) (placed-at (at-args .args .job .scene)
+    (at-placed .placed .given .1) (at-place .place .ensures) refl) in
+    (rw (at-turn-to .turn-to .ensures) (low-turned (at-args .args .job) _ (at-args .args .rows .now) (at-args .args .hand) (at-placed .placed .given .0 .0)
+    (at-args .pre .0) (at-args .pre .2)), l .1, l .2)
 
 returns-2 : tie.Need-returns-2
-returns-2 c = took-nothing (c .before .before .before .before .before .args .job) (c .before .before .before .before .before .args .rows .now) (c .before .before .before .before .before .args .hand) (placed-at (c .before .before .before .before .before .args .job .scene) (c .enum-told .given .1) (c .before .before .place .ensures) refl)
+returns-2 c =
+    let at-place = c .before .before in
+    let at-args = at-place .before .before .before in
+    took-nothing (at-args .args .job) (at-args .args .rows .now) (at-args .args .hand) (placed-at (at-args .args .job .scene) (c .enum-told .given .1)
+    (at-place .place .ensures) refl)
 
 returns-3 : tie.Need-returns-3
-returns-3 c = took-one (c .before .before .before .before .before .before .before .before .before .before .args .job) (c .before .before .before .before .before .before .before .before .before .before .args .rows .now) (c .before .before .before .before .before .before .before .before .before .before .args .hand) _ (placed-at (c .before .before .before .before .before .before .before .before .before .before .args .job .scene) (c .before .before .before .before .before .placed .given .1) (c .before .before .before .before .before .before .before .place .ensures) refl) (c .before .before .before .turn-to .ensures) (c .before .if1 .left) (c .tally-on .ensures)
+returns-3 c =
+    let at-turn-to = c .before .before .before in
+    let at-placed = at-turn-to .before .before in
+    let at-place = at-placed .before .before in
+    let at-args = at-place .before .before .before in
+    took-one (at-args .args .job) (at-args .args .rows .now) (at-args .args .hand) _ (placed-at (at-args .args .job .scene) (at-placed .placed .given .1)
+    (at-place .place .ensures) refl) (at-turn-to .turn-to .ensures) (c .before .if1 .left) (c .tally-on .ensures)
 
 pub judge-segment-spec : {M : Type 1} → statement M
 judge-segment-spec =

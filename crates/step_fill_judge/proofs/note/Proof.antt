@@ -19,10 +19,18 @@ wide-requires-2 : tie.Need-wide-requires-2
 wide-requires-2 c κs = search needs
 
 returns-3 : tie.Need-returns-3
-returns-3 c = rw (← c .before .before .before .before .wide .ensures, ← c .before .before .wide2 .ensures, le-ltb _ _ (c .before .before .before .if1 .left), lt-ltb _ _ (c .before .if3 .taken), eq-eqb _ _ (c .if4 .taken))
+returns-3 c =
+    let at-wide2 = c .before .before in
+    let at-if1 = at-wide2 .before in
+    let at-wide = at-if1 .before in
+    rw (← at-wide .wide .ensures, ← at-wide2 .wide2 .ensures, le-ltb _ _ (at-if1 .if1 .left), lt-ltb _ _ (c .before .if3 .taken), eq-eqb _ _ (c .if4 .taken))
 
 returns-4 : tie.Need-returns-4
-returns-4 c = rw (← c .before .before .before .before .wide .ensures, ← c .before .before .wide2 .ensures, le-ltb _ _ (c .before .before .before .if1 .left), lt-ltb _ _ (c .before .if3 .taken), ne-eqb _ _ (c .if4 .left))
+returns-4 c =
+    let at-wide2 = c .before .before in
+    let at-if1 = at-wide2 .before in
+    let at-wide = at-if1 .before in
+    rw (← at-wide .wide .ensures, ← at-wide2 .wide2 .ensures, le-ltb _ _ (at-if1 .if1 .left), lt-ltb _ _ (c .before .if3 .taken), ne-eqb _ _ (c .if4 .left))
 
 returns-5 : tie.Need-returns-5
 returns-5 c = rw (← c .before .before .before .wide .ensures, ← c .before .wide2 .ensures, le-ltb _ _ (c .before .before .if1 .left), le-ltb _ _ (c .if3 .left))

@@ -52,7 +52,12 @@ wide-requires-2 : tie.Need-wide-requires-2
 wide-requires-2 c κs = search needs
 
 add-t20 : tie.Need-add-t20
-add-t20 c = record { fits = omega (arith, c .before .before .wide .ensures, c .wide2 .ensures, good-small _ _ _ _ (sym (c .before .before .before .before .before .before .is-good-row .ensures) ∙ c .before .before .before .before .before .if2 .taken) .renders) }
+add-t20 c =
+    let at-wide = c .before .before in
+    let at-if2 = at-wide .before .before .before in
+    let at-is-good-row = at-if2 .before in
+    record { fits = omega (arith, at-wide .wide .ensures, c .wide2 .ensures, good-small _ _ _ _ (sym (at-is-good-row .is-good-row .ensures) ∙
+    at-if2 .if2 .taken) .renders) }
 
 shared-slice-read-wide-3 : tie.Need-shared-slice-read-wide-3
 shared-slice-read-wide-3 c = search needs
@@ -62,11 +67,22 @@ wide-requires-3 c κs = search needs
 
 returns-2 : tie.Need-returns-2
 unfolding turned-to
-returns-2 c = rw (ne-eqb _ _ (c .before .before .before .before .before .before .before .before .before .before .if1 .left), ← row-part (c .before .before .before .before .before .before .before .before .before .before .before .before .before .args .r) (c .before .before .before .before .before .before .before .before .before .before .before .before .before .args .rows .now), sym (c .before .before .before .before .before .before .before .before .is-good-row .ensures) ∙ c .before .before .before .before .before .before .before .if2 .taken, c .before .before .before .before .wide .ensures, c .before .before .wide2 .ensures, c .wide3 .ensures)
+returns-2 c =
+    let at-wide2 = c .before .before in
+    let at-wide = at-wide2 .before .before in
+    let at-if2 = at-wide .before .before .before in
+    let at-is-good-row = at-if2 .before in
+    let at-if1 = at-is-good-row .before .before in
+    let at-args = at-if1 .before .before .before in
+    rw (ne-eqb _ _ (at-if1 .if1 .left), ← row-part (at-args .args .r) (at-args .args .rows .now),
+    sym (at-is-good-row .is-good-row .ensures) ∙ at-if2 .if2 .taken, at-wide .wide .ensures, at-wide2 .wide2 .ensures, c .wide3 .ensures)
 
 returns-3 : tie.Need-returns-3
 unfolding turned-to
-returns-3 c = rw (ne-eqb _ _ (c .before .before .before .if1 .left), ← row-part (c .before .before .before .before .before .before .args .r) (c .before .before .before .before .before .before .args .rows .now), sym (c .before .is-good-row .ensures) ∙ c .if2 .left)
+returns-3 c =
+    let at-if1 = c .before .before .before in
+    let at-args = at-if1 .before .before .before in
+    rw (ne-eqb _ _ (at-if1 .if1 .left), ← row-part (at-args .args .r) (at-args .args .rows .now), sym (c .before .is-good-row .ensures) ∙ c .if2 .left)
 
 pub turn-to-spec : {M : Type 1} → statement M
 turn-to-spec =

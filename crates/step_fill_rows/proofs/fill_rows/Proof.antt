@@ -1,3 +1,4 @@
+-- So far the segments before i are drawn; the rows still have room for those from i on.
 use Prim.Native.Nat.{_-_}
 use mathlib.Core.Path.{sym, _∙_}
 use native.Mathlib.Omega.{arith}
@@ -22,7 +23,12 @@ loop-holds : tie.Need-loop-holds Inv-loop μ-loop
 loop-holds c = begun (c .before .before .before .before .pre)
 
 fill-segment-requires : tie.Need-fill-segment-requires Inv-loop μ-loop
-fill-segment-requires c κs = rw (rows-counted _ _ (c .before .before .before .before .loop .inv .rest .fits .arenas .long .state)) (c .before .before .before .before .loop .inv .rest .fits, omega (arith, c .before .before .before .before .loop .inv .rest .within), good-here (c .before .before .before .before .loop .inv) (c .before .before .before .loop-test .taken), room-here (c .before .before .before .before .loop .inv) (c .before .before .before .loop-test .taken))
+fill-segment-requires c κs =
+    let at-loop-test = c .before .before .before in
+    let at-loop = at-loop-test .before in
+    rw (rows-counted _ _ (at-loop .loop .inv .rest .fits .arenas .long .state)) (at-loop .loop .inv .rest .fits, omega (arith,
+    at-loop .loop .inv .rest .within), good-here (at-loop .loop .inv) (at-loop-test .loop-test .taken),
+    room-here (at-loop .loop .inv) (at-loop-test .loop-test .taken))
 
 add-i : tie.Need-add-i Inv-loop μ-loop
 add-i c = record { fits = omega arith }
@@ -31,7 +37,12 @@ loop-less : tie.Need-loop-less Inv-loop μ-loop
 loop-less c = omega arith
 
 loop-again : tie.Need-loop-again Inv-loop μ-loop
-loop-again c = again (c .before .before .before .before .before .before .before .before .before .before .before .loop .inv) (c .before .before .before .before .before .before .before .before .before .before .loop-test .taken) _ (long-after _ _ _ (c .before .before .before .before .before .before .before .before .before .before .before .loop .inv .rest .fits .arenas .long) (search needs) (search needs) (search needs)) (rw (rows-counted _ _ (c .before .before .before .before .before .before .before .before .before .before .before .loop .inv .rest .fits .arenas .long .state)) at (c .before .before .before .before .before .before .fill-segment .ensures))
+loop-again c =
+    let at-fill-segment = c .before .before .before .before .before .before in
+    let at-loop-test = at-fill-segment .before .before .before .before in
+    let at-loop = at-loop-test .before in
+    again (at-loop .loop .inv) (at-loop-test .loop-test .taken) _ (long-after _ _ _ (at-loop .loop .inv .rest .fits .arenas .long) (search needs) (search needs)
+    (search needs)) (rw (rows-counted _ _ (at-loop .loop .inv .rest .fits .arenas .long .state)) at (at-fill-segment .fill-segment .ensures))
 
 same-length : tie.Need-same-length Inv-loop μ-loop
 same-length c = c .before .loop .inv .rest .fits .arenas .long .state ∙ sym (c .before .before .before .before .before .before .pre .fits .arenas .long .state)

@@ -17,7 +17,9 @@ segment-at-requires : tie.Need-segment-at-requires
 segment-at-requires c κs = search needs
 
 place-requires : tie.Need-place-requires
-place-requires c κs = (ap good-segment (c .segment-at .ensures) ∙ c .before .before .before .before .before .before .pre .2, c .before .before .before .before .before .before .pre .0 .starts)
+place-requires c κs =
+    let at-pre = c .before .before .before .before .before .before in
+    (ap good-segment (c .segment-at .ensures) ∙ at-pre .pre .2, at-pre .pre .0 .starts)
 
 enum-told : tie.Need-enum-told
 enum-told c = search needs
@@ -26,10 +28,22 @@ enum-known-placed : tie.Need-enum-known-placed
 enum-known-placed c = search needs
 
 fill-row-requires : tie.Need-fill-row-requires
-fill-row-requires c κs = on-its-row _ _ _ (seg-at (c .before .before .before .before .before .before .before .before .before .before .before .before .before .args .segs .now) (c .before .before .before .before .before .before .before .before .before .before .before .before .before .args .i)) _ (c .before .before .before .before .before .before .before .before .before .before .before .before .before .pre .0) (placed-at (c .before .before .before .before .before .before .before .before .before .before .before .before .before .args .job .scene) (c .before .before .before .before .placed .given .1) (c .before .before .before .before .before .before .place .ensures) (c .before .before .before .before .before .before .before .segment-at .ensures)) (c .before .before .before .before .before .before .before .before .before .before .before .before .before .pre .2) (c .before .before .before .before .before .before .before .before .before .before .before .before .before .pre .3)
+fill-row-requires c κs =
+    let at-placed = c .before .before .before .before in
+    let at-place = at-placed .before .before in
+    let at-segment-at = at-place .before in
+    let at-args = at-segment-at .before .before .before .before .before .before in
+    on-its-row _ _ _ (seg-at (at-args .args .segs .now) (at-args .args .i)) _ (at-args .pre .0) (placed-at (at-args .args .job .scene)
+    (at-placed .placed .given .1) (at-place .place .ensures) (at-segment-at .segment-at .ensures)) (at-args .pre .2) (at-args .pre .3)
 
 returns : tie.Need-returns
-returns c = sym (one-none (c .before .before .before .before .before .before .before .before .before .args .job) (seg-at (c .before .before .before .before .before .before .before .before .before .args .segs .now) (c .before .before .before .before .before .before .before .before .before .args .i)) (cut (sizes (c .before .before .before .before .before .before .before .before .before .args .job .c) (c .before .before .before .before .before .before .before .before .before .args .job .d)) (count-rows (c .before .before .before .before .before .before .before .before .before .args .rows .now)) (words (c .before .before .before .before .before .before .before .before .before .args .rows .now) (c .before .before .before .before .before .before .before .before .before .args .render .now) (c .before .before .before .before .before .before .before .before .before .args .fills .now))) (placed-at (c .before .before .before .before .before .before .before .before .before .args .job .scene) (c .enum-told .given .1) (c .before .before .place .ensures) (c .before .before .before .segment-at .ensures)))
+returns c =
+    let at-place = c .before .before in
+    let at-segment-at = at-place .before in
+    let at-args = at-segment-at .before .before .before .before .before .before in
+    sym (one-none (at-args .args .job) (seg-at (at-args .args .segs .now) (at-args .args .i)) (cut (sizes (at-args .args .job .c) (at-args .args .job .d))
+    (count-rows (at-args .args .rows .now)) (words (at-args .args .rows .now) (at-args .args .render .now) (at-args .args .fills .now))) (placed-at
+    (at-args .args .job .scene) (c .enum-told .given .1) (at-place .place .ensures) (at-segment-at .segment-at .ensures)))
 
 same-length : tie.Need-same-length
 same-length c = search needs
@@ -41,7 +55,16 @@ same-length-3 : tie.Need-same-length-3
 same-length-3 c = search needs
 
 returns-2 : tie.Need-returns-2
-returns-2 c = c .before .before .before .before .before .before .fill-row .ensures ∙ sym (one-some (c .before .before .before .before .before .before .before .before .before .before .before .before .before .before .before .before .before .before .before .before .args .job) (seg-at (c .before .before .before .before .before .before .before .before .before .before .before .before .before .before .before .before .before .before .before .before .args .segs .now) (c .before .before .before .before .before .before .before .before .before .before .before .before .before .before .before .before .before .before .before .before .args .i)) (cut (sizes (c .before .before .before .before .before .before .before .before .before .before .before .before .before .before .before .before .before .before .before .before .args .job .c) (c .before .before .before .before .before .before .before .before .before .before .before .before .before .before .before .before .before .before .before .before .args .job .d)) (count-rows (c .before .before .before .before .before .before .before .before .before .before .before .before .before .before .before .before .before .before .before .before .args .rows .now)) (words (c .before .before .before .before .before .before .before .before .before .before .before .before .before .before .before .before .before .before .before .before .args .rows .now) (c .before .before .before .before .before .before .before .before .before .before .before .before .before .before .before .before .before .before .before .before .args .render .now) (c .before .before .before .before .before .before .before .before .before .before .before .before .before .before .before .before .before .before .before .before .args .fills .now))) _ (placed-at (c .before .before .before .before .before .before .before .before .before .before .before .before .before .before .before .before .before .before .before .before .args .job .scene) (c .before .before .before .before .before .before .before .before .before .before .before .placed .given .1) (c .before .before .before .before .before .before .before .before .before .before .before .before .before .place .ensures) (c .before .before .before .before .before .before .before .before .before .before .before .before .before .before .segment-at .ensures)))
+returns-2 c =
+    let at-fill-row = c .before .before .before .before .before .before in
+    let at-placed = at-fill-row .before .before .before .before .before in
+    let at-place = at-placed .before .before in
+    let at-segment-at = at-place .before in
+    let at-args = at-segment-at .before .before .before .before .before .before in
+    at-fill-row .fill-row .ensures ∙ sym (one-some (at-args .args .job) (seg-at (at-args .args .segs .now) (at-args .args .i)) (cut (sizes
+    (at-args .args .job .c) (at-args .args .job .d)) (count-rows (at-args .args .rows .now)) (words (at-args .args .rows .now) (at-args .args .render .now)
+    (at-args .args .fills .now))) _ (placed-at (at-args .args .job .scene) (at-placed .placed .given .1) (at-place .place .ensures)
+    (at-segment-at .segment-at .ensures)))
 
 pub fill-segment-spec : {M : Type 1} → statement M
 fill-segment-spec =

@@ -19,7 +19,14 @@ is-unsplit-requires : tie.Need-is-unsplit-requires
 is-unsplit-requires c κs = search needs
 
 push-paint-requires : tie.Need-push-paint-requires
-push-paint-requires c κs = (c .before .before .before .before .before .before .before .before .before .before .pre .0, rw (drawn-once (c .before .before .before .before .before .before .before .before .before .before .args .n) (tiles (c .before .before .before .before .before .before .before .before .before .before .args .span)) (c .before .before .before .before .before .before .before .before .before .before .args .attrs-idx) (c .before .before .before .before .before .before .before .before .before .before .args .draw-id) (words (c .before .before .before .before .before .before .before .before .before .before .args .state .now) (c .before .before .before .before .before .before .before .before .before .before .args .render .now) (c .before .before .before .before .before .before .before .before .before .before .args .fills .now)) (c .before .before .before .before .before .if1 .taken) (c .before .before .before .before .before .before .before .before .before .before .args .eligible) (alpha-of (c .before .before .before .before .before .before .before .before .before .before .args .alpha)) (sym (c .before .before .before .before .is-unsplit .ensures) ∙ c .before .before .before .if2 .taken)) at (c .before .before .before .before .before .before .before .before .before .before .pre .2))
+push-paint-requires c κs =
+    let at-if2 = c .before .before .before in
+    let at-is-unsplit = at-if2 .before in
+    let at-if1 = at-is-unsplit .before in
+    let at-pre = at-if1 .before .before .before .before .before in
+    (at-pre .pre .0, rw (drawn-once (at-pre .args .n) (tiles (at-pre .args .span)) (at-pre .args .attrs-idx) (at-pre .args .draw-id) (words
+    (at-pre .args .state .now) (at-pre .args .render .now) (at-pre .args .fills .now)) (at-if1 .if1 .taken) (at-pre .args .eligible) (alpha-of
+    (at-pre .args .alpha)) (sym (at-is-unsplit .is-unsplit .ensures) ∙ at-if2 .if2 .taken)) at (at-pre .pre .2))
 
 same-length : tie.Need-same-length
 same-length c = search needs
@@ -31,7 +38,14 @@ same-length-3 : tie.Need-same-length-3
 same-length-3 c = search needs
 
 returns : tie.Need-returns
-returns c = c .before .before .before .before .before .before .push-paint .ensures ∙ sym (drawn-once (c .before .before .before .before .before .before .before .before .before .before .before .before .before .before .before .before .before .args .n) (tiles (c .before .before .before .before .before .before .before .before .before .before .before .before .before .before .before .before .before .args .span)) (c .before .before .before .before .before .before .before .before .before .before .before .before .before .before .before .before .before .args .attrs-idx) (c .before .before .before .before .before .before .before .before .before .before .before .before .before .before .before .before .before .args .draw-id) _ (c .before .before .before .before .before .before .before .before .before .before .before .before .if1 .taken) (c .before .before .before .before .before .before .before .before .before .before .before .before .before .before .before .before .before .args .eligible) (alpha-of (c .before .before .before .before .before .before .before .before .before .before .before .before .before .before .before .before .before .args .alpha)) (sym (c .before .before .before .before .before .before .before .before .before .before .before .is-unsplit .ensures) ∙ c .before .before .before .before .before .before .before .before .before .before .if2 .taken))
+returns c =
+    let at-push-paint = c .before .before .before .before .before .before in
+    let at-if2 = at-push-paint .before .before .before .before in
+    let at-is-unsplit = at-if2 .before in
+    let at-if1 = at-is-unsplit .before in
+    let at-args = at-if1 .before .before .before .before .before in
+    at-push-paint .push-paint .ensures ∙ sym (drawn-once (at-args .args .n) (tiles (at-args .args .span)) (at-args .args .attrs-idx) (at-args .args .draw-id) _
+    (at-if1 .if1 .taken) (at-args .args .eligible) (alpha-of (at-args .args .alpha)) (sym (at-is-unsplit .is-unsplit .ensures) ∙ at-if2 .if2 .taken))
 
 push-fill-requires : tie.Need-push-fill-requires
 push-fill-requires c κs = search needs

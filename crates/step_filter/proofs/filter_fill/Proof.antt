@@ -1,3 +1,4 @@
+-- Judged first; refused, nothing is written. Done, the rows of the box get the fill, the tables its paint and its attribute.
 use mathlib.Core.Path.{sym, _∙_}
 use Rattle.step_filter.proofs.Laws.{small, refused-is, done-is}
 use Rattle.step_filter.proofs.Doing.{nothing-needs, nothing-left}
@@ -36,7 +37,10 @@ draws-nothing-requires : tie.Need-draws-nothing-requires
 draws-nothing-requires c κs = search needs
 
 taken-requires : tie.Need-taken-requires
-taken-requires c κs = nothing-needs _ _ _ _ _ (sym (c .before .before .before .before .before .before .before .judge-filter .ensures) ∙ c .before .before .before .before .before .before .if1 .left)
+taken-requires c κs =
+    let at-if1 = c .before .before .before .before .before .before in
+    let at-judge-filter = at-if1 .before in
+    nothing-needs _ _ _ _ _ (sym (at-judge-filter .judge-filter .ensures) ∙ at-if1 .if1 .left)
 
 same-length-6 : tie.Need-same-length-6
 same-length-6 c = search needs
@@ -54,10 +58,24 @@ same-length-10 : tie.Need-same-length-10
 same-length-10 c = search needs
 
 returns-2 : tie.Need-returns-2
-returns-2 c = let q = sym (c .before .before .before .before .before .before .before .before .judge-filter .ensures) ∙ c .before .before .before .before .before .before .before .if1 .left in done-is _ _ _ q (nothing-left _ _ _ _ _ q _ _ (c .before .before .before .filter-box .ensures) (sym (c .before .before .draws-nothing .ensures) ∙ c .before .if2 .taken) (c .taken .ensures))
+returns-2 c =
+    let at-draws-nothing = c .before .before in
+    let at-filter-box = at-draws-nothing .before in
+    let at-if1 = at-filter-box .before .before .before .before in
+    let at-judge-filter = at-if1 .before in
+    let q = sym (at-judge-filter .judge-filter .ensures) ∙ at-if1 .if1 .left in
+    done-is _ _ _ q (nothing-left _ _ _ _ _ q _ _ (at-filter-box .filter-box .ensures) (sym (at-draws-nothing .draws-nothing .ensures) ∙ c .before .if2 .taken)
+    (c .taken .ensures))
 
 do-filter-requires : tie.Need-do-filter-requires
-do-filter-requires c κs = record { number = sym (c .before .before .before .before .before .before .before .before .before .before .before .before .judge-filter .ensures) ∙ c .before .before .before .before .before .before .before .before .before .before .before .if1 .left; bounds = c .before .before .before .before .before .before .before .filter-box .ensures; drawn = sym (c .before .before .before .before .before .before .draws-nothing .ensures) ∙ c .before .before .before .before .before .if2 .left }
+do-filter-requires c κs =
+    let at-if2 = c .before .before .before .before .before in
+    let at-draws-nothing = at-if2 .before in
+    let at-filter-box = at-draws-nothing .before in
+    let at-if1 = at-filter-box .before .before .before .before in
+    let at-judge-filter = at-if1 .before in
+    record { number = sym (at-judge-filter .judge-filter .ensures) ∙ at-if1 .if1 .left; bounds = at-filter-box .filter-box .ensures; drawn = sym
+    (at-draws-nothing .draws-nothing .ensures) ∙ at-if2 .if2 .left }
 
 same-length-11 : tie.Need-same-length-11
 same-length-11 c = search needs
@@ -75,7 +93,11 @@ same-length-15 : tie.Need-same-length-15
 same-length-15 c = search needs
 
 returns-3 : tie.Need-returns-3
-returns-3 c = done-is _ _ _ (sym (c .before .before .before .before .before .before .before .before .before .before .before .before .before .before .before .before .before .before .before .before .before .before .judge-filter .ensures) ∙ c .before .before .before .before .before .before .before .before .before .before .before .before .before .before .before .before .before .before .before .before .before .if1 .left) (c .before .before .before .before .before .before .before .before .before .do-filter .ensures)
+returns-3 c =
+    let at-do-filter = c .before .before .before .before .before .before .before .before .before in
+    let at-if1 = at-do-filter .before .before .before .before .before .before .before .before .before .before .before .before in
+    let at-judge-filter = at-if1 .before in
+    done-is _ _ _ (sym (at-judge-filter .judge-filter .ensures) ∙ at-if1 .if1 .left) (at-do-filter .do-filter .ensures)
 
 pub filter-fill-spec : {M : Type 1} → statement M
 filter-fill-spec =

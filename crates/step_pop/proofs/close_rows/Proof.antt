@@ -1,3 +1,4 @@
+-- With a clip the LayerFills of its segments, without one a LayerFill on each touched row; then the PopBufs.
 use native.Mathlib.Omega.{arith}
 use mathlib.Core.Path.{sym}
 use Rattle.step_pop.proofs.Doing.{seen, small-boxes, plain-requires, plain-done, clip-requires, clip-done}
@@ -20,7 +21,9 @@ sub-open-layer : tie.Need-sub-open-layer
 sub-open-layer c = search needs
 
 open-layer-requires : tie.Need-open-layer-requires
-open-layer-requires c κs = (omega (arith, seen (c .before .before .before .before .before .before .before .pre) .bounds .deep, c .before .before .before .before .before .before .before .pre .some), c .before .before .before .before .before .before .before .pre .table)
+open-layer-requires c κs =
+    let at-pre = c .before .before .before .before .before .before .before in
+    (omega (arith, seen (at-pre .pre) .bounds .deep, at-pre .pre .some), at-pre .pre .table)
 
 first-row-requires : tie.Need-first-row-requires
 first-row-requires c κs = search needs
@@ -32,7 +35,16 @@ bbox-span-requires : tie.Need-bbox-span-requires
 bbox-span-requires c κs = search needs
 
 close-spans-requires : tie.Need-close-spans-requires
-close-spans-requires c κs = plain-requires (c .before .before .before .before .before .before .before .before .before .before .before .before .before .before .before .before .before .pre) (c .before .before .before .before .before .before .before .before .before .open-layer .result) (c .before .before .before .before .before .before .before .before .before .open-layer .ensures) (c .before .before .before .before .before .before .before .first-row .result) (c .before .before .before .before .before .before .end-row .result) (c .before .before .before .before .before .before .before .first-row .ensures) (c .before .before .before .before .before .before .end-row .ensures) (c .before .before .before .before .if1 .taken) (c .before .before .before .bbox-span .result) (c .before .before .before .bbox-span .ensures)
+close-spans-requires c κs =
+    let at-bbox-span = c .before .before .before in
+    let at-if1 = at-bbox-span .before in
+    let at-end-row = at-if1 .before .before in
+    let at-first-row = at-end-row .before in
+    let at-open-layer = at-first-row .before .before in
+    let at-pre = at-open-layer .before .before .before .before .before .before .before .before in
+    plain-requires (at-pre .pre) (at-open-layer .open-layer .result) (at-open-layer .open-layer .ensures) (at-first-row .first-row .result)
+    (at-end-row .end-row .result) (at-first-row .first-row .ensures) (at-end-row .end-row .ensures) (at-if1 .if1 .taken) (at-bbox-span .bbox-span .result)
+    (at-bbox-span .bbox-span .ensures)
 
 same-length : tie.Need-same-length
 same-length c = search needs
@@ -44,13 +56,27 @@ same-length-3 : tie.Need-same-length-3
 same-length-3 c = search needs
 
 returns : tie.Need-returns
-returns c = plain-done (c .before .before .before .before .before .before .before .before .before .before .before .before .before .before .before .before .before .before .before .before .before .before .before .before .pre) (c .before .before .before .before .before .before .before .before .before .before .before .before .before .before .before .before .open-layer .result) (c .before .before .before .before .before .before .before .before .before .before .before .before .before .before .before .before .open-layer .ensures) (c .before .before .before .before .before .before .before .before .before .before .before .before .before .before .first-row .result) (c .before .before .before .before .before .before .before .before .before .before .before .before .before .end-row .result) (c .before .before .before .before .before .before .before .before .before .before .before .before .before .before .first-row .ensures) (c .before .before .before .before .before .before .before .before .before .before .before .before .before .end-row .ensures) (c .before .before .before .before .before .before .before .before .before .before .before .if1 .taken) (c .before .before .before .before .before .before .before .before .before .before .bbox-span .result) (c .before .before .before .before .before .before .before .before .before .before .bbox-span .ensures) (c .before .before .before .before .before .before .close-spans .ensures)
+returns c =
+    let at-close-spans = c .before .before .before .before .before .before in
+    let at-bbox-span = at-close-spans .before .before .before .before in
+    let at-if1 = at-bbox-span .before in
+    let at-end-row = at-if1 .before .before in
+    let at-first-row = at-end-row .before in
+    let at-open-layer = at-first-row .before .before in
+    let at-pre = at-open-layer .before .before .before .before .before .before .before .before in
+    plain-done (at-pre .pre) (at-open-layer .open-layer .result) (at-open-layer .open-layer .ensures) (at-first-row .first-row .result)
+    (at-end-row .end-row .result) (at-first-row .first-row .ensures) (at-end-row .end-row .ensures) (at-if1 .if1 .taken) (at-bbox-span .bbox-span .result)
+    (at-bbox-span .bbox-span .ensures) (at-close-spans .close-spans .ensures)
 
 parent-box-requires : tie.Need-parent-box-requires
-parent-box-requires c κs = (c .before .before .before .before .before .before .before .before .before .before .before .before .before .pre .some, seen (c .before .before .before .before .before .before .before .before .before .before .before .before .before .pre) .bounds .deep, c .before .before .before .before .before .before .before .before .before .before .before .before .before .pre .table)
+parent-box-requires c κs =
+    let at-pre = c .before .before .before .before .before .before .before .before .before .before .before .before .before in
+    (at-pre .pre .some, seen (at-pre .pre) .bounds .deep, at-pre .pre .table)
 
 scene-of-requires : tie.Need-scene-of-requires
-scene-of-requires c κs = rw (c .parent-box .ensures) (small-boxes (c .before .before .before .before .before .before .before .before .before .before .before .before .before .before .pre))
+scene-of-requires c κs =
+    let at-pre = c .before .before .before .before .before .before .before .before .before .before .before .before .before .before in
+    rw (c .parent-box .ensures) (small-boxes (at-pre .pre))
 
 wide-requires : tie.Need-wide-requires
 wide-requires c κs = search needs
@@ -59,7 +85,20 @@ wide-requires-2 : tie.Need-wide-requires-2
 wide-requires-2 c κs = search needs
 
 close-segments-requires : tie.Need-close-segments-requires
-close-segments-requires c κs = clip-requires (c .before .before .before .before .before .before .before .before .before .before .before .before .before .before .before .before .before .before .before .before .pre) (c .before .before .before .before .before .before .before .before .before .before .before .before .open-layer .result) (c .before .before .before .before .before .before .before .before .before .before .before .before .open-layer .ensures) (c .before .before .before .before .before .before .before .before .before .before .first-row .result) (c .before .before .before .before .before .before .before .before .before .end-row .result) (c .before .before .before .before .before .before .before .before .before .before .first-row .ensures) (c .before .before .before .before .before .before .before .before .before .end-row .ensures) (c .before .before .before .before .before .before .before .if1 .left) (c .before .before .before .before .wide .ensures) (c .before .before .before .wide2 .ensures) (c .before .before .before .before .before .before .parent-box .result) (c .before .before .before .before .before .before .parent-box .ensures) (c .before .before .before .before .before .scene-of .result) (c .before .before .before .before .before .scene-of .ensures)
+close-segments-requires c κs =
+    let at-wide2 = c .before .before .before in
+    let at-wide = at-wide2 .before in
+    let at-scene-of = at-wide .before in
+    let at-parent-box = at-scene-of .before in
+    let at-if1 = at-parent-box .before in
+    let at-end-row = at-if1 .before .before in
+    let at-first-row = at-end-row .before in
+    let at-open-layer = at-first-row .before .before in
+    let at-pre = at-open-layer .before .before .before .before .before .before .before .before in
+    clip-requires (at-pre .pre) (at-open-layer .open-layer .result) (at-open-layer .open-layer .ensures) (at-first-row .first-row .result)
+    (at-end-row .end-row .result) (at-first-row .first-row .ensures) (at-end-row .end-row .ensures) (at-if1 .if1 .left) (at-wide .wide .ensures)
+    (at-wide2 .wide2 .ensures) (at-parent-box .parent-box .result) (at-parent-box .parent-box .ensures) (at-scene-of .scene-of .result)
+    (at-scene-of .scene-of .ensures)
 
 same-length-4 : tie.Need-same-length-4
 same-length-4 c = search needs
@@ -71,7 +110,21 @@ same-length-6 : tie.Need-same-length-6
 same-length-6 c = search needs
 
 returns-2 : tie.Need-returns-2
-returns-2 c = clip-done (c .before .before .before .before .before .before .before .before .before .before .before .before .before .before .before .before .before .before .before .before .before .before .before .before .before .before .before .pre) (c .before .before .before .before .before .before .before .before .before .before .before .before .before .before .before .before .before .before .before .open-layer .result) (c .before .before .before .before .before .before .before .before .before .before .before .before .before .before .before .before .before .before .before .open-layer .ensures) (c .before .before .before .before .before .before .before .before .before .before .before .before .before .before .before .before .before .first-row .result) (c .before .before .before .before .before .before .before .before .before .before .before .before .before .before .before .before .end-row .result) (c .before .before .before .before .before .before .before .before .before .before .before .before .before .before .before .before .before .first-row .ensures) (c .before .before .before .before .before .before .before .before .before .before .before .before .before .before .before .before .end-row .ensures) (c .before .before .before .before .before .before .before .before .before .before .before .before .before .before .if1 .left) (c .before .before .before .before .before .before .before .before .before .before .before .wide .ensures) (c .before .before .before .before .before .before .before .before .before .before .wide2 .ensures) (c .before .before .before .before .before .before .before .before .before .before .before .before .before .parent-box .result) (c .before .before .before .before .before .before .before .before .before .before .before .before .before .parent-box .ensures) (c .before .before .before .before .before .before .before .before .before .before .before .before .scene-of .result) (c .before .before .before .before .before .before .before .before .before .before .before .before .scene-of .ensures) (c .before .before .before .before .before .before .close-segments .ensures)
+returns-2 c =
+    let at-close-segments = c .before .before .before .before .before .before in
+    let at-wide2 = at-close-segments .before .before .before .before in
+    let at-wide = at-wide2 .before in
+    let at-scene-of = at-wide .before in
+    let at-parent-box = at-scene-of .before in
+    let at-if1 = at-parent-box .before in
+    let at-end-row = at-if1 .before .before in
+    let at-first-row = at-end-row .before in
+    let at-open-layer = at-first-row .before .before in
+    let at-pre = at-open-layer .before .before .before .before .before .before .before .before in
+    clip-done (at-pre .pre) (at-open-layer .open-layer .result) (at-open-layer .open-layer .ensures) (at-first-row .first-row .result)
+    (at-end-row .end-row .result) (at-first-row .first-row .ensures) (at-end-row .end-row .ensures) (at-if1 .if1 .left) (at-wide .wide .ensures)
+    (at-wide2 .wide2 .ensures) (at-parent-box .parent-box .result) (at-parent-box .parent-box .ensures) (at-scene-of .scene-of .result)
+    (at-scene-of .scene-of .ensures) (at-close-segments .close-segments .ensures)
 
 pub close-rows-spec : {M : Type 1} → statement M
 close-rows-spec =

@@ -19,7 +19,9 @@ sub-open-layer : tie.Need-sub-open-layer
 sub-open-layer c = search needs
 
 open-layer-requires : tie.Need-open-layer-requires
-open-layer-requires c κs = (omega (arith, seen (c .before .before .before .before .before .before .before .before .before .before .before .before .before .before .before .before .pre) .bounds .deep, c .before .before .before .before .before .before .before .before .before .before .before .before .before .before .before .before .pre .some), c .before .before .before .before .before .before .before .before .before .before .before .before .before .before .before .before .pre .table)
+open-layer-requires c κs =
+    let at-pre = c .before .before .before .before .before .before .before .before .before .before .before .before .before .before .before .before in
+    (omega (arith, seen (at-pre .pre) .bounds .deep, at-pre .pre .some), at-pre .pre .table)
 
 first-row-requires : tie.Need-first-row-requires
 first-row-requires c κs = search needs
@@ -28,7 +30,18 @@ end-row-requires : tie.Need-end-row-requires
 end-row-requires c κs = search needs
 
 pop-rows-requires : tie.Need-pop-rows-requires
-pop-rows-requires c κs = (long-after _ _ _ (seen (c .before .before .before .before .before .before .before .before .before .before .before .before .before .before .before .before .before .before .before .before .before .before .before .pre) .whole) (search needs) (search needs) (search needs), b-bottom (c .before .before .before .before .before .before .before .before .before .before .before .before .before .before .before .before .before .before .before .before .before .before .before .pre) (c .before .before .before .before .before .before .open-layer .result) (c .before .before .before .before .before .before .open-layer .ensures) (c .before .before .before .before .first-row .result) (c .before .before .before .end-row .result) (c .before .before .before .before .first-row .ensures) (c .before .before .before .end-row .ensures), pop-requires (c .before .before .before .before .before .before .before .before .before .before .before .before .before .before .before .before .before .before .before .before .before .before .before .pre) (c .before .before .before .before .before .before .open-layer .result) (c .before .before .before .before .before .before .open-layer .ensures) (c .before .before .before .before .first-row .result) (c .before .before .before .end-row .result) (c .before .before .before .before .first-row .ensures) (c .before .before .before .end-row .ensures) _ (long-after _ _ _ (seen (c .before .before .before .before .before .before .before .before .before .before .before .before .before .before .before .before .before .before .before .before .before .before .before .pre) .whole) (search needs) (search needs) (search needs)) (c .before .before .before .before .before .before .before .before .before .before .before .before .before .before .close-rows .ensures))
+pop-rows-requires c κs =
+    let at-end-row = c .before .before .before in
+    let at-first-row = at-end-row .before in
+    let at-open-layer = at-first-row .before .before in
+    let at-close-rows = at-open-layer .before .before .before .before .before .before .before .before in
+    let at-pre = at-close-rows .before .before .before .before .before .before .before .before .before in
+    (long-after _ _ _ (seen (at-pre .pre) .whole) (search needs) (search needs) (search needs),
+    b-bottom (at-pre .pre) (at-open-layer .open-layer .result) (at-open-layer .open-layer .ensures) (at-first-row .first-row .result)
+    (at-end-row .end-row .result) (at-first-row .first-row .ensures) (at-end-row .end-row .ensures),
+    pop-requires (at-pre .pre) (at-open-layer .open-layer .result) (at-open-layer .open-layer .ensures) (at-first-row .first-row .result)
+    (at-end-row .end-row .result) (at-first-row .first-row .ensures) (at-end-row .end-row .ensures) _ (long-after _ _ _ (seen (at-pre .pre) .whole) (search
+    needs) (search needs) (search needs)) (at-close-rows .close-rows .ensures))
 
 same-length : tie.Need-same-length
 same-length c = search needs
@@ -40,7 +53,17 @@ same-length-3 : tie.Need-same-length-3
 same-length-3 c = search needs
 
 returns : tie.Need-returns
-returns c = pop-done (c .before .before .before .before .before .before .before .before .before .before .before .before .before .before .before .before .before .before .before .before .before .before .before .before .before .before .before .before .before .before .pre) (c .before .before .before .before .before .before .before .before .before .before .before .before .before .open-layer .result) (c .before .before .before .before .before .before .before .before .before .before .before .before .before .open-layer .ensures) (c .before .before .before .before .before .before .before .before .before .before .before .first-row .result) (c .before .before .before .before .before .before .before .before .before .before .end-row .result) (c .before .before .before .before .before .before .before .before .before .before .before .first-row .ensures) (c .before .before .before .before .before .before .before .before .before .before .end-row .ensures) _ (long-after _ _ _ (seen (c .before .before .before .before .before .before .before .before .before .before .before .before .before .before .before .before .before .before .before .before .before .before .before .before .before .before .before .before .before .before .pre) .whole) (search needs) (search needs) (search needs)) (c .before .before .before .before .before .before .before .before .before .before .before .before .before .before .before .before .before .before .before .before .before .close-rows .ensures) _ (long-after _ _ _ (seen (c .before .before .before .before .before .before .before .before .before .before .before .before .before .before .before .before .before .before .before .before .before .before .before .before .before .before .before .before .before .before .pre) .whole) (search needs) (search needs) (search needs)) (c .before .before .before .before .before .before .pop-rows .ensures)
+returns c =
+    let at-pop-rows = c .before .before .before .before .before .before in
+    let at-end-row = at-pop-rows .before .before .before .before in
+    let at-first-row = at-end-row .before in
+    let at-open-layer = at-first-row .before .before in
+    let at-close-rows = at-open-layer .before .before .before .before .before .before .before .before in
+    let at-pre = at-close-rows .before .before .before .before .before .before .before .before .before in
+    pop-done (at-pre .pre) (at-open-layer .open-layer .result) (at-open-layer .open-layer .ensures) (at-first-row .first-row .result)
+    (at-end-row .end-row .result) (at-first-row .first-row .ensures) (at-end-row .end-row .ensures) _ (long-after _ _ _ (seen (at-pre .pre) .whole) (search
+    needs) (search needs) (search needs)) (at-close-rows .close-rows .ensures) _ (long-after _ _ _ (seen (at-pre .pre) .whole) (search needs) (search needs)
+    (search needs)) (at-pop-rows .pop-rows .ensures)
 
 pub do-rows-spec : {M : Type 1} → statement M
 do-rows-spec =

@@ -1,3 +1,4 @@
+-- The layer's opacity moves to its attribute's place, its own place becomes 0; its other properties become the attribute's words.
 use mathlib.Core.Path.{refl}
 use Rattle.step_pop.proofs.Popping.{tables-done}
 use borrow.Author.Needs.{needs}
@@ -54,7 +55,17 @@ same-length-3 : tie.Need-same-length-3
 same-length-3 c = search needs
 
 returns : tie.Need-returns
-returns c = tables-done (c .before .before .before .before .before .before .before .before .before .before .before .before .before .before .before .before .before .before .before .before .before .before .args .screen) (c .before .before .before .before .before .before .before .before .before .before .before .before .before .before .before .before .before .before .before .before .before .before .args .layers .now) (c .before .before .before .before .before .before .before .before .before .before .before .before .before .before .before .before .before .before .before .before .before .before .args .opacities .now) (c .before .before .before .before .before .before .before .before .before .before .before .before .before .before .before .before .before .before .before .before .before .before .args .layer-attrs .now) (c .before .before .before .before .before .before .before .before .before .before .before .before .before .before .before .before .open-layer .ensures) (c .before .before .before .before .before .before .before .before .before .wide2 .ensures) (c .before .before .before .before .before .before .before .before .before .before .before .before .before .before .wide .ensures) (c .before .before .before .before .before .before .before .before .before .before .before .before .thread-of .ensures) (c .before .before .drop-layer .ensures) (c .before .before .before .before .before .before .before .before .put-layer-attrs .ensures) refl
+returns c =
+    let at-drop-layer = c .before .before in
+    let at-put-layer-attrs = at-drop-layer .before .before .before .before .before .before in
+    let at-wide2 = at-put-layer-attrs .before in
+    let at-thread-of = at-wide2 .before .before .before in
+    let at-wide = at-thread-of .before .before in
+    let at-open-layer = at-wide .before .before in
+    let at-args = at-open-layer .before .before .before .before .before .before in
+    tables-done (at-args .args .screen) (at-args .args .layers .now) (at-args .args .opacities .now) (at-args .args .layer-attrs .now)
+    (at-open-layer .open-layer .ensures) (at-wide2 .wide2 .ensures) (at-wide .wide .ensures) (at-thread-of .thread-of .ensures)
+    (at-drop-layer .drop-layer .ensures) (at-put-layer-attrs .put-layer-attrs .ensures) refl
 
 pub do-tables-spec : {M : Type 1} → statement M
 do-tables-spec =

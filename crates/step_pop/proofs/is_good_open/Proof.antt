@@ -24,7 +24,12 @@ is-good-own-box-requires-2 : tie.Need-is-good-own-box-requires-2
 is-good-own-box-requires-2 c κs = search needs
 
 returns-3 : tie.Need-returns-3
-returns-3 c = rw (sym (c .before .before .before .before .is-good-layer .ensures) ∙ not-false _ (c .before .before .before .if1 .left), sym (c .before .before .is-good-own-box .ensures) ∙ not-false _ (c .before .if2 .left)) (c .is-good-own-box2 .ensures)
+returns-3 c =
+    let at-is-good-own-box = c .before .before in
+    let at-if1 = at-is-good-own-box .before in
+    let at-is-good-layer = at-if1 .before in
+    rw (sym (at-is-good-layer .is-good-layer .ensures) ∙ not-false _ (at-if1 .if1 .left),
+    sym (at-is-good-own-box .is-good-own-box .ensures) ∙ not-false _ (c .before .if2 .left)) (c .is-good-own-box2 .ensures)
 
 pub is-good-open-spec : {M : Type 1} → statement M
 is-good-open-spec =

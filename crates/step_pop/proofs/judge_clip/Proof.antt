@@ -24,25 +24,73 @@ returns-2 : tie.Need-returns-2
 returns-2 c = late-list _ _ _ _ _ (c .before .before .before .judge-pop-rows .ensures) (c .before .before .if1 .left) (c .before .judge-segments .ensures) (c .if2 .taken)
 
 returns-3 : tie.Need-returns-3
-returns-3 c = late-ids _ _ _ _ _ (c .before .before .before .before .before .judge-pop-rows .ensures) (c .before .before .before .before .if1 .left) (sym (c .before .before .before .judge-segments .ensures) ∙ c .before .before .if2 .left) (c .if3 .taken)
+returns-3 c =
+    let at-if2 = c .before .before in
+    let at-judge-segments = at-if2 .before in
+    let at-if1 = at-judge-segments .before in
+    let at-judge-pop-rows = at-if1 .before in
+    late-ids _ _ _ _ _ (at-judge-pop-rows .judge-pop-rows .ensures) (at-if1 .if1 .left) (sym (at-judge-segments .judge-segments .ensures) ∙ at-if2 .if2 .left)
+    (c .if3 .taken)
 
 returns-4 : tie.Need-returns-4
-returns-4 c = late-attrs _ _ _ _ _ (c .before .before .before .before .before .before .before .judge-pop-rows .ensures) (c .before .before .before .before .before .before .if1 .left) (sym (c .before .before .before .before .before .judge-segments .ensures) ∙ c .before .before .before .before .if2 .left) (c .before .before .if3 .left) (c .if4 .taken)
+returns-4 c =
+    let at-if3 = c .before .before in
+    let at-if2 = at-if3 .before .before in
+    let at-judge-segments = at-if2 .before in
+    let at-if1 = at-judge-segments .before in
+    let at-judge-pop-rows = at-if1 .before in
+    late-attrs _ _ _ _ _ (at-judge-pop-rows .judge-pop-rows .ensures) (at-if1 .if1 .left) (sym (at-judge-segments .judge-segments .ensures) ∙ at-if2 .if2 .left)
+    (at-if3 .if3 .left) (c .if4 .taken)
 
 is-full-requires : tie.Need-is-full-requires
 is-full-requires c κs = search needs
 
 returns-5 : tie.Need-returns-5
-returns-5 c = late-full _ _ _ _ _ (c .before .before .before .before .before .before .before .before .before .judge-pop-rows .ensures) (c .before .before .before .before .before .before .before .before .if1 .left) (sym (c .before .before .before .before .before .before .before .judge-segments .ensures) ∙ c .before .before .before .before .before .before .if2 .left) (c .before .before .before .before .if3 .left) (c .before .before .if4 .left) (either-one _ _ (sym (c .before .is-full .ensures) ∙ c .if5 .taken))
+returns-5 c =
+    let at-if4 = c .before .before in
+    let at-if3 = at-if4 .before .before in
+    let at-if2 = at-if3 .before .before in
+    let at-judge-segments = at-if2 .before in
+    let at-if1 = at-judge-segments .before in
+    let at-judge-pop-rows = at-if1 .before in
+    late-full _ _ _ _ _ (at-judge-pop-rows .judge-pop-rows .ensures) (at-if1 .if1 .left) (sym (at-judge-segments .judge-segments .ensures) ∙ at-if2 .if2 .left)
+    (at-if3 .if3 .left) (at-if4 .if4 .left) (either-one _ _ (sym (c .before .is-full .ensures) ∙ c .if5 .taken))
 
 is-full-clip-requires : tie.Need-is-full-clip-requires
-is-full-clip-requires c κs = (c .before .before .before .before .before .before .before .before .before .before .before .before .before .before .pre .0, c .before .before .before .before .before .before .before .before .before .before .before .before .before .before .pre .1, c .before .before .before .before .before .before .before .before .before .before .before .before .before .before .pre .4, c .before .before .before .before .before .before .before .before .before .before .before .before .before .before .pre .5, judged _ (sym (c .before .before .before .before .before .before .before .judge-segments .ensures) ∙ c .before .before .before .before .before .before .if2 .left) .good, c .before .before .before .before .before .before .before .before .before .before .before .before .before .before .pre .6)
+is-full-clip-requires c κs =
+    let at-if2 = c .before .before .before .before .before .before in
+    let at-judge-segments = at-if2 .before in
+    let at-pre = at-judge-segments .before .before .before .before .before .before .before in
+    (at-pre .pre .0, at-pre .pre .1, at-pre .pre .4, at-pre .pre .5, judged _ (sym (at-judge-segments .judge-segments .ensures) ∙ at-if2 .if2 .left) .good,
+    at-pre .pre .6)
 
 returns-6 : tie.Need-returns-6
-returns-6 c = late-full _ _ _ _ _ (c .before .before .before .before .before .before .before .before .before .before .before .judge-pop-rows .ensures) (c .before .before .before .before .before .before .before .before .before .before .if1 .left) (sym (c .before .before .before .before .before .before .before .before .before .judge-segments .ensures) ∙ c .before .before .before .before .before .before .before .before .if2 .left) (c .before .before .before .before .before .before .if3 .left) (c .before .before .before .before .if4 .left) (either-two _ _ (sym (c .before .before .before .is-full .ensures) ∙ c .before .before .if5 .left) (sym (c .before .is-full-clip .ensures) ∙ c .if6 .taken))
+returns-6 c =
+    let at-if5 = c .before .before in
+    let at-is-full = at-if5 .before in
+    let at-if4 = at-is-full .before in
+    let at-if3 = at-if4 .before .before in
+    let at-if2 = at-if3 .before .before in
+    let at-judge-segments = at-if2 .before in
+    let at-if1 = at-judge-segments .before in
+    let at-judge-pop-rows = at-if1 .before in
+    late-full _ _ _ _ _ (at-judge-pop-rows .judge-pop-rows .ensures) (at-if1 .if1 .left) (sym (at-judge-segments .judge-segments .ensures) ∙ at-if2 .if2 .left)
+    (at-if3 .if3 .left) (at-if4 .if4 .left) (either-two _ _ (sym (at-is-full .is-full .ensures) ∙ at-if5 .if5 .left) (sym (c .before .is-full-clip .ensures) ∙
+    c .if6 .taken))
 
 returns-7 : tie.Need-returns-7
-returns-7 c = late-done _ _ _ _ _ (c .before .before .before .before .before .before .before .before .before .before .before .judge-pop-rows .ensures) (c .before .before .before .before .before .before .before .before .before .before .if1 .left) (sym (c .before .before .before .before .before .before .before .before .before .judge-segments .ensures) ∙ c .before .before .before .before .before .before .before .before .if2 .left) (c .before .before .before .before .before .before .if3 .left) (c .before .before .before .before .if4 .left) (either-none _ _ (sym (c .before .before .before .is-full .ensures) ∙ c .before .before .if5 .left) (sym (c .before .is-full-clip .ensures) ∙ c .if6 .left))
+returns-7 c =
+    let at-if5 = c .before .before in
+    let at-is-full = at-if5 .before in
+    let at-if4 = at-is-full .before in
+    let at-if3 = at-if4 .before .before in
+    let at-if2 = at-if3 .before .before in
+    let at-judge-segments = at-if2 .before in
+    let at-if1 = at-judge-segments .before in
+    let at-judge-pop-rows = at-if1 .before in
+    late-done _ _ _ _ _ (at-judge-pop-rows .judge-pop-rows .ensures) (at-if1 .if1 .left) (sym (at-judge-segments .judge-segments .ensures) ∙ at-if2 .if2 .left)
+    (at-if3 .if3 .left) (at-if4 .if4 .left) (either-none _ _ (sym (at-is-full .is-full .ensures) ∙ at-if5 .if5 .left) (sym (c .before .is-full-clip .ensures) ∙
+    c .if6 .left))
 
 pub judge-clip-spec : {M : Type 1} → statement M
 judge-clip-spec =

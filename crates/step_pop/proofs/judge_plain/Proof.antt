@@ -18,16 +18,32 @@ returns-2 : tie.Need-returns-2
 returns-2 c = late-ids _ _ _ _ _ (c .before .before .before .judge-pop-rows .ensures) (c .before .before .if1 .left) refl (c .if2 .taken)
 
 returns-3 : tie.Need-returns-3
-returns-3 c = late-attrs _ _ _ _ _ (c .before .before .before .before .before .judge-pop-rows .ensures) (c .before .before .before .before .if1 .left) refl (c .before .before .if2 .left) (c .if3 .taken)
+returns-3 c =
+    let at-if2 = c .before .before in
+    let at-if1 = at-if2 .before .before in
+    let at-judge-pop-rows = at-if1 .before in
+    late-attrs _ _ _ _ _ (at-judge-pop-rows .judge-pop-rows .ensures) (at-if1 .if1 .left) refl (at-if2 .if2 .left) (c .if3 .taken)
 
 is-full-requires : tie.Need-is-full-requires
 is-full-requires c κs = search needs
 
 returns-4 : tie.Need-returns-4
-returns-4 c = late-full _ _ _ _ _ (c .before .before .before .before .before .before .before .judge-pop-rows .ensures) (c .before .before .before .before .before .before .if1 .left) refl (c .before .before .before .before .if2 .left) (c .before .before .if3 .left) (sym (c .before .is-full .ensures) ∙ c .if4 .taken)
+returns-4 c =
+    let at-if3 = c .before .before in
+    let at-if2 = at-if3 .before .before in
+    let at-if1 = at-if2 .before .before in
+    let at-judge-pop-rows = at-if1 .before in
+    late-full _ _ _ _ _ (at-judge-pop-rows .judge-pop-rows .ensures) (at-if1 .if1 .left) refl (at-if2 .if2 .left) (at-if3 .if3 .left) (sym
+    (c .before .is-full .ensures) ∙ c .if4 .taken)
 
 returns-5 : tie.Need-returns-5
-returns-5 c = late-done _ _ _ _ _ (c .before .before .before .before .before .before .before .judge-pop-rows .ensures) (c .before .before .before .before .before .before .if1 .left) refl (c .before .before .before .before .if2 .left) (c .before .before .if3 .left) (sym (c .before .is-full .ensures) ∙ c .if4 .left)
+returns-5 c =
+    let at-if3 = c .before .before in
+    let at-if2 = at-if3 .before .before in
+    let at-if1 = at-if2 .before .before in
+    let at-judge-pop-rows = at-if1 .before in
+    late-done _ _ _ _ _ (at-judge-pop-rows .judge-pop-rows .ensures) (at-if1 .if1 .left) refl (at-if2 .if2 .left) (at-if3 .if3 .left) (sym
+    (c .before .is-full .ensures) ∙ c .if4 .left)
 
 pub judge-plain-spec : {M : Type 1} → statement M
 judge-plain-spec =

@@ -12,7 +12,9 @@ whole-requires : tie.Need-whole-requires
 whole-requires c κs = search needs
 
 returns : tie.Need-returns
-returns c = parent-none (box-of (c .before .before .before .args .viewport)) (c .before .before .before .args .layers .now) (c .before .before .before .args .open) (c .before .if1 .taken) _ (c .whole .ensures)
+returns c =
+    let at-args = c .before .before .before in
+    parent-none (box-of (at-args .args .viewport)) (at-args .args .layers .now) (at-args .args .open) (c .before .if1 .taken) _ (c .whole .ensures)
 
 sub-box-at : tie.Need-sub-box-at
 sub-box-at c = search needs
@@ -21,7 +23,10 @@ box-at-requires : tie.Need-box-at-requires
 box-at-requires c κs = search needs
 
 returns-2 : tie.Need-returns-2
-returns-2 c = parent-some (box-of (c .before .before .before .args .viewport)) (c .before .before .before .args .layers .now) (c .before .before .before .args .open) (c .before .if1 .left) (c .before .before .before .pre .0) _ (c .box-at .ensures)
+returns-2 c =
+    let at-args = c .before .before .before in
+    parent-some (box-of (at-args .args .viewport)) (at-args .args .layers .now) (at-args .args .open) (c .before .if1 .left) (at-args .pre .0) _
+    (c .box-at .ensures)
 
 pub parent-box-spec : {M : Type 1} → statement M
 parent-box-spec = tie.close (tie.spec whole-requires returns sub-box-at box-at-requires returns-2)

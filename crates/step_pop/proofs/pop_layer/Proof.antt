@@ -1,3 +1,4 @@
+-- Judged first; refused, nothing is written. Done, the innermost layer is closed.
 use mathlib.Core.Path.{sym, _∙_}
 use Rattle.row.specs.Words.{words}
 use Rattle.step_pop.specs.Pop.{lent}
@@ -15,7 +16,10 @@ judge-pop-requires : tie.Need-judge-pop-requires
 judge-pop-requires c κs = search needs
 
 answer-of-requires : tie.Need-answer-of-requires
-answer-of-requires c κs = rw (c .before .judge-pop .ensures) (number-small (c .before .before .before .before .before .before .before .before .before .before .before .before .before .before .before .args .screen) (lent (words (c .before .before .before .before .before .before .before .before .before .before .before .before .before .before .before .args .rows .now) (c .before .before .before .before .before .before .before .before .before .before .before .before .before .before .before .args .render .now) (c .before .before .before .before .before .before .before .before .before .before .before .before .before .before .before .args .fills .now)) (c .before .before .before .before .before .before .before .before .before .before .before .before .before .before .before .args .layers .now) (c .before .before .before .before .before .before .before .before .before .before .before .before .before .before .before .args .opacities .now) (c .before .before .before .before .before .before .before .before .before .before .before .before .before .before .before .args .layer-attrs .now)) (c .before .before .before .before .before .before .before .before .before .before .before .before .before .before .before .args .list .now))
+answer-of-requires c κs =
+    let at-args = c .before .before .before .before .before .before .before .before .before .before .before .before .before .before .before in
+    rw (c .before .judge-pop .ensures) (number-small (at-args .args .screen) (lent (words (at-args .args .rows .now) (at-args .args .render .now)
+    (at-args .args .fills .now)) (at-args .args .layers .now) (at-args .args .opacities .now) (at-args .args .layer-attrs .now)) (at-args .args .list .now))
 
 same-length : tie.Need-same-length
 same-length c = search needs
@@ -36,7 +40,12 @@ same-length-6 : tie.Need-same-length-6
 same-length-6 c = search needs
 
 returns : tie.Need-returns
-returns c = refused-out (c .before .before .before .before .before .before .before .before .before .before .before .before .before .before .before .before .args .screen) (lent (words (c .before .before .before .before .before .before .before .before .before .before .before .before .before .before .before .before .args .rows .now) (c .before .before .before .before .before .before .before .before .before .before .before .before .before .before .before .before .args .render .now) (c .before .before .before .before .before .before .before .before .before .before .before .before .before .before .before .before .args .fills .now)) (c .before .before .before .before .before .before .before .before .before .before .before .before .before .before .before .before .args .layers .now) (c .before .before .before .before .before .before .before .before .before .before .before .before .before .before .before .before .args .opacities .now) (c .before .before .before .before .before .before .before .before .before .before .before .before .before .before .before .before .args .layer-attrs .now)) (c .before .before .before .before .before .before .before .before .before .before .before .before .before .before .before .before .args .list .now) (c .before .before .judge-pop .ensures) (c .before .if1 .taken) (c .answer-of .ensures)
+returns c =
+    let at-judge-pop = c .before .before in
+    let at-args = at-judge-pop .before .before .before .before .before .before .before .before .before .before .before .before .before .before in
+    refused-out (at-args .args .screen) (lent (words (at-args .args .rows .now) (at-args .args .render .now) (at-args .args .fills .now))
+    (at-args .args .layers .now) (at-args .args .opacities .now) (at-args .args .layer-attrs .now)) (at-args .args .list .now)
+    (at-judge-pop .judge-pop .ensures) (c .before .if1 .taken) (c .answer-of .ensures)
 
 do-pop-requires : tie.Need-do-pop-requires
 do-pop-requires c κs = search needs

@@ -1,3 +1,4 @@
+-- The segment is cut; on a touched row of the box it becomes a LayerFill, elsewhere nothing.
 use Prim.Native.Nat.{_-_}
 use mathlib.Core.Path.{sym, _∙_, ap}
 use native.Mathlib.Omega.{arith}
@@ -21,7 +22,9 @@ segment-at-requires : tie.Need-segment-at-requires
 segment-at-requires c κs = search needs
 
 place-requires : tie.Need-place-requires
-place-requires c κs = (ap good-segment (c .segment-at .ensures) ∙ c .before .before .before .before .before .pre .3, c .before .before .before .before .before .pre .4)
+place-requires c κs =
+    let at-pre = c .before .before .before .before .before in
+    (ap good-segment (c .segment-at .ensures) ∙ at-pre .pre .3, at-pre .pre .4)
 
 enum-told : tie.Need-enum-told
 enum-told c = search needs
@@ -33,19 +36,45 @@ wide-requires : tie.Need-wide-requires
 wide-requires c κs = search needs
 
 is-touched-requires : tie.Need-is-touched-requires
-is-touched-requires c κs = (omega (arith, c .before .before .before .before .before .before .before .before .before .before .before .pre .1, c .before .before .before .before .before .before .before .before .before .before .before .pre .0 .rows), rows-long (c .before .before .before .before .before .before .before .before .before .before .before .pre .0) _ (c .before .before .before .before .before .before .before .before .before .before .before .pre .1))
+is-touched-requires c κs =
+    let at-pre = c .before .before .before .before .before .before .before .before .before .before .before in
+    (omega (arith, at-pre .pre .1, at-pre .pre .0 .rows), rows-long (at-pre .pre .0) _ (at-pre .pre .1))
 
 same-length : tie.Need-same-length
 same-length c = search needs
 
 returns : tie.Need-returns
-returns c = sym (one-out (c .before .before .before .before .before .before .before .before .before .before .before .before .before .args .screen .layers - 1) (c .before .before .before .before .before .before .before .before .before .before .before .before .before .args .screen .«layer_attrs») _ _ _ _ (placed-at (c .before .before .before .before .before .before .before .before .before .before .before .before .before .args .scene) (c .before .before .before .before .before .placed .given .1) (c .before .before .before .before .before .before .before .place .ensures) (c .before .before .before .before .before .before .before .before .segment-at .ensures)) (touched-no (c .before .before .before .before .before .before .before .before .before .before .before .before .before .pre .0) _ _ _ (c .before .before .before .before .before .before .before .before .before .before .before .before .before .pre .1) _ (c .before .is-touched .ensures) (c .before .before .before .wide .ensures) (c .if1 .taken)))
+returns c =
+    let at-wide = c .before .before .before in
+    let at-placed = at-wide .before .before in
+    let at-place = at-placed .before .before in
+    let at-segment-at = at-place .before in
+    let at-args = at-segment-at .before .before .before .before .before in
+    sym (one-out (at-args .args .screen .layers - 1) (at-args .args .screen .«layer_attrs») _ _ _ _ (placed-at (at-args .args .scene)
+    (at-placed .placed .given .1) (at-place .place .ensures) (at-segment-at .segment-at .ensures)) (touched-no (at-args .pre .0) _ _ _ (at-args .pre .1) _
+    (c .before .is-touched .ensures) (at-wide .wide .ensures) (c .if1 .taken)))
 
 close-at-requires : tie.Need-close-at-requires
-close-at-requires c κs = rw (c .before .before .before .before .before .before .before .wide .ensures) (clip-here (c .before .before .before .before .before .before .before .before .before .before .before .before .before .before .before .before .before .pre .0) _ _ _ (c .before .before .before .before .before .before .before .before .before .before .before .before .before .before .before .before .before .args .screen .layers - 1) (c .before .before .before .before .before .before .before .before .before .before .before .before .before .before .before .before .before .args .screen .«layer_attrs») (c .before .before .before .before .before .before .before .before .before .before .before .before .before .before .before .before .before .args .scene) (seg-at (c .before .before .before .before .before .before .before .before .before .before .before .before .before .before .before .before .before .args .list .now) (c .before .before .before .before .before .before .before .before .before .before .before .before .before .before .before .before .before .args .i)) _ (c .before .before .before .before .before .before .before .before .before .before .before .before .before .before .before .before .before .pre .1) (c .before .before .before .before .before .before .before .before .before .before .before .before .before .before .before .before .before .pre .3) (c .before .before .before .before .before .before .before .before .before .before .before .before .before .before .before .before .before .pre .4) (placed-at (c .before .before .before .before .before .before .before .before .before .before .before .before .before .before .before .before .before .args .scene) (c .before .before .before .before .before .before .before .before .before .placed .given .1) (c .before .before .before .before .before .before .before .before .before .before .before .place .ensures) (c .before .before .before .before .before .before .before .before .before .before .before .before .segment-at .ensures)) (touched-yes (c .before .before .before .before .before .before .before .before .before .before .before .before .before .before .before .before .before .pre .0) _ _ _ (c .before .before .before .before .before .before .before .before .before .before .before .before .before .before .before .before .before .pre .1) _ (c .before .before .before .before .before .is-touched .ensures) (c .before .before .before .before .before .before .before .wide .ensures) (c .before .before .before .before .if1 .left)) (c .before .before .before .before .before .before .before .before .before .before .before .before .before .before .before .before .before .pre .5))
+close-at-requires c κs =
+    let at-if1 = c .before .before .before .before in
+    let at-is-touched = at-if1 .before in
+    let at-wide = at-is-touched .before .before in
+    let at-placed = at-wide .before .before in
+    let at-place = at-placed .before .before in
+    let at-segment-at = at-place .before in
+    let at-pre = at-segment-at .before .before .before .before .before in
+    rw (at-wide .wide .ensures) (clip-here (at-pre .pre .0) _ _ _ (at-pre .args .screen .layers - 1) (at-pre .args .screen .«layer_attrs») (at-pre .args .scene)
+    (seg-at (at-pre .args .list .now) (at-pre .args .i)) _ (at-pre .pre .1) (at-pre .pre .3) (at-pre .pre .4) (placed-at (at-pre .args .scene)
+    (at-placed .placed .given .1) (at-place .place .ensures) (at-segment-at .segment-at .ensures)) (touched-yes (at-pre .pre .0) _ _ _ (at-pre .pre .1) _
+    (at-is-touched .is-touched .ensures) (at-wide .wide .ensures) (at-if1 .if1 .left)) (at-pre .pre .5))
 
 returns-2 : tie.Need-returns-2
-returns-2 c = sym (one-none (c .before .before .before .before .before .before .before .before .args .screen .layers - 1) (c .before .before .before .before .before .before .before .before .args .screen .«layer_attrs») _ _ _ (placed-at (c .before .before .before .before .before .before .before .before .args .scene) (c .enum-told .given .1) (c .before .before .place .ensures) (c .before .before .before .segment-at .ensures)))
+returns-2 c =
+    let at-place = c .before .before in
+    let at-segment-at = at-place .before in
+    let at-args = at-segment-at .before .before .before .before .before in
+    sym (one-none (at-args .args .screen .layers - 1) (at-args .args .screen .«layer_attrs») _ _ _ (placed-at (at-args .args .scene) (c .enum-told .given .1)
+    (at-place .place .ensures) (at-segment-at .segment-at .ensures)))
 
 same-length-2 : tie.Need-same-length-2
 same-length-2 c = search needs
@@ -57,7 +86,18 @@ same-length-4 : tie.Need-same-length-4
 same-length-4 c = search needs
 
 returns-3 : tie.Need-returns-3
-returns-3 c = (rw (c .before .before .before .before .before .before .before .before .before .before .before .before .before .before .wide .ensures) at (c .before .before .before .before .before .before .close-at .ensures)) ∙ sym (one-in (c .before .before .before .before .before .before .before .before .before .before .before .before .before .before .before .before .before .before .before .before .before .before .before .before .args .screen .layers - 1) (c .before .before .before .before .before .before .before .before .before .before .before .before .before .before .before .before .before .before .before .before .before .before .before .before .args .screen .«layer_attrs») _ _ _ _ (placed-at (c .before .before .before .before .before .before .before .before .before .before .before .before .before .before .before .before .before .before .before .before .before .before .before .before .args .scene) (c .before .before .before .before .before .before .before .before .before .before .before .before .before .before .before .before .placed .given .1) (c .before .before .before .before .before .before .before .before .before .before .before .before .before .before .before .before .before .before .place .ensures) (c .before .before .before .before .before .before .before .before .before .before .before .before .before .before .before .before .before .before .before .segment-at .ensures)) (touched-yes (c .before .before .before .before .before .before .before .before .before .before .before .before .before .before .before .before .before .before .before .before .before .before .before .before .pre .0) _ _ _ (c .before .before .before .before .before .before .before .before .before .before .before .before .before .before .before .before .before .before .before .before .before .before .before .before .pre .1) _ (c .before .before .before .before .before .before .before .before .before .before .before .before .is-touched .ensures) (c .before .before .before .before .before .before .before .before .before .before .before .before .before .before .wide .ensures) (c .before .before .before .before .before .before .before .before .before .before .before .if1 .left)))
+returns-3 c =
+    let at-close-at = c .before .before .before .before .before .before in
+    let at-if1 = at-close-at .before .before .before .before .before in
+    let at-is-touched = at-if1 .before in
+    let at-wide = at-is-touched .before .before in
+    let at-placed = at-wide .before .before in
+    let at-place = at-placed .before .before in
+    let at-segment-at = at-place .before in
+    let at-args = at-segment-at .before .before .before .before .before in
+    (rw (at-wide .wide .ensures) at (at-close-at .close-at .ensures)) ∙ sym (one-in (at-args .args .screen .layers - 1) (at-args .args .screen .«layer_attrs») _
+    _ _ _ (placed-at (at-args .args .scene) (at-placed .placed .given .1) (at-place .place .ensures) (at-segment-at .segment-at .ensures)) (touched-yes
+    (at-args .pre .0) _ _ _ (at-args .pre .1) _ (at-is-touched .is-touched .ensures) (at-wide .wide .ensures) (at-if1 .if1 .left)))
 
 pub close-segment-spec : {M : Type 1} → statement M
 close-segment-spec =

@@ -1,3 +1,4 @@
+-- So far the segments before i have their LayerFills; the rows still have room for those from i on.
 use Prim.Native.Nat.{_-_}
 use mathlib.Core.Path.{sym, _∙_}
 use native.Mathlib.Omega.{arith}
@@ -22,16 +23,30 @@ loop-holds : tie.Need-loop-holds Inv-loop μ-loop
 loop-holds c = clipping-start (c .before .before .before .before .pre)
 
 close-segment-requires : tie.Need-close-segment-requires Inv-loop μ-loop
-close-segment-requires c κs = (c .before .before .before .before .loop .inv .rest .whole, c .before .before .before .before .loop .inv .rest .bottom, omega (arith, c .before .before .before .loop-test .taken, c .before .before .before .before .loop .inv .rest .within), good-here (c .before .before .before .before .loop .inv) (c .before .before .before .loop-test .taken), c .before .before .before .before .loop .inv .rest .starts, room-here (c .before .before .before .before .loop .inv) (c .before .before .before .loop-test .taken))
+close-segment-requires c κs =
+    let at-loop-test = c .before .before .before in
+    let at-loop = at-loop-test .before in
+    (at-loop .loop .inv .rest .whole, at-loop .loop .inv .rest .bottom, omega (arith, at-loop-test .loop-test .taken, at-loop .loop .inv .rest .within),
+    good-here (at-loop .loop .inv) (at-loop-test .loop-test .taken), at-loop .loop .inv .rest .starts,
+    room-here (at-loop .loop .inv) (at-loop-test .loop-test .taken))
 
 add-i : tie.Need-add-i Inv-loop μ-loop
-add-i c = omega (arith, c .before .before .before .before .before .before .before .before .before .before .loop-test .taken)
+add-i c =
+    let at-loop-test = c .before .before .before .before .before .before .before .before .before .before in
+    omega (arith, at-loop-test .loop-test .taken)
 
 loop-less : tie.Need-loop-less Inv-loop μ-loop
-loop-less c = omega (arith, c .before .before .before .before .before .before .before .before .before .before .loop-test .taken)
+loop-less c =
+    let at-loop-test = c .before .before .before .before .before .before .before .before .before .before in
+    omega (arith, at-loop-test .loop-test .taken)
 
 loop-again : tie.Need-loop-again Inv-loop μ-loop
-loop-again c = clipping-on (c .before .before .before .before .before .before .before .before .before .before .before .loop .inv) (c .before .before .before .before .before .before .before .before .before .before .loop-test .taken) _ (long-after _ _ _ (c .before .before .before .before .before .before .before .before .before .before .before .loop .inv .rest .whole) (search needs) (search needs) (search needs)) (c .before .before .before .before .before .before .close-segment .ensures)
+loop-again c =
+    let at-close-segment = c .before .before .before .before .before .before in
+    let at-loop-test = at-close-segment .before .before .before .before in
+    let at-loop = at-loop-test .before in
+    clipping-on (at-loop .loop .inv) (at-loop-test .loop-test .taken) _ (long-after _ _ _ (at-loop .loop .inv .rest .whole) (search needs) (search needs)
+    (search needs)) (at-close-segment .close-segment .ensures)
 
 same-length : tie.Need-same-length Inv-loop μ-loop
 same-length c = c .before .loop .inv .rest .whole .long .state ∙ sym (c .before .before .before .before .before .before .pre .whole .long .state)

@@ -25,10 +25,17 @@ slice-read-if1 : tie.Need-slice-read-if1
 slice-read-if1 c = search needs
 
 returns : tie.Need-returns
-returns c = act-other (c .before .before .before .before .before .before .pre .0) _ _ (c .before .before .before .before .before .before .pre .1) (c .if1 .taken) (c .before .before .before .before .before .before .args .screen .layers - 1) (close (tiles (c .before .before .before .before .before .before .args .span)) none (c .before .before .before .before .before .before .args .screen .«layer_attrs»))
+returns c =
+    let at-pre = c .before .before .before .before .before .before in
+    act-other (at-pre .pre .0) _ _ (at-pre .pre .1) (c .if1 .taken) (at-pre .args .screen .layers - 1) (close (tiles (at-pre .args .span)) none
+    (at-pre .args .screen .«layer_attrs»))
 
 close-at-requires : tie.Need-close-at-requires
-close-at-requires c κs = (c .before .before .before .before .before .before .before .before .before .pre .0, c .before .before .before .before .before .before .before .before .before .pre .1, c .before .before .before .before .before .before .before .before .before .pre .2, each-here (c .before .before .before .before .before .before .before .before .before .pre .0) _ _ (c .before .before .before .before .before .before .before .before .before .pre .1) (c .before .before .before .if1 .left) (Fillable (tiles (c .before .before .before .before .before .before .before .before .before .args .span)) none (c .before .before .before .before .before .before .before .before .before .args .screen .«layer_attrs»)) (c .before .before .before .before .before .before .before .before .before .pre .3))
+close-at-requires c κs =
+    let at-if1 = c .before .before .before in
+    let at-pre = at-if1 .before .before .before .before .before .before in
+    (at-pre .pre .0, at-pre .pre .1, at-pre .pre .2, each-here (at-pre .pre .0) _ _ (at-pre .pre .1) (at-if1 .if1 .left) (Fillable (tiles (at-pre .args .span))
+    none (at-pre .args .screen .«layer_attrs»)) (at-pre .pre .3))
 
 same-length : tie.Need-same-length
 same-length c = search needs
@@ -40,7 +47,12 @@ same-length-3 : tie.Need-same-length-3
 same-length-3 c = search needs
 
 returns-2 : tie.Need-returns-2
-returns-2 c = c .before .before .before .before .before .before .close-at .ensures ∙ close-here (c .before .before .before .before .before .before .before .before .before .before .before .before .before .before .before .before .pre .0) _ _ (c .before .before .before .before .before .before .before .before .before .before .before .before .before .before .before .before .pre .1) (c .before .before .before .before .before .before .before .before .before .before .if1 .left) (c .before .before .before .before .before .before .before .before .before .before .before .before .before .before .before .before .args .screen .layers - 1) (tiles (c .before .before .before .before .before .before .before .before .before .before .before .before .before .before .before .before .args .span)) (c .before .before .before .before .before .before .before .before .before .before .before .before .before .before .before .before .args .screen .«layer_attrs»)
+returns-2 c =
+    let at-close-at = c .before .before .before .before .before .before in
+    let at-if1 = at-close-at .before .before .before .before in
+    let at-pre = at-if1 .before .before .before .before .before .before in
+    at-close-at .close-at .ensures ∙ close-here (at-pre .pre .0) _ _ (at-pre .pre .1) (at-if1 .if1 .left) (at-pre .args .screen .layers - 1) (tiles
+    (at-pre .args .span)) (at-pre .args .screen .«layer_attrs»)
 
 pub close-span-spec : {M : Type 1} → statement M
 close-span-spec =

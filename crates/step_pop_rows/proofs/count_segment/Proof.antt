@@ -1,3 +1,4 @@
+-- The segment is cut; on a touched row it is one command more, and the row is full where its PopBuf would not fit after it.
 use mathlib.Core.Path.{sym, _∙_, ap}
 use native.Mathlib.Omega.{arith}
 use Rattle.rules.specs.Segments.{good-segment}
@@ -19,7 +20,9 @@ segment-at-requires : tie.Need-segment-at-requires
 segment-at-requires c κs = search needs
 
 place-requires : tie.Need-place-requires
-place-requires c κs = (ap good-segment (c .segment-at .ensures) ∙ c .before .before .before .before .before .pre .3, c .before .before .before .before .before .pre .4)
+place-requires c κs =
+    let at-pre = c .before .before .before .before .before in
+    (ap good-segment (c .segment-at .ensures) ∙ at-pre .pre .3, at-pre .pre .4)
 
 enum-told : tie.Need-enum-told
 enum-told c = search needs
@@ -31,19 +34,40 @@ wide-requires : tie.Need-wide-requires
 wide-requires c κs = search needs
 
 is-touched-requires : tie.Need-is-touched-requires
-is-touched-requires c κs = (omega (arith, c .before .before .before .before .before .before .before .before .before .before .pre .1, c .before .before .before .before .before .before .before .before .before .before .pre .0 .rows), rows-long (c .before .before .before .before .before .before .before .before .before .before .pre .0) _ (c .before .before .before .before .before .before .before .before .before .before .pre .1))
+is-touched-requires c κs =
+    let at-pre = c .before .before .before .before .before .before .before .before .before .before in
+    (omega (arith, at-pre .pre .1, at-pre .pre .0 .rows), rows-long (at-pre .pre .0) _ (at-pre .pre .1))
 
 returns : tie.Need-returns
-returns c = counted-out _ _ _ _ _ _ (c .before .before .before .before .before .before .before .before .before .before .before .before .pre .5) _ (placed-at (c .before .before .before .before .before .before .before .before .before .before .before .before .args .scene) (c .before .before .before .before .placed .given .1) (c .before .before .before .before .before .before .place .ensures) (c .before .before .before .before .before .before .before .segment-at .ensures)) (touched-no (c .before .before .before .before .before .before .before .before .before .before .before .before .pre .0) _ _ _ (c .before .before .before .before .before .before .before .before .before .before .before .before .pre .1) _ (c .before .is-touched .ensures) (c .before .before .wide .ensures) (c .if1 .taken))
+returns c =
+    let at-wide = c .before .before in
+    let at-placed = at-wide .before .before in
+    let at-place = at-placed .before .before in
+    let at-segment-at = at-place .before in
+    let at-pre = at-segment-at .before .before .before .before .before in
+    counted-out _ _ _ _ _ _ (at-pre .pre .5) _ (placed-at (at-pre .args .scene) (at-placed .placed .given .1) (at-place .place .ensures)
+    (at-segment-at .segment-at .ensures)) (touched-no (at-pre .pre .0) _ _ _ (at-pre .pre .1) _ (c .before .is-touched .ensures) (at-wide .wide .ensures)
+    (c .if1 .taken))
 
 so-far-requires : tie.Need-so-far-requires
-so-far-requires c κs = (touched-few (c .before .before .before .before .before .before .before .before .before .before .before .before .pre .0) _ _ _ (c .before .before .before .before .before .before .before .before .before .before .before .before .pre .1) _ (touched-yes (c .before .before .before .before .before .before .before .before .before .before .before .before .pre .0) _ _ _ (c .before .before .before .before .before .before .before .before .before .before .before .before .pre .1) _ (c .before .is-touched .ensures) (c .before .before .wide .ensures) (c .if1 .left)), touched-long (c .before .before .before .before .before .before .before .before .before .before .before .before .pre .0) _ _ _ (c .before .before .before .before .before .before .before .before .before .before .before .before .pre .1) _ (touched-yes (c .before .before .before .before .before .before .before .before .before .before .before .before .pre .0) _ _ _ (c .before .before .before .before .before .before .before .before .before .before .before .before .pre .1) _ (c .before .is-touched .ensures) (c .before .before .wide .ensures) (c .if1 .left)), c .before .before .before .before .before .before .before .before .before .before .before .before .pre .5)
+so-far-requires c κs =
+    let at-is-touched = c .before in
+    let at-wide = at-is-touched .before in
+    let at-pre = at-wide .before .before .before .before .before .before .before .before .before .before in
+    (touched-few (at-pre .pre .0) _ _ _ (at-pre .pre .1) _ (touched-yes (at-pre .pre .0) _ _ _ (at-pre .pre .1) _ (at-is-touched .is-touched .ensures)
+    (at-wide .wide .ensures) (c .if1 .left)), touched-long (at-pre .pre .0) _ _ _ (at-pre .pre .1) _ (touched-yes (at-pre .pre .0) _ _ _ (at-pre .pre .1) _
+    (at-is-touched .is-touched .ensures) (at-wide .wide .ensures) (c .if1 .left)), at-pre .pre .5)
 
 add-n : tie.Need-add-n
 add-n c = record { fits = omega (arith, c .so-far .ensures .1) }
 
 add-t19 : tie.Need-add-t19
-add-t19 c = record { fits = omega (arith, touched-few (c .before .before .before .before .before .before .before .before .before .before .before .before .before .pre .0) _ _ _ (c .before .before .before .before .before .before .before .before .before .before .before .before .before .pre .1) _ (touched-yes (c .before .before .before .before .before .before .before .before .before .before .before .before .before .pre .0) _ _ _ (c .before .before .before .before .before .before .before .before .before .before .before .before .before .pre .1) _ (c .before .before .is-touched .ensures) (c .before .before .before .wide .ensures) (c .before .if1 .left))) }
+add-t19 c =
+    let at-is-touched = c .before .before in
+    let at-wide = at-is-touched .before in
+    let at-pre = at-wide .before .before .before .before .before .before .before .before .before .before in
+    record { fits = omega (arith, touched-few (at-pre .pre .0) _ _ _ (at-pre .pre .1) _ (touched-yes (at-pre .pre .0) _ _ _ (at-pre .pre .1) _
+    (at-is-touched .is-touched .ensures) (at-wide .wide .ensures) (c .before .if1 .left))) }
 
 cast-t17 : tie.Need-cast-t17
 cast-t17 c = search needs
@@ -52,10 +76,26 @@ add-t20 : tie.Need-add-t20
 add-t20 c = record { fits = omega (arith, c .before .so-far .ensures .1) }
 
 returns-2 : tie.Need-returns-2
-returns-2 c = counted-none _ _ _ _ _ _ (c .before .before .before .before .before .before .before .before .pre .5) (placed-at (c .before .before .before .before .before .before .before .before .args .scene) (c .enum-told .given .1) (c .before .before .place .ensures) (c .before .before .before .segment-at .ensures))
+returns-2 c =
+    let at-place = c .before .before in
+    let at-segment-at = at-place .before in
+    let at-pre = at-segment-at .before .before .before .before .before in
+    counted-none _ _ _ _ _ _ (at-pre .pre .5) (placed-at (at-pre .args .scene) (c .enum-told .given .1) (at-place .place .ensures)
+    (at-segment-at .segment-at .ensures))
 
 returns-3 : tie.Need-returns-3
-returns-3 c = counted-in _ _ _ _ _ _ (c .before .before .before .before .before .before .before .before .before .before .before .before .before .before .pre .5) _ (placed-at (c .before .before .before .before .before .before .before .before .before .before .before .before .before .before .args .scene) (c .before .before .before .before .before .before .placed .given .1) (c .before .before .before .before .before .before .before .before .place .ensures) (c .before .before .before .before .before .before .before .before .before .segment-at .ensures)) (touched-yes (c .before .before .before .before .before .before .before .before .before .before .before .before .before .before .pre .0) _ _ _ (c .before .before .before .before .before .before .before .before .before .before .before .before .before .before .pre .1) _ (c .before .before .before .is-touched .ensures) (c .before .before .before .before .wide .ensures) (c .before .before .if1 .left)) (c .before .before .before .before .before .before .before .before .before .before .before .before .before .before .pre .0 .c) _ (touched-so-far (c .before .before .before .before .before .before .before .before .before .before .before .before .before .before .pre .0) _ _ _ (c .before .before .before .before .before .before .before .before .before .before .before .before .before .before .pre .1) _ (touched-yes (c .before .before .before .before .before .before .before .before .before .before .before .before .before .before .pre .0) _ _ _ (c .before .before .before .before .before .before .before .before .before .before .before .before .before .before .pre .1) _ (c .before .before .before .is-touched .ensures) (c .before .before .before .before .wide .ensures) (c .before .before .if1 .left)) _ _ _ (c .before .so-far .ensures .0))
+returns-3 c =
+    let at-if1 = c .before .before in
+    let at-is-touched = at-if1 .before in
+    let at-wide = at-is-touched .before in
+    let at-placed = at-wide .before .before in
+    let at-place = at-placed .before .before in
+    let at-segment-at = at-place .before in
+    let at-pre = at-segment-at .before .before .before .before .before in
+    counted-in _ _ _ _ _ _ (at-pre .pre .5) _ (placed-at (at-pre .args .scene) (at-placed .placed .given .1) (at-place .place .ensures)
+    (at-segment-at .segment-at .ensures)) (touched-yes (at-pre .pre .0) _ _ _ (at-pre .pre .1) _ (at-is-touched .is-touched .ensures) (at-wide .wide .ensures)
+    (at-if1 .if1 .left)) (at-pre .pre .0 .c) _ (touched-so-far (at-pre .pre .0) _ _ _ (at-pre .pre .1) _ (touched-yes (at-pre .pre .0) _ _ _ (at-pre .pre .1) _
+    (at-is-touched .is-touched .ensures) (at-wide .wide .ensures) (at-if1 .if1 .left)) _ _ _ (c .before .so-far .ensures .0))
 
 pub count-segment-spec : {M : Type 1} → statement M
 count-segment-spec =

@@ -1,3 +1,4 @@
+-- No row before r is full.
 use mathlib.Core.Path.{_∙_}
 use Prim.Native.Nat.{_-_}
 use mathlib.Core.Path.{_≡_, refl}
@@ -15,7 +16,10 @@ use Rattle.step_pop_rows.proofs.is_full.Lts as lts
 use Rattle.step_pop_rows.proofs.is_full_row.Reads as is-full-row-reads
 
 abbrev Inv-loop : tie.InvT-loop
-Inv-loop screen rows render fills a b more r₀ r = full-by (screen .c) more (rows-at (frame-of screen) (words rows render fills)) (touched-in (screen .layers) (rows-at (frame-of screen) (words rows render fills)) (range r b)) ≡ full-by (screen .c) more (rows-at (frame-of screen) (words rows render fills)) (touched-in (screen .layers) (rows-at (frame-of screen) (words rows render fills)) (range a b))
+Inv-loop screen rows render fills a b more r₀ r =
+    full-by (screen .c) more (rows-at (frame-of screen) (words rows render fills)) (touched-in (screen .layers) (rows-at (frame-of screen) (words rows render
+    fills)) (range r b)) ≡ full-by (screen .c) more (rows-at (frame-of screen) (words rows render fills)) (touched-in (screen .layers) (rows-at (frame-of
+    screen) (words rows render fills)) (range a b))
 
 abbrev μ-loop : tie.MeasureT-loop
 μ-loop screen rows render fills a b more r₀ r = b - r
@@ -24,7 +28,9 @@ loop-holds : tie.Need-loop-holds Inv-loop μ-loop
 loop-holds c = refl
 
 is-full-row-requires : tie.Need-is-full-row-requires Inv-loop μ-loop
-is-full-row-requires c κs = (c .before .before .before .before .before .pre .0, omega arith, c .before .before .before .before .before .pre .2)
+is-full-row-requires c κs =
+    let at-pre = c .before .before .before .before .before in
+    (at-pre .pre .0, omega arith, at-pre .pre .2)
 
 returns : tie.Need-returns Inv-loop μ-loop
 returns c = full-found _ _ _ _ _ _ (c .before .before .loop-test .taken) (c .before .is-full-row .ensures) (c .if1 .taken) (c .before .before .before .loop .inv)

@@ -1,3 +1,4 @@
+-- No segment before i fills its row; the commands of the row at hand are counted along.
 use Prim.Native.Nat.{_-_}
 use mathlib.Core.Path.{_≡_, refl}
 use native.Mathlib.Omega.{arith}
@@ -20,10 +21,16 @@ abbrev μ-loop : tie.MeasureT-loop
 μ-loop screen rows render fills list start end scene a b count₀ i₀ count i = end - i
 
 loop-holds : tie.Need-loop-holds Inv-loop μ-loop
-loop-holds c = counting-start _ _ _ _ _ _ (c .before .before .before .before .args .scene) (c .before .before .before .before .pre .2) (c .before .before .before .before .pre .4)
+loop-holds c =
+    let at-args = c .before .before .before .before in
+    counting-start _ _ _ _ _ _ (at-args .args .scene) (at-args .pre .2) (at-args .pre .4)
 
 count-segment-requires : tie.Need-count-segment-requires Inv-loop μ-loop
-count-segment-requires c κs = (c .before .before .before .before .before .before .pre .0, c .before .before .before .before .before .before .pre .1, omega (arith, c .loop-test .taken, c .before .before .before .before .before .before .pre .3), counting-good (c .before .loop .inv) (c .loop-test .taken), c .before .before .before .before .before .before .pre .5, c .before .loop .inv .few)
+count-segment-requires c κs =
+    let at-loop = c .before in
+    let at-pre = at-loop .before .before .before .before .before in
+    (at-pre .pre .0, at-pre .pre .1, omega (arith, c .loop-test .taken, at-pre .pre .3), counting-good (at-loop .loop .inv) (c .loop-test .taken),
+    at-pre .pre .5, at-loop .loop .inv .few)
 
 returns : tie.Need-returns Inv-loop μ-loop
 returns c = counting-full (c .before .before .before .loop .inv) (c .before .before .loop-test .taken) (c .before .count-segment .ensures) (c .if1 .taken)

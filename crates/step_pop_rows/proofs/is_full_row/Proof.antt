@@ -21,7 +21,9 @@ shared-slice-read-if1 : tie.Need-shared-slice-read-if1
 shared-slice-read-if1 c = search needs
 
 returns : tie.Need-returns
-returns c = full-other (c .before .before .before .before .before .before .pre .0) _ _ (c .before .before .before .before .before .before .pre .1) (c .if1 .taken) _ _
+returns c =
+    let at-pre = c .before .before .before .before .before .before in
+    full-other (at-pre .pre .0) _ _ (at-pre .pre .1) (c .if1 .taken) _ _
 
 cast-result : tie.Need-cast-result
 cast-result c = search needs
@@ -36,10 +38,15 @@ wide-requires : tie.Need-wide-requires
 wide-requires c κs = search needs
 
 add-result : tie.Need-add-result
-add-result c = record { fits = omega (arith, c .wide .ensures, c .before .shared-slice-known5 .given (c .before .before .before .before .before .before .before .before .before .args .r * 54), c .before .before .before .before .before .before .before .before .before .pre .2) }
+add-result c =
+    let at-args = c .before .before .before .before .before .before .before .before .before in
+    record { fits = omega (arith, c .wide .ensures, c .before .shared-slice-known5 .given (at-args .args .r * 54), at-args .pre .2) }
 
 returns-2 : tie.Need-returns-2
-returns-2 c = full-here (c .before .before .before .before .before .before .before .before .before .pre .0) _ _ (c .before .before .before .before .before .before .before .before .before .pre .1) (c .before .before .before .if1 .left) _ _ _ (c .wide .ensures)
+returns-2 c =
+    let at-if1 = c .before .before .before in
+    let at-pre = at-if1 .before .before .before .before .before .before in
+    full-here (at-pre .pre .0) _ _ (at-pre .pre .1) (at-if1 .if1 .left) _ _ _ (c .wide .ensures)
 
 pub is-full-row-spec : {M : Type 1} → statement M
 is-full-row-spec =

@@ -16,13 +16,20 @@ shared-slice-read-levels : tie.Need-shared-slice-read-levels
 shared-slice-read-levels c = search needs
 
 returns : tie.Need-returns
-returns c = pop-other (c .before .before .before .before .before .args .c) (c .before .before .before .before .before .args .d) (c .before .before .before .before .before .args .open) (words (c .before .before .before .before .before .args .state .now) (c .before .before .before .before .before .args .render .now) (c .before .before .before .before .before .args .fills .now)) (c .if1 .taken)
+returns c =
+    let at-args = c .before .before .before .before .before in
+    pop-other (at-args .args .c) (at-args .args .d) (at-args .args .open) (words (at-args .args .state .now) (at-args .args .render .now)
+    (at-args .args .fills .now)) (c .if1 .taken)
 
 is-good-row-requires : tie.Need-is-good-row-requires
 is-good-row-requires c κs = search needs
 
 returns-2 : tie.Need-returns-2
-returns-2 c = pop-bad (c .before .before .before .before .before .before .before .args .c) (c .before .before .before .before .before .before .before .args .d) (c .before .before .before .before .before .before .before .args .open) (words (c .before .before .before .before .before .before .before .args .state .now) (c .before .before .before .before .before .before .before .args .render .now) (c .before .before .before .before .before .before .before .args .fills .now)) (c .before .before .if1 .left) (sym (c .before .is-good-row .ensures) ∙ not-true _ (c .if2 .taken))
+returns-2 c =
+    let at-if1 = c .before .before in
+    let at-args = at-if1 .before .before .before .before .before in
+    pop-bad (at-args .args .c) (at-args .args .d) (at-args .args .open) (words (at-args .args .state .now) (at-args .args .render .now)
+    (at-args .args .fills .now)) (at-if1 .if1 .left) (sym (c .before .is-good-row .ensures) ∙ not-true _ (c .if2 .taken))
 
 wide-requires : tie.Need-wide-requires
 wide-requires c κs = search needs
@@ -49,10 +56,25 @@ mul-result-2 : tie.Need-mul-result-2
 mul-result-2 c = record { fits = omega (arith, c .wide2 .ensures, c .before .shared-slice-known5 .given (3 + 3 * c .before .before .wide .result)) }
 
 shared-slice-read-result : tie.Need-shared-slice-read-result
-shared-slice-read-result c = place-within _ (c .before .before .before .before .before .before .before .before .before .before .before .args .d) _ (words (c .before .before .before .before .before .before .before .before .before .before .before .args .state .now) (c .before .before .before .before .before .before .before .before .before .before .before .args .render .now) (c .before .before .before .before .before .before .before .before .before .before .before .args .fills .now)) (sym (c .before .before .before .before .before .is-good-row .ensures) ∙ not-false _ (c .before .before .before .before .if2 .left)) (c .before .before .before .before .before .before .if1 .left) (c .before .before .before .wide .ensures) (c .before .wide2 .ensures) (c .before .before .before .before .before .before .before .before .before .before .before .pre .2) (c .before .before .before .before .before .before .before .before .before .before .before .pre .1)
+shared-slice-read-result c =
+    let at-wide = c .before .before .before in
+    let at-if2 = at-wide .before in
+    let at-is-good-row = at-if2 .before in
+    let at-if1 = at-is-good-row .before in
+    let at-args = at-if1 .before .before .before .before .before in
+    place-within _ (at-args .args .d) _ (words (at-args .args .state .now) (at-args .args .render .now) (at-args .args .fills .now)) (sym
+    (at-is-good-row .is-good-row .ensures) ∙ not-false _ (at-if2 .if2 .left)) (at-if1 .if1 .left) (at-wide .wide .ensures) (c .before .wide2 .ensures)
+    (at-args .pre .2) (at-args .pre .1)
 
 returns-3 : tie.Need-returns-3
-returns-3 c = tag-at _ _ _ (words (c .before .before .before .before .before .before .before .before .before .before .before .args .state .now) (c .before .before .before .before .before .before .before .before .before .before .before .args .render .now) (c .before .before .before .before .before .before .before .before .before .before .before .args .fills .now)) (sym (c .before .before .before .before .before .is-good-row .ensures) ∙ not-false _ (c .before .before .before .before .if2 .left)) (c .before .before .before .before .before .before .if1 .left) (c .before .before .before .wide .ensures) (c .before .wide2 .ensures)
+returns-3 c =
+    let at-wide = c .before .before .before in
+    let at-if2 = at-wide .before in
+    let at-is-good-row = at-if2 .before in
+    let at-if1 = at-is-good-row .before in
+    let at-args = at-if1 .before .before .before .before .before in
+    tag-at _ _ _ (words (at-args .args .state .now) (at-args .args .render .now) (at-args .args .fills .now)) (sym (at-is-good-row .is-good-row .ensures) ∙
+    not-false _ (at-if2 .if2 .left)) (at-if1 .if1 .left) (at-wide .wide .ensures) (c .before .wide2 .ensures)
 
 pub is-good-pop-spec : {M : Type 1} → statement M
 is-good-pop-spec =

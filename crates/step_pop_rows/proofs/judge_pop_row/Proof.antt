@@ -29,13 +29,19 @@ part-requires-3 c κs = let start = c .before .before .before .before .before .b
 
 is-good-pop-requires : tie.Need-is-good-pop-requires
 is-good-pop-requires c κs =
-    let o = c .before .before .before .before .before .before .before .before .pre in
-    rw (c .before .before .before .before .part .ensures, c .before .before .part2 .ensures) (at-state _ _ _ _ (o .0 .long) (o .1), at-render _ _ _ _ (o .0 .long) (o .1), o .2, o .3)
+    let at-part2 = c .before .before in
+    let at-part = at-part2 .before .before in
+    let at-pre = at-part .before .before .before .before in
+    let o = at-pre .pre in
+    rw (at-part .part .ensures, at-part2 .part2 .ensures) (at-state _ _ _ _ (o .0 .long) (o .1), at-render _ _ _ _ (o .0 .long) (o .1), o .2, o .3)
 
 returns : tie.Need-returns
 returns c =
-    let o = c .before .before .before .before .before .before .before .before .before .pre in
-    rw (cut-at _ _ _ _ _ (o .1)) (rw (c .before .before .before .before .before .part .ensures, c .before .before .before .part2 .ensures, c .before .part3 .ensures) at (c .is-good-pop .ensures))
+    let at-part2 = c .before .before .before in
+    let at-part = at-part2 .before .before in
+    let at-pre = at-part .before .before .before .before in
+    let o = at-pre .pre in
+    rw (cut-at _ _ _ _ _ (o .1)) (rw (at-part .part .ensures, at-part2 .part2 .ensures, c .before .part3 .ensures) at (c .is-good-pop .ensures))
 
 pub judge-pop-row-spec : {M : Type 1} → statement M
 judge-pop-row-spec =

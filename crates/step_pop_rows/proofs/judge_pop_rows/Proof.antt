@@ -1,3 +1,4 @@
+-- The rows before r are good.
 use mathlib.Core.Path.{_∙_}
 use Prim.Native.Nat.{_-_}
 use mathlib.Core.Path.{_≡_, refl}
@@ -24,7 +25,9 @@ loop-holds : tie.Need-loop-holds Inv-loop μ-loop
 loop-holds c = refl
 
 judge-pop-row-requires : tie.Need-judge-pop-row-requires Inv-loop μ-loop
-judge-pop-row-requires c κs = (c .before .before .before .before .before .pre .0, omega arith, c .before .before .before .before .before .pre .2, c .before .before .before .before .before .pre .3)
+judge-pop-row-requires c κs =
+    let at-pre = c .before .before .before .before .before in
+    (at-pre .pre .0, omega arith, at-pre .pre .2, at-pre .pre .3)
 
 returns : tie.Need-returns Inv-loop μ-loop
 returns c = pops-bad _ _ _ _ _ _ (c .before .before .loop-test .taken) (c .before .judge-pop-row .ensures) (c .if1 .taken) (c .before .before .before .loop .inv)

@@ -10,16 +10,27 @@ y-within : tie.Need-part-pop-buf-end-2
 y-within c = let o = c .before .before .before .before .before .pre in y-end (o .0) (o .1) (c .before .place-of .ensures)
 
 z-within : tie.Need-part-pop-buf-end-3
-z-within c = let o = c .before .before .before .before .before .before .pre in z-end (o .0) (o .1) (c .before .before .place-of .ensures)
+z-within c =
+    let at-place-of = c .before .before in
+    let at-pre = at-place-of .before .before .before .before in
+    let o = at-pre .pre in
+    z-end (o .0) (o .1) (at-place-of .place-of .ensures)
 
 pop-buf-requires : tie.Need-pop-buf-requires
-pop-buf-requires c κs = let o = c .before .before .before .before .before .before .before .pre in rw (lent (o .0) (o .1) (c .before .before .before .place-of .ensures)) (o .2)
+pop-buf-requires c κs =
+    let at-place-of = c .before .before .before in
+    let at-pre = at-place-of .before .before .before .before in
+    let o = at-pre .pre in
+    rw (lent (o .0) (o .1) (at-place-of .place-of .ensures)) (o .2)
 
 returns : tie.Need-returns
 returns c =
-    let o = c .before .before .before .before .before .before .before .before .before .before .before .before .before .before .pre in
-    let s = c .before .before .before .before .before .before .before .before .before .before .place-of .ensures in
-    back (o .0) (o .1) s end-buf _ _ _ (end-grown _ (roomy (o .0) (o .1) s end-buf (o .2 .1) .state)) (c .before .before .before .before .before .before .pop-buf .ensures)
+    let at-pop-buf = c .before .before .before .before .before .before in
+    let at-place-of = at-pop-buf .before .before .before .before in
+    let at-pre = at-place-of .before .before .before .before in
+    let o = at-pre .pre in
+    let s = at-place-of .place-of .ensures in
+    back (o .0) (o .1) s end-buf _ _ _ (end-grown _ (roomy (o .0) (o .1) s end-buf (o .2 .1) .state)) (at-pop-buf .pop-buf .ensures)
 
 pub pop-at-spec : {M : Type 1} → statement M
 pop-at-spec =

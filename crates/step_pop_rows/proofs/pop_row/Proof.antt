@@ -23,10 +23,15 @@ slice-read-if1 : tie.Need-slice-read-if1
 slice-read-if1 c = search needs
 
 returns : tie.Need-returns
-returns c = act-other (c .before .before .before .before .before .before .pre .0) _ _ (c .before .before .before .before .before .before .pre .1) (c .if1 .taken) (c .before .before .before .before .before .before .args .screen .layers - 1) pop
+returns c =
+    let at-pre = c .before .before .before .before .before .before in
+    act-other (at-pre .pre .0) _ _ (at-pre .pre .1) (c .if1 .taken) (at-pre .args .screen .layers - 1) pop
 
 pop-at-requires : tie.Need-pop-at-requires
-pop-at-requires c κs = (c .before .before .before .before .before .before .before .before .before .pre .0, c .before .before .before .before .before .before .before .before .before .pre .1, each-here (c .before .before .before .before .before .before .before .before .before .pre .0) _ _ (c .before .before .before .before .before .before .before .before .before .pre .1) (c .before .before .before .if1 .left) Poppable (c .before .before .before .before .before .before .before .before .before .pre .2))
+pop-at-requires c κs =
+    let at-if1 = c .before .before .before in
+    let at-pre = at-if1 .before .before .before .before .before .before in
+    (at-pre .pre .0, at-pre .pre .1, each-here (at-pre .pre .0) _ _ (at-pre .pre .1) (at-if1 .if1 .left) Poppable (at-pre .pre .2))
 
 same-length : tie.Need-same-length
 same-length c = search needs
@@ -38,7 +43,11 @@ same-length-3 : tie.Need-same-length-3
 same-length-3 c = search needs
 
 returns-2 : tie.Need-returns-2
-returns-2 c = c .before .before .before .before .before .before .pop-at .ensures ∙ pop-here (c .before .before .before .before .before .before .before .before .before .before .before .before .before .before .before .before .pre .0) _ _ (c .before .before .before .before .before .before .before .before .before .before .before .before .before .before .before .before .pre .1) (c .before .before .before .before .before .before .before .before .before .before .if1 .left) (c .before .before .before .before .before .before .before .before .before .before .before .before .before .before .before .before .args .screen .layers - 1)
+returns-2 c =
+    let at-pop-at = c .before .before .before .before .before .before in
+    let at-if1 = at-pop-at .before .before .before .before in
+    let at-pre = at-if1 .before .before .before .before .before .before in
+    at-pop-at .pop-at .ensures ∙ pop-here (at-pre .pre .0) _ _ (at-pre .pre .1) (at-if1 .if1 .left) (at-pre .args .screen .layers - 1)
 
 pub pop-row-spec : {M : Type 1} → statement M
 pop-row-spec =

@@ -1,3 +1,4 @@
+-- So far the touched rows before r have their PopBuf; each from r on still has a level and room for its own.
 use Prim.Native.Nat.{_-_}
 use mathlib.Core.Path.{sym, _∙_}
 use native.Mathlib.Omega.{arith}
@@ -22,19 +23,35 @@ abbrev μ-loop : tie.MeasureT-loop
 μ-loop screen rows₀ render₀ fills₀ a b r₀ rows render fills r = b - r
 
 loop-holds : tie.Need-loop-holds Inv-loop μ-loop
-loop-holds c = (c .before .before .before .pre .0, going-start pop Poppable (c .before .before .before .args .screen .layers - 1) _ _ _ _ (c .before .before .before .pre .2))
+loop-holds c =
+    let at-pre = c .before .before .before in
+    (at-pre .pre .0, going-start pop Poppable (at-pre .args .screen .layers - 1) _ _ _ _ (at-pre .pre .2))
 
 pop-row-requires : tie.Need-pop-row-requires Inv-loop μ-loop
-pop-row-requires c κs = (c .before .before .before .before .loop .inv .0, omega (arith, c .before .before .before .loop-test .taken, c .before .before .before .before .before .before .before .before .pre .1), going-here (c .before .before .before .before .loop .inv .1) (c .before .before .before .loop-test .taken))
+pop-row-requires c κs =
+    let at-loop-test = c .before .before .before in
+    let at-loop = at-loop-test .before in
+    let at-pre = at-loop .before .before .before .before in
+    (at-loop .loop .inv .0, omega (arith, at-loop-test .loop-test .taken, at-pre .pre .1), going-here (at-loop .loop .inv .1) (at-loop-test .loop-test .taken))
 
 add-r : tie.Need-add-r Inv-loop μ-loop
-add-r c = omega (arith, c .before .before .before .before .before .before .before .before .before .before .loop-test .taken, c .before .before .before .before .before .before .before .before .before .before .before .before .before .before .before .pre .1, c .before .before .before .before .before .before .before .before .before .before .before .before .before .before .before .pre .0 .rows)
+add-r c =
+    let at-loop-test = c .before .before .before .before .before .before .before .before .before .before in
+    let at-pre = at-loop-test .before .before .before .before .before in
+    omega (arith, at-loop-test .loop-test .taken, at-pre .pre .1, at-pre .pre .0 .rows)
 
 loop-less : tie.Need-loop-less Inv-loop μ-loop
-loop-less c = omega (arith, c .before .before .before .before .before .before .before .before .before .before .loop-test .taken)
+loop-less c =
+    let at-loop-test = c .before .before .before .before .before .before .before .before .before .before in
+    omega (arith, at-loop-test .loop-test .taken)
 
 loop-again : tie.Need-loop-again Inv-loop μ-loop
-loop-again c = (long-after _ _ _ (c .before .before .before .before .before .before .before .before .before .before .before .loop .inv .0) (search needs) (search needs) (search needs), going-on (c .before .before .before .before .before .before .before .before .before .before .before .loop .inv .1) (c .before .before .before .before .before .before .before .before .before .before .loop-test .taken) (c .before .before .before .before .before .before .pop-row .ensures))
+loop-again c =
+    let at-pop-row = c .before .before .before .before .before .before in
+    let at-loop-test = at-pop-row .before .before .before .before in
+    let at-loop = at-loop-test .before in
+    (long-after _ _ _ (at-loop .loop .inv .0) (search needs) (search needs) (search needs),
+    going-on (at-loop .loop .inv .1) (at-loop-test .loop-test .taken) (at-pop-row .pop-row .ensures))
 
 same-length : tie.Need-same-length Inv-loop μ-loop
 same-length c = c .before .loop .inv .0 .long .state ∙ sym (c .before .before .before .before .before .pre .0 .long .state)

@@ -1,3 +1,4 @@
+-- The rows of the layer's box get their buffers, where it needs one; the table gets the layer; the clip box narrows.
 use native.Mathlib.Omega.{arith}
 use Rattle.row.specs.Words.{words}
 use Rattle.step_push.proofs.Laws.{ready, bottom-small, run-is, after-is}
@@ -9,28 +10,63 @@ layer-box-requires : tie.Need-layer-box-requires
 layer-box-requires c κs = search needs
 
 touch-run-requires : tie.Need-touch-run-requires
-touch-run-requires c κs = bottom-small (c .before .before .before .before .before .before .before .before .before .args .props) (c .before .before .before .before .before .before .before .before .before .args .screen) (words (c .before .before .before .before .before .before .before .before .before .args .rows .now) (c .before .before .before .before .before .before .before .before .before .args .render .now) (c .before .before .before .before .before .before .before .before .before .args .fills .now)) (ready (c .before .before .before .before .before .before .before .before .before .args .props) (c .before .before .before .before .before .before .before .before .before .args .screen) (words (c .before .before .before .before .before .before .before .before .before .args .rows .now) (c .before .before .before .before .before .before .before .before .before .args .render .now) (c .before .before .before .before .before .before .before .before .before .args .fills .now)) (c .before .before .before .before .before .before .before .before .before .args .layers .now) (c .before .before .before .before .before .before .before .before .before .args .opacities .now) (c .before .before .before .before .before .before .before .before .before .pre) .zero) _ (c .layer-box .ensures)
+touch-run-requires c κs =
+    let at-args = c .before .before .before .before .before .before .before .before .before in
+    bottom-small (at-args .args .props) (at-args .args .screen) (words (at-args .args .rows .now) (at-args .args .render .now) (at-args .args .fills .now))
+    (ready (at-args .args .props) (at-args .args .screen) (words (at-args .args .rows .now) (at-args .args .render .now) (at-args .args .fills .now))
+    (at-args .args .layers .now) (at-args .args .opacities .now) (at-args .pre) .zero) _ (c .layer-box .ensures)
 
 put-layer-requires : tie.Need-put-layer-requires
-put-layer-requires c κs = (ready (c .before .before .before .before .before .before .before .before .before .before .before .args .props) (c .before .before .before .before .before .before .before .before .before .before .before .args .screen) (words (c .before .before .before .before .before .before .before .before .before .before .before .args .rows .now) (c .before .before .before .before .before .before .before .before .before .before .before .args .render .now) (c .before .before .before .before .before .before .before .before .before .before .before .args .fills .now)) (c .before .before .before .before .before .before .before .before .before .before .before .args .layers .now) (c .before .before .before .before .before .before .before .before .before .before .before .args .opacities .now) (c .before .before .before .before .before .before .before .before .before .before .before .pre) .free, ready (c .before .before .before .before .before .before .before .before .before .before .before .args .props) (c .before .before .before .before .before .before .before .before .before .before .before .args .screen) (words (c .before .before .before .before .before .before .before .before .before .before .before .args .rows .now) (c .before .before .before .before .before .before .before .before .before .before .before .args .render .now) (c .before .before .before .before .before .before .before .before .before .before .before .args .fills .now)) (c .before .before .before .before .before .before .before .before .before .before .before .args .layers .now) (c .before .before .before .before .before .before .before .before .before .before .before .args .opacities .now) (c .before .before .before .before .before .before .before .before .before .before .before .pre) .layers)
+put-layer-requires c κs =
+    let at-args = c .before .before .before .before .before .before .before .before .before .before .before in
+    (ready (at-args .args .props) (at-args .args .screen) (words (at-args .args .rows .now) (at-args .args .render .now) (at-args .args .fills .now))
+    (at-args .args .layers .now) (at-args .args .opacities .now) (at-args .pre) .free,
+    ready (at-args .args .props) (at-args .args .screen) (words (at-args .args .rows .now) (at-args .args .render .now) (at-args .args .fills .now))
+    (at-args .args .layers .now) (at-args .args .opacities .now) (at-args .pre) .layers)
 
 cast-opacities : tie.Need-cast-opacities
-cast-opacities c = omega (arith, ready (c .before .before .before .before .before .before .before .before .before .before .before .before .before .before .args .props) (c .before .before .before .before .before .before .before .before .before .before .before .before .before .before .args .screen) (words (c .before .before .before .before .before .before .before .before .before .before .before .before .before .before .args .rows .now) (c .before .before .before .before .before .before .before .before .before .before .before .before .before .before .args .render .now) (c .before .before .before .before .before .before .before .before .before .before .before .before .before .before .args .fills .now)) (c .before .before .before .before .before .before .before .before .before .before .before .before .before .before .args .layers .now) (c .before .before .before .before .before .before .before .before .before .before .before .before .before .before .args .opacities .now) (c .before .before .before .before .before .before .before .before .before .before .before .before .before .before .pre) .free)
+cast-opacities c =
+    let at-args = c .before .before .before .before .before .before .before .before .before .before .before .before .before .before in
+    omega (arith, ready (at-args .args .props) (at-args .args .screen) (words (at-args .args .rows .now) (at-args .args .render .now)
+    (at-args .args .fills .now)) (at-args .args .layers .now) (at-args .args .opacities .now) (at-args .pre) .free)
 
 mul-opacities : tie.Need-mul-opacities
-mul-opacities c = omega (arith, ready (c .before .before .before .before .before .before .before .before .before .before .before .before .before .before .args .props) (c .before .before .before .before .before .before .before .before .before .before .before .before .before .before .args .screen) (words (c .before .before .before .before .before .before .before .before .before .before .before .before .before .before .args .rows .now) (c .before .before .before .before .before .before .before .before .before .before .before .before .before .before .args .render .now) (c .before .before .before .before .before .before .before .before .before .before .before .before .before .before .args .fills .now)) (c .before .before .before .before .before .before .before .before .before .before .before .before .before .before .args .layers .now) (c .before .before .before .before .before .before .before .before .before .before .before .before .before .before .args .opacities .now) (c .before .before .before .before .before .before .before .before .before .before .before .before .before .before .pre) .free)
+mul-opacities c =
+    let at-args = c .before .before .before .before .before .before .before .before .before .before .before .before .before .before in
+    omega (arith, ready (at-args .args .props) (at-args .args .screen) (words (at-args .args .rows .now) (at-args .args .render .now)
+    (at-args .args .fills .now)) (at-args .args .layers .now) (at-args .args .opacities .now) (at-args .pre) .free)
 
 slice-write-opacities : tie.Need-slice-write-opacities
-slice-write-opacities c = omega (arith, ready (c .before .before .before .before .before .before .before .before .before .before .before .before .before .before .args .props) (c .before .before .before .before .before .before .before .before .before .before .before .before .before .before .args .screen) (words (c .before .before .before .before .before .before .before .before .before .before .before .before .before .before .args .rows .now) (c .before .before .before .before .before .before .before .before .before .before .before .before .before .before .args .render .now) (c .before .before .before .before .before .before .before .before .before .before .before .before .before .before .args .fills .now)) (c .before .before .before .before .before .before .before .before .before .before .before .before .before .before .args .layers .now) (c .before .before .before .before .before .before .before .before .before .before .before .before .before .before .args .opacities .now) (c .before .before .before .before .before .before .before .before .before .before .before .before .before .before .pre) .free, ready (c .before .before .before .before .before .before .before .before .before .before .before .before .before .before .args .props) (c .before .before .before .before .before .before .before .before .before .before .before .before .before .before .args .screen) (words (c .before .before .before .before .before .before .before .before .before .before .before .before .before .before .args .rows .now) (c .before .before .before .before .before .before .before .before .before .before .before .before .before .before .args .render .now) (c .before .before .before .before .before .before .before .before .before .before .before .before .before .before .args .fills .now)) (c .before .before .before .before .before .before .before .before .before .before .before .before .before .before .args .layers .now) (c .before .before .before .before .before .before .before .before .before .before .before .before .before .before .args .opacities .now) (c .before .before .before .before .before .before .before .before .before .before .before .before .before .before .pre) .opacities)
+slice-write-opacities c =
+    let at-args = c .before .before .before .before .before .before .before .before .before .before .before .before .before .before in
+    omega (arith, ready (at-args .args .props) (at-args .args .screen) (words (at-args .args .rows .now) (at-args .args .render .now)
+    (at-args .args .fills .now)) (at-args .args .layers .now) (at-args .args .opacities .now) (at-args .pre) .free,
+    ready (at-args .args .props) (at-args .args .screen) (words (at-args .args .rows .now) (at-args .args .render .now) (at-args .args .fills .now))
+    (at-args .args .layers .now) (at-args .args .opacities .now) (at-args .pre) .opacities)
 
 add-touch-rows : tie.Need-add-touch-rows
-add-touch-rows c = omega (arith, ready (c .before .before .before .before .before .before .before .before .before .before .before .before .before .before .before .before .before .args .props) (c .before .before .before .before .before .before .before .before .before .before .before .before .before .before .before .before .before .args .screen) (words (c .before .before .before .before .before .before .before .before .before .before .before .before .before .before .before .before .before .args .rows .now) (c .before .before .before .before .before .before .before .before .before .before .before .before .before .before .before .before .before .args .render .now) (c .before .before .before .before .before .before .before .before .before .before .before .before .before .before .before .before .before .args .fills .now)) (c .before .before .before .before .before .before .before .before .before .before .before .before .before .before .before .before .before .args .layers .now) (c .before .before .before .before .before .before .before .before .before .before .before .before .before .before .before .before .before .args .opacities .now) (c .before .before .before .before .before .before .before .before .before .before .before .before .before .before .before .before .before .pre) .free)
+add-touch-rows c =
+    let at-args = c .before .before .before .before .before .before .before .before .before .before .before .before .before .before .before .before .before in
+    omega (arith, ready (at-args .args .props) (at-args .args .screen) (words (at-args .args .rows .now) (at-args .args .render .now)
+    (at-args .args .fills .now)) (at-args .args .layers .now) (at-args .args .opacities .now) (at-args .pre) .free)
 
 touch-rows-requires : tie.Need-touch-rows-requires
-touch-rows-requires c κs = rw (run-is (c .before .before .before .before .before .before .before .before .before .before .before .before .before .before .before .before .before .args .props) (c .before .before .before .before .before .before .before .before .before .before .before .before .before .before .before .before .before .args .screen) (words (c .before .before .before .before .before .before .before .before .before .before .before .before .before .before .before .before .before .args .rows .now) (c .before .before .before .before .before .before .before .before .before .before .before .before .before .before .before .before .before .args .render .now) (c .before .before .before .before .before .before .before .before .before .before .before .before .before .before .before .before .before .args .fills .now)) (ready (c .before .before .before .before .before .before .before .before .before .before .before .before .before .before .before .before .before .args .props) (c .before .before .before .before .before .before .before .before .before .before .before .before .before .before .before .before .before .args .screen) (words (c .before .before .before .before .before .before .before .before .before .before .before .before .before .before .before .before .before .args .rows .now) (c .before .before .before .before .before .before .before .before .before .before .before .before .before .before .before .before .before .args .render .now) (c .before .before .before .before .before .before .before .before .before .before .before .before .before .before .before .before .before .args .fills .now)) (c .before .before .before .before .before .before .before .before .before .before .before .before .before .before .before .before .before .args .layers .now) (c .before .before .before .before .before .before .before .before .before .before .before .before .before .before .before .before .before .args .opacities .now) (c .before .before .before .before .before .before .before .before .before .before .before .before .before .before .before .before .before .pre) .zero) _ (c .before .before .before .before .before .before .before .before .layer-box .ensures) _ (c .before .before .before .before .before .before .before .touch-run .ensures)) (ready (c .before .before .before .before .before .before .before .before .before .before .before .before .before .before .before .before .before .args .props) (c .before .before .before .before .before .before .before .before .before .before .before .before .before .before .before .before .before .args .screen) (words (c .before .before .before .before .before .before .before .before .before .before .before .before .before .before .before .before .before .args .rows .now) (c .before .before .before .before .before .before .before .before .before .before .before .before .before .before .before .before .before .args .render .now) (c .before .before .before .before .before .before .before .before .before .before .before .before .before .before .before .before .before .args .fills .now)) (c .before .before .before .before .before .before .before .before .before .before .before .before .before .before .before .before .before .args .layers .now) (c .before .before .before .before .before .before .before .before .before .before .before .before .before .before .before .before .before .args .opacities .now) (c .before .before .before .before .before .before .before .before .before .before .before .before .before .before .before .before .before .pre) .on)
+touch-rows-requires c κs =
+    let at-touch-run = c .before .before .before .before .before .before .before in
+    let at-layer-box = at-touch-run .before in
+    let at-args = at-layer-box .before .before .before .before .before .before .before .before .before in
+    rw (run-is (at-args .args .props) (at-args .args .screen) (words (at-args .args .rows .now) (at-args .args .render .now) (at-args .args .fills .now)) (ready
+    (at-args .args .props) (at-args .args .screen) (words (at-args .args .rows .now) (at-args .args .render .now) (at-args .args .fills .now))
+    (at-args .args .layers .now) (at-args .args .opacities .now) (at-args .pre) .zero) _ (at-layer-box .layer-box .ensures) _
+    (at-touch-run .touch-run .ensures)) (ready (at-args .args .props) (at-args .args .screen) (words (at-args .args .rows .now) (at-args .args .render .now)
+    (at-args .args .fills .now)) (at-args .args .layers .now) (at-args .args .opacities .now) (at-args .pre) .on)
 
 on-layer-requires : tie.Need-on-layer-requires
-on-layer-requires c κs = omega (arith, ready (c .before .before .before .before .before .before .before .before .before .before .before .before .before .before .before .before .before .before .before .before .before .before .before .before .args .props) (c .before .before .before .before .before .before .before .before .before .before .before .before .before .before .before .before .before .before .before .before .before .before .before .before .args .screen) (words (c .before .before .before .before .before .before .before .before .before .before .before .before .before .before .before .before .before .before .before .before .before .before .before .before .args .rows .now) (c .before .before .before .before .before .before .before .before .before .before .before .before .before .before .before .before .before .before .before .before .before .before .before .before .args .render .now) (c .before .before .before .before .before .before .before .before .before .before .before .before .before .before .before .before .before .before .before .before .before .before .before .before .args .fills .now)) (c .before .before .before .before .before .before .before .before .before .before .before .before .before .before .before .before .before .before .before .before .before .before .before .before .args .layers .now) (c .before .before .before .before .before .before .before .before .before .before .before .before .before .before .before .before .before .before .before .before .before .before .before .before .args .opacities .now) (c .before .before .before .before .before .before .before .before .before .before .before .before .before .before .before .before .before .before .before .before .before .before .before .before .pre) .free)
+on-layer-requires c κs =
+    let at-args = c .before .before .before .before .before .before .before .before .before .before .before .before .before .before .before .before
+        .before .before .before .before .before .before .before .before in
+    omega (arith, ready (at-args .args .props) (at-args .args .screen) (words (at-args .args .rows .now) (at-args .args .render .now)
+    (at-args .args .fills .now)) (at-args .args .layers .now) (at-args .args .opacities .now) (at-args .pre) .free)
 
 same-length : tie.Need-same-length
 same-length c = search needs
@@ -48,7 +84,17 @@ same-length-5 : tie.Need-same-length-5
 same-length-5 c = search needs
 
 returns : tie.Need-returns
-returns c = rw (c .before .before .before .before .before .before .before .before .before .before .before .before .before .put-layer .ensures) (after-is (c .before .before .before .before .before .before .before .before .before .before .before .before .before .before .before .before .before .before .before .before .before .before .before .before .before .args .props) (c .before .before .before .before .before .before .before .before .before .before .before .before .before .before .before .before .before .before .before .before .before .before .before .before .before .args .screen) (words (c .before .before .before .before .before .before .before .before .before .before .before .before .before .before .before .before .before .before .before .before .before .before .before .before .before .args .rows .now) (c .before .before .before .before .before .before .before .before .before .before .before .before .before .before .before .before .before .before .before .before .before .before .before .before .before .args .render .now) (c .before .before .before .before .before .before .before .before .before .before .before .before .before .before .before .before .before .before .before .before .before .before .before .before .before .args .fills .now)) (c .before .before .before .before .before .before .before .before .before .before .before .before .before .before .before .before .before .before .before .before .before .before .before .before .before .args .layers .now) (c .before .before .before .before .before .before .before .before .before .before .before .before .before .before .before .before .before .before .before .before .before .before .before .before .before .args .opacities .now) (ready (c .before .before .before .before .before .before .before .before .before .before .before .before .before .before .before .before .before .before .before .before .before .before .before .before .before .args .props) (c .before .before .before .before .before .before .before .before .before .before .before .before .before .before .before .before .before .before .before .before .before .before .before .before .before .args .screen) (words (c .before .before .before .before .before .before .before .before .before .before .before .before .before .before .before .before .before .before .before .before .before .before .before .before .before .args .rows .now) (c .before .before .before .before .before .before .before .before .before .before .before .before .before .before .before .before .before .before .before .before .before .before .before .before .before .args .render .now) (c .before .before .before .before .before .before .before .before .before .before .before .before .before .before .before .before .before .before .before .before .before .before .before .before .before .args .fills .now)) (c .before .before .before .before .before .before .before .before .before .before .before .before .before .before .before .before .before .before .before .before .before .before .before .before .before .args .layers .now) (c .before .before .before .before .before .before .before .before .before .before .before .before .before .before .before .before .before .before .before .before .before .before .before .before .before .args .opacities .now) (c .before .before .before .before .before .before .before .before .before .before .before .before .before .before .before .before .before .before .before .before .before .before .before .before .before .pre)) _ (c .before .before .before .before .before .before .before .before .before .before .before .before .before .before .before .before .layer-box .ensures) _ _ _ (c .on-layer .ensures) (c .before .before .before .before .before .before .before .before .before .before .before .before .before .before .before .touch-run .ensures) (c .before .before .before .before .before .before .before .touch-rows .ensures))
+returns c =
+    let at-touch-rows = c .before .before .before .before .before .before .before in
+    let at-put-layer = at-touch-rows .before .before .before .before .before .before in
+    let at-touch-run = at-put-layer .before .before in
+    let at-layer-box = at-touch-run .before in
+    let at-args = at-layer-box .before .before .before .before .before .before .before .before .before in
+    rw (at-put-layer .put-layer .ensures) (after-is (at-args .args .props) (at-args .args .screen) (words (at-args .args .rows .now)
+    (at-args .args .render .now) (at-args .args .fills .now)) (at-args .args .layers .now) (at-args .args .opacities .now) (ready (at-args .args .props)
+    (at-args .args .screen) (words (at-args .args .rows .now) (at-args .args .render .now) (at-args .args .fills .now)) (at-args .args .layers .now)
+    (at-args .args .opacities .now) (at-args .pre)) _ (at-layer-box .layer-box .ensures) _ _ _ (c .on-layer .ensures) (at-touch-run .touch-run .ensures)
+    (at-touch-rows .touch-rows .ensures))
 
 pub do-push-spec : {M : Type 1} → statement M
 do-push-spec =

@@ -30,7 +30,12 @@ cast-t10 c = search needs
 
 returns-3 : tie.Need-returns-3
 unfolding touch-run
-returns-3 c = rw (sym (c .before .before .before .before .before .is-destructive .ensures) ∙ not-false _ (c .before .before .before .before .if1 .left), sym (c .before .before .before .is-empty .ensures) ∙ c .before .before .if2 .left)
+returns-3 c =
+    let at-if2 = c .before .before in
+    let at-is-empty = at-if2 .before in
+    let at-if1 = at-is-empty .before in
+    let at-is-destructive = at-if1 .before in
+    rw (sym (at-is-destructive .is-destructive .ensures) ∙ not-false _ (at-if1 .if1 .left), sym (at-is-empty .is-empty .ensures) ∙ at-if2 .if2 .left)
 
 pub touch-run-spec : {M : Type 1} → statement M
 touch-run-spec =

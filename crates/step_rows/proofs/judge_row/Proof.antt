@@ -25,7 +25,11 @@ sub-if2 : tie.Need-sub-if2
 sub-if2 c = omega (arith, counted _ _ _ _ (sym (c .before .before .before .is-good-row .ensures) ∙ not-false _ (c .before .before .if1 .left)) .levels)
 
 add-if2-2 : tie.Need-add-if2-2
-add-if2-2 c = omega (arith, counted _ _ _ _ (sym (c .before .before .before .is-good-row .ensures) ∙ not-false _ (c .before .before .if1 .left)) .renders, c .before .before .before .before .before .pre)
+add-if2-2 c =
+    let at-if1 = c .before .before in
+    let at-is-good-row = at-if1 .before in
+    let at-pre = at-is-good-row .before .before in
+    omega (arith, counted _ _ _ _ (sym (at-is-good-row .is-good-row .ensures) ∙ not-false _ (at-if1 .if1 .left)) .renders, at-pre .pre)
 
 returns-2 : tie.Need-returns-2
 returns-2 c = rw (sym (c .before .before .before .before .is-good-row .ensures) ∙ not-false _ (c .before .before .before .if1 .left), lt-ltb _ _ (c .if2 .taken))

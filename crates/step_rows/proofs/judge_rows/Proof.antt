@@ -29,7 +29,10 @@ judge-row-requires c κs =
 
 returns : tie.Need-returns Inv-loop μ-loop
 returns c =
-    going-bad _ _ _ _ _ _ _ _ _ (c .before .before .before .loop-test .taken) (c .before .before .part .ensures) (c .before .judge-row .ensures) (c .if1 .taken) ∙ c .before .before .before .before .loop .inv
+    let at-part = c .before .before in
+    let at-loop-test = at-part .before in
+    let at-loop = at-loop-test .before in
+    going-bad _ _ _ _ _ _ _ _ _ (at-loop-test .loop-test .taken) (at-part .part .ensures) (c .before .judge-row .ensures) (c .if1 .taken) ∙ at-loop .loop .inv
 
 add-r : tie.Need-add-r Inv-loop μ-loop
 add-r c = record { fits = omega arith }
@@ -39,12 +42,16 @@ loop-less c = omega arith
 
 loop-again : tie.Need-loop-again Inv-loop μ-loop
 loop-again c =
-    let here = c .before .before .before .before .loop-test .taken in
-    let own = c .before .before .before .part .ensures in
-    let told = c .before .before .judge-row .ensures in
-    let held = c .before .before .before .before .before .loop .inv in
-    ⊎-elim (λ w. rw (w .1) (going-full _ _ _ _ _ _ _ _ _ here own told (w .0 .taken) ∙ held))
-    (λ w. rw (w .1) (going-fine _ _ _ _ _ _ _ _ _ here own told (c .before .if1 .left) (w .0 .left) ∙ held)) (c .if2 .came)
+    let at-judge-row = c .before .before in
+    let at-part = at-judge-row .before in
+    let at-loop-test = at-part .before in
+    let at-loop = at-loop-test .before in
+    let here = at-loop-test .loop-test .taken in
+    let own = at-part .part .ensures in
+    let told = at-judge-row .judge-row .ensures in
+    let held = at-loop .loop .inv in
+    ⊎-elim (λ w. rw (w .1) (going-full _ _ _ _ _ _ _ _ _ here own told (w .0 .taken) ∙ held)) (λ w. rw (w .1) (going-fine _ _ _ _ _ _ _ _ _ here own told
+    (c .before .if1 .left) (w .0 .left) ∙ held)) (c .if2 .came)
 
 returns-2 : tie.Need-returns-2 Inv-loop μ-loop
 returns-2 c = sym (going-end _ _ _ _ _ _ _ (c .loop-test .left)) ∙ c .before .loop .inv

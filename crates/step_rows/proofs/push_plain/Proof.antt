@@ -11,10 +11,17 @@ use Rattle.row_acts.proofs.ensure_row_layers.Reads as ensure-row-layers-reads
 use Rattle.row.proofs.push_paint.Reads as push-paint-reads
 
 ensure-row-layers-requires : tie.Need-ensure-row-layers-requires
-ensure-row-layers-requires c κs = (c .before .before .before .before .before .before .pre .1, first-room _ _ 0 (tiles (c .before .before .before .before .before .before .args .span)) _ (c .before .before .before .before .before .before .pre .2 .state) (c .before .before .before .before .before .before .pre .2 .levels) (c .before .before .before .before .before .before .pre .1) false none (c .before .before .before .before .before .before .pre .2))
+ensure-row-layers-requires c κs =
+    let at-pre = c .before .before .before .before .before .before in
+    (at-pre .pre .1, first-room _ _ 0 (tiles (at-pre .args .span)) _ (at-pre .pre .2 .state) (at-pre .pre .2 .levels) (at-pre .pre .1) false none
+    (at-pre .pre .2))
 
 push-paint-requires : tie.Need-push-paint-requires
-push-paint-requires c κs = (c .before .before .before .before .before .before .before .before .before .before .before .before .before .before .before .before .pre .0, rw (← c .before .before .before .before .before .before .before .before .before .ensure-row-layers .ensures) at (layers-then _ (c .before .before .before .before .before .before .before .before .before .before .before .before .before .before .before .before .pre .1) (c .before .before .before .before .before .before .before .before .before .ensure-row-layers .ensures) (rw drawn-plain at (c .before .before .before .before .before .before .before .before .before .before .before .before .before .before .before .before .pre .2))))
+push-paint-requires c κs =
+    let at-ensure-row-layers = c .before .before .before .before .before .before .before .before .before in
+    let at-pre = at-ensure-row-layers .before .before .before .before .before .before .before in
+    (at-pre .pre .0, rw (← at-ensure-row-layers .ensure-row-layers .ensures) at (layers-then _ (at-pre .pre .1)
+    (at-ensure-row-layers .ensure-row-layers .ensures) (rw drawn-plain at (at-pre .pre .2))))
 
 same-length : tie.Need-same-length
 same-length c = search needs
@@ -26,7 +33,10 @@ same-length-3 : tie.Need-same-length-3
 same-length-3 c = search needs
 
 returns : tie.Need-returns
-returns c = rw (drawn-plain, ← c .before .before .before .before .before .before .before .before .before .before .before .before .before .before .before .before .ensure-row-layers .ensures) (c .before .before .before .before .before .before .push-paint .ensures)
+returns c =
+    let at-push-paint = c .before .before .before .before .before .before in
+    let at-ensure-row-layers = at-push-paint .before .before .before .before .before .before .before .before .before .before in
+    rw (drawn-plain, ← at-ensure-row-layers .ensure-row-layers .ensures) (at-push-paint .push-paint .ensures)
 
 pub push-plain-spec : {M : Type 1} → statement M
 push-plain-spec =

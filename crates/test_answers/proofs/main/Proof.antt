@@ -1,3 +1,4 @@
+-- The sequences before this one are answered.
 use lib.Seq.{length-take-le}
 use mathlib.Core.Path.{sym, _≡_}
 use lib.ListN.{length}
@@ -15,7 +16,9 @@ use Rattle.test_answers.proofs.write_list.Reads as write-list-reads
 
 abbrev Inv-loop : tie.InvT-loop
 Inv-loop bytes₀ input₀ out₀ render₀ fills₀ depth₀ rows₀ painting₀ layers₀ opacities₀ paint-attrs₀ layer-attrs₀ filter-paints₀ list₀ left₀ bytes input out render fills depth rows painting layers opacities paint-attrs layer-attrs filter-paints list left =
-    (length bytes ≡ 131072) × (length input ≡ 32768) × (length out ≡ 32768) × (length render ≡ 16384) × (length fills ≡ 8192) × (length depth ≡ 1024) × (length rows ≡ 1728) × (length painting ≡ 64) × (length layers ≡ 256) × (length opacities ≡ 1040) × (length paint-attrs ≡ 8192) × (length layer-attrs ≡ 6144) × (length filter-paints ≡ 1024) × (length list ≡ 64)
+    (length bytes ≡ 131072) × (length input ≡ 32768) × (length out ≡ 32768) × (length render ≡ 16384) × (length fills ≡ 8192) × (length depth ≡ 1024) × (length
+    rows ≡ 1728) × (length painting ≡ 64) × (length layers ≡ 256) × (length opacities ≡ 1040) × (length paint-attrs ≡ 8192) × (length layer-attrs ≡ 6144) ×
+    (length filter-paints ≡ 1024) × (length list ≡ 64)
 
 abbrev μ-loop : tie.MeasureT-loop
 μ-loop bytes₀ input₀ out₀ render₀ fills₀ depth₀ rows₀ painting₀ layers₀ opacities₀ paint-attrs₀ layer-attrs₀ filter-paints₀ list₀ left₀ bytes input out render fills depth rows painting layers opacities paint-attrs layer-attrs filter-paints list left =
@@ -91,10 +94,18 @@ write-list-requires : tie.Need-write-list-requires Inv-loop μ-loop
 write-list-requires c κs = search needs
 
 sub-left : tie.Need-sub-left Inv-loop μ-loop
-sub-left c = omega (arith, c .before .before .before .before .before .before .before .before .before .before .before .before .before .before .before .before .before .before .before .before .before .before .before .before .before .before .before .before .before .before .before .before .before .before .before .before .before .loop-test .taken)
+sub-left c =
+    let at-loop-test = c .before .before .before .before .before .before .before .before .before .before .before .before .before .before .before .before
+        .before .before .before .before .before .before .before .before .before .before .before .before .before .before .before .before .before .before
+        .before .before .before in
+    omega (arith, at-loop-test .loop-test .taken)
 
 loop-less : tie.Need-loop-less Inv-loop μ-loop
-loop-less c = omega (arith, c .before .before .before .before .before .before .before .before .before .before .before .before .before .before .before .before .before .before .before .before .before .before .before .before .before .before .before .before .before .before .before .before .before .before .before .before .before .loop-test .taken)
+loop-less c =
+    let at-loop-test = c .before .before .before .before .before .before .before .before .before .before .before .before .before .before .before .before
+        .before .before .before .before .before .before .before .before .before .before .before .before .before .before .before .before .before .before
+        .before .before .before in
+    omega (arith, at-loop-test .loop-test .taken)
 
 loop-again : tie.Need-loop-again Inv-loop μ-loop
 loop-again c = search needs

@@ -1,3 +1,4 @@
+-- The words before i are written as bytes; the buffer keeps its length.
 use mathlib.Core.Path.{_≡_}
 use lib.ListN.{length}
 use Prim.Native.Nat.{_≤_, _<_, _-_}

@@ -1,3 +1,4 @@
+-- The sum stays a word; the words before i are in it.
 use mathlib.Core.Path.{_≡_}
 use lib.ListN.{length}
 use Prim.Native.Nat.{_≤_, _<_, _-_}

@@ -1,3 +1,4 @@
+-- The sequences before this one are answered; the words keep their lengths.
 use mathlib.Core.Path.{_≡_}
 use lib.ListN.{length}
 use Prim.Native.Nat.{_≤_, _-_}
@@ -16,7 +17,9 @@ use Rattle.test_forged.proofs.word.Reads as word-reads
 
 abbrev Inv-loop : tie.InvT-loop
 Inv-loop words out₀ render₀ fills₀ depth₀ rows₀ painting₀ layers₀ opacities₀ paint-attrs₀ layer-attrs₀ filter-paints₀ list₀ column₀ at₀ out render fills depth rows painting layers opacities paint-attrs layer-attrs filter-paints list column at =
-    (at ≤ length words) × (length out ≡ 256) × (length render ≡ 1024) × (length fills ≡ 512) × (length depth ≡ 64) × (length rows ≡ 1728) × (length painting ≡ 64) × (length layers ≡ 256) × (length opacities ≡ 1040) × (length paint-attrs ≡ 8192) × (length layer-attrs ≡ 6144) × (length filter-paints ≡ 1024) × (length list ≡ 64)
+    (at ≤ length words) × (length out ≡ 256) × (length render ≡ 1024) × (length fills ≡ 512) × (length depth ≡ 64) × (length rows ≡ 1728) × (length painting ≡
+    64) × (length layers ≡ 256) × (length opacities ≡ 1040) × (length paint-attrs ≡ 8192) × (length layer-attrs ≡ 6144) × (length filter-paints ≡ 1024) ×
+    (length list ≡ 64)
 
 abbrev μ-loop : tie.MeasureT-loop
 μ-loop words out₀ render₀ fills₀ depth₀ rows₀ painting₀ layers₀ opacities₀ paint-attrs₀ layer-attrs₀ filter-paints₀ list₀ column₀ at₀ out render fills depth rows painting layers opacities paint-attrs layer-attrs filter-paints list column at =
@@ -95,7 +98,14 @@ next-column-requires : tie.Need-next-column-requires Inv-loop μ-loop
 next-column-requires c κs = search needs
 
 loop-less : tie.Need-loop-less Inv-loop μ-loop
-loop-less c = omega (arith, c .before .before .before .before .before .before .before .before .before .before .before .before .before .before .before .before .before .before .before .before .before .before .before .before .before .before .before .before .before .before .before .before .before .before .after .ensures .2 (omega arith) (c .before .before .before .before .before .before .before .before .before .before .before .before .before .before .before .before .before .before .before .before .before .before .before .before .before .before .before .before .before .before .before .before .before .before .before .loop-test .taken), c .before .before .before .before .before .before .before .before .before .before .before .before .before .before .before .before .before .before .before .before .before .before .before .before .before .before .before .before .before .before .before .before .before .after2 .ensures .0, c .before .before .before .before .before .before .before .before .before .before .before .before .before .before .before .before .before .before .before .before .before .before .before .before .before .before .before .before .before .before .after3 .ensures .0, c .before .before .before .before .before .before .before .before .before .before .before .before .before .before .before .before .before .before .before .before .before .before .before .before .before .before .before .before .before .before .after3 .ensures .1)
+loop-less c =
+    let at-after3 = c .before .before .before .before .before .before .before .before .before .before .before .before .before .before .before .before
+        .before .before .before .before .before .before .before .before .before .before .before .before .before .before in
+    let at-after2 = at-after3 .before .before .before in
+    let at-after = at-after2 .before in
+    let at-loop-test = at-after .before in
+    omega (arith, at-after .after .ensures .2 (omega arith) (at-loop-test .loop-test .taken), at-after2 .after2 .ensures .0, at-after3 .after3 .ensures .0,
+    at-after3 .after3 .ensures .1)
 
 loop-again : tie.Need-loop-again Inv-loop μ-loop
 loop-again c = search needs

@@ -1,3 +1,4 @@
+-- The attributes before i are shown; the list keeps its length.
 use mathlib.Core.Path.{_≡_}
 use lib.ListN.{length}
 use Prim.Native.Nat.{_≤_, _-_}

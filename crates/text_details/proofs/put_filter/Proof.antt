@@ -67,7 +67,24 @@ same-length : tie.Need-same-length
 same-length c = search needs
 
 returns : tie.Need-returns
-returns c = filter-written ((c .before .before .before .before .before .before .before .before .before .before .before .before .before .before .before .before .before .before .before .before .before .before .before .before .before .before .before .before .before .before .before .args) .table .now) ((c .before .before .before .before .before .before .before .before .before .before .before .before .before .before .before .before .before .before .before .before .before .before .before .before .before .before .before .before .before .before .before .args) .i) ((c .before .before .before .before .before .before .before .before .before .before .before .before .before .before .before .before .before .before .before .before .before .before .before .before .before .before .before .before .before .flag) .given) ((c .before .before .before .before .before .before .before .before .before .before .before .before .before .before .before .before .before .before .before .before .before .before .before .before .before .before .before .before .pixmap) .given) ((c .before .before .before .before .before .before .before .before .before .before .before .before .before .before .before .before .before .before .before .before .before .before .before .before .before .before .before .x) .given) ((c .before .before .before .before .before .before .before .before .before .before .before .before .before .before .before .before .before .before .before .before .before .before .before .before .before .before .y) .given) ((c .before .before .before .before .before .before .before .before .before .before .before .before .before .before .before .before .before .before .before .before .magnitude) .ensures) ((c .before .before .before .before .before .before .before .before .before .before .before .before .before .before .before .magnitude2) .ensures) ((c .before .before .before .before .before .before .before .before .before .before .before .before .before .before .before .before .before .before .before .before .before .before .before .before .put-byte) .ensures) ((c .before .before .before .before .before .before .before .before .before .before .before .before .before .before .before .before .before .before .before .put-number) .ensures) ((c .before .before .before .before .before .before .before .before .before .before .before .before .before .before .put-number2) .ensures) ((c .before .before .before .before .before .before .before .before .before .before .put-signed) .ensures) ((c .before .before .before .before .before .before .put-signed2) .ensures) ((c .before .before .put-byte2) .ensures)
+returns c =
+    let at-put-byte2 = c .before .before in
+    let at-put-signed2 = at-put-byte2 .before .before .before .before in
+    let at-put-signed = at-put-signed2 .before .before .before .before in
+    let at-put-number2 = at-put-signed .before .before .before .before in
+    let at-magnitude2 = at-put-number2 .before in
+    let at-put-number = at-magnitude2 .before .before .before .before in
+    let at-magnitude = at-put-number .before in
+    let at-put-byte = at-magnitude .before .before .before .before in
+    let at-y = at-put-byte .before .before in
+    let at-x = at-y .before in
+    let at-pixmap = at-x .before in
+    let at-flag = at-pixmap .before in
+    let at-args = at-flag .before .before in
+    filter-written ((at-args .args) .table .now) ((at-args .args) .i) ((at-flag .flag) .given) ((at-pixmap .pixmap) .given) ((at-x .x) .given)
+    ((at-y .y) .given) ((at-magnitude .magnitude) .ensures) ((at-magnitude2 .magnitude2) .ensures) ((at-put-byte .put-byte) .ensures)
+    ((at-put-number .put-number) .ensures) ((at-put-number2 .put-number2) .ensures) ((at-put-signed .put-signed) .ensures)
+    ((at-put-signed2 .put-signed2) .ensures) ((at-put-byte2 .put-byte2) .ensures)
 
 pub put-filter-spec : {M : Type 1} → statement M
 put-filter-spec =

@@ -88,7 +88,17 @@ same-length : tie.Need-same-length
 same-length c = search needs
 
 returns : tie.Need-returns
-returns c = layer-attr-written ((c .before .before .before .before .before .before .before .before .before .before .before .before .before .before .before .before .before .before .before .before .before .before .before .before .before .before .before .before .before .before .before .args) .table .now) ((c .before .before .before .before .before .before .before .before .before .before .before .before .before .before .before .before .before .before .before .before .before .before .before .before .before .before .before .before .before .before .before .args) .opacities .now) ((c .before .before .before .before .before .before .before .before .before .before .before .before .before .before .before .before .before .before .before .before .before .before .before .before .before .before .before .before .before .before .before .args) .i) _ ((c .before .before .before .before .before .before .before .before .before .before .before .before .before .before .before .before .before .before .before .before .before .before .before .before .before .opacity-bits) .ensures) ((c .before .before .before .before .before .before .before .before .before .before .before .before .before .before .before .before .before .before .before .before .before .before .before .put-byte) .ensures) ((c .before .before .before .before .before .before .before .before .before .before .before .before .before .before .before .before .put-four) .ensures) ((c .before .before .before .before .before .before .before .before .before .before .before .put-number) .ensures) ((c .before .before .before .before .before .before .put-number2) .ensures) ((c .before .before .put-byte2) .ensures)
+returns c =
+    let at-put-byte2 = c .before .before in
+    let at-put-number2 = at-put-byte2 .before .before .before .before in
+    let at-put-number = at-put-number2 .before .before .before .before .before in
+    let at-put-four = at-put-number .before .before .before .before .before in
+    let at-put-byte = at-put-four .before .before .before .before .before .before .before in
+    let at-opacity-bits = at-put-byte .before .before in
+    let at-args = at-opacity-bits .before .before .before .before .before .before in
+    layer-attr-written ((at-args .args) .table .now) ((at-args .args) .opacities .now) ((at-args .args) .i) _ ((at-opacity-bits .opacity-bits) .ensures)
+    ((at-put-byte .put-byte) .ensures) ((at-put-four .put-four) .ensures) ((at-put-number .put-number) .ensures) ((at-put-number2 .put-number2) .ensures)
+    ((at-put-byte2 .put-byte2) .ensures)
 
 pub put-layer-attr-spec : {M : Type 1} → statement M
 put-layer-attr-spec =

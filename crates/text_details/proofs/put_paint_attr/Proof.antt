@@ -91,7 +91,14 @@ same-length : tie.Need-same-length
 same-length c = search needs
 
 returns : tie.Need-returns
-returns c = paint-attr-written ((c .before .before .before .before .before .before .before .before .before .before .before .before .before .before .before .before .before .before .before .before .before .before .before .before .before .before .args) .table .now) ((c .before .before .before .before .before .before .before .before .before .before .before .before .before .before .before .before .before .before .before .before .before .before .before .before .before .before .args) .i) ((c .before .before .before .before .before .before .before .before .before .before .before .before .before .before .before .before .before .before .before .before .before .before .put-byte) .ensures) ((c .before .before .before .before .before .before .before .before .before .before .before .before .before .before .put-four) .ensures) ((c .before .before .before .before .before .before .put-four2) .ensures) ((c .before .before .put-byte2) .ensures)
+returns c =
+    let at-put-byte2 = c .before .before in
+    let at-put-four2 = at-put-byte2 .before .before .before .before in
+    let at-put-four = at-put-four2 .before .before .before .before .before .before .before .before in
+    let at-put-byte = at-put-four .before .before .before .before .before .before .before .before in
+    let at-args = at-put-byte .before .before .before .before in
+    paint-attr-written ((at-args .args) .table .now) ((at-args .args) .i) ((at-put-byte .put-byte) .ensures) ((at-put-four .put-four) .ensures)
+    ((at-put-four2 .put-four2) .ensures) ((at-put-byte2 .put-byte2) .ensures)
 
 pub put-paint-attr-spec : {M : Type 1} → statement M
 put-paint-attr-spec =

@@ -24,15 +24,17 @@ same-length c = search needs
 
 returns : tie.Need-returns
 returns c =
-    let at-refuse = c .before .before in
+    let back = c .before .before in
+    let at-refuse = back in
     let at-no-screen = at-refuse .before .before in
     let at-if1 = at-no-screen .before in
     let at-is-good-bytes = at-if1 .before in
     let entry = at-is-good-bytes .before .before .before .before .before .before .before .before .before .before .before .before in
     let a = entry .args in
-    let t = tables (a .render .now) (a .fills .now) (a .depth .now) (a .rows .now) (a .painting .now) (a .layers .now) (a .opacities .now) (a .paint-attrs .now) (a .layer-attrs .now) (a .filter-paints .now) in
-    bytes-bad (entry .args .file .now) t (entry .args .out .now) (at-no-screen .no-screen .ensures)
-    (sym (at-is-good-bytes .is-good-bytes .ensures) ∙ not-true _ (at-if1 .if1 .taken)) (at-refuse .refuse .ensures)
+    let t = tables (a .render .now) (a .fills .now) (a .depth .now) (a .rows .now) (a .painting .now) (a .layers .now) (a .opacities .now) (a .paint-attrs .now)
+    (a .layer-attrs .now) (a .filter-paints .now) in
+    bytes-bad (entry .args .file .now) t (entry .args .out .now) (at-no-screen .no-screen .ensures) (sym (at-is-good-bytes .is-good-bytes .ensures) ∙ not-true _
+    (at-if1 .if1 .taken)) (at-refuse .refuse .ensures)
 
 no-words-requires : tie.Need-no-words-requires
 no-words-requires c κs = search needs
@@ -42,14 +44,17 @@ slice-aggregate-words-of-bytes c = search needs
 
 words-of-bytes-requires : tie.Need-words-of-bytes-requires
 words-of-bytes-requires c κs =
-    let at-if1 = c .before .before in
+    let back = c .before .before in
+    let at-if1 = back in
     let at-is-good-bytes = at-if1 .before in
     let entry = at-is-good-bytes .before .before .before .before .before .before .before .before .before .before .before .before in
-    omega (arith, few-words (entry .args .file .now) (sym (at-is-good-bytes .is-good-bytes .ensures) ∙ not-false _ (at-if1 .if1 .left)), c .before .no-words .ensures)
+    omega (arith, few-words (entry .args .file .now) (sym (at-is-good-bytes .is-good-bytes .ensures) ∙ not-false _ (at-if1 .if1 .left)),
+    c .before .no-words .ensures)
 
 array-share-prefix-words : tie.Need-array-share-prefix-words
 array-share-prefix-words c =
-    let at-no-words = c .before .before .before in
+    let back = c .before .before .before in
+    let at-no-words = back in
     let at-if1 = at-no-words .before in
     let at-is-good-bytes = at-if1 .before in
     let entry = at-is-good-bytes .before .before .before .before .before .before .before .before .before .before .before .before in
@@ -58,13 +63,14 @@ array-share-prefix-words c =
 
 slice-aggregate-words-text : tie.Need-slice-aggregate-words-text
 slice-aggregate-words-text c =
-    let at-words-of-bytes = c .before .before in
+    let back = c .before .before in
+    let at-words-of-bytes = back in
     let at-no-words = at-words-of-bytes .before .before in
     let at-if1 = at-no-words .before in
     let at-is-good-bytes = at-if1 .before in
     let entry = at-is-good-bytes .before .before .before .before .before .before .before .before .before .before .before .before in
-    sym
-    (length-take-le _ _ (filled-in (entry .args .file .now) (at-no-words .no-words .result) (sym (at-is-good-bytes .is-good-bytes .ensures) ∙ not-false _ (at-if1 .if1 .left)) (at-words-of-bytes .words-of-bytes .ensures) (at-no-words .no-words .ensures)))
+    sym (length-take-le _ _ (filled-in (entry .args .file .now) (at-no-words .no-words .result) (sym (at-is-good-bytes .is-good-bytes .ensures) ∙ not-false _
+    (at-if1 .if1 .left)) (at-words-of-bytes .words-of-bytes .ensures) (at-no-words .no-words .ensures)))
 
 words-text-requires : tie.Need-words-text-requires
 words-text-requires c κs = search needs
@@ -104,16 +110,19 @@ same-length-12 c = search needs
 
 returns-2 : tie.Need-returns-2
 returns-2 c =
-    let at-words-text = c .before .before .before .before .before .before .before .before .before .before .before .before .before .before .before .before .before .before .before .before .before in
+    let back = c .before .before .before .before .before .before .before .before .before .before .before .before .before .before .before .before .before
+        .before .before .before .before in
+    let at-words-text = back in
     let at-words-of-bytes = at-words-text .before .before .before .before .before .before .before .before .before .before .before .before .before .before in
     let at-no-words = at-words-of-bytes .before .before in
     let at-if1 = at-no-words .before in
     let at-is-good-bytes = at-if1 .before in
     let entry = at-is-good-bytes .before .before .before .before .before .before .before .before .before .before .before .before in
     let a = entry .args in
-    let t = tables (a .render .now) (a .fills .now) (a .depth .now) (a .rows .now) (a .painting .now) (a .layers .now) (a .opacities .now) (a .paint-attrs .now) (a .layer-attrs .now) (a .filter-paints .now) in
-    bytes-shown (entry .args .file .now) (at-no-words .no-words .result) (sym (at-is-good-bytes .is-good-bytes .ensures) ∙ not-false _ (at-if1 .if1 .left)) (at-words-of-bytes .words-of-bytes .ensures)
-    t (entry .args .out .now) (at-words-text .words-text .ensures)
+    let t = tables (a .render .now) (a .fills .now) (a .depth .now) (a .rows .now) (a .painting .now) (a .layers .now) (a .opacities .now) (a .paint-attrs .now)
+    (a .layer-attrs .now) (a .filter-paints .now) in
+    bytes-shown (entry .args .file .now) (at-no-words .no-words .result) (sym (at-is-good-bytes .is-good-bytes .ensures) ∙ not-false _ (at-if1 .if1 .left))
+    (at-words-of-bytes .words-of-bytes .ensures) t (entry .args .out .now) (at-words-text .words-text .ensures)
 
 pub file-text-spec : {M : Type 1} → statement M
 file-text-spec =

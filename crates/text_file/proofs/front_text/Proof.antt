@@ -16,7 +16,8 @@ slice-relend-prefix-recording-text c = search needs
 
 slice-aggregate-recording-text : tie.Need-slice-aggregate-recording-text
 slice-aggregate-recording-text c =
-    let entry = c .before .before .before .before .before .before .before .before .before .before .before .before in
+    let back = c .before .before .before .before .before .before .before .before .before .before .before .before in
+    let entry = back in
     sym (length-take-le _ _ (omega (arith, entry .pre .1, entry .pre .0 .render)))
 
 mul-recording-text-2 : tie.Need-mul-recording-text-2
@@ -27,22 +28,26 @@ slice-relend-prefix-recording-text-2 c = search needs
 
 slice-aggregate-recording-text-2 : tie.Need-slice-aggregate-recording-text-2
 slice-aggregate-recording-text-2 c =
-    let entry = c .before .before .before .before .before .before .before .before .before .before .before .before .before in
+    let back = c .before .before .before .before .before .before .before .before .before .before .before .before .before in
+    let entry = back in
     sym (length-take-le _ _ (omega (arith, entry .pre .1, entry .pre .0 .fills)))
 
 mul-recording-text-3 : tie.Need-mul-recording-text-3
 mul-recording-text-3 c =
-    let entry = c .before .before .before .before .before .before .before .before .before .before .before .before .before in
+    let back = c .before .before .before .before .before .before .before .before .before .before .before .before .before in
+    let entry = back in
     record { fits = omega (arith, small _ _ (entry .pre .1) (entry .pre .2)) }
 
 slice-relend-prefix-recording-text-3 : tie.Need-slice-relend-prefix-recording-text-3
 slice-relend-prefix-recording-text-3 c =
-    let entry = c .before .before .before .before .before .before .before .before .before .before .before .before .before in
+    let back = c .before .before .before .before .before .before .before .before .before .before .before .before .before in
+    let entry = back in
     omega (arith, small _ _ (entry .pre .1) (entry .pre .2), entry .pre .0 .depth)
 
 slice-aggregate-recording-text-3 : tie.Need-slice-aggregate-recording-text-3
 slice-aggregate-recording-text-3 c =
-    let entry = c .before .before .before .before .before .before .before .before .before .before .before .before .before .before in
+    let back = c .before .before .before .before .before .before .before .before .before .before .before .before .before .before in
+    let entry = back in
     sym (length-take-le _ _ (omega (arith, entry .pre .1, entry .pre .0 .depth, small _ _ (entry .pre .1) (entry .pre .2))))
 
 mul-recording-text-4 : tie.Need-mul-recording-text-4
@@ -53,7 +58,8 @@ slice-relend-prefix-recording-text-4 c = search needs
 
 slice-aggregate-recording-text-4 : tie.Need-slice-aggregate-recording-text-4
 slice-aggregate-recording-text-4 c =
-    let entry = c .before .before .before .before .before .before .before .before .before .before .before .before .before .before .before in
+    let back = c .before .before .before .before .before .before .before .before .before .before .before .before .before .before .before in
+    let entry = back in
     sym (length-take-le _ _ (omega (arith, entry .pre .1, entry .pre .0 .rows)))
 
 mul-recording-text-5 : tie.Need-mul-recording-text-5
@@ -64,7 +70,8 @@ slice-relend-prefix-recording-text-5 c = search needs
 
 slice-aggregate-recording-text-5 : tie.Need-slice-aggregate-recording-text-5
 slice-aggregate-recording-text-5 c =
-    let entry = c .before .before .before .before .before .before .before .before .before .before .before .before .before .before .before .before in
+    let back = c .before .before .before .before .before .before .before .before .before .before .before .before .before .before .before .before in
+    let entry = back in
     sym (length-take-le _ _ (omega (arith, entry .pre .1, entry .pre .0 .painting)))
 
 recording-text-requires : tie.Need-recording-text-requires
@@ -105,10 +112,15 @@ same-length-11 c = search needs
 
 returns : tie.Need-returns
 returns c =
-    let at-recording-text = c .before .before .before .before .before .before .before .before .before .before .before .before .before .before .before .before .before .before .before .before .before in
-    let entry = at-recording-text .before .before .before .before .before .before .before .before .before .before .before .before .before .before .before .before .before .before .before .before .before .before .before in
+    let back = c .before .before .before .before .before .before .before .before .before .before .before .before .before .before .before .before .before
+        .before .before .before .before in
+    let at-recording-text = back in
+    let entry =
+    at-recording-text .before .before .before .before .before .before .before .before .before .before .before .before .before .before .before .before .before .before .before .before .before .before .before
+    in
     let a = entry .args in
-    let t = tables (a .render .now) (a .fills .now) (a .depth .now) (a .rows .now) (a .painting .now) (a .layers .now) (a .opacities .now) (a .paint-attrs .now) (a .layer-attrs .now) (a .filter-paints .now) in
+    let t = tables (a .render .now) (a .fills .now) (a .depth .now) (a .rows .now) (a .painting .now) (a .layers .now) (a .opacities .now) (a .paint-attrs .now)
+    (a .layer-attrs .now) (a .filter-paints .now) in
     front-shown (entry .args .n) (entry .args .b) (entry .args .file .now) t (entry .args .out .now) (at-recording-text .recording-text .ensures)
 
 pub front-text-spec : {M : Type 1} → statement M

@@ -14,13 +14,23 @@ same-length : tie.Need-same-length
 same-length c = search needs
 
 returns : tie.Need-returns
-returns c = show-refused ((c .before .before .before .before .before .before .before .before .before .before .before .before .before .before .args) .screen) (words ((c .before .before .before .before .before .before .before .before .before .before .before .before .before .before .args) .rows .now) ((c .before .before .before .before .before .before .before .before .before .before .before .before .before .before .args) .render .now) ((c .before .before .before .before .before .before .before .before .before .before .before .before .before .before .args) .fills .now)) ((c .before .before .before .before .before .before .before .before .before .before .before .before .before .before .args) .out .now) ((c .before .before .before .before .before .before .before .before .list-screen) .ensures) ((c .before .before .before .before .if1) .taken) ((c .before .before .refuse) .ensures)
+returns c =
+    let at-refuse = c .before .before in
+    let at-if1 = at-refuse .before .before in
+    let at-list-screen = at-if1 .before .before .before .before in
+    let at-args = at-list-screen .before .before .before .before .before .before in
+    show-refused ((at-args .args) .screen) (words ((at-args .args) .rows .now) ((at-args .args) .render .now) ((at-args .args) .fills .now))
+    ((at-args .args) .out .now) ((at-list-screen .list-screen) .ensures) ((at-if1 .if1) .taken) ((at-refuse .refuse) .ensures)
 
 same-length-2 : tie.Need-same-length-2
 same-length-2 c = search needs
 
 returns-2 : tie.Need-returns-2
-returns-2 c = show-done ((c .before .before .before .before .before .before .before .before .before .before .args) .screen) (words ((c .before .before .before .before .before .before .before .before .before .before .args) .rows .now) ((c .before .before .before .before .before .before .before .before .before .before .args) .render .now) ((c .before .before .before .before .before .before .before .before .before .before .args) .fills .now)) ((c .before .before .before .before .before .before .before .before .before .before .args) .out .now) ((c .before .before .before .before .list-screen) .ensures) ((c .if1) .left)
+returns-2 c =
+    let at-list-screen = c .before .before .before .before in
+    let at-args = at-list-screen .before .before .before .before .before .before in
+    show-done ((at-args .args) .screen) (words ((at-args .args) .rows .now) ((at-args .args) .render .now) ((at-args .args) .fills .now))
+    ((at-args .args) .out .now) ((at-list-screen .list-screen) .ensures) ((c .if1) .left)
 
 pub show-spec : {M : Type 1} → statement M
 show-spec =

@@ -22,15 +22,17 @@ same-length c = search needs
 
 returns : tie.Need-returns
 returns c =
-    let at-refuse = c .before .before in
+    let back = c .before .before in
+    let at-refuse = back in
     let at-no-screen = at-refuse .before .before in
     let at-if1 = at-no-screen .before in
     let at-size-of = at-if1 .before .before in
     let entry = at-size-of .before .before .before .before .before .before .before .before .before .before .before .before in
     let a = entry .args in
-    let t = tables (a .render .now) (a .fills .now) (a .depth .now) (a .rows .now) (a .painting .now) (a .layers .now) (a .opacities .now) (a .paint-attrs .now) (a .layer-attrs .now) (a .filter-paints .now) in
-    words-refused (entry .args .file .now) t (entry .args .out .now) (at-size-of .size-of .ensures .0) (at-no-screen .no-screen .ensures)
-    (at-if1 .if1 .taken) (at-refuse .refuse .ensures)
+    let t = tables (a .render .now) (a .fills .now) (a .depth .now) (a .rows .now) (a .painting .now) (a .layers .now) (a .opacities .now) (a .paint-attrs .now)
+    (a .layer-attrs .now) (a .filter-paints .now) in
+    words-refused (entry .args .file .now) t (entry .args .out .now) (at-size-of .size-of .ensures .0) (at-no-screen .no-screen .ensures) (at-if1 .if1 .taken)
+    (at-refuse .refuse .ensures)
 
 is-roomy-requires : tie.Need-is-roomy-requires
 is-roomy-requires c κs = search needs
@@ -46,7 +48,8 @@ same-length-2 c = search needs
 
 returns-2 : tie.Need-returns-2
 returns-2 c =
-    let at-refuse2 = c .before .before in
+    let back = c .before .before in
+    let at-refuse2 = back in
     let at-no-screen2 = at-refuse2 .before .before in
     let at-if2 = at-no-screen2 .before in
     let at-is-roomy = at-if2 .before in
@@ -54,18 +57,21 @@ returns-2 c =
     let at-size-of = at-if1 .before .before in
     let entry = at-size-of .before .before .before .before .before .before .before .before .before .before .before .before in
     let a = entry .args in
-    let t = tables (a .render .now) (a .fills .now) (a .depth .now) (a .rows .now) (a .painting .now) (a .layers .now) (a .opacities .now) (a .paint-attrs .now) (a .layer-attrs .now) (a .filter-paints .now) in
-    words-short (entry .args .file .now) t (entry .args .out .now) (at-size-of .size-of .ensures .0) (at-no-screen2 .no-screen2 .ensures)
-    (at-if1 .if1 .left) (sym (at-is-roomy .is-roomy .ensures) ∙ not-true _ (at-if2 .if2 .taken)) (at-refuse2 .refuse2 .ensures)
+    let t = tables (a .render .now) (a .fills .now) (a .depth .now) (a .rows .now) (a .painting .now) (a .layers .now) (a .opacities .now) (a .paint-attrs .now)
+    (a .layer-attrs .now) (a .filter-paints .now) in
+    words-short (entry .args .file .now) t (entry .args .out .now) (at-size-of .size-of .ensures .0) (at-no-screen2 .no-screen2 .ensures) (at-if1 .if1 .left)
+    (sym (at-is-roomy .is-roomy .ensures) ∙ not-true _ (at-if2 .if2 .taken)) (at-refuse2 .refuse2 .ensures)
 
 front-text-requires : tie.Need-front-text-requires
 front-text-requires c κs =
-    let at-if2 = c .before .before .before .before .before .before .before .before .before .before .before in
+    let back = c .before .before .before .before .before .before .before .before .before .before .before in
+    let at-if2 = back in
     let at-is-roomy = at-if2 .before in
     let at-size-of = at-is-roomy .before .before .before in
     let entry = at-size-of .before .before .before .before .before .before .before .before .before .before .before .before in
     let a = entry .args in
-    let t = tables (a .render .now) (a .fills .now) (a .depth .now) (a .rows .now) (a .painting .now) (a .layers .now) (a .opacities .now) (a .paint-attrs .now) (a .layer-attrs .now) (a .filter-paints .now) in
+    let t = tables (a .render .now) (a .fills .now) (a .depth .now) (a .rows .now) (a .painting .now) (a .layers .now) (a .opacities .now) (a .paint-attrs .now)
+    (a .layer-attrs .now) (a .filter-paints .now) in
     (enough t (sym (at-is-roomy .is-roomy .ensures) ∙ not-false _ (at-if2 .if2 .left)), at-size-of .size-of .ensures .1 .0, at-size-of .size-of .ensures .1 .1)
 
 same-length-3 : tie.Need-same-length-3
@@ -103,16 +109,19 @@ same-length-13 c = search needs
 
 returns-3 : tie.Need-returns-3
 returns-3 c =
-    let at-front-text = c .before .before .before .before .before .before .before .before .before .before .before .before .before .before .before .before .before .before .before .before .before in
+    let back = c .before .before .before .before .before .before .before .before .before .before .before .before .before .before .before .before .before
+        .before .before .before .before in
+    let at-front-text = back in
     let at-if2 = at-front-text .before .before .before .before .before .before .before .before .before .before .before .before in
     let at-is-roomy = at-if2 .before in
     let at-if1 = at-is-roomy .before in
     let at-size-of = at-if1 .before .before in
     let entry = at-size-of .before .before .before .before .before .before .before .before .before .before .before .before in
     let a = entry .args in
-    let t = tables (a .render .now) (a .fills .now) (a .depth .now) (a .rows .now) (a .painting .now) (a .layers .now) (a .opacities .now) (a .paint-attrs .now) (a .layer-attrs .now) (a .filter-paints .now) in
-    words-shown (entry .args .file .now) t (entry .args .out .now) (at-size-of .size-of .ensures .0) (at-if1 .if1 .left)
-    (sym (at-is-roomy .is-roomy .ensures) ∙ not-false _ (at-if2 .if2 .left)) (at-front-text .front-text .ensures)
+    let t = tables (a .render .now) (a .fills .now) (a .depth .now) (a .rows .now) (a .painting .now) (a .layers .now) (a .opacities .now) (a .paint-attrs .now)
+    (a .layer-attrs .now) (a .filter-paints .now) in
+    words-shown (entry .args .file .now) t (entry .args .out .now) (at-size-of .size-of .ensures .0) (at-if1 .if1 .left) (sym (at-is-roomy .is-roomy .ensures) ∙
+    not-false _ (at-if2 .if2 .left)) (at-front-text .front-text .ensures)
 
 pub words-text-spec : {M : Type 1} → statement M
 words-text-spec =

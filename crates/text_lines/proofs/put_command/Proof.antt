@@ -41,19 +41,31 @@ same-length : tie.Need-same-length
 same-length c = search needs
 
 returns : tie.Need-returns
-returns c = rw ((c .before .before .before .before .before .before .before .before .before .cmd) .given .1) (then ((c .before .before .before .before .before .before .put-byte) .ensures) ((c .before .before .put-fill) .ensures))
+returns c =
+    let at-put-fill = c .before .before in
+    let at-put-byte = at-put-fill .before .before .before .before in
+    let at-cmd = at-put-byte .before .before .before in
+    rw ((at-cmd .cmd) .given .1) (then ((at-put-byte .put-byte) .ensures) ((at-put-fill .put-fill) .ensures))
 
 same-length-2 : tie.Need-same-length-2
 same-length-2 c = search needs
 
 returns-2 : tie.Need-returns-2
-returns-2 c = rw ((c .before .before .before .before .before .before .before .before .before .cmd2) .given .1) (then ((c .before .before .before .before .before .before .put-byte2) .ensures) ((c .before .before .put-fill2) .ensures))
+returns-2 c =
+    let at-put-fill2 = c .before .before in
+    let at-put-byte2 = at-put-fill2 .before .before .before .before in
+    let at-cmd2 = at-put-byte2 .before .before .before in
+    rw ((at-cmd2 .cmd2) .given .1) (then ((at-put-byte2 .put-byte2) .ensures) ((at-put-fill2 .put-fill2) .ensures))
 
 same-length-3 : tie.Need-same-length-3
 same-length-3 c = search needs
 
 returns-3 : tie.Need-returns-3
-returns-3 c = rw ((c .before .before .before .before .before .before .before .before .before .cmd3) .given .1) (within (omega arith) (then ((c .before .before .before .before .before .before .put-byte3) .ensures) ((c .before .before .put-recorded) .ensures)))
+returns-3 c =
+    let at-put-recorded = c .before .before in
+    let at-put-byte3 = at-put-recorded .before .before .before .before in
+    let at-cmd3 = at-put-byte3 .before .before .before in
+    rw ((at-cmd3 .cmd3) .given .1) (within (omega arith) (then ((at-put-byte3 .put-byte3) .ensures) ((at-put-recorded .put-recorded) .ensures)))
 
 same-length-4 : tie.Need-same-length-4
 same-length-4 c = search needs

@@ -16,7 +16,10 @@ same-length c = search needs
 
 returns : tie.Need-returns
 unfolding line-bytes
-returns c = within (omega arith) (then ((c .before .before .before .before .before .before .put-command) .ensures) ((c .before .before .put-byte) .ensures))
+returns c =
+    let at-put-byte = c .before .before in
+    let at-put-command = at-put-byte .before .before .before .before in
+    within (omega arith) (then ((at-put-command .put-command) .ensures) ((at-put-byte .put-byte) .ensures))
 
 pub put-command-line-spec : {M : Type 1} → statement M
 put-command-line-spec =

@@ -25,7 +25,14 @@ same-length c = search needs
 
 returns : tie.Need-returns
 unfolding line-bytes
-returns c = within (omega arith) (then (then ((c .before .before .before .before .before .before .before .before .before .before .before .before .before .before .before .before .before .before .put-byte) .ensures) (then ((c .before .before .before .before .before .before .before .before .before .before .before .before .before .before .put-number) .ensures) (then ((c .before .before .before .before .before .before .before .before .before .before .put-number2) .ensures) ((c .before .before .before .before .before .before .put-number3) .ensures)))) ((c .before .before .put-byte2) .ensures))
+returns c =
+    let at-put-byte2 = c .before .before in
+    let at-put-number3 = at-put-byte2 .before .before .before .before in
+    let at-put-number2 = at-put-number3 .before .before .before .before in
+    let at-put-number = at-put-number2 .before .before .before .before in
+    let at-put-byte = at-put-number .before .before .before .before in
+    within (omega arith) (then (then ((at-put-byte .put-byte) .ensures) (then ((at-put-number .put-number) .ensures) (then
+    ((at-put-number2 .put-number2) .ensures) ((at-put-number3 .put-number3) .ensures)))) ((at-put-byte2 .put-byte2) .ensures))
 
 pub put-depth-line-spec : {M : Type 1} → statement M
 put-depth-line-spec =

@@ -26,13 +26,21 @@ same-length : tie.Need-same-length
 same-length c = search needs
 
 returns : tie.Need-returns
-returns c = rw ((c .before .before .before .before .before .before .before .before .enum-told) .given .1) (within (omega arith) (then ((c .before .before .before .before .before .before .put-dash) .ensures) ((c .before .before .put-dash2) .ensures)))
+returns c =
+    let at-put-dash2 = c .before .before in
+    let at-put-dash = at-put-dash2 .before .before .before .before in
+    let at-enum-told = at-put-dash .before .before in
+    rw ((at-enum-told .enum-told) .given .1) (within (omega arith) (then ((at-put-dash .put-dash) .ensures) ((at-put-dash2 .put-dash2) .ensures)))
 
 same-length-2 : tie.Need-same-length-2
 same-length-2 c = search needs
 
 returns-2 : tie.Need-returns-2
-returns-2 c = rw ((c .before .before .before .before .before .before .before .before .before .recorded) .given .1) (then ((c .before .before .before .before .before .before .put-number) .ensures) ((c .before .before .put-number2) .ensures))
+returns-2 c =
+    let at-put-number2 = c .before .before in
+    let at-put-number = at-put-number2 .before .before .before .before in
+    let at-recorded = at-put-number .before .before .before in
+    rw ((at-recorded .recorded) .given .1) (then ((at-put-number .put-number) .ensures) ((at-put-number2 .put-number2) .ensures))
 
 pub put-recorded-spec : {M : Type 1} → statement M
 put-recorded-spec =

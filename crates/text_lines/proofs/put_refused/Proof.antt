@@ -22,7 +22,11 @@ same-length c = search needs
 
 returns : tie.Need-returns
 unfolding line-bytes
-returns c = within (omega arith) (then (then ((c .before .before .before .before .before .before .before .before .before .before .put-text) .ensures) ((c .before .before .before .before .before .before .put-number) .ensures)) ((c .before .before .put-byte) .ensures))
+returns c =
+    let at-put-byte = c .before .before in
+    let at-put-number = at-put-byte .before .before .before .before in
+    let at-put-text = at-put-number .before .before .before .before in
+    within (omega arith) (then (then ((at-put-text .put-text) .ensures) ((at-put-number .put-number) .ensures)) ((at-put-byte .put-byte) .ensures))
 
 pub put-refused-spec : {M : Type 1} → statement M
 put-refused-spec =

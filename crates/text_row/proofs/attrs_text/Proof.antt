@@ -25,12 +25,13 @@ is-short-attrs-requires c κs = sym (c .before .is-good-tables .ensures) ∙ not
 
 returns-2 : tie.Need-returns-2
 returns-2 c =
-    let at-if1 = c .before .before in
+    let back = c .before .before in
+    let at-if1 = back in
     let at-is-good-tables = at-if1 .before in
     let entry = at-is-good-tables .before .before .before .before .before in
     let t = tables (entry .args .paint-attrs .now) (entry .args .layer-attrs .now) (entry .args .opacities .now) (entry .args .filter-paints .now) in
-    attrs-full _ t _ (sym (at-is-good-tables .is-good-tables .ensures) ∙ not-false _ (at-if1 .if1 .left))
-    (short-yes _ _ _ (sym (c .before .is-short-attrs .ensures) ∙ c .if2 .taken))
+    attrs-full _ t _ (sym (at-is-good-tables .is-good-tables .ensures) ∙ not-false _ (at-if1 .if1 .left)) (short-yes _ _ _ (sym
+    (c .before .is-short-attrs .ensures) ∙ c .if2 .taken))
 
 put-attrs-requires : tie.Need-put-attrs-requires
 put-attrs-requires c κs =
@@ -43,7 +44,8 @@ same-length c = search needs
 
 returns-3 : tie.Need-returns-3
 returns-3 c =
-    let at-put-attrs = c .before .before in
+    let back = c .before .before in
+    let at-put-attrs = back in
     let at-if2 = at-put-attrs .before .before in
     let at-is-short-attrs = at-if2 .before in
     let at-if1 = at-is-short-attrs .before in
@@ -52,9 +54,8 @@ returns-3 c =
     let t = (tables (entry .args .paint-attrs .now) (entry .args .layer-attrs .now) (entry .args .opacities .now) (entry .args .filter-paints .now)) in
     let x = at-put-attrs .put-attrs .ensures in
     let few : length (attrs-text (entry .args .screen) t) ≤ attrs-room (entry .args .screen) = omega (arith, x .near, measured x) in
-    attrs-done (entry .args .screen) t _ (sym (at-is-good-tables .is-good-tables .ensures) ∙ not-false _ (at-if1 .if1 .left))
-    (short-no _ _ _ (sym (at-is-short-attrs .is-short-attrs .ensures) ∙ at-if2 .if2 .left) few)
-    x
+    attrs-done (entry .args .screen) t _ (sym (at-is-good-tables .is-good-tables .ensures) ∙ not-false _ (at-if1 .if1 .left)) (short-no _ _ _ (sym
+    (at-is-short-attrs .is-short-attrs .ensures) ∙ at-if2 .if2 .left) few) x
 
 pub attrs-text-spec : {M : Type 1} → statement M
 attrs-text-spec =

@@ -14,25 +14,32 @@ put-paint-attrs-requires c κs =
 
 put-layer-attrs-requires : tie.Need-put-layer-attrs-requires
 put-layer-attrs-requires c κs =
-    let at-put-paint-attrs = c .before .before .before in
+    let back = c .before .before .before in
+    let at-put-paint-attrs = back in
     let entry = at-put-paint-attrs .before .before .before .before .before .before in
-    let g = good (entry .args .screen) (tables (entry .args .paint-attrs .now) (entry .args .layer-attrs .now) (entry .args .opacities .now) (entry .args .filter-paints .now)) (entry .pre) in
-    (omega (arith, g .paints, g .layers, at-put-paint-attrs .put-paint-attrs .ensures .near), omega (arith, g .layers, g .layer-table), omega (arith, g .layers, g .opacity-table))
+    let g = good (entry .args .screen) (tables (entry .args .paint-attrs .now) (entry .args .layer-attrs .now) (entry .args .opacities .now)
+    (entry .args .filter-paints .now)) (entry .pre) in
+    (omega (arith, g .paints, g .layers, at-put-paint-attrs .put-paint-attrs .ensures .near), omega (arith, g .layers, g .layer-table), omega (arith, g .layers,
+    g .opacity-table))
 
 put-filter-paints-requires : tie.Need-put-filter-paints-requires
 put-filter-paints-requires c κs =
-    let at-put-layer-attrs = c .before .before .before in
+    let back = c .before .before .before in
+    let at-put-layer-attrs = back in
     let at-put-paint-attrs = at-put-layer-attrs .before .before .before .before in
     let entry = at-put-paint-attrs .before .before .before .before .before .before in
-    let g = good (entry .args .screen) (tables (entry .args .paint-attrs .now) (entry .args .layer-attrs .now) (entry .args .opacities .now) (entry .args .filter-paints .now)) (entry .pre) in
-    (omega (arith, g .paints, g .layers, g .filters, at-put-paint-attrs .put-paint-attrs .ensures .near, at-put-layer-attrs .put-layer-attrs .ensures .near), omega (arith, g .filters, g .filter-table))
+    let g = good (entry .args .screen) (tables (entry .args .paint-attrs .now) (entry .args .layer-attrs .now) (entry .args .opacities .now)
+    (entry .args .filter-paints .now)) (entry .pre) in
+    (omega (arith, g .paints, g .layers, g .filters, at-put-paint-attrs .put-paint-attrs .ensures .near, at-put-layer-attrs .put-layer-attrs .ensures .near),
+    omega (arith, g .filters, g .filter-table))
 
 same-length : tie.Need-same-length
 same-length c = search needs
 
 returns : tie.Need-returns
 returns c =
-    let at-put-filter-paints = c .before .before in
+    let back = c .before .before in
+    let at-put-filter-paints = back in
     let at-put-layer-attrs = at-put-filter-paints .before .before .before .before in
     let at-put-paint-attrs = at-put-layer-attrs .before .before .before .before in
     let entry = at-put-paint-attrs .before .before .before .before .before .before in

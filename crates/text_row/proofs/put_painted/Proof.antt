@@ -31,7 +31,14 @@ same-length c = search needs
 
 returns : tie.Need-returns
 unfolding detail-bytes
-returns c = within (omega arith) (then (then ((c .before .before .before .before .before .before .before .before .before .before .before .before .before .before .before .before .before .before .before .put-text) .ensures) (then ((c .before .before .before .before .before .before .before .before .before .before .before .before .before .before .before .put-number) .ensures) (then ((c .before .before .before .before .before .before .before .before .before .before .put-text2) .ensures) ((c .before .before .before .before .before .before .put-number2) .ensures)))) ((c .before .before .put-byte) .ensures))
+returns c =
+    let at-put-byte = c .before .before in
+    let at-put-number2 = at-put-byte .before .before .before .before in
+    let at-put-text2 = at-put-number2 .before .before .before .before in
+    let at-put-number = at-put-text2 .before .before .before .before .before in
+    let at-put-text = at-put-number .before .before .before .before in
+    within (omega arith) (then (then ((at-put-text .put-text) .ensures) (then ((at-put-number .put-number) .ensures) (then ((at-put-text2 .put-text2) .ensures)
+    ((at-put-number2 .put-number2) .ensures)))) ((at-put-byte .put-byte) .ensures))
 
 pub put-painted-spec : {M : Type 1} → statement M
 put-painted-spec =

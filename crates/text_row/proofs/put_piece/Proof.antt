@@ -1,3 +1,4 @@
+-- By the piece's tag: a line of a paint or of a layer, solid or with an alpha index.
 use Rattle.text_row.proofs.Pieces.{piece-written}
 use borrow.Author.Needs.{needs}
 use Rattle.text_row.proofs.put_piece.Statement.{statement}
@@ -76,7 +77,15 @@ same-length : tie.Need-same-length
 same-length c = search needs
 
 returns : tie.Need-returns
-returns c = piece-written ((c .before .before .before .before .before .before .before .before .before .before .before .before .before .before .before .before .before .before .before .before .before .before .args) .list .now) ((c .before .before .before .before .before .before .before .before .before .before .before .before .before .before .before .before .before .before .before .before .before .before .args) .k) ((c .before .before .before .before .before .before .before .before .before .before .before .before .before .before .before .letter) .ensures) ((c .before .before .before .before .before .before .before .before .before .before .before .before .before .before .before .before .before .alpha-of) .ensures) ((c .before .before .before .before .before .before .before .before .before .before .before .before .before .before .put-byte) .ensures) ((c .before .before .before .before .before .before .put-piece-fields) .ensures) ((c .before .before .put-byte2) .ensures)
+returns c =
+    let at-put-byte2 = c .before .before in
+    let at-put-piece-fields = at-put-byte2 .before .before .before .before in
+    let at-put-byte = at-put-piece-fields .before .before .before .before .before .before .before .before in
+    let at-letter = at-put-byte .before in
+    let at-alpha-of = at-letter .before .before in
+    let at-args = at-alpha-of .before .before .before .before .before in
+    piece-written ((at-args .args) .list .now) ((at-args .args) .k) ((at-letter .letter) .ensures) ((at-alpha-of .alpha-of) .ensures)
+    ((at-put-byte .put-byte) .ensures) ((at-put-piece-fields .put-piece-fields) .ensures) ((at-put-byte2 .put-byte2) .ensures)
 
 pub put-piece-spec : {M : Type 1} → statement M
 put-piece-spec =

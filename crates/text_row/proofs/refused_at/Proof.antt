@@ -25,11 +25,12 @@ same-length-2 c = search needs
 
 returns : tie.Need-returns
 returns c =
-    let at-paint-step = c .before .before .before .before .before .before in
+    let back = c .before .before .before .before .before .before in
+    let at-paint-step = back in
     let entry = at-paint-step .before .before .before .before .before .before .before .before .before .before .before in
-    stopped-at _ _ (attributes (entry .args .paint-attrs .now) (entry .args .layer-attrs .now))
-    (lent (entry .args .rows .now) (entry .args .render .now) (entry .args .fills .now) (entry .args .depth .now) (entry .args .painting .now) [])
-    (at-paint-step .paint-step .result) (c .number .ensures) (at-paint-step .paint-step .ensures)
+    stopped-at _ _ (attributes (entry .args .paint-attrs .now) (entry .args .layer-attrs .now)) (lent (entry .args .rows .now) (entry .args .render .now)
+    (entry .args .fills .now) (entry .args .depth .now) (entry .args .painting .now) []) (at-paint-step .paint-step .result) (c .number .ensures)
+    (at-paint-step .paint-step .ensures)
 
 pub refused-at-spec : {M : Type 1} → statement M
 refused-at-spec =

@@ -25,11 +25,12 @@ same-length-3 c = search needs
 
 returns : tie.Need-returns
 returns c =
-    let at-paint-row = c .before .before .before .before .before .before .before .before in
+    let back = c .before .before .before .before .before .before .before .before in
+    let at-paint-row = back in
     let entry = at-paint-row .before .before .before .before .before .before .before .before .before .before .before .before .before in
-    row-refused _ _ (attributes (entry .args .paint-attrs .now) (entry .args .layer-attrs .now))
-    (lent (entry .args .rows .now) (entry .args .render .now) (entry .args .fills .now) (entry .args .depth .now) (entry .args .painting .now) (entry .args .list .now))
-    (at-paint-row .paint-row .result) (c .before .number .ensures) (at-paint-row .paint-row .ensures) _ (c .if1 .taken)
+    row-refused _ _ (attributes (entry .args .paint-attrs .now) (entry .args .layer-attrs .now)) (lent (entry .args .rows .now) (entry .args .render .now)
+    (entry .args .fills .now) (entry .args .depth .now) (entry .args .painting .now) (entry .args .list .now)) (at-paint-row .paint-row .result)
+    (c .before .number .ensures) (at-paint-row .paint-row .ensures) _ (c .if1 .taken)
 
 refused-at-requires : tie.Need-refused-at-requires
 refused-at-requires c κs = search needs
@@ -45,25 +46,26 @@ same-length-6 c = search needs
 
 returns-2 : tie.Need-returns-2
 returns-2 c =
-    let at-refused-at = c .before .before .before .before in
+    let back = c .before .before .before .before in
+    let at-refused-at = back in
     let at-if2 = at-refused-at .before .before .before in
     let at-if1 = at-if2 .before .before in
     let at-number = at-if1 .before in
     let at-paint-row = at-number .before .before .before .before .before .before .before in
     let entry = at-paint-row .before .before .before .before .before .before .before .before .before .before .before .before .before in
-    row-ended _ _ (attributes (entry .args .paint-attrs .now) (entry .args .layer-attrs .now))
-    (lent (entry .args .rows .now) (entry .args .render .now) (entry .args .fills .now) (entry .args .depth .now) (entry .args .painting .now) (entry .args .list .now))
-    (at-paint-row .paint-row .result) (at-number .number .ensures) (at-paint-row .paint-row .ensures) _ (at-if1 .if1 .left)
-    (not-true _ (at-if2 .if2 .taken)) (at-refused-at .refused-at .ensures)
+    row-ended _ _ (attributes (entry .args .paint-attrs .now) (entry .args .layer-attrs .now)) (lent (entry .args .rows .now) (entry .args .render .now)
+    (entry .args .fills .now) (entry .args .depth .now) (entry .args .painting .now) (entry .args .list .now)) (at-paint-row .paint-row .result)
+    (at-number .number .ensures) (at-paint-row .paint-row .ensures) _ (at-if1 .if1 .left) (not-true _ (at-if2 .if2 .taken)) (at-refused-at .refused-at .ensures)
 
 write-pieces-requires : tie.Need-write-pieces-requires
 write-pieces-requires c κs =
-    let at-number = c .before .before .before .before .before in
+    let back = c .before .before .before .before .before in
+    let at-number = back in
     let at-paint-row = at-number .before .before .before .before .before .before .before in
     let entry = at-paint-row .before .before .before .before .before .before .before .before .before .before .before .before .before in
-    row-few _ _ (attributes (entry .args .paint-attrs .now) (entry .args .layer-attrs .now))
-    (lent (entry .args .rows .now) (entry .args .render .now) (entry .args .fills .now) (entry .args .depth .now) (entry .args .painting .now) (entry .args .list .now))
-    (at-paint-row .paint-row .result) (at-number .number .ensures) (at-paint-row .paint-row .ensures) []
+    row-few _ _ (attributes (entry .args .paint-attrs .now) (entry .args .layer-attrs .now)) (lent (entry .args .rows .now) (entry .args .render .now)
+    (entry .args .fills .now) (entry .args .depth .now) (entry .args .painting .now) (entry .args .list .now)) (at-paint-row .paint-row .result)
+    (at-number .number .ensures) (at-paint-row .paint-row .ensures) []
 
 same-length-7 : tie.Need-same-length-7
 same-length-7 c = search needs
@@ -79,16 +81,17 @@ same-length-10 c = search needs
 
 returns-3 : tie.Need-returns-3
 returns-3 c =
-    let at-write-pieces = c .before .before in
+    let back = c .before .before in
+    let at-write-pieces = back in
     let at-if2 = at-write-pieces .before .before .before in
     let at-if1 = at-if2 .before .before in
     let at-number = at-if1 .before in
     let at-paint-row = at-number .before .before .before .before .before .before .before in
     let entry = at-paint-row .before .before .before .before .before .before .before .before .before .before .before .before .before in
-    row-done _ _ (attributes (entry .args .paint-attrs .now) (entry .args .layer-attrs .now))
-    (lent (entry .args .rows .now) (entry .args .render .now) (entry .args .fills .now) (entry .args .depth .now) (entry .args .painting .now) (entry .args .list .now))
-    (at-paint-row .paint-row .result) (at-number .number .ensures) (at-paint-row .paint-row .ensures) _ (at-if1 .if1 .left)
-    (not-false _ (at-if2 .if2 .left)) (at-write-pieces .write-pieces .ensures)
+    row-done _ _ (attributes (entry .args .paint-attrs .now) (entry .args .layer-attrs .now)) (lent (entry .args .rows .now) (entry .args .render .now)
+    (entry .args .fills .now) (entry .args .depth .now) (entry .args .painting .now) (entry .args .list .now)) (at-paint-row .paint-row .result)
+    (at-number .number .ensures) (at-paint-row .paint-row .ensures) _ (at-if1 .if1 .left) (not-false _ (at-if2 .if2 .left))
+    (at-write-pieces .write-pieces .ensures)
 
 pub row-text-spec : {M : Type 1} → statement M
 row-text-spec =

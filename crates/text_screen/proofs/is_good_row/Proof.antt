@@ -25,7 +25,12 @@ are-depths-requires : tie.Need-are-depths-requires
 are-depths-requires c κs = search needs
 
 returns-3 : tie.Need-returns-3
-returns-3 c = row-bad _ _ _ (words _ _ _) ((c .before .before .before .before .if1) .left) ((c .before .before .before .if2) .left) (sym (rw ((c .before .before .wide) .ensures) at ((c .before .are-depths) .ensures)) ∙ not-true _ ((c .if3) .taken))
+returns-3 c =
+    let at-wide = c .before .before in
+    let at-if2 = at-wide .before in
+    let at-if1 = at-if2 .before in
+    row-bad _ _ _ (words _ _ _) ((at-if1 .if1) .left) ((at-if2 .if2) .left) (sym (rw ((at-wide .wide) .ensures) at ((c .before .are-depths) .ensures)) ∙
+    not-true _ ((c .if3) .taken))
 
 wide-requires-2 : tie.Need-wide-requires-2
 wide-requires-2 c κs = search needs
@@ -34,7 +39,14 @@ are-commands-requires : tie.Need-are-commands-requires
 are-commands-requires c κs = search needs
 
 returns-4 : tie.Need-returns-4
-returns-4 c = (rw ((c .before .wide2) .ensures) at ((c .are-commands) .ensures)) ∙ row-last _ _ _ (words _ _ _) ((c .before .before .before .before .before .before .if1) .left) ((c .before .before .before .before .before .if2) .left) (sym (rw ((c .before .before .before .before .wide) .ensures) at ((c .before .before .before .are-depths) .ensures)) ∙ not-false _ ((c .before .before .if3) .left))
+returns-4 c =
+    let at-if3 = c .before .before in
+    let at-are-depths = at-if3 .before in
+    let at-wide = at-are-depths .before in
+    let at-if2 = at-wide .before in
+    let at-if1 = at-if2 .before in
+    (rw ((c .before .wide2) .ensures) at ((c .are-commands) .ensures)) ∙ row-last _ _ _ (words _ _ _) ((at-if1 .if1) .left) ((at-if2 .if2) .left) (sym (rw
+    ((at-wide .wide) .ensures) at ((at-are-depths .are-depths) .ensures)) ∙ not-false _ ((at-if3 .if3) .left))
 
 pub is-good-row-spec : {M : Type 1} → statement M
 is-good-row-spec =

@@ -32,9 +32,11 @@ put-screen-requires c κs = search needs
 
 returns-2 : tie.Need-returns-2
 returns-2 c =
-    let at-room = c .before .before .before .before in
-    short-then _ _ _ (rw (at-room .screen-room .ensures, at-room .before .rows .ensures) at (c .before .before .before .if1 .left)) _
-    (rw (measured (c .before .put-screen .ensures)))
+    let at-if1 = c .before .before .before in
+    let back = at-if1 .before in
+    let at-room = back in
+    short-then _ _ _ (rw (at-room .screen-room .ensures, at-room .before .rows .ensures) at (at-if1 .if1 .left)) _ (rw (measured
+    (c .before .put-screen .ensures)))
 
 pub is-short-spec : {M : Type 1} → statement M
 is-short-spec =

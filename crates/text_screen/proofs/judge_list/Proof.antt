@@ -24,21 +24,28 @@ cast-buckets c = search needs
 
 judge-rows-requires : tie.Need-judge-rows-requires
 judge-rows-requires c κs =
-    let at-judge = c .before .before .before in
+    let at-if1 = c .before .before in
+    let back = at-if1 .before in
+    let at-judge = back in
     let entry = at-judge .before .before .before .before .args in
-    whole _ (words (entry .rows .now) (entry .render .now) (entry .fills .now)) (sym (at-judge .judge-screen .ensures) ∙ c .before .before .if1 .left) (c .before .rows .ensures)
+    whole _ (words (entry .rows .now) (entry .render .now) (entry .fills .now)) (sym (at-judge .judge-screen .ensures) ∙ at-if1 .if1 .left)
+    (c .before .rows .ensures)
 
 returns-2 : tie.Need-returns-2
 returns-2 c =
-    let at-rows = c .before .before .before in
-    by-rows _ (words _ _ _) (sym (at-rows .before .before .judge-screen .ensures) ∙ at-rows .before .if1 .left) (at-rows .rows .ensures) (c .before .before .buckets .ensures)
-    (sym (c .before .judge-rows .ensures) ∙ not-true _ (c .if2 .taken))
+    let at-buckets = c .before .before in
+    let back = at-buckets .before in
+    let at-rows = back in
+    by-rows _ (words _ _ _) (sym (at-rows .before .before .judge-screen .ensures) ∙ at-rows .before .if1 .left) (at-rows .rows .ensures)
+    (at-buckets .buckets .ensures) (sym (c .before .judge-rows .ensures) ∙ not-true _ (c .if2 .taken))
 
 returns-3 : tie.Need-returns-3
 returns-3 c =
-    let at-rows = c .before .before .before in
-    by-none _ (words _ _ _) (sym (at-rows .before .before .judge-screen .ensures) ∙ at-rows .before .if1 .left) (at-rows .rows .ensures) (c .before .before .buckets .ensures)
-    (sym (c .before .judge-rows .ensures) ∙ not-false _ (c .if2 .left))
+    let at-buckets = c .before .before in
+    let back = at-buckets .before in
+    let at-rows = back in
+    by-none _ (words _ _ _) (sym (at-rows .before .before .judge-screen .ensures) ∙ at-rows .before .if1 .left) (at-rows .rows .ensures)
+    (at-buckets .buckets .ensures) (sym (c .before .judge-rows .ensures) ∙ not-false _ (c .if2 .left))
 
 pub judge-list-spec : {M : Type 1} → statement M
 judge-list-spec =

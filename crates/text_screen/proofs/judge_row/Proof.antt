@@ -23,9 +23,11 @@ part-requires-3 c κs = let start = c .before .before .before .before .before in
 
 is-good-row-requires : tie.Need-is-good-row-requires
 is-good-row-requires c κs =
-    let o = c .before .before .before .before .before .before .pre in
-    rw (c .before .before .part .ensures, c .before .part2 .ensures, c .part3 .ensures)
-    (at-state _ _ _ _ (o .0 .long) (o .1), at-render _ _ _ _ (o .0 .long) (o .1), at-fills _ _ _ _ (o .0 .long) (o .1))
+    let at-part = c .before .before in
+    let at-pre = at-part .before .before .before .before in
+    let o = at-pre .pre in
+    rw (at-part .part .ensures, c .before .part2 .ensures, c .part3 .ensures) (at-state _ _ _ _ (o .0 .long) (o .1), at-render _ _ _ _ (o .0 .long) (o .1),
+    at-fills _ _ _ _ (o .0 .long) (o .1))
 
 returns : tie.Need-returns
 returns c = rw (c .before .before .before .part .ensures, c .before .before .part2 .ensures, c .before .part3 .ensures) at (c .is-good-row .ensures)

@@ -1,3 +1,4 @@
+-- The rows that were looked at are good.
 use native.Mathlib.Omega.{arith}
 use Prim.Native.Nat.{ℕ}
 use Rattle.row.specs.Words.{words}

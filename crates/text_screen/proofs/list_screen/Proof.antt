@@ -23,10 +23,12 @@ is-short-requires c κs = sym (c .before .judge-list .ensures) ∙ c .if1 .left
 
 returns-2 : tie.Need-returns-2
 returns-2 c =
-    let at-judge = c .before .before .before in
+    let at-if1 = c .before .before in
+    let back = at-if1 .before in
+    let at-judge = back in
     let entry = at-judge .before .before .before .before .before .args in
-    listed-full _ (words (entry .rows .now) (entry .render .now) (entry .fills .now)) _ (sym (at-judge .judge-list .ensures) ∙ c .before .before .if1 .left)
-    (short-yes _ _ _ (sym (c .before .is-short .ensures) ∙ c .if2 .taken))
+    listed-full _ (words (entry .rows .now) (entry .render .now) (entry .fills .now)) _ (sym (at-judge .judge-list .ensures) ∙ at-if1 .if1 .left) (short-yes _ _
+    _ (sym (c .before .is-short .ensures) ∙ c .if2 .taken))
 
 put-screen-requires : tie.Need-put-screen-requires
 put-screen-requires c κs = let at-test = c .before .before .before in sym (at-test .before .judge-list .ensures) ∙ at-test .if1 .left
@@ -36,16 +38,16 @@ same-length c = search needs
 
 returns-3 : tie.Need-returns-3
 returns-3 c =
-    let at-write = c .before .before in
+    let back = c .before .before in
+    let at-write = back in
     let at-short = at-write .before .before .before in
     let at-judge = at-short .before .before in
     let entry = at-judge .before .before .before .before .before .args in
     let w = words (entry .rows .now) (entry .render .now) (entry .fills .now) in
     let x = at-write .put-screen .ensures in
     let few : length (text-of (screen-lines (entry .screen) w)) ≤ screen-room (entry .screen) = omega (arith, x .near, measured x) in
-    listed-done (entry .screen) w (sym (at-judge .judge-list .ensures) ∙ at-short .before .if1 .left)
-    (short-no _ _ _ (sym (at-short .is-short .ensures) ∙ at-write .before .before .if2 .left) few)
-    x
+    listed-done (entry .screen) w (sym (at-judge .judge-list .ensures) ∙ at-short .before .if1 .left) (short-no _ _ _ (sym (at-short .is-short .ensures) ∙
+    at-write .before .before .if2 .left) few) x
 
 pub list-screen-spec : {M : Type 1} → statement M
 list-screen-spec =

@@ -24,7 +24,11 @@ same-length : tie.Need-same-length
 same-length c = search needs
 
 returns-2 : tie.Need-returns-2
-returns-2 c = rw (← (c .before .before .before .before .before .before .before .read-command) .ensures, (c .before .before .before .before .before .cmd) .given .1) (one-line _ ((c .before .before .put-command-line) .ensures))
+returns-2 c =
+    let at-put-command-line = c .before .before in
+    let at-cmd = at-put-command-line .before .before .before in
+    let at-read-command = at-cmd .before .before in
+    rw (← (at-read-command .read-command) .ensures, (at-cmd .cmd) .given .1) (one-line _ ((at-put-command-line .put-command-line) .ensures))
 
 pub put-command-spec : {M : Type 1} → statement M
 put-command-spec =

@@ -24,7 +24,11 @@ same-length : tie.Need-same-length
 same-length c = search needs
 
 returns-2 : tie.Need-returns-2
-returns-2 c = rw (← (c .before .before .before .before .before .before .before .read-depth) .ensures, (c .before .before .before .before .before .fill) .given .1) (one-line _ ((c .before .before .put-depth-line) .ensures))
+returns-2 c =
+    let at-put-depth-line = c .before .before in
+    let at-fill = at-put-depth-line .before .before .before in
+    let at-read-depth = at-fill .before .before in
+    rw (← (at-read-depth .read-depth) .ensures, (at-fill .fill) .given .1) (one-line _ ((at-put-depth-line .put-depth-line) .ensures))
 
 pub put-depth-spec : {M : Type 1} → statement M
 put-depth-spec =

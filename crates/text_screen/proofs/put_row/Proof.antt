@@ -31,7 +31,15 @@ same-length c = search needs
 
 returns : tie.Need-returns
 unfolding row-lines
-returns c = row-written _ _ (words ((c .before .before .before .before .before .before .before .before .before .before .before .before .before .before .before .before .before .before .before .before .args) .state .now) ((c .before .before .before .before .before .before .before .before .before .before .before .before .before .before .before .before .before .before .before .before .args) .render .now) ((c .before .before .before .before .before .before .before .before .before .before .before .before .before .before .before .before .before .before .before .before .args) .fills .now)) ((c .before .before .before .before .before .before .before .before .wide) .ensures) ((c .before .before .before .wide2) .ensures) ((c .before .before .before .before .before .before .before .before .before .before .before .before .put-row-line) .ensures) ((c .before .before .before .before .before .before .before .put-depths) .ensures) ((c .before .before .put-commands) .ensures)
+returns c =
+    let at-put-commands = c .before .before in
+    let at-wide2 = at-put-commands .before in
+    let at-put-depths = at-wide2 .before .before .before .before in
+    let at-wide = at-put-depths .before in
+    let at-put-row-line = at-wide .before .before .before .before in
+    let at-args = at-put-row-line .before .before .before .before .before .before .before .before in
+    row-written _ _ (words ((at-args .args) .state .now) ((at-args .args) .render .now) ((at-args .args) .fills .now)) ((at-wide .wide) .ensures)
+    ((at-wide2 .wide2) .ensures) ((at-put-row-line .put-row-line) .ensures) ((at-put-depths .put-depths) .ensures) ((at-put-commands .put-commands) .ensures)
 
 pub put-row-spec : {M : Type 1} → statement M
 put-row-spec =

@@ -28,17 +28,24 @@ cast-put-row c = search needs
 
 put-row-requires : tie.Need-put-row-requires
 put-row-requires c κs =
-    let o = c .before .before .before .before .before .before .before .before .pre in
-    rw (c .before .before .part .ensures, c .before .part2 .ensures, c .part3 .ensures) (row-ready (o .0) _ (o .1) (o .2), omega (arith, o .2 .commands, o .2 .depths))
+    let at-part = c .before .before in
+    let at-pre = at-part .before .before .before .before .before .before in
+    let o = at-pre .pre in
+    rw (at-part .part .ensures, c .before .part2 .ensures, c .part3 .ensures) (row-ready (o .0) _ (o .1) (o .2), omega (arith, o .2 .commands, o .2 .depths))
 
 same-length : tie.Need-same-length
 same-length c = search needs
 
 returns : tie.Need-returns
 returns c =
-    let o = c .before .before .before .before .before .before .before .before .before .before .before .pre in
-    laws.within (omega (arith, o .2 .commands, o .2 .depths))
-    (rw (c .before .before .before .before .before .part .ensures, c .before .before .before .before .part2 .ensures, c .before .before .before .part3 .ensures) at (c .before .before .put-row .ensures))
+    let at-put-row = c .before .before in
+    let at-part3 = at-put-row .before in
+    let at-part2 = at-part3 .before in
+    let at-part = at-part2 .before in
+    let at-pre = at-part .before .before .before .before .before .before in
+    let o = at-pre .pre in
+    laws.within (omega (arith, o .2 .commands, o .2 .depths)) (rw (at-part .part .ensures, at-part2 .part2 .ensures,
+    at-part3 .part3 .ensures) at (at-put-row .put-row .ensures))
 
 pub put-row-at-spec : {M : Type 1} → statement M
 put-row-at-spec =

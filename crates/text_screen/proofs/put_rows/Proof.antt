@@ -42,7 +42,10 @@ same-length : tie.Need-same-length Inv-loop μ-loop
 same-length c = omega arith
 
 returns : tie.Need-returns Inv-loop μ-loop
-returns c = joined-all _ (λ (k : ℕ). k * row-room ((c .before .before .before .before .before .before .args) .c) ((c .before .before .before .before .before .before .args) .d)) _ _ (omega arith) ((c .before .loop) .inv .0) ((c .before .loop) .inv .1)
+returns c =
+    let at-loop = c .before in
+    let at-args = at-loop .before .before .before .before .before in
+    joined-all _ (λ (k : ℕ). k * row-room ((at-args .args) .c) ((at-args .args) .d)) _ _ (omega arith) ((at-loop .loop) .inv .0) ((at-loop .loop) .inv .1)
 
 pub put-rows-spec : {M : Type 1} → statement M
 put-rows-spec =

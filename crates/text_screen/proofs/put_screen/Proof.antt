@@ -28,7 +28,8 @@ cast-put-header c =
 
 sub-put-header : tie.Need-sub-put-header
 sub-put-header c =
-    let entry = c .before .before .before .before .before .before .before .before in
+    let back = c .before .before .before .before .before .before .before .before in
+    let entry = back in
     listable _ (words (entry .args .rows .now) (entry .args .render .now) (entry .args .fills .now)) (entry .pre) .some-id
 
 put-header-requires : tie.Need-put-header-requires
@@ -36,7 +37,8 @@ put-header-requires c κs = search needs
 
 put-rows-requires : tie.Need-put-rows-requires
 put-rows-requires c κs =
-    let at-rows = c .before .before .before .before .before .before .before in
+    let back = c .before .before .before .before .before .before .before in
+    let at-rows = back in
     let entry = at-rows .before .before .before .before .before in
     let o = listable _ (words (entry .args .rows .now) (entry .args .render .now) (entry .args .fills .now)) (entry .pre) in
     rw (at-rows .rows .ensures) (o .whole, o .few, omega (arith, o .room))
@@ -46,12 +48,13 @@ same-length c = search needs
 
 returns : tie.Need-returns
 returns c =
-    let at-header = c .before .before .before .before .before .before in
+    let at-put-rows = c .before .before in
+    let back = at-put-rows .before .before .before .before in
+    let at-header = back in
     let at-rows = at-header .before .before .before .before in
     let entry = at-rows .before .before .before .before .before .args in
-    screen-written _ (words (entry .rows .now) (entry .render .now) (entry .fills .now)) (at-rows .rows .ensures) (at-header .before .before .before .buckets .ensures)
-    (at-header .put-header .ensures)
-    (c .before .before .put-rows .ensures)
+    screen-written _ (words (entry .rows .now) (entry .render .now) (entry .fills .now)) (at-rows .rows .ensures)
+    (at-header .before .before .before .buckets .ensures) (at-header .put-header .ensures) (at-put-rows .put-rows .ensures)
 
 pub put-screen-spec : {M : Type 1} → statement M
 put-screen-spec =

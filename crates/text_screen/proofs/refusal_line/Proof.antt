@@ -25,10 +25,11 @@ same-length c = search needs
 
 returns-2 : tie.Need-returns-2
 returns-2 c =
-    let at-write = c .before .before in
+    let back = c .before .before in
+    let at-write = back in
     let at-test = at-write .before .before in
-    written-done (line-bytes (refused (at-test .before .before .before .before .before .args .n))) (rw (measured (at-test .before .before .put-refused .ensures)) at (at-test .if1 .left))
-    (at-write .put-refused2 .ensures)
+    written-done (line-bytes (refused (at-test .before .before .before .before .before .args .n))) (rw (measured
+    (at-test .before .before .put-refused .ensures)) at (at-test .if1 .left)) (at-write .put-refused2 .ensures)
 
 pub refusal-line-spec : {M : Type 1} → statement M
 refusal-line-spec =

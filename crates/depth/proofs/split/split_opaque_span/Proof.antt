@@ -37,7 +37,11 @@ piece-requires-2 c κs = search needs
 
 returns-4 : tie.Need-returns-4
 unfolding split-answer split
-returns-4 c = in-three 32 _ _ _ (c .before .before .before .before .if1 .left) (c .before .before .before .if2 .left) (c .before .before .if3 .left) (c .before .piece .ensures) (c .piece2 .ensures)
+returns-4 c =
+    let at-if3 = c .before .before in
+    let at-if2 = at-if3 .before in
+    let at-if1 = at-if2 .before in
+    in-three 32 _ _ _ (at-if1 .if1 .left) (at-if2 .if2 .left) (at-if3 .if3 .left) (c .before .piece .ensures) (c .piece2 .ensures)
 
 pub split-opaque-span-spec : {M : Type 1} → statement M
 split-opaque-span-spec =

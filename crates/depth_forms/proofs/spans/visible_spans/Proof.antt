@@ -30,8 +30,10 @@ returns c = seen-refused _ _ _ _ (c .before .before .before .before .visible-run
 
 returns-2 : tie.Need-returns-2
 returns-2 c =
-    let e = c .before .before .before .before .before .before .visible-runs .ensures in
-    let q = c .before .before .before .runs2 .given .1 in
+    let at-runs2 = c .before .before .before in
+    let at-visible-runs = at-runs2 .before .before .before in
+    let e = at-visible-runs .visible-runs .ensures in
+    let q = at-runs2 .runs2 .given .1 in
     let h = listed-fits _ _ _ _ e _ q in
     rw (c .runs-of .ensures) (seen-listed _ _ _ _ e _ _ q (omega (arith, h)))
 

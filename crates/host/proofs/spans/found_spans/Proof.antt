@@ -31,17 +31,20 @@ returns c =
 
 slice-read-t19 : tie.Need-slice-read-t19
 slice-read-t19 c =
-    let at-count = c .before .before .before in
+    let back = c .before .before .before in
+    let at-count = back in
     let at-runs = at-count .before .before in
     let at-words-for = at-runs .before .before .before in
-    omega (arith, at-count .count .given, one-result _ _ _ _ _ _ _ _ _ _ _ (at-words-for .words-for .ensures) (at-runs .coarse-visible-runs .ensures) (c .before .if1 .left))
+    omega (arith, at-count .count .given, one-result _ _ _ _ _ _ _ _ _ _ _ (at-words-for .words-for .ensures) (at-runs .coarse-visible-runs .ensures)
+    (c .before .if1 .left))
 
 same-length-2 : tie.Need-same-length-2
 same-length-2 c = search needs
 
 returns-2 : tie.Need-returns-2
 returns-2 c =
-    let at-runs = c .before .before .before .before .before in
+    let back = c .before .before .before .before .before in
+    let at-runs = back in
     let at-words-for = at-runs .before .before .before in
     found-some _ _ _ _ _ _ _ _ _ _ _ (at-words-for .words-for .ensures) (at-runs .coarse-visible-runs .ensures) (c .before .if1 .left)
 

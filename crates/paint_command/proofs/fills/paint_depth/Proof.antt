@@ -1,3 +1,4 @@
+-- The unset runs go to the front of the list, are spread to pieces of six words, and the place moves on.
 use mathlib.Core.Path.{sym}
 use Rattle.paint_command.proofs.Listing.{lent-length}
 use Rattle.paint_command.proofs.Filling.{depth-refused, depth-ready, depth-done}
@@ -30,7 +31,13 @@ enum-known-n : tie.Need-enum-known-n
 enum-known-n c = search needs
 
 spread-requires : tie.Need-spread-requires
-spread-requires c κs = depth-ready _ (c .before .before .before .before .before .before .before .before .before .before .before .before .before .before .before .args .painting .now) (c .before .before .before .before .before .before .before .before .before .before .before .before .before .before .before .args .list .now) _ _ _ (c .before .before .before .before .before .before .before .before .before .before .before .before .before .before .before .args .fill .«attrs_idx») (c .before .before .before .before .before .before .before .before .before .before .before .before .before .before .before .args .fill .buckets) (c .before .before .before .before .before .before .before .before .before .before .before .before .before .before .before .pre .0 .0) (c .before .before .before .before .before .before .before .before .before .before .before .before .before .before .before .pre .0 .1) (c .before .before .before .before .before .before .before .before .before .before .before .before .before .before .before .pre .0 .3) _ (c .before .before .before .before .before .before .before .before .unset-runs-and-write .ensures) _ (c .before .before .n .given .1) (c .before .before .before .before .before .before .before .before .before .before .before .before .before .before .before .pre .0 .2)
+spread-requires c κs =
+    let at-n = c .before .before in
+    let at-unset-runs-and-write = at-n .before .before .before .before .before .before in
+    let at-args = at-unset-runs-and-write .before .before .before .before .before .before .before in
+    depth-ready _ (at-args .args .painting .now) (at-args .args .list .now) _ _ _ (at-args .args .fill .«attrs_idx») (at-args .args .fill .buckets)
+    (at-args .pre .0 .0) (at-args .pre .0 .1) (at-args .pre .0 .3) _ (at-unset-runs-and-write .unset-runs-and-write .ensures) _ (at-n .n .given .1)
+    (at-args .pre .0 .2)
 
 slice-read-nesting : tie.Need-slice-read-nesting
 slice-read-nesting c = search needs
@@ -45,7 +52,12 @@ same-length-2 : tie.Need-same-length-2
 same-length-2 c = search needs
 
 returns : tie.Need-returns
-returns c = depth-refused _ _ (c .before .before .before .before .before .before .before .before .before .before .before .before .before .before .before .before .args .list .now) _ _ _ _ (c .before .before .before .before .before .before .before .before .before .before .before .before .before .before .before .before .args .fill .buckets) (c .before .before .before .before .before .before .before .before .before .before .before .before .before .before .before .before .pre .0 .0) (c .before .before .before .before .before .before .before .before .before .before .before .before .before .before .before .before .pre .0 .1) (c .before .before .before .before .before .before .before .before .before .before .before .before .before .before .before .before .pre .0 .3) _ (c .before .before .before .before .before .before .before .before .before .unset-runs-and-write .ensures) _ _ _ (c .before .before .before .answer .given .1) (c .before .number .ensures) (c .refused .ensures)
+returns c =
+    let at-answer = c .before .before .before in
+    let at-unset-runs-and-write = at-answer .before .before .before .before .before .before in
+    let at-args = at-unset-runs-and-write .before .before .before .before .before .before .before in
+    depth-refused _ _ (at-args .args .list .now) _ _ _ _ (at-args .args .fill .buckets) (at-args .pre .0 .0) (at-args .pre .0 .1) (at-args .pre .0 .3) _
+    (at-unset-runs-and-write .unset-runs-and-write .ensures) _ _ _ (at-answer .answer .given .1) (c .before .number .ensures) (c .refused .ensures)
 
 same-length-3 : tie.Need-same-length-3
 same-length-3 c = search needs
@@ -57,7 +69,15 @@ same-length-5 : tie.Need-same-length-5
 same-length-5 c = search needs
 
 returns-2 : tie.Need-returns-2
-returns-2 c = depth-done _ (c .before .before .before .before .before .before .before .before .before .before .before .before .before .before .before .before .before .before .before .before .before .before .before .args .painting .now) (c .before .before .before .before .before .before .before .before .before .before .before .before .before .before .before .before .before .before .before .before .before .before .before .args .list .now) _ _ _ _ (c .before .before .before .before .before .before .before .before .before .before .before .before .before .before .before .before .before .before .before .before .before .before .before .args .fill .buckets) (c .before .before .before .before .before .before .before .before .before .before .before .before .before .before .before .before .before .before .before .before .before .before .before .pre .0 .0) (c .before .before .before .before .before .before .before .before .before .before .before .before .before .before .before .before .before .before .before .before .before .before .before .pre .0 .1) (c .before .before .before .before .before .before .before .before .before .before .before .before .before .before .before .before .before .before .before .before .before .before .before .pre .0 .3) _ (c .before .before .before .before .before .before .before .before .before .before .before .before .before .before .before .before .unset-runs-and-write .ensures) _ (c .before .before .before .before .before .before .before .before .before .before .n .given .1) _ _ _ (c .before .before .advance .ensures) (c .before .before .before .before .before .before .before .spread .ensures)
+returns-2 c =
+    let at-advance = c .before .before in
+    let at-spread = at-advance .before .before .before .before .before in
+    let at-n = at-spread .before .before .before in
+    let at-unset-runs-and-write = at-n .before .before .before .before .before .before in
+    let at-args = at-unset-runs-and-write .before .before .before .before .before .before .before in
+    depth-done _ (at-args .args .painting .now) (at-args .args .list .now) _ _ _ _ (at-args .args .fill .buckets) (at-args .pre .0 .0) (at-args .pre .0 .1)
+    (at-args .pre .0 .3) _ (at-unset-runs-and-write .unset-runs-and-write .ensures) _ (at-n .n .given .1) _ _ _ (at-advance .advance .ensures)
+    (at-spread .spread .ensures)
 
 pub paint-depth-spec : {M : Type 1} → statement M
 paint-depth-spec =

@@ -1,3 +1,4 @@
+-- The shown runs go to the front of the list, are spread to pieces of six words, and the place moves on.
 use mathlib.Core.Path.{sym}
 use Rattle.depth.specs.Answers.{summary}
 use Rattle.paint_command.proofs.Listing.{lent-length}
@@ -34,7 +35,13 @@ slice-read-nesting : tie.Need-slice-read-nesting
 slice-read-nesting c = search needs
 
 spread-requires : tie.Need-spread-requires
-spread-requires c κs = fill-ready _ (c .before .before .before .before .before .before .before .before .before .before .before .before .before .args .painting .now) (c .before .before .before .before .before .before .before .before .before .before .before .before .before .args .list .now) _ (summary (c .before .before .before .before .before .before .before .before .before .before .before .before .before .args .sum)) (c .before .before .before .before .before .before .before .before .before .before .before .before .before .args .layer) _ (c .before .before .before .before .before .before .before .before .before .before .before .before .before .args .fill .«attrs_idx») (c .before .before .before .before .before .before .before .before .before .before .before .before .before .args .fill .span) (c .before .before .before .before .before .before .before .before .before .before .before .before .before .args .fill .alpha) (c .before .before .before .before .before .before .before .before .before .before .before .before .before .pre .0 .0) (c .before .before .before .before .before .before .before .before .before .before .before .before .before .pre .0 .1) _ (c .before .before .before .before .before .before .before .shown-runs .ensures) _ (c .before .before .before .n .given .1) (c .before .before .before .before .before .before .before .before .before .before .before .before .before .pre .0 .2)
+spread-requires c κs =
+    let at-n = c .before .before .before in
+    let at-shown-runs = at-n .before .before .before .before in
+    let at-args = at-shown-runs .before .before .before .before .before .before in
+    fill-ready _ (at-args .args .painting .now) (at-args .args .list .now) _ (summary (at-args .args .sum)) (at-args .args .layer) _
+    (at-args .args .fill .«attrs_idx») (at-args .args .fill .span) (at-args .args .fill .alpha) (at-args .pre .0 .0) (at-args .pre .0 .1) _
+    (at-shown-runs .shown-runs .ensures) _ (at-n .n .given .1) (at-args .pre .0 .2)
 
 advance-requires : tie.Need-advance-requires
 advance-requires c κs = search needs
@@ -43,7 +50,13 @@ same-length : tie.Need-same-length
 same-length c = search needs
 
 returns : tie.Need-returns
-returns c = fill-refused _ _ (c .before .before .before .before .before .before .before .before .before .before .before .before .before .args .list .now) _ (summary (c .before .before .before .before .before .before .before .before .before .before .before .before .before .args .sum)) _ _ _ (c .before .before .before .before .before .before .before .before .before .before .before .before .before .args .fill .span) (c .before .before .before .before .before .before .before .before .before .before .before .before .before .args .fill .alpha) (c .before .before .before .before .before .before .before .before .before .before .before .before .before .pre .0 .0) (c .before .before .before .before .before .before .before .before .before .before .before .before .before .pre .0 .1) _ (c .before .before .before .before .before .before .before .shown-runs .ensures) _ _ _ (c .before .before .before .answer .given .1) (c .before .number .ensures) (c .refused .ensures)
+returns c =
+    let at-answer = c .before .before .before in
+    let at-shown-runs = at-answer .before .before .before .before in
+    let at-args = at-shown-runs .before .before .before .before .before .before in
+    fill-refused _ _ (at-args .args .list .now) _ (summary (at-args .args .sum)) _ _ _ (at-args .args .fill .span) (at-args .args .fill .alpha)
+    (at-args .pre .0 .0) (at-args .pre .0 .1) _ (at-shown-runs .shown-runs .ensures) _ _ _ (at-answer .answer .given .1) (c .before .number .ensures)
+    (c .refused .ensures)
 
 same-length-2 : tie.Need-same-length-2
 same-length-2 c = search needs
@@ -52,7 +65,15 @@ same-length-3 : tie.Need-same-length-3
 same-length-3 c = search needs
 
 returns-2 : tie.Need-returns-2
-returns-2 c = fill-done _ (c .before .before .before .before .before .before .before .before .before .before .before .before .before .before .before .before .before .before .before .before .args .painting .now) (c .before .before .before .before .before .before .before .before .before .before .before .before .before .before .before .before .before .before .before .before .args .list .now) _ (summary (c .before .before .before .before .before .before .before .before .before .before .before .before .before .before .before .before .before .before .before .before .args .sum)) _ _ _ (c .before .before .before .before .before .before .before .before .before .before .before .before .before .before .before .before .before .before .before .before .args .fill .span) (c .before .before .before .before .before .before .before .before .before .before .before .before .before .before .before .before .before .before .before .before .args .fill .alpha) (c .before .before .before .before .before .before .before .before .before .before .before .before .before .before .before .before .before .before .before .before .pre .0 .0) (c .before .before .before .before .before .before .before .before .before .before .before .before .before .before .before .before .before .before .before .before .pre .0 .1) _ (c .before .before .before .before .before .before .before .before .before .before .before .before .before .before .shown-runs .ensures) _ (c .before .before .before .before .before .before .before .before .before .before .n .given .1) _ _ _ (c .before .before .advance .ensures) (c .before .before .before .before .before .before .spread .ensures)
+returns-2 c =
+    let at-advance = c .before .before in
+    let at-spread = at-advance .before .before .before .before in
+    let at-n = at-spread .before .before .before .before in
+    let at-shown-runs = at-n .before .before .before .before in
+    let at-args = at-shown-runs .before .before .before .before .before .before in
+    fill-done _ (at-args .args .painting .now) (at-args .args .list .now) _ (summary (at-args .args .sum)) _ _ _ (at-args .args .fill .span)
+    (at-args .args .fill .alpha) (at-args .pre .0 .0) (at-args .pre .0 .1) _ (at-shown-runs .shown-runs .ensures) _ (at-n .n .given .1) _ _ _
+    (at-advance .advance .ensures) (at-spread .spread .ensures)
 
 pub paint-fill-spec : {M : Type 1} → statement M
 paint-fill-spec =

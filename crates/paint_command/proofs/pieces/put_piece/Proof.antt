@@ -1,3 +1,4 @@
+-- Six words are stored one after the other.
 use mathlib.Core.List.{[], _∷_}
 use Prim.Native.Nat.{_*_}
 use native.Mathlib.Omega.{arith}
@@ -77,7 +78,10 @@ same-length : tie.Need-same-length
 same-length c = simp length-set
 
 returns : tie.Need-returns
-returns c = rw (c .before .tag .ensures, c .index .ensures, c .before .before .moved .ensures) (stored _ (6 * c .before .before .before .before .before .args .k) _ (_ ∷ _ ∷ _ ∷ _ ∷ _ ∷ []) (omega arith))
+returns c =
+    let at-moved = c .before .before in
+    let at-args = at-moved .before .before .before in
+    rw (c .before .tag .ensures, c .index .ensures, at-moved .moved .ensures) (stored _ (6 * at-args .args .k) _ (_ ∷ _ ∷ _ ∷ _ ∷ _ ∷ []) (omega arith))
 
 pub put-piece-spec : {M : Type 1} → statement M
 put-piece-spec =

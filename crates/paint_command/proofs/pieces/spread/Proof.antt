@@ -1,3 +1,4 @@
+-- So far the last runs are spread: pieces are written from the last to the first, so that no run is overwritten before it is read.
 use native.Mathlib.Omega.{arith}
 use Rattle.paint_command.proofs.Spreading.{Spreading, spread-first, spread-fits, spread-again, spread-end}
 use Rattle.paint_command.proofs.pieces.spread.Statement.{statement}
@@ -44,14 +45,20 @@ mul-b-3 c = omega (arith, spread-fits _ _ _ _ _ _ (c .before .before .before .lo
 
 put-piece-requires : tie.Need-put-piece-requires Inv-loop μ-loop
 put-piece-requires c κs =
-    let f = spread-fits _ _ _ _ _ _ (c .before .before .before .before .loop .inv) (c .before .before .before .loop-test .taken) in
-    (omega (arith, c .before .before .before .before .loop .inv .room), f .begun, f .moves)
+    let at-loop-test = c .before .before .before in
+    let at-loop = at-loop-test .before in
+    let f = spread-fits _ _ _ _ _ _ (at-loop .loop .inv) (at-loop-test .loop-test .taken) in
+    (omega (arith, at-loop .loop .inv .room), f .begun, f .moves)
 
 loop-less : tie.Need-loop-less Inv-loop μ-loop
 loop-less c = omega arith
 
 loop-again : tie.Need-loop-again Inv-loop μ-loop
-loop-again c = spread-again _ _ _ _ _ _ (c .before .before .before .before .before .before .before .loop .inv) _ (c .before .before .before .before .before .before .loop-test .taken) (c .before .before .put-piece .ensures)
+loop-again c =
+    let at-put-piece = c .before .before in
+    let at-loop-test = at-put-piece .before .before .before .before in
+    let at-loop = at-loop-test .before in
+    spread-again _ _ _ _ _ _ (at-loop .loop .inv) _ (at-loop-test .loop-test .taken) (at-put-piece .put-piece .ensures)
 
 same-length : tie.Need-same-length Inv-loop μ-loop
 same-length c = c .before .loop .inv .kept

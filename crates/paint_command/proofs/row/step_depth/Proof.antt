@@ -1,3 +1,4 @@
+-- The fill's words are judged, then its attribute; its unset runs become pieces and its id is written.
 use native.Mathlib.Omega.{arith}
 use Rattle.paint_command.proofs.Steps.{depth-unread, depth-forged, depth-taken, depth-good}
 use borrow.Author.Needs.{needs}
@@ -44,13 +45,30 @@ refused-requires-2 : tie.Need-refused-requires-2
 refused-requires-2 c κs = search needs
 
 returns : tie.Need-returns
-returns c = depth-forged (c .before .before .before .before .before .before .before .before .before .before .before .before .before .before .args .paint-attrs .now) (c .before .before .before .before .before .before .before .before .before .before .before .before .before .before .args .paints) _ _ (c .before .before .before .before .before .before .before .before .before .before .before .before .before .before .args .depth .now) (c .before .before .before .before .before .before .before .before .before .before .before .before .before .before .args .painting .now) (c .before .before .before .before .before .before .before .before .before .before .before .before .before .before .args .list .now) _ _ 0 (c .before .before .before .before .before .before .read .ensures) _ (c .before .before .before .before .fill .given .1) _ (c .before .before .paint-taken .ensures) _ (c .before .if1 .taken) (c .refused2 .ensures)
+returns c =
+    let at-paint-taken = c .before .before in
+    let at-fill = at-paint-taken .before .before in
+    let at-read = at-fill .before .before in
+    let at-args = at-read .before .before .before .before .before .before .before .before in
+    depth-forged (at-args .args .paint-attrs .now) (at-args .args .paints) _ _ (at-args .args .depth .now) (at-args .args .painting .now)
+    (at-args .args .list .now) _ _ 0 (at-read .read .ensures) _ (at-fill .fill .given .1) _ (at-paint-taken .paint-taken .ensures) _ (c .before .if1 .taken)
+    (c .refused2 .ensures)
 
 paint-depth-requires : tie.Need-paint-depth-requires
-paint-depth-requires c κs = let g = depth-good _ _ _ _ _ (c .before .before .before .before .before .before .before .before .read .ensures) (c .before .before .before .before .before .before .fill .given .1) in ((g .0, g .1, omega (arith, g .1, c .before .before .before .before .before .before .before .before .before .before .before .before .before .before .before .before .pre .0 .2), omega (arith, c .before .before .before .if1 .left)), (c .before .before .before .before .before .before .before .before .before .before .before .before .before .before .before .before .pre .1 .1, c .before .before .before .before .before .before .before .before .before .before .before .before .before .before .before .before .pre .1 .2))
+paint-depth-requires c κs =
+    let at-if1 = c .before .before .before in
+    let at-fill = at-if1 .before .before .before in
+    let at-read = at-fill .before .before in
+    let at-pre = at-read .before .before .before .before .before .before .before .before in
+    let g = depth-good _ _ _ _ _ (at-read .read .ensures) (at-fill .fill .given .1) in
+    ((g .0, g .1, omega (arith, g .1, at-pre .pre .0 .2), omega (arith, at-if1 .if1 .left)), (at-pre .pre .1 .1, at-pre .pre .1 .2))
 
 returns-2 : tie.Need-returns-2
-returns-2 c = depth-unread (c .before .before .before .before .before .before .before .before .before .before .before .args .paint-attrs .now) (c .before .before .before .before .before .before .before .before .before .before .before .args .paints) _ _ (c .before .before .before .before .before .before .before .before .before .before .before .args .depth .now) (c .before .before .before .before .before .before .before .before .before .before .before .args .painting .now) (c .before .before .before .before .before .before .before .before .before .before .before .args .list .now) _ _ 0 (c .before .before .before .read .ensures) _ (c .before .enum-told .given .1) (c .refused .ensures)
+returns-2 c =
+    let at-read = c .before .before .before in
+    let at-args = at-read .before .before .before .before .before .before .before .before in
+    depth-unread (at-args .args .paint-attrs .now) (at-args .args .paints) _ _ (at-args .args .depth .now) (at-args .args .painting .now)
+    (at-args .args .list .now) _ _ 0 (at-read .read .ensures) _ (c .before .enum-told .given .1) (c .refused .ensures)
 
 same-length : tie.Need-same-length
 same-length c = search needs
@@ -62,7 +80,16 @@ same-length-3 : tie.Need-same-length-3
 same-length-3 c = search needs
 
 returns-3 : tie.Need-returns-3
-returns-3 c = depth-taken (c .before .before .before .before .before .before .before .before .before .before .before .before .before .before .before .before .before .before .before .before .before .before .before .args .paint-attrs .now) (c .before .before .before .before .before .before .before .before .before .before .before .before .before .before .before .before .before .before .before .before .before .before .before .args .paints) _ _ (c .before .before .before .before .before .before .before .before .before .before .before .before .before .before .before .before .before .before .before .before .before .before .before .args .depth .now) (c .before .before .before .before .before .before .before .before .before .before .before .before .before .before .before .before .before .before .before .before .before .before .before .args .painting .now) (c .before .before .before .before .before .before .before .before .before .before .before .before .before .before .before .before .before .before .before .before .before .before .before .args .list .now) _ _ 0 (c .before .before .before .before .before .before .before .before .before .before .before .before .before .before .before .read .ensures) _ (c .before .before .before .before .before .before .before .before .before .before .before .before .before .fill .given .1) _ (c .before .before .before .before .before .before .before .before .before .before .before .paint-taken .ensures) _ (c .before .before .before .before .before .before .before .before .before .before .if1 .left) (c .before .before .before .before .before .before .paint-depth .ensures)
+returns-3 c =
+    let at-paint-depth = c .before .before .before .before .before .before in
+    let at-if1 = at-paint-depth .before .before .before .before in
+    let at-paint-taken = at-if1 .before in
+    let at-fill = at-paint-taken .before .before in
+    let at-read = at-fill .before .before in
+    let at-args = at-read .before .before .before .before .before .before .before .before in
+    depth-taken (at-args .args .paint-attrs .now) (at-args .args .paints) _ _ (at-args .args .depth .now) (at-args .args .painting .now)
+    (at-args .args .list .now) _ _ 0 (at-read .read .ensures) _ (at-fill .fill .given .1) _ (at-paint-taken .paint-taken .ensures) _ (at-if1 .if1 .left)
+    (at-paint-depth .paint-depth .ensures)
 
 pub step-depth-spec : {M : Type 1} → statement M
 step-depth-spec =

@@ -26,13 +26,25 @@ enum-told-3 : tie.Need-enum-told-3
 enum-told-3 c = search needs
 
 returns : tie.Need-returns
-returns c = rw (skip-said (summary (c .before .before .before .before .args .sum)) (tiles (c .before .before .before .before .args .span)) (c .before .before .before .before .args .id) (c .before .before .before .can-skip .result) (c .before .before .before .before .pre .0) (c .before .before .before .before .pre .1) (c .before .before .before .can-skip .ensures) ∙ ap (λ (x : Skip). skip-of x .value) (c .before .enum-told .given .1))
+returns c =
+    let at-can-skip = c .before .before .before in
+    let at-args = at-can-skip .before in
+    rw (skip-said (summary (at-args .args .sum)) (tiles (at-args .args .span)) (at-args .args .id) (at-can-skip .can-skip .result) (at-args .pre .0)
+    (at-args .pre .1) (at-can-skip .can-skip .ensures) ∙ ap (λ (x : Skip). skip-of x .value) (c .before .enum-told .given .1))
 
 returns-2 : tie.Need-returns-2
-returns-2 c = rw (skip-said (summary (c .before .before .before .args .sum)) (tiles (c .before .before .before .args .span)) (c .before .before .before .args .id) (c .before .before .can-skip .result) (c .before .before .before .pre .0) (c .before .before .before .pre .1) (c .before .before .can-skip .ensures) ∙ ap (λ (x : Skip). skip-of x .value) (c .enum-told2 .given .1))
+returns-2 c =
+    let at-can-skip = c .before .before in
+    let at-args = at-can-skip .before in
+    rw (skip-said (summary (at-args .args .sum)) (tiles (at-args .args .span)) (at-args .args .id) (at-can-skip .can-skip .result) (at-args .pre .0)
+    (at-args .pre .1) (at-can-skip .can-skip .ensures) ∙ ap (λ (x : Skip). skip-of x .value) (c .enum-told2 .given .1))
 
 returns-3 : tie.Need-returns-3
-returns-3 c = rw (skip-said (summary (c .before .before .before .args .sum)) (tiles (c .before .before .before .args .span)) (c .before .before .before .args .id) (c .before .before .can-skip .result) (c .before .before .before .pre .0) (c .before .before .before .pre .1) (c .before .before .can-skip .ensures) ∙ ap (λ (x : Skip). skip-of x .value) (c .enum-told3 .given .1))
+returns-3 c =
+    let at-can-skip = c .before .before in
+    let at-args = at-can-skip .before in
+    rw (skip-said (summary (at-args .args .sum)) (tiles (at-args .args .span)) (at-args .args .id) (at-can-skip .can-skip .result) (at-args .pre .0)
+    (at-args .pre .1) (at-can-skip .can-skip .ensures) ∙ ap (λ (x : Skip). skip-of x .value) (c .enum-told3 .given .1))
 
 pub is-clear-spec : {M : Type 1} → statement M
 is-clear-spec =

@@ -16,7 +16,13 @@ same-length : tie.Need-same-length
 same-length c = search needs
 
 returns : tie.Need-returns
-returns c = shown-whole (summary (c .before .before .before .before .before .before .before .before .args .sum)) (c .before .before .before .before .before .before .before .before .args .depth .now) (c .before .before .before .before .before .before .before .before .args .id) (tiles (c .before .before .before .before .before .before .before .before .args .span)) (c .before .before .before .before .before .before .before .before .args .list .now) _ (sym (c .before .before .before .before .before .is-clear .ensures) ∙ c .before .before .before .before .if1 .taken) (c .before .before .list-whole .ensures)
+returns c =
+    let at-list-whole = c .before .before in
+    let at-if1 = at-list-whole .before .before in
+    let at-is-clear = at-if1 .before in
+    let at-args = at-is-clear .before .before .before in
+    shown-whole (summary (at-args .args .sum)) (at-args .args .depth .now) (at-args .args .id) (tiles (at-args .args .span)) (at-args .args .list .now) _ (sym
+    (at-is-clear .is-clear .ensures) ∙ at-if1 .if1 .taken) (at-list-whole .list-whole .ensures)
 
 visible-runs-requires : tie.Need-visible-runs-requires
 visible-runs-requires c κs = search needs
@@ -25,7 +31,13 @@ same-length-2 : tie.Need-same-length-2
 same-length-2 c = search needs
 
 returns-2 : tie.Need-returns-2
-returns-2 c = shown-searched (summary (c .before .before .before .before .before .before .before .before .args .sum)) (c .before .before .before .before .before .before .before .before .args .depth .now) (c .before .before .before .before .before .before .before .before .args .id) (tiles (c .before .before .before .before .before .before .before .before .args .span)) (c .before .before .before .before .before .before .before .before .args .list .now) _ (c .before .before .before .before .before .before .before .before .pre .0) (c .before .before .before .before .before .before .before .before .pre .1) (sym (c .before .before .before .before .before .is-clear .ensures) ∙ c .before .before .before .before .if1 .left) (c .before .before .visible-runs .ensures)
+returns-2 c =
+    let at-visible-runs = c .before .before in
+    let at-if1 = at-visible-runs .before .before in
+    let at-is-clear = at-if1 .before in
+    let at-args = at-is-clear .before .before .before in
+    shown-searched (summary (at-args .args .sum)) (at-args .args .depth .now) (at-args .args .id) (tiles (at-args .args .span)) (at-args .args .list .now) _
+    (at-args .pre .0) (at-args .pre .1) (sym (at-is-clear .is-clear .ensures) ∙ at-if1 .if1 .left) (at-visible-runs .visible-runs .ensures)
 
 pub shown-runs-spec : {M : Type 1} → statement M
 shown-runs-spec =

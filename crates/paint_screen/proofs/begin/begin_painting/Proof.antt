@@ -10,10 +10,17 @@ judge-begin-requires : tie.Need-judge-begin-requires
 judge-begin-requires c κs = search needs
 
 answer-of-requires : tie.Need-answer-of-requires
-answer-of-requires c κs = omega (arith, c .before .judge-begin .ensures, small-begin (c .before .before .before .before .args .screen) (length (c .before .before .before .before .args .depth .now)) (length (c .before .before .before .before .args .painting .now)))
+answer-of-requires c κs =
+    let at-args = c .before .before .before .before in
+    omega (arith, c .before .judge-begin .ensures, small-begin (at-args .args .screen) (length (at-args .args .depth .now)) (length
+    (at-args .args .painting .now)))
 
 returns : tie.Need-returns
-returns c = not-begun (canvas (c .before .before .before .before .before .args .screen) (c .before .before .before .before .before .args .depth .now) (c .before .before .before .before .before .args .painting .now)) _ (c .before .before .judge-begin .ensures) _ (c .answer-of .ensures) (c .before .if1 .taken)
+returns c =
+    let at-judge-begin = c .before .before in
+    let at-args = at-judge-begin .before .before .before in
+    not-begun (canvas (at-args .args .screen) (at-args .args .depth .now) (at-args .args .painting .now)) _ (at-judge-begin .judge-begin .ensures) _
+    (c .answer-of .ensures) (c .before .if1 .taken)
 
 clear-requires : tie.Need-clear-requires
 clear-requires c κs = search needs
@@ -31,7 +38,14 @@ same-length-2 : tie.Need-same-length-2
 same-length-2 c = search needs
 
 returns-2 : tie.Need-returns-2
-returns-2 c = begun-now (canvas (c .before .before .before .before .before .before .before .before .before .before .before .before .before .args .screen) (c .before .before .before .before .before .before .before .before .before .before .before .before .before .args .depth .now) (c .before .before .before .before .before .before .before .before .before .before .before .before .before .args .painting .now)) _ (c .before .before .before .before .before .before .before .before .before .before .judge-begin .ensures) (c .before .before .before .before .before .before .before .before .before .if1 .left) _ _ _ (c .with-painting .ensures) (c .before .before .before .before .before .before .before .clear .ensures) (c .before .before .before .clear2 .ensures)
+returns-2 c =
+    let at-clear2 = c .before .before .before in
+    let at-clear = at-clear2 .before .before .before .before in
+    let at-if1 = at-clear .before .before in
+    let at-judge-begin = at-if1 .before in
+    let at-args = at-judge-begin .before .before .before in
+    begun-now (canvas (at-args .args .screen) (at-args .args .depth .now) (at-args .args .painting .now)) _ (at-judge-begin .judge-begin .ensures)
+    (at-if1 .if1 .left) _ _ _ (c .with-painting .ensures) (at-clear .clear .ensures) (at-clear2 .clear2 .ensures)
 
 pub begin-painting-spec : {M : Type 1} → statement M
 begin-painting-spec =

@@ -28,16 +28,27 @@ mul-if2 : tie.Need-mul-if2
 mul-if2 c = search needs
 
 mul-if2-2 : tie.Need-mul-if2-2
-mul-if2-2 c = omega (arith, mul-le-mul {n₁ = c .before .before .before .rows .result} {m₁ = 2 * c .before .before .before .before .args .screen .d} {n₂ = 1073741823} {m₂ = 17179869180} (omega (arith, c .before .before .before .rows .ensures)) (omega arith))
+mul-if2-2 c =
+    let at-rows = c .before .before .before in
+    let at-args = at-rows .before in
+    omega (arith, mul-le-mul {n₁ = at-rows .rows .result} {m₁ = 2 * at-args .args .screen .d} {n₂ = 1073741823} {m₂ = 17179869180} (omega (arith,
+    at-rows .rows .ensures)) (omega arith))
 
 returns-2 : tie.Need-returns-2
-returns-2 c = rw (eq-eqb _ _ (rw (c .before .before .before .before .rows .ensures) at (c .before .before .if1 .left)), ne-eqb _ _ (rw (c .before .before .before .before .rows .ensures) at (c .if2 .taken)))
+returns-2 c =
+    let at-if1 = c .before .before in
+    let at-rows = at-if1 .before .before in
+    rw (eq-eqb _ _ (rw (at-rows .rows .ensures) at (at-if1 .if1 .left)), ne-eqb _ _ (rw (at-rows .rows .ensures) at (c .if2 .taken)))
 
 is-depth-requires : tie.Need-is-depth-requires
 is-depth-requires c κs = search needs
 
 returns-3 : tie.Need-returns-3
-returns-3 c = rw (eq-eqb _ _ (rw (c .before .before .before .before .before .rows .ensures) at (c .before .before .before .if1 .left)), eq-eqb _ _ (rw (c .before .before .before .before .before .rows .ensures) at (c .before .if2 .left))) (c .is-depth .ensures)
+returns-3 c =
+    let at-if1 = c .before .before .before in
+    let at-rows = at-if1 .before .before in
+    rw (eq-eqb _ _ (rw (at-rows .rows .ensures) at (at-if1 .if1 .left)), eq-eqb _ _ (rw (at-rows .rows .ensures) at (c .before .if2 .left)))
+    (c .is-depth .ensures)
 
 pub is-arenas-spec : {M : Type 1} → statement M
 is-arenas-spec =

@@ -1,3 +1,4 @@
+-- The tests in document 01's order over lengths and numbers alone.
 use mathlib.Core.Path.{sym, _∙_}
 use borrow.Author.Tests.{not-true, not-false}
 use Rattle.paint_screen.specs.Judging.{judged}
@@ -24,26 +25,78 @@ is-good-room-requires-2 c κs = search needs
 
 returns-3 : tie.Need-returns-3
 unfolding judged
-returns-3 c = rw (sym (c .before .before .before .before .before .is-good-viewport .ensures) ∙ not-false _ (c .before .before .before .before .if1 .left), sym (c .before .before .before .is-good-room .ensures) ∙ not-false _ (c .before .before .if2 .left), sym (c .before .is-good-room2 .ensures) ∙ not-true _ (c .if3 .taken))
+returns-3 c =
+    let at-if2 = c .before .before in
+    let at-is-good-room = at-if2 .before in
+    let at-if1 = at-is-good-room .before in
+    let at-is-good-viewport = at-if1 .before in
+    rw (sym (at-is-good-viewport .is-good-viewport .ensures) ∙ not-false _ (at-if1 .if1 .left),
+    sym (at-is-good-room .is-good-room .ensures) ∙ not-false _ (at-if2 .if2 .left), sym (c .before .is-good-room2 .ensures) ∙ not-true _ (c .if3 .taken))
 
 returns-4 : tie.Need-returns-4
 unfolding judged
-returns-4 c = rw (sym (c .before .before .before .before .before .before .is-good-viewport .ensures) ∙ not-false _ (c .before .before .before .before .before .if1 .left), sym (c .before .before .before .before .is-good-room .ensures) ∙ not-false _ (c .before .before .before .if2 .left), sym (c .before .before .is-good-room2 .ensures) ∙ not-false _ (c .before .if3 .left), not-true (c .before .before .before .before .before .before .before .before .args .arenas) (c .if4 .taken))
+returns-4 c =
+    let at-is-good-room2 = c .before .before in
+    let at-if2 = at-is-good-room2 .before in
+    let at-is-good-room = at-if2 .before in
+    let at-if1 = at-is-good-room .before in
+    let at-is-good-viewport = at-if1 .before in
+    let at-args = at-is-good-viewport .before .before in
+    rw (sym (at-is-good-viewport .is-good-viewport .ensures) ∙ not-false _ (at-if1 .if1 .left),
+    sym (at-is-good-room .is-good-room .ensures) ∙ not-false _ (at-if2 .if2 .left),
+    sym (at-is-good-room2 .is-good-room2 .ensures) ∙ not-false _ (c .before .if3 .left), not-true (at-args .args .arenas) (c .if4 .taken))
 
 returns-5 : tie.Need-returns-5
 unfolding judged
-returns-5 c = rw (sym (c .before .before .before .before .before .before .before .is-good-viewport .ensures) ∙ not-false _ (c .before .before .before .before .before .before .if1 .left), sym (c .before .before .before .before .before .is-good-room .ensures) ∙ not-false _ (c .before .before .before .before .if2 .left), sym (c .before .before .before .is-good-room2 .ensures) ∙ not-false _ (c .before .before .if3 .left), not-false (c .before .before .before .before .before .before .before .before .before .args .arenas) (c .before .if4 .left), not-true (c .before .before .before .before .before .before .before .before .before .args .tables) (c .if5 .taken))
+returns-5 c =
+    let at-if3 = c .before .before in
+    let at-is-good-room2 = at-if3 .before in
+    let at-if2 = at-is-good-room2 .before in
+    let at-is-good-room = at-if2 .before in
+    let at-if1 = at-is-good-room .before in
+    let at-is-good-viewport = at-if1 .before in
+    let at-args = at-is-good-viewport .before .before in
+    rw (sym (at-is-good-viewport .is-good-viewport .ensures) ∙ not-false _ (at-if1 .if1 .left),
+    sym (at-is-good-room .is-good-room .ensures) ∙ not-false _ (at-if2 .if2 .left),
+    sym (at-is-good-room2 .is-good-room2 .ensures) ∙ not-false _ (at-if3 .if3 .left), not-false (at-args .args .arenas) (c .before .if4 .left),
+    not-true (at-args .args .tables) (c .if5 .taken))
 
 is-good-requires : tie.Need-is-good-requires
 is-good-requires c κs = search needs
 
 returns-6 : tie.Need-returns-6
 unfolding judged
-returns-6 c = rw (sym (c .before .before .before .before .before .before .before .before .before .is-good-viewport .ensures) ∙ not-false _ (c .before .before .before .before .before .before .before .before .if1 .left), sym (c .before .before .before .before .before .before .before .is-good-room .ensures) ∙ not-false _ (c .before .before .before .before .before .before .if2 .left), sym (c .before .before .before .before .before .is-good-room2 .ensures) ∙ not-false _ (c .before .before .before .before .if3 .left), not-false (c .before .before .before .before .before .before .before .before .before .before .before .args .arenas) (c .before .before .before .if4 .left), not-false (c .before .before .before .before .before .before .before .before .before .before .before .args .tables) (c .before .before .if5 .left), sym (c .before .is-good .ensures) ∙ not-true _ (c .if6 .taken))
+returns-6 c =
+    let at-if5 = c .before .before in
+    let at-if4 = at-if5 .before in
+    let at-if3 = at-if4 .before in
+    let at-is-good-room2 = at-if3 .before in
+    let at-if2 = at-is-good-room2 .before in
+    let at-is-good-room = at-if2 .before in
+    let at-if1 = at-is-good-room .before in
+    let at-is-good-viewport = at-if1 .before in
+    let at-args = at-is-good-viewport .before .before in
+    rw (sym (at-is-good-viewport .is-good-viewport .ensures) ∙ not-false _ (at-if1 .if1 .left),
+    sym (at-is-good-room .is-good-room .ensures) ∙ not-false _ (at-if2 .if2 .left),
+    sym (at-is-good-room2 .is-good-room2 .ensures) ∙ not-false _ (at-if3 .if3 .left), not-false (at-args .args .arenas) (at-if4 .if4 .left),
+    not-false (at-args .args .tables) (at-if5 .if5 .left), sym (c .before .is-good .ensures) ∙ not-true _ (c .if6 .taken))
 
 returns-7 : tie.Need-returns-7
 unfolding judged
-returns-7 c = rw (sym (c .before .before .before .before .before .before .before .before .before .is-good-viewport .ensures) ∙ not-false _ (c .before .before .before .before .before .before .before .before .if1 .left), sym (c .before .before .before .before .before .before .before .is-good-room .ensures) ∙ not-false _ (c .before .before .before .before .before .before .if2 .left), sym (c .before .before .before .before .before .is-good-room2 .ensures) ∙ not-false _ (c .before .before .before .before .if3 .left), not-false (c .before .before .before .before .before .before .before .before .before .before .before .args .arenas) (c .before .before .before .if4 .left), not-false (c .before .before .before .before .before .before .before .before .before .before .before .args .tables) (c .before .before .if5 .left), sym (c .before .is-good .ensures) ∙ not-false _ (c .if6 .left))
+returns-7 c =
+    let at-if5 = c .before .before in
+    let at-if4 = at-if5 .before in
+    let at-if3 = at-if4 .before in
+    let at-is-good-room2 = at-if3 .before in
+    let at-if2 = at-is-good-room2 .before in
+    let at-is-good-room = at-if2 .before in
+    let at-if1 = at-is-good-room .before in
+    let at-is-good-viewport = at-if1 .before in
+    let at-args = at-is-good-viewport .before .before in
+    rw (sym (at-is-good-viewport .is-good-viewport .ensures) ∙ not-false _ (at-if1 .if1 .left),
+    sym (at-is-good-room .is-good-room .ensures) ∙ not-false _ (at-if2 .if2 .left),
+    sym (at-is-good-room2 .is-good-room2 .ensures) ∙ not-false _ (at-if3 .if3 .left), not-false (at-args .args .arenas) (at-if4 .if4 .left),
+    not-false (at-args .args .tables) (at-if5 .if5 .left), sym (c .before .is-good .ensures) ∙ not-false _ (c .if6 .left))
 
 pub judge-spec : {M : Type 1} → statement M
 judge-spec =

@@ -19,10 +19,20 @@ returns : tie.Need-returns
 returns c = begin-refused _ _ _ _ _ _ (c .before .before .before .is-depth .ensures) (c .before .before .rows .ensures) (c .before .judge .ensures) (c .if1 .taken)
 
 returns-2 : tie.Need-returns-2
-returns-2 c = begin-open _ _ _ _ _ _ (c .before .before .before .before .before .is-depth .ensures) (c .before .before .before .before .rows .ensures) (c .before .before .before .judge .ensures) (c .before .before .if1 .left) (c .if2 .taken)
+returns-2 c =
+    let at-if1 = c .before .before in
+    let at-judge = at-if1 .before in
+    let at-rows = at-judge .before in
+    let at-is-depth = at-rows .before in
+    begin-open _ _ _ _ _ _ (at-is-depth .is-depth .ensures) (at-rows .rows .ensures) (at-judge .judge .ensures) (at-if1 .if1 .left) (c .if2 .taken)
 
 returns-3 : tie.Need-returns-3
-returns-3 c = begin-good _ _ _ _ _ _ (c .before .before .before .before .before .is-depth .ensures) (c .before .before .before .before .rows .ensures) (c .before .before .before .judge .ensures) (c .before .before .if1 .left) (c .if2 .left)
+returns-3 c =
+    let at-if1 = c .before .before in
+    let at-judge = at-if1 .before in
+    let at-rows = at-judge .before in
+    let at-is-depth = at-rows .before in
+    begin-good _ _ _ _ _ _ (at-is-depth .is-depth .ensures) (at-rows .rows .ensures) (at-judge .judge .ensures) (at-if1 .if1 .left) (c .if2 .left)
 
 pub judge-begin-spec : {M : Type 1} → statement M
 judge-begin-spec =

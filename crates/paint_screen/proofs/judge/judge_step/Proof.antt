@@ -23,19 +23,30 @@ returns c = let at = c .before in
     (at .judge-row .ensures) (c .if1 .taken)
 
 returns-2 : tie.Need-returns-2
-returns-2 c = let at = c .before .before .before in
+returns-2 c =
+    let at-if1 = c .before .before in
+    let back = at-if1 .before in
+    let at = back in
     step-layers _ _ _ _ _ _ _ _ (at .before .before .before .is-arenas .ensures) (at .before .before .is-tables .ensures) (at .before .judge .ensures)
-    (at .judge-row .ensures) (c .before .before .if1 .left) (c .if2 .taken)
+    (at .judge-row .ensures) (at-if1 .if1 .left) (c .if2 .taken)
 
 returns-3 : tie.Need-returns-3
-returns-3 c = let at = c .before .before .before .before .before in
+returns-3 c =
+    let at-if2 = c .before .before in
+    let at-if1 = at-if2 .before .before in
+    let back = at-if1 .before in
+    let at = back in
     step-idle _ _ _ _ _ _ _ _ (at .before .before .before .is-arenas .ensures) (at .before .before .is-tables .ensures) (at .before .judge .ensures)
-    (at .judge-row .ensures) (c .before .before .before .before .if1 .left) (c .before .before .if2 .left) (not-true _ (c .if3 .taken))
+    (at .judge-row .ensures) (at-if1 .if1 .left) (at-if2 .if2 .left) (not-true _ (c .if3 .taken))
 
 returns-4 : tie.Need-returns-4
-returns-4 c = let at = c .before .before .before .before .before in
+returns-4 c =
+    let at-if2 = c .before .before in
+    let at-if1 = at-if2 .before .before in
+    let back = at-if1 .before in
+    let at = back in
     step-good _ _ _ _ _ _ _ _ (at .before .before .before .is-arenas .ensures) (at .before .before .is-tables .ensures) (at .before .judge .ensures)
-    (at .judge-row .ensures) (c .before .before .before .before .if1 .left) (c .before .before .if2 .left) (not-false _ (c .if3 .left))
+    (at .judge-row .ensures) (at-if1 .if1 .left) (at-if2 .if2 .left) (not-false _ (c .if3 .left))
 
 pub judge-step-spec : {M : Type 1} → statement M
 judge-step-spec =

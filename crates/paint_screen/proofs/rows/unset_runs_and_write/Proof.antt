@@ -21,13 +21,28 @@ buckets-requires : tie.Need-buckets-requires
 buckets-requires c κs = search needs
 
 mul-at : tie.Need-mul-at
-mul-at c = let w : Within (c .buckets .result) (c .before .before .before .before .before .args .row) (c .before .before .before .before .before .args .depth .now) = rw (c .buckets .ensures) (depth-within _ _ _ (sym (c .before .before .judge-runs .ensures) ∙ c .before .if1 .left)) in omega (arith, w .near)
+mul-at c =
+    let at-judge-runs = c .before .before in
+    let at-args = at-judge-runs .before .before .before in
+    let w : Within (c .buckets .result) (at-args .args .row) (at-args .args .depth .now) = rw (c .buckets .ensures) (depth-within _ _ _ (sym
+    (at-judge-runs .judge-runs .ensures) ∙ c .before .if1 .left)) in
+    omega (arith, w .near)
 
 add-unset-runs-and-write : tie.Need-add-unset-runs-and-write
-add-unset-runs-and-write c = let w : Within (c .buckets .result) (c .before .before .before .before .before .args .row) (c .before .before .before .before .before .args .depth .now) = rw (c .buckets .ensures) (depth-within _ _ _ (sym (c .before .before .judge-runs .ensures) ∙ c .before .if1 .left)) in omega (arith, w .near, w .short)
+add-unset-runs-and-write c =
+    let at-judge-runs = c .before .before in
+    let at-args = at-judge-runs .before .before .before in
+    let w : Within (c .buckets .result) (at-args .args .row) (at-args .args .depth .now) = rw (c .buckets .ensures) (depth-within _ _ _ (sym
+    (at-judge-runs .judge-runs .ensures) ∙ c .before .if1 .left)) in
+    omega (arith, w .near, w .short)
 
 mul-unset-runs-and-write : tie.Need-mul-unset-runs-and-write
-mul-unset-runs-and-write c = let w : Within (c .buckets .result) (c .before .before .before .before .before .args .row) (c .before .before .before .before .before .args .depth .now) = rw (c .buckets .ensures) (depth-within _ _ _ (sym (c .before .before .judge-runs .ensures) ∙ c .before .if1 .left)) in omega (arith, w .near)
+mul-unset-runs-and-write c =
+    let at-judge-runs = c .before .before in
+    let at-args = at-judge-runs .before .before .before in
+    let w : Within (c .buckets .result) (at-args .args .row) (at-args .args .depth .now) = rw (c .buckets .ensures) (depth-within _ _ _ (sym
+    (at-judge-runs .judge-runs .ensures) ∙ c .before .if1 .left)) in
+    omega (arith, w .near)
 
 sub-unset-runs-and-write : tie.Need-sub-unset-runs-and-write
 sub-unset-runs-and-write c = search needs
@@ -36,7 +51,12 @@ part-unset-runs-and-write-start : tie.Need-part-unset-runs-and-write-start
 part-unset-runs-and-write-start c = search needs
 
 part-unset-runs-and-write-end : tie.Need-part-unset-runs-and-write-end
-part-unset-runs-and-write-end c = let w : Within (c .buckets .result) (c .before .before .before .before .before .args .row) (c .before .before .before .before .before .args .depth .now) = rw (c .buckets .ensures) (depth-within _ _ _ (sym (c .before .before .judge-runs .ensures) ∙ c .before .if1 .left)) in omega (arith, w .ends)
+part-unset-runs-and-write-end c =
+    let at-judge-runs = c .before .before in
+    let at-args = at-judge-runs .before .before .before in
+    let w : Within (c .buckets .result) (at-args .args .row) (at-args .args .depth .now) = rw (c .buckets .ensures) (depth-within _ _ _ (sym
+    (at-judge-runs .judge-runs .ensures) ∙ c .before .if1 .left)) in
+    omega (arith, w .ends)
 
 unset-runs-and-write-requires : tie.Need-unset-runs-and-write-requires
 unset-runs-and-write-requires c κs = search needs
@@ -57,7 +77,13 @@ same-length-2 : tie.Need-same-length-2
 same-length-2 c = search needs
 
 returns-2 : tie.Need-returns-2
-returns-2 c = write-kept _ _ _ _ _ _ _ (c .before .before .before .before .before .before .before .before .before .before .before .before .judge-runs .ensures) (c .before .before .before .before .before .before .before .before .before .before .before .if1 .left) _ (c .before .before .before .before .before .before .before .before .before .before .buckets .ensures) _ _ _ (c .before .before .before .before .before .before .before .unset-runs-and-write .ensures) _ (c .before .runs .given .1)
+returns-2 c =
+    let at-unset-runs-and-write = c .before .before .before .before .before .before .before in
+    let at-buckets = at-unset-runs-and-write .before .before .before in
+    let at-if1 = at-buckets .before in
+    let at-judge-runs = at-if1 .before in
+    write-kept _ _ _ _ _ _ _ (at-judge-runs .judge-runs .ensures) (at-if1 .if1 .left) _ (at-buckets .buckets .ensures) _ _ _
+    (at-unset-runs-and-write .unset-runs-and-write .ensures) _ (c .before .runs .given .1)
 
 same-length-3 : tie.Need-same-length-3
 same-length-3 c = search needs
@@ -66,7 +92,14 @@ same-length-4 : tie.Need-same-length-4
 same-length-4 c = search needs
 
 returns-3 : tie.Need-returns-3
-returns-3 c = write-done _ _ _ _ _ _ _ (c .before .before .before .before .before .before .before .before .before .before .before .before .before .judge-runs .ensures) (c .before .before .before .before .before .before .before .before .before .before .before .before .if1 .left) _ (c .before .before .before .before .before .before .before .before .before .before .before .buckets .ensures) _ _ _ (c .before .before .before .before .before .before .before .before .unset-runs-and-write .ensures) _ _ (c .before .before .runs2 .given .1) (c .with-painting .ensures)
+returns-3 c =
+    let at-runs2 = c .before .before in
+    let at-unset-runs-and-write = at-runs2 .before .before .before .before .before .before in
+    let at-buckets = at-unset-runs-and-write .before .before .before in
+    let at-if1 = at-buckets .before in
+    let at-judge-runs = at-if1 .before in
+    write-done _ _ _ _ _ _ _ (at-judge-runs .judge-runs .ensures) (at-if1 .if1 .left) _ (at-buckets .buckets .ensures) _ _ _
+    (at-unset-runs-and-write .unset-runs-and-write .ensures) _ _ (at-runs2 .runs2 .given .1) (c .with-painting .ensures)
 
 pub unset-runs-and-write-spec : {M : Type 1} → statement M
 unset-runs-and-write-spec =

@@ -21,13 +21,28 @@ buckets-requires : tie.Need-buckets-requires
 buckets-requires c κs = search needs
 
 mul-at : tie.Need-mul-at
-mul-at c = let w : Within (c .buckets .result) (c .before .before .before .before .before .args .row) (c .before .before .before .before .before .args .depth .now) = rw (c .buckets .ensures) (depth-within _ _ _ (sym (c .before .before .judge-runs .ensures) ∙ c .before .if1 .left)) in omega (arith, w .near)
+mul-at c =
+    let at-judge-runs = c .before .before in
+    let at-args = at-judge-runs .before .before .before in
+    let w : Within (c .buckets .result) (at-args .args .row) (at-args .args .depth .now) = rw (c .buckets .ensures) (depth-within _ _ _ (sym
+    (at-judge-runs .judge-runs .ensures) ∙ c .before .if1 .left)) in
+    omega (arith, w .near)
 
 add-visible-runs : tie.Need-add-visible-runs
-add-visible-runs c = let w : Within (c .buckets .result) (c .before .before .before .before .before .args .row) (c .before .before .before .before .before .args .depth .now) = rw (c .buckets .ensures) (depth-within _ _ _ (sym (c .before .before .judge-runs .ensures) ∙ c .before .if1 .left)) in omega (arith, w .near, w .short)
+add-visible-runs c =
+    let at-judge-runs = c .before .before in
+    let at-args = at-judge-runs .before .before .before in
+    let w : Within (c .buckets .result) (at-args .args .row) (at-args .args .depth .now) = rw (c .buckets .ensures) (depth-within _ _ _ (sym
+    (at-judge-runs .judge-runs .ensures) ∙ c .before .if1 .left)) in
+    omega (arith, w .near, w .short)
 
 mul-visible-runs : tie.Need-mul-visible-runs
-mul-visible-runs c = let w : Within (c .buckets .result) (c .before .before .before .before .before .args .row) (c .before .before .before .before .before .args .depth .now) = rw (c .buckets .ensures) (depth-within _ _ _ (sym (c .before .before .judge-runs .ensures) ∙ c .before .if1 .left)) in omega (arith, w .near)
+mul-visible-runs c =
+    let at-judge-runs = c .before .before in
+    let at-args = at-judge-runs .before .before .before in
+    let w : Within (c .buckets .result) (at-args .args .row) (at-args .args .depth .now) = rw (c .buckets .ensures) (depth-within _ _ _ (sym
+    (at-judge-runs .judge-runs .ensures) ∙ c .before .if1 .left)) in
+    omega (arith, w .near)
 
 sub-visible-runs : tie.Need-sub-visible-runs
 sub-visible-runs c = search needs
@@ -36,7 +51,12 @@ part-visible-runs-start : tie.Need-part-visible-runs-start
 part-visible-runs-start c = search needs
 
 part-visible-runs-end : tie.Need-part-visible-runs-end
-part-visible-runs-end c = let w : Within (c .buckets .result) (c .before .before .before .before .before .args .row) (c .before .before .before .before .before .args .depth .now) = rw (c .buckets .ensures) (depth-within _ _ _ (sym (c .before .before .judge-runs .ensures) ∙ c .before .if1 .left)) in omega (arith, w .ends)
+part-visible-runs-end c =
+    let at-judge-runs = c .before .before in
+    let at-args = at-judge-runs .before .before .before in
+    let w : Within (c .buckets .result) (at-args .args .row) (at-args .args .depth .now) = rw (c .buckets .ensures) (depth-within _ _ _ (sym
+    (at-judge-runs .judge-runs .ensures) ∙ c .before .if1 .left)) in
+    omega (arith, w .ends)
 
 visible-runs-requires : tie.Need-visible-runs-requires
 visible-runs-requires c κs = search needs
@@ -45,7 +65,13 @@ same-length : tie.Need-same-length
 same-length c = search needs
 
 returns-2 : tie.Need-returns-2
-returns-2 c = visible-done _ _ _ _ _ (c .before .before .before .before .before .before .before .judge-runs .ensures) (c .before .before .before .before .before .before .if1 .left) _ (c .before .before .before .before .before .buckets .ensures) _ _ _ (c .before .before .visible-runs .ensures)
+returns-2 c =
+    let at-visible-runs = c .before .before in
+    let at-buckets = at-visible-runs .before .before .before in
+    let at-if1 = at-buckets .before in
+    let at-judge-runs = at-if1 .before in
+    visible-done _ _ _ _ _ (at-judge-runs .judge-runs .ensures) (at-if1 .if1 .left) _ (at-buckets .buckets .ensures) _ _ _
+    (at-visible-runs .visible-runs .ensures)
 
 pub visible-runs-spec : {M : Type 1} → statement M
 visible-runs-spec =

@@ -28,7 +28,11 @@ taken-requires : tie.Need-taken-requires
 taken-requires c κs = search needs
 
 returns : tie.Need-returns
-returns c = c .taken .ensures ∙ rw (c .before .before .wide .ensures, lt-ltb _ _ (c .before .before .before .if2 .taken), le-leb _ _ (c .before .before .before .before .if1 .taken))
+returns c =
+    let at-wide = c .before .before in
+    let at-if2 = at-wide .before in
+    let at-if1 = at-if2 .before in
+    c .taken .ensures ∙ rw (at-wide .wide .ensures, lt-ltb _ _ (at-if2 .if2 .taken), le-leb _ _ (at-if1 .if1 .taken))
 
 returns-2 : tie.Need-returns-2
 returns-2 c = rw (le-leb _ _ (c .before .if1 .taken)) (not-there _ _ _ (c .if2 .left))
@@ -52,7 +56,11 @@ taken-requires-2 : tie.Need-taken-requires-2
 taken-requires-2 c κs = search needs
 
 returns-3 : tie.Need-returns-3
-returns-3 c = c .taken2 .ensures ∙ rw (c .before .before .wide2 .ensures, lt-ltb _ _ (c .before .before .before .if3 .taken), lt-leb _ _ (c .before .before .before .before .if1 .left))
+returns-3 c =
+    let at-wide2 = c .before .before in
+    let at-if3 = at-wide2 .before in
+    let at-if1 = at-if3 .before in
+    c .taken2 .ensures ∙ rw (at-wide2 .wide2 .ensures, lt-ltb _ _ (at-if3 .if3 .taken), lt-leb _ _ (at-if1 .if1 .left))
 
 returns-4 : tie.Need-returns-4
 returns-4 c = rw (lt-leb _ _ (c .before .if1 .left)) (not-there _ _ _ (c .if3 .left))

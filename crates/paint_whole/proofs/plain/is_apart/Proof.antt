@@ -8,10 +8,16 @@ returns : tie.Need-returns
 returns c = apart-old (c .before .args .from) (c .before .args .to) (c .before .args .largest) (c .before .args .first) (c .before .args .«end») (c .before .args .id) (c .if1 .taken)
 
 returns-2 : tie.Need-returns-2
-returns-2 c = apart-right (c .before .before .args .from) (c .before .before .args .to) (c .before .before .args .largest) (c .before .before .args .first) (c .before .before .args .«end») (c .before .before .args .id) (c .before .if1 .left) (c .if2 .taken)
+returns-2 c =
+    let at-args = c .before .before in
+    apart-right (at-args .args .from) (at-args .args .to) (at-args .args .largest) (at-args .args .first) (at-args .args .«end») (at-args .args .id)
+    (c .before .if1 .left) (c .if2 .taken)
 
 returns-3 : tie.Need-returns-3
-returns-3 c = apart-left (c .before .before .args .from) (c .before .before .args .to) (c .before .before .args .largest) (c .before .before .args .first) (c .before .before .args .«end») (c .before .before .args .id) (c .before .if1 .left) (c .if2 .left)
+returns-3 c =
+    let at-args = c .before .before in
+    apart-left (at-args .args .from) (at-args .args .to) (at-args .args .largest) (at-args .args .first) (at-args .args .«end») (at-args .args .id)
+    (c .before .if1 .left) (c .if2 .left)
 
 pub is-apart-spec : {M : Type 1} → statement M
 is-apart-spec = tie.close (tie.spec returns returns-2 returns-3)

@@ -1,3 +1,4 @@
+-- The buckets before i all hold a greater id.
 use mathlib.Core.Path.{refl}
 use Prim.Native.Nat.{_-_}
 use native.Mathlib.Omega.{arith}
@@ -32,10 +33,19 @@ loop-less : tie.Need-loop-less Inv-loop μ-loop
 loop-less c = omega arith
 
 loop-again : tie.Need-loop-again Inv-loop μ-loop
-loop-again c = hidden-on (c .before .before .before .before .args .depth .now) (c .before .before .before .before .args .id) (c .before .before .before .before .args .a) (c .before .before .before .before .args .e) (c .before .before .before .loop .i) (c .before .before .before .before .pre .1) (c .before .before .before .loop .inv) (c .before .before .loop-test .taken) (c .if1 .left)
+loop-again c =
+    let at-loop-test = c .before .before in
+    let at-loop = at-loop-test .before in
+    let at-args = at-loop .before in
+    hidden-on (at-args .args .depth .now) (at-args .args .id) (at-args .args .a) (at-args .args .e) (at-loop .loop .i) (at-args .pre .1) (at-loop .loop .inv)
+    (at-loop-test .loop-test .taken) (c .if1 .left)
 
 returns-2 : tie.Need-returns-2 Inv-loop μ-loop
-returns-2 c = λ z. hidden-end (c .before .before .args .depth .now) (c .before .before .args .id) (c .before .before .args .a) (c .before .before .args .e) (c .before .loop .i) (c .before .loop .inv) (c .loop-test .left)
+returns-2 c =
+    let at-loop = c .before in
+    let at-args = at-loop .before in
+    λ z. hidden-end (at-args .args .depth .now) (at-args .args .id) (at-args .args .a) (at-args .args .e) (at-loop .loop .i) (at-loop .loop .inv)
+    (c .loop-test .left)
 
 pub is-hidden-spec : {M : Type 1} → statement M
 is-hidden-spec =

@@ -1,3 +1,4 @@
+-- The buckets before i all hold an id that is not greater.
 use Prim.Native.Nat.{_-_}
 use native.Mathlib.Omega.{arith}
 use borrow.Author.Tests.{le-leb}
@@ -28,7 +29,10 @@ add-i : tie.Need-add-i Inv-loop μ-loop
 add-i c = omega arith
 
 loop-holds : tie.Need-loop-holds Inv-loop μ-loop
-loop-holds c = reach-first (is-visible (c .before .before .args .id)) (c .before .before .args .depth .now) (c .before .before .args .e) (c .before .before .pre .1) (c .before .before .args .a) (c .before .before .pre .0) (le-leb _ _ (c .if1 .left))
+loop-holds c =
+    let at-args = c .before .before in
+    reach-first (is-visible (at-args .args .id)) (at-args .args .depth .now) (at-args .args .e) (at-args .pre .1) (at-args .args .a) (at-args .pre .0) (le-leb _
+    _ (c .if1 .left))
 
 mul-if2 : tie.Need-mul-if2 Inv-loop μ-loop
 mul-if2 c = omega arith
@@ -46,10 +50,19 @@ loop-less : tie.Need-loop-less Inv-loop μ-loop
 loop-less c = omega arith
 
 loop-again : tie.Need-loop-again Inv-loop μ-loop
-loop-again c = reach-more (is-visible (c .before .before .before .before .before .before .args .id)) (c .before .before .before .before .before .before .args .depth .now) (c .before .before .before .before .before .before .args .e) (c .before .before .before .before .before .before .pre .1) (c .before .before .before .before .before .before .args .a) (c .before .before .before .loop .i) (c .before .before .before .loop .inv) (c .before .before .loop-test .taken) (le-leb _ _ (c .if2 .left))
+loop-again c =
+    let at-loop-test = c .before .before in
+    let at-loop = at-loop-test .before in
+    let at-args = at-loop .before .before .before in
+    reach-more (is-visible (at-args .args .id)) (at-args .args .depth .now) (at-args .args .e) (at-args .pre .1) (at-args .args .a) (at-loop .loop .i)
+    (at-loop .loop .inv) (at-loop-test .loop-test .taken) (le-leb _ _ (c .if2 .left))
 
 returns-3 : tie.Need-returns-3 Inv-loop μ-loop
-returns-3 c = λ z. seen-end (c .before .before .before .before .args .depth .now) (c .before .before .before .before .args .id) (c .before .before .before .before .args .a) (c .before .before .before .before .args .e) (c .before .loop .i) (c .before .before .before .before .pre .1) (c .before .loop .inv) (c .loop-test .left)
+returns-3 c =
+    let at-loop = c .before in
+    let at-args = at-loop .before .before .before in
+    λ z. seen-end (at-args .args .depth .now) (at-args .args .id) (at-args .args .a) (at-args .args .e) (at-loop .loop .i) (at-args .pre .1)
+    (at-loop .loop .inv) (c .loop-test .left)
 
 pub is-seen-spec : {M : Type 1} → statement M
 is-seen-spec =

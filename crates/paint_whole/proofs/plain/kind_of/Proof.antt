@@ -15,22 +15,41 @@ buffer-kind-requires : tie.Need-buffer-kind-requires
 buffer-kind-requires c κs = search needs
 
 returns : tie.Need-returns
-returns c = c .buffer-kind .ensures (attrs-at (c .before .before .before .before .before .args .paint-attrs .now) (c .before .before .before .before .before .args .paints) (c .before .before .before .before .before .args .layer-attrs .now) (c .before .before .before .before .before .args .layers)) (summary-by (c .before .before .before .before .before .args .from) (c .before .before .before .before .before .args .to) (c .before .before .before .before .before .args .largest)) (c .before .before .before .before .before .args .depth .now)
+returns c =
+    let at-args = c .before .before .before .before .before in
+    c .buffer-kind .ensures (attrs-at (at-args .args .paint-attrs .now) (at-args .args .paints) (at-args .args .layer-attrs .now) (at-args .args .layers))
+    (summary-by (at-args .args .from) (at-args .args .to) (at-args .args .largest)) (at-args .args .depth .now)
 
 returns-2 : tie.Need-returns-2
-returns-2 c = said-none (attrs-at (c .before .before .before .before .before .args .paint-attrs .now) (c .before .before .before .before .before .args .paints) (c .before .before .before .before .before .args .layer-attrs .now) (c .before .before .before .before .before .args .layers)) (summary-by (c .before .before .before .before .before .args .from) (c .before .before .before .before .before .args .to) (c .before .before .before .before .before .args .largest)) (c .before .before .before .before .before .args .depth .now) (c .before .before .before .before .before .args .nesting) (c .before .before .before .before .before .args .tag) (c .before .before .before .before .before .args .tiles) (c .before .before .before .before .before .args .alpha) (c .before .before .before .before .before .args .i)
+returns-2 c =
+    let at-args = c .before .before .before .before .before in
+    said-none (attrs-at (at-args .args .paint-attrs .now) (at-args .args .paints) (at-args .args .layer-attrs .now) (at-args .args .layers)) (summary-by
+    (at-args .args .from) (at-args .args .to) (at-args .args .largest)) (at-args .args .depth .now) (at-args .args .nesting) (at-args .args .tag)
+    (at-args .args .tiles) (at-args .args .alpha) (at-args .args .i)
 
 id-of-requires : tie.Need-id-of-requires
 id-of-requires c κs = search needs
 
 returns-3 : tie.Need-returns-3
-returns-3 c = said-none (attrs-at (c .before .before .before .before .before .before .before .args .paint-attrs .now) (c .before .before .before .before .before .before .before .args .paints) (c .before .before .before .before .before .before .before .args .layer-attrs .now) (c .before .before .before .before .before .before .before .args .layers)) (summary-by (c .before .before .before .before .before .before .before .args .from) (c .before .before .before .before .before .before .before .args .to) (c .before .before .before .before .before .before .before .args .largest)) (c .before .before .before .before .before .before .before .args .depth .now) (c .before .before .before .before .before .before .before .args .nesting) (c .before .before .before .before .before .before .before .args .tag) (c .before .before .before .before .before .before .before .args .tiles) (c .before .before .before .before .before .before .before .args .alpha) (c .before .before .before .before .before .before .before .args .i)
+returns-3 c =
+    let at-args = c .before .before .before .before .before .before .before in
+    said-none (attrs-at (at-args .args .paint-attrs .now) (at-args .args .paints) (at-args .args .layer-attrs .now) (at-args .args .layers)) (summary-by
+    (at-args .args .from) (at-args .args .to) (at-args .args .largest)) (at-args .args .depth .now) (at-args .args .nesting) (at-args .args .tag)
+    (at-args .args .tiles) (at-args .args .alpha) (at-args .args .i)
 
 fill-kind-requires : tie.Need-fill-kind-requires
 fill-kind-requires c κs = search needs
 
 returns-4 : tie.Need-returns-4
-returns-4 c = said-fill (c .before .before .before .before .before .before .before .before .args .paint-attrs .now) (c .before .before .before .before .before .before .before .before .args .paints) (c .before .before .before .before .before .before .before .before .args .layer-attrs .now) (c .before .before .before .before .before .before .before .before .args .layers) (summary-by (c .before .before .before .before .before .before .before .before .args .from) (c .before .before .before .before .before .before .before .before .args .to) (c .before .before .before .before .before .before .before .before .args .largest)) (c .before .before .before .before .before .before .before .before .args .depth .now) (c .before .before .before .before .before .before .before .before .args .nesting) (c .before .before .before .before .before .before .before .before .args .tag) (c .before .before .before .before .before .before .before .before .args .tiles) (c .before .before .before .before .before .before .before .before .args .alpha) (c .before .before .before .before .before .before .before .before .args .i) _ _ (c .before .if3 .left) (c .fill-kind .ensures) (omega (arith, c .before .before .before .if2 .left)) (c .before .before .before .before .if1 .left) (c .before .before .id-of .ensures)
+returns-4 c =
+    let at-id-of = c .before .before in
+    let at-if2 = at-id-of .before in
+    let at-if1 = at-if2 .before in
+    let at-args = at-if1 .before .before .before .before in
+    said-fill (at-args .args .paint-attrs .now) (at-args .args .paints) (at-args .args .layer-attrs .now) (at-args .args .layers) (summary-by
+    (at-args .args .from) (at-args .args .to) (at-args .args .largest)) (at-args .args .depth .now) (at-args .args .nesting) (at-args .args .tag)
+    (at-args .args .tiles) (at-args .args .alpha) (at-args .args .i) _ _ (c .before .if3 .left) (c .fill-kind .ensures) (omega (arith,
+    at-if2 .if2 .left)) (at-if1 .if1 .left) (at-id-of .id-of .ensures)
 
 pub kind-of-spec : {M : Type 1} → statement M
 kind-of-spec =

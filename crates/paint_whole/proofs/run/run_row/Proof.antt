@@ -1,3 +1,5 @@
+-- So far the row's steps before this one are those of the rules, their pieces stand in the list, and the tables keep their lengths. A row has fewer
+-- steps than the loop counts.
 use mathlib.Core.Path.{_≡_, refl, _∙_}
 use Prim.Native.Nat.{_-_, _≤_, _*_}
 use native.Mathlib.Omega.{arith}
@@ -28,61 +30,147 @@ sub-run-plain : tie.Need-sub-run-plain Inv-loop μ-loop
 sub-run-plain c = omega (arith, c .before .before .before .loop-test .taken)
 
 run-plain-requires : tie.Need-run-plain-requires Inv-loop μ-loop
-run-plain-requires c κs = ((c .before .before .before .before .before .before .before .before .before .before .before .before .before .pre .0 .0, c .before .before .before .before .before .before .before .before .before .before .before .before .before .pre .0 .1, c .before .before .before .before .before .before .before .before .before .before .before .before .before .pre .0 .2, rw (c .before .before .before .before .loop .inv .2) (c .before .before .before .before .before .before .before .before .before .before .before .before .before .pre .0 .3), c .before .before .before .before .loop .inv .3 ∙ c .before .before .before .before .before .before .before .before .before .before .before .before .before .pre .0 .4), (c .before .before .before .before .before .before .before .before .before .before .before .before .before .pre .1, (rw (c .before .before .before .before .loop .inv .4) (c .before .before .before .before .loop .inv .1), omega arith)))
+run-plain-requires c κs =
+    let at-loop = c .before .before .before .before in
+    let at-pre = at-loop .before .before .before .before .before .before .before .before .before in
+    ((at-pre .pre .0 .0, at-pre .pre .0 .1, at-pre .pre .0 .2, rw (at-loop .loop .inv .2) (at-pre .pre .0 .3), at-loop .loop .inv .3 ∙ at-pre .pre .0 .4),
+    (at-pre .pre .1, (rw (at-loop .loop .inv .4) (at-loop .loop .inv .1), omega arith)))
 
 add-k : tie.Need-add-k Inv-loop μ-loop
-add-k c = omega (arith, c .before .before .before .before .before .run-plain .ensures .1 .0, c .before .before .before .before .before .before .before .before .before .loop-test .taken)
+add-k c =
+    let at-run-plain = c .before .before .before .before .before in
+    let at-loop-test = at-run-plain .before .before .before .before in
+    omega (arith, at-run-plain .run-plain .ensures .1 .0, at-loop-test .loop-test .taken)
 
 step-on-requires : tie.Need-step-on-requires Inv-loop μ-loop
-step-on-requires c κs = ((c .before .before .before .before .before .before .before .before .before .before .before .before .before .before .before .before .before .before .before .before .before .before .pre .0 .0, c .before .before .before .before .before .before .before .before .before .before .before .before .before .before .before .before .before .before .before .before .before .before .pre .0 .1, c .before .before .before .before .before .before .before .before .before .before .before .before .before .before .before .before .before .before .before .before .before .before .pre .0 .2, rw (c .before .before .before .before .before .before .before .before .before .before .before .before .before .loop .inv .2) (c .before .before .before .before .before .before .before .before .before .before .before .before .before .before .before .before .before .before .before .before .before .before .pre .0 .3), c .before .before .before .before .before .before .before .before .run-plain .kept .1 .1 .1 .1 .0 ∙ c .before .before .before .before .before .before .before .before .before .before .before .before .before .loop .inv .3 ∙ c .before .before .before .before .before .before .before .before .before .before .before .before .before .before .before .before .before .before .before .before .before .before .pre .0 .4), (c .before .before .before .before .before .before .before .before .before .before .before .before .before .before .before .before .before .before .before .before .before .before .pre .1, rw (c .before .before .before .before .before .before .before .before .run-plain .kept .1 .1 .1 .1 .1 .1 .1 .1 .1 .0) (c .before .before .before .before .before .before .before .before .run-plain .ensures .1 .1)))
+step-on-requires c κs =
+    let at-run-plain = c .before .before .before .before .before .before .before .before in
+    let at-loop = at-run-plain .before .before .before .before .before in
+    let at-pre = at-loop .before .before .before .before .before .before .before .before .before in
+    ((at-pre .pre .0 .0, at-pre .pre .0 .1, at-pre .pre .0 .2, rw (at-loop .loop .inv .2) (at-pre .pre .0 .3),
+    at-run-plain .run-plain .kept .1 .1 .1 .1 .0 ∙ at-loop .loop .inv .3 ∙ at-pre .pre .0 .4), (at-pre .pre .1,
+    rw (at-run-plain .run-plain .kept .1 .1 .1 .1 .1 .1 .1 .1 .1 .0) (at-run-plain .run-plain .ensures .1 .1)))
 
 same-length : tie.Need-same-length Inv-loop μ-loop
-same-length c = c .before .before .before .before .before .before .before .before .before .step-on .kept .1 .1 .1 .0 ∙ c .before .before .before .before .before .before .before .before .before .before .before .before .before .before .before .before .before .before .before .before .before .before .before .loop .inv .2
+same-length c =
+    let at-step-on = c .before .before .before .before .before .before .before .before .before in
+    let at-loop = at-step-on .before .before .before .before .before .before .before .before .before .before .before .before .before .before in
+    at-step-on .step-on .kept .1 .1 .1 .0 ∙ at-loop .loop .inv .2
 
 same-length-2 : tie.Need-same-length-2 Inv-loop μ-loop
-same-length-2 c = c .before .before .before .before .before .before .before .before .before .step-on .kept .1 .1 .1 .1 .0 ∙ c .before .before .before .before .before .before .before .before .before .before .before .before .before .before .before .before .before .before .run-plain .kept .1 .1 .1 .1 .0 ∙ c .before .before .before .before .before .before .before .before .before .before .before .before .before .before .before .before .before .before .before .before .before .before .before .loop .inv .3
+same-length-2 c =
+    let at-step-on = c .before .before .before .before .before .before .before .before .before in
+    let at-run-plain = at-step-on .before .before .before .before .before .before .before .before .before in
+    let at-loop = at-run-plain .before .before .before .before .before in
+    at-step-on .step-on .kept .1 .1 .1 .1 .0 ∙ at-run-plain .run-plain .kept .1 .1 .1 .1 .0 ∙ at-loop .loop .inv .3
 
 same-length-3 : tie.Need-same-length-3 Inv-loop μ-loop
-same-length-3 c = c .before .before .before .before .before .before .before .before .before .step-on .kept .1 .1 .1 .1 .1 .1 .1 .1 .1 .0 ∙ c .before .before .before .before .before .before .before .before .before .before .before .before .before .before .before .before .before .before .run-plain .kept .1 .1 .1 .1 .1 .1 .1 .1 .1 .0 ∙ c .before .before .before .before .before .before .before .before .before .before .before .before .before .before .before .before .before .before .before .before .before .before .before .loop .inv .4
+same-length-3 c =
+    let at-step-on = c .before .before .before .before .before .before .before .before .before in
+    let at-run-plain = at-step-on .before .before .before .before .before .before .before .before .before in
+    let at-loop = at-run-plain .before .before .before .before .before in
+    at-step-on .step-on .kept .1 .1 .1 .1 .1 .1 .1 .1 .1 .0 ∙ at-run-plain .run-plain .kept .1 .1 .1 .1 .1 .1 .1 .1 .1 .0 ∙ at-loop .loop .inv .4
 
 returns : tie.Need-returns Inv-loop μ-loop
 unfolding own-run
-returns c = rest-refused _ (rest-far _ (c .before .before .before .before .before .before .before .before .before .before .before .before .before .before .before .before .before .before .before .before .before .before .before .loop .inv .0) (omega (arith, c .before .before .before .before .before .before .before .before .before .before .before .before .before .before .before .before .before .before .run-plain .ensures .1 .0, c .before .before .before .before .before .before .before .before .before .before .before .before .before .before .before .before .before .before .before .before .before .before .loop-test .taken)) (c .before .before .before .before .before .before .before .before .before .before .before .before .before .before .before .before .before .before .run-plain .ensures .0)) (omega (arith, c .before .before .before .before .before .before .before .before .before .before .before .before .before .before .before .before .before .before .run-plain .ensures .1 .0, c .before .before .before .before .before .before .before .before .before .before .before .before .before .before .before .before .before .before .before .before .before .before .loop-test .taken)) _ _ _ _ (c .before .before .before .before .before .before .before .before .before .step-on .ensures .0) (c .before .if1 .taken) (c .if2 .taken)
+returns c =
+    let at-step-on = c .before .before .before .before .before .before .before .before .before in
+    let at-run-plain = at-step-on .before .before .before .before .before .before .before .before .before in
+    let at-loop-test = at-run-plain .before .before .before .before in
+    let at-loop = at-loop-test .before in
+    rest-refused _ (rest-far _ (at-loop .loop .inv .0) (omega (arith, at-run-plain .run-plain .ensures .1 .0,
+    at-loop-test .loop-test .taken)) (at-run-plain .run-plain .ensures .0)) (omega (arith, at-run-plain .run-plain .ensures .1 .0,
+    at-loop-test .loop-test .taken)) _ _ _ _ (at-step-on .step-on .ensures .0) (c .before .if1 .taken) (c .if2 .taken)
 
 same-length-4 : tie.Need-same-length-4 Inv-loop μ-loop
-same-length-4 c = c .before .before .before .before .before .before .before .before .before .step-on .kept .1 .1 .1 .0 ∙ c .before .before .before .before .before .before .before .before .before .before .before .before .before .before .before .before .before .before .before .before .before .before .before .loop .inv .2
+same-length-4 c =
+    let at-step-on = c .before .before .before .before .before .before .before .before .before in
+    let at-loop = at-step-on .before .before .before .before .before .before .before .before .before .before .before .before .before .before in
+    at-step-on .step-on .kept .1 .1 .1 .0 ∙ at-loop .loop .inv .2
 
 same-length-5 : tie.Need-same-length-5 Inv-loop μ-loop
-same-length-5 c = c .before .before .before .before .before .before .before .before .before .step-on .kept .1 .1 .1 .1 .0 ∙ c .before .before .before .before .before .before .before .before .before .before .before .before .before .before .before .before .before .before .run-plain .kept .1 .1 .1 .1 .0 ∙ c .before .before .before .before .before .before .before .before .before .before .before .before .before .before .before .before .before .before .before .before .before .before .before .loop .inv .3
+same-length-5 c =
+    let at-step-on = c .before .before .before .before .before .before .before .before .before in
+    let at-run-plain = at-step-on .before .before .before .before .before .before .before .before .before in
+    let at-loop = at-run-plain .before .before .before .before .before in
+    at-step-on .step-on .kept .1 .1 .1 .1 .0 ∙ at-run-plain .run-plain .kept .1 .1 .1 .1 .0 ∙ at-loop .loop .inv .3
 
 same-length-6 : tie.Need-same-length-6 Inv-loop μ-loop
-same-length-6 c = c .before .before .before .before .before .before .before .before .before .step-on .kept .1 .1 .1 .1 .1 .1 .1 .1 .1 .0 ∙ c .before .before .before .before .before .before .before .before .before .before .before .before .before .before .before .before .before .before .run-plain .kept .1 .1 .1 .1 .1 .1 .1 .1 .1 .0 ∙ c .before .before .before .before .before .before .before .before .before .before .before .before .before .before .before .before .before .before .before .before .before .before .before .loop .inv .4
+same-length-6 c =
+    let at-step-on = c .before .before .before .before .before .before .before .before .before in
+    let at-run-plain = at-step-on .before .before .before .before .before .before .before .before .before in
+    let at-loop = at-run-plain .before .before .before .before .before in
+    at-step-on .step-on .kept .1 .1 .1 .1 .1 .1 .1 .1 .1 .0 ∙ at-run-plain .run-plain .kept .1 .1 .1 .1 .1 .1 .1 .1 .1 .0 ∙ at-loop .loop .inv .4
 
 returns-2 : tie.Need-returns-2 Inv-loop μ-loop
 unfolding own-run
-returns-2 c = rest-stopped _ (rest-far _ (c .before .before .before .before .before .before .before .before .before .before .before .before .before .before .before .before .before .before .before .before .before .before .before .loop .inv .0) (omega (arith, c .before .before .before .before .before .before .before .before .before .before .before .before .before .before .before .before .before .before .run-plain .ensures .1 .0, c .before .before .before .before .before .before .before .before .before .before .before .before .before .before .before .before .before .before .before .before .before .before .loop-test .taken)) (c .before .before .before .before .before .before .before .before .before .before .before .before .before .before .before .before .before .before .run-plain .ensures .0)) (omega (arith, c .before .before .before .before .before .before .before .before .before .before .before .before .before .before .before .before .before .before .run-plain .ensures .1 .0, c .before .before .before .before .before .before .before .before .before .before .before .before .before .before .before .before .before .before .before .before .before .before .loop-test .taken)) _ _ _ _ (c .before .before .before .before .before .before .before .before .before .step-on .ensures .0) (c .before .if1 .taken) (c .if2 .left) _ refl
+returns-2 c =
+    let at-step-on = c .before .before .before .before .before .before .before .before .before in
+    let at-run-plain = at-step-on .before .before .before .before .before .before .before .before .before in
+    let at-loop-test = at-run-plain .before .before .before .before in
+    let at-loop = at-loop-test .before in
+    rest-stopped _ (rest-far _ (at-loop .loop .inv .0) (omega (arith, at-run-plain .run-plain .ensures .1 .0,
+    at-loop-test .loop-test .taken)) (at-run-plain .run-plain .ensures .0)) (omega (arith, at-run-plain .run-plain .ensures .1 .0,
+    at-loop-test .loop-test .taken)) _ _ _ _ (at-step-on .step-on .ensures .0) (c .before .if1 .taken) (c .if2 .left) _ refl
 
 same-length-7 : tie.Need-same-length-7 Inv-loop μ-loop
-same-length-7 c = c .before .before .before .before .before .before .before .before .before .step-on .kept .1 .1 .1 .0 ∙ c .before .before .before .before .before .before .before .before .before .before .before .before .before .before .before .before .before .before .before .before .before .before .before .loop .inv .2
+same-length-7 c =
+    let at-step-on = c .before .before .before .before .before .before .before .before .before in
+    let at-loop = at-step-on .before .before .before .before .before .before .before .before .before .before .before .before .before .before in
+    at-step-on .step-on .kept .1 .1 .1 .0 ∙ at-loop .loop .inv .2
 
 same-length-8 : tie.Need-same-length-8 Inv-loop μ-loop
-same-length-8 c = c .before .before .before .before .before .before .before .before .before .step-on .kept .1 .1 .1 .1 .0 ∙ c .before .before .before .before .before .before .before .before .before .before .before .before .before .before .before .before .before .before .run-plain .kept .1 .1 .1 .1 .0 ∙ c .before .before .before .before .before .before .before .before .before .before .before .before .before .before .before .before .before .before .before .before .before .before .before .loop .inv .3
+same-length-8 c =
+    let at-step-on = c .before .before .before .before .before .before .before .before .before in
+    let at-run-plain = at-step-on .before .before .before .before .before .before .before .before .before in
+    let at-loop = at-run-plain .before .before .before .before .before in
+    at-step-on .step-on .kept .1 .1 .1 .1 .0 ∙ at-run-plain .run-plain .kept .1 .1 .1 .1 .0 ∙ at-loop .loop .inv .3
 
 same-length-9 : tie.Need-same-length-9 Inv-loop μ-loop
-same-length-9 c = c .before .before .before .before .before .before .before .before .before .step-on .kept .1 .1 .1 .1 .1 .1 .1 .1 .1 .0 ∙ c .before .before .before .before .before .before .before .before .before .before .before .before .before .before .before .before .before .before .run-plain .kept .1 .1 .1 .1 .1 .1 .1 .1 .1 .0 ∙ c .before .before .before .before .before .before .before .before .before .before .before .before .before .before .before .before .before .before .before .before .before .before .before .loop .inv .4
+same-length-9 c =
+    let at-step-on = c .before .before .before .before .before .before .before .before .before in
+    let at-run-plain = at-step-on .before .before .before .before .before .before .before .before .before in
+    let at-loop = at-run-plain .before .before .before .before .before in
+    at-step-on .step-on .kept .1 .1 .1 .1 .1 .1 .1 .1 .1 .0 ∙ at-run-plain .run-plain .kept .1 .1 .1 .1 .1 .1 .1 .1 .1 .0 ∙ at-loop .loop .inv .4
 
 returns-3 : tie.Need-returns-3 Inv-loop μ-loop
 unfolding own-run
-returns-3 c = rest-finished _ (rest-far _ (c .before .before .before .before .before .before .before .before .before .before .before .before .before .before .before .before .before .before .before .before .before .before .before .loop .inv .0) (omega (arith, c .before .before .before .before .before .before .before .before .before .before .before .before .before .before .before .before .before .before .run-plain .ensures .1 .0, c .before .before .before .before .before .before .before .before .before .before .before .before .before .before .before .before .before .before .before .before .before .before .loop-test .taken)) (c .before .before .before .before .before .before .before .before .before .before .before .before .before .before .before .before .before .before .run-plain .ensures .0)) (omega (arith, c .before .before .before .before .before .before .before .before .before .before .before .before .before .before .before .before .before .before .run-plain .ensures .1 .0, c .before .before .before .before .before .before .before .before .before .before .before .before .before .before .before .before .before .before .before .before .before .before .loop-test .taken)) _ _ _ _ (c .before .before .before .before .before .before .before .before .before .step-on .ensures .0) (c .before .if1 .left) (c .if3 .taken)
+returns-3 c =
+    let at-step-on = c .before .before .before .before .before .before .before .before .before in
+    let at-run-plain = at-step-on .before .before .before .before .before .before .before .before .before in
+    let at-loop-test = at-run-plain .before .before .before .before in
+    let at-loop = at-loop-test .before in
+    rest-finished _ (rest-far _ (at-loop .loop .inv .0) (omega (arith, at-run-plain .run-plain .ensures .1 .0,
+    at-loop-test .loop-test .taken)) (at-run-plain .run-plain .ensures .0)) (omega (arith, at-run-plain .run-plain .ensures .1 .0,
+    at-loop-test .loop-test .taken)) _ _ _ _ (at-step-on .step-on .ensures .0) (c .before .if1 .left) (c .if3 .taken)
 
 add-steps : tie.Need-add-steps Inv-loop μ-loop
-add-steps c = omega (arith, c .before .before .before .before .before .before .before .before .before .before .before .before .before .before .before .before .before .before .run-plain .ensures .1 .0, c .before .before .before .before .before .before .before .before .before .before .before .before .before .before .before .before .before .before .before .before .before .before .loop-test .taken)
+add-steps c =
+    let at-run-plain = c .before .before .before .before .before .before .before .before .before .before .before .before .before .before .before .before
+        .before .before in
+    let at-loop-test = at-run-plain .before .before .before .before in
+    omega (arith, at-run-plain .run-plain .ensures .1 .0, at-loop-test .loop-test .taken)
 
 loop-less : tie.Need-loop-less Inv-loop μ-loop
-loop-less c = omega (arith, c .before .before .before .before .before .before .before .before .before .before .before .before .before .before .before .before .before .before .run-plain .ensures .1 .0, c .before .before .before .before .before .before .before .before .before .before .before .before .before .before .before .before .before .before .before .before .before .before .loop-test .taken)
+loop-less c =
+    let at-run-plain = c .before .before .before .before .before .before .before .before .before .before .before .before .before .before .before .before
+        .before .before in
+    let at-loop-test = at-run-plain .before .before .before .before in
+    omega (arith, at-run-plain .run-plain .ensures .1 .0, at-loop-test .loop-test .taken)
 
 loop-again : tie.Need-loop-again Inv-loop μ-loop
-loop-again c = (rest-on _ (rest-far _ (c .before .before .before .before .before .before .before .before .before .before .before .before .before .before .before .before .before .before .before .before .before .before .before .loop .inv .0) (omega (arith, c .before .before .before .before .before .before .before .before .before .before .before .before .before .before .before .before .before .before .run-plain .ensures .1 .0, c .before .before .before .before .before .before .before .before .before .before .before .before .before .before .before .before .before .before .before .before .before .before .loop-test .taken)) (c .before .before .before .before .before .before .before .before .before .before .before .before .before .before .before .before .before .before .run-plain .ensures .0)) (omega (arith, c .before .before .before .before .before .before .before .before .before .before .before .before .before .before .before .before .before .before .run-plain .ensures .1 .0, c .before .before .before .before .before .before .before .before .before .before .before .before .before .before .before .before .before .before .before .before .before .before .loop-test .taken)) _ _ _ _ (c .before .before .before .before .before .before .before .before .before .step-on .ensures .0) (c .before .if1 .left) (c .if3 .left), (rw (c .before .before .before .before .before .before .before .before .before .before .before .before .before .before .before .before .before .before .run-plain .kept .1 .1 .1 .1 .1 .1 .1 .1 .1 .0 ∙ c .before .before .before .before .before .before .before .before .before .before .before .before .before .before .before .before .before .before .before .before .before .before .before .loop .inv .4) at (c .before .before .before .before .before .before .before .before .before .step-on .ensures .1)), c .before .before .before .before .before .before .before .before .before .step-on .kept .1 .1 .1 .0 ∙ c .before .before .before .before .before .before .before .before .before .before .before .before .before .before .before .before .before .before .before .before .before .before .before .loop .inv .2, c .before .before .before .before .before .before .before .before .before .step-on .kept .1 .1 .1 .1 .0 ∙ c .before .before .before .before .before .before .before .before .before .before .before .before .before .before .before .before .before .before .run-plain .kept .1 .1 .1 .1 .0 ∙ c .before .before .before .before .before .before .before .before .before .before .before .before .before .before .before .before .before .before .before .before .before .before .before .loop .inv .3, c .before .before .before .before .before .before .before .before .before .step-on .kept .1 .1 .1 .1 .1 .1 .1 .1 .1 .0 ∙ c .before .before .before .before .before .before .before .before .before .before .before .before .before .before .before .before .before .before .run-plain .kept .1 .1 .1 .1 .1 .1 .1 .1 .1 .0 ∙ c .before .before .before .before .before .before .before .before .before .before .before .before .before .before .before .before .before .before .before .before .before .before .before .loop .inv .4)
+loop-again c =
+    let at-step-on = c .before .before .before .before .before .before .before .before .before in
+    let at-run-plain = at-step-on .before .before .before .before .before .before .before .before .before in
+    let at-loop-test = at-run-plain .before .before .before .before in
+    let at-loop = at-loop-test .before in
+    (rest-on _ (rest-far _ (at-loop .loop .inv .0) (omega (arith, at-run-plain .run-plain .ensures .1 .0,
+    at-loop-test .loop-test .taken)) (at-run-plain .run-plain .ensures .0)) (omega (arith, at-run-plain .run-plain .ensures .1 .0,
+    at-loop-test .loop-test .taken)) _ _ _ _ (at-step-on .step-on .ensures .0) (c .before .if1 .left) (c .if3 .left),
+    (rw (at-run-plain .run-plain .kept .1 .1 .1 .1 .1 .1 .1 .1 .1 .0 ∙ at-loop .loop .inv .4) at (at-step-on .step-on .ensures .1)),
+    at-step-on .step-on .kept .1 .1 .1 .0 ∙ at-loop .loop .inv .2, at-step-on .step-on .kept .1 .1 .1 .1 .0 ∙ at-run-plain .run-plain .kept .1 .1 .1 .1 .0 ∙
+    at-loop .loop .inv .3, at-step-on .step-on .kept .1 .1 .1 .1 .1 .1 .1 .1 .1 .0 ∙ at-run-plain .run-plain .kept .1 .1 .1 .1 .1 .1 .1 .1 .1 .0 ∙
+    at-loop .loop .inv .4)
 
 same-length-10 : tie.Need-same-length-10 Inv-loop μ-loop
 same-length-10 c = c .before .loop .inv .2

@@ -1,3 +1,4 @@
+-- The cases before this one are counted.
 use Prim.Native.Nat.{_≤_, _-_}
 use borrow.Author.Needs.{needs}
 use Rattle.test_leaves.proofs.cases.replay.Statement.{statement}

@@ -39,7 +39,10 @@ array-borrow-prefix-row : tie.Need-array-borrow-prefix-row
 array-borrow-prefix-row c = search needs
 
 slice-aggregate-asked : tie.Need-slice-aggregate-asked
-slice-aggregate-asked c = sym (length-take-le (c .before .before .before .before .before .before .word .result) (c .before .before .marks .result) (omega arith))
+slice-aggregate-asked c =
+    let at-marks = c .before .before in
+    let at-word = at-marks .before .before .before .before in
+    sym (length-take-le (at-word .word .result) (at-marks .marks .result) (omega arith))
 
 slice-aggregate-asked-2 : tie.Need-slice-aggregate-asked-2
 slice-aggregate-asked-2 c = search needs
@@ -57,7 +60,12 @@ add-seen-runs-2 : tie.Need-add-seen-runs-2
 add-seen-runs-2 c = search needs
 
 slice-aggregate-seen-runs : tie.Need-slice-aggregate-seen-runs
-slice-aggregate-seen-runs c = c .before .before .before .before .before .before .before .marks .ensures ∙ sym (length-front (c .before .before .before .before .before .before .before .marks .result) (c .before .before .before .asked .last .1 .1 .1 .0) (c .before .before .before .before .before .before .before .before .before .before .before .word .result) (c .before .before .before .asked .kept .1 .1 .1 .0))
+slice-aggregate-seen-runs c =
+    let at-asked = c .before .before .before in
+    let at-marks = at-asked .before .before .before .before in
+    let at-word = at-marks .before .before .before .before in
+    at-marks .marks .ensures ∙ sym (length-front (at-marks .marks .result) (at-asked .asked .last .1 .1 .1 .0) (at-word .word .result)
+    (at-asked .asked .kept .1 .1 .1 .0))
 
 seen-runs-requires : tie.Need-seen-runs-requires
 seen-runs-requires c κs = search needs

@@ -1,3 +1,4 @@
+-- The counts before this one are in the sum.
 use Prim.Native.Nat.{_≤_, _-_}
 use borrow.Author.Needs.{needs}
 use Rattle.test_leaves.proofs.cases.summed.Statement.{statement}

@@ -1,3 +1,4 @@
+-- The words before i are the same.
 use lib.ListN.{length}
 use Prim.Native.Nat.{_≤_, _-_}
 use borrow.Author.Needs.{needs}

@@ -1,5 +1,6 @@
 // Judging a fill's segments and the rows that they come to (answers 4, 5, 10 and 11), in one pass, before anything is done. Parts.
 use row_judge::is_good_row;
+use row_screen::part;
 use step_fill_rows::Job;
 use row::wide;
 use segments::Placed;
@@ -117,8 +118,7 @@ fn turn_to(rows: &[u32], job: Job, hand: Hand, r: u32) -> Hand
     if hand.row == r {
         return hand;
     }
-    let at = (r as usize) * 54;
-    let state = &rows[at..at + 54];
+    let state = part(rows, 54, r as usize);
     if is_good_row(state, job.c, job.d, job.layers) {
         let lacking = wide(job.layers - state[5]);
         return Hand {

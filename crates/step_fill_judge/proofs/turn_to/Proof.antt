@@ -23,7 +23,7 @@ is-good-row-requires c κs =
     (ap length (c .part .ensures) ∙ part-long _ _ 54 _ (o .1) (o .0 .long), o .0 .layers)
 
 shared-slice-read-wide : tie.Need-shared-slice-read-wide
-shared-slice-read-wide c = omega (arith, ap length (c .before .before .before .part .ensures) ∙ part-long _ _ 54 _ (c .before .before .before .before .before .before .before .pre .1) (c .before .before .before .before .before .before .before .pre .0 .long))
+shared-slice-read-wide c = let o = c .before .before .before .before .before .before .before .pre in omega (arith, ap length (c .before .before .before .part .ensures) ∙ part-long _ _ 54 _ (o .1) (o .0 .long))
 
 sub-wide : tie.Need-sub-wide
 sub-wide c = omega (arith, good-small _ _ _ _ (sym (c .before .before .before .is-good-row .ensures) ∙ c .before .before .if2 .taken) .levels)
@@ -32,7 +32,7 @@ wide-requires : tie.Need-wide-requires
 wide-requires c κs = search needs
 
 shared-slice-read-wide-2 : tie.Need-shared-slice-read-wide-2
-shared-slice-read-wide-2 c = omega (arith, ap length (c .before .before .before .before .before .before .part .ensures) ∙ part-long _ _ 54 _ (c .before .before .before .before .before .before .before .before .before .before .pre .1) (c .before .before .before .before .before .before .before .before .before .before .pre .0 .long))
+shared-slice-read-wide-2 c = let o = c .before .before .before .before .before .before .before .before .before .before .pre in omega (arith, ap length (c .before .before .before .before .before .before .part .ensures) ∙ part-long _ _ 54 _ (o .1) (o .0 .long))
 
 wide-requires-2 : tie.Need-wide-requires-2
 wide-requires-2 c κs = search needs
@@ -43,7 +43,7 @@ add-t15 c =
     record { fits = omega (arith, c .before .before .wide .ensures, c .wide2 .ensures, small .renders) }
 
 shared-slice-read-wide-3 : tie.Need-shared-slice-read-wide-3
-shared-slice-read-wide-3 c = omega (arith, ap length (c .before .before .before .before .before .before .before .before .part .ensures) ∙ part-long _ _ 54 _ (c .before .before .before .before .before .before .before .before .before .before .before .before .pre .1) (c .before .before .before .before .before .before .before .before .before .before .before .before .pre .0 .long))
+shared-slice-read-wide-3 c = let o = c .before .before .before .before .before .before .before .before .before .before .before .before .pre in omega (arith, ap length (c .before .before .before .before .before .before .before .before .part .ensures) ∙ part-long _ _ 54 _ (o .1) (o .0 .long))
 
 wide-requires-3 : tie.Need-wide-requires-3
 wide-requires-3 c κs = search needs
@@ -52,8 +52,12 @@ returns-2 : tie.Need-returns-2
 unfolding turned-to
 returns-2 c =
     rw (
-      ne-eqb _ _ (c .before .before .before .before .before .before .before .before .before .before .if1 .left), ← c .before .before .before .before .before .before .before .before .before .part .ensures, sym (c .before .before .before .before .before .before .before .before .is-good-row .ensures) ∙ c .before .before .before .before .before .before .before .if2 .taken,
-      c .before .before .before .before .wide .ensures, c .before .before .wide2 .ensures, c .wide3 .ensures,
+      ne-eqb _ _ (c .before .before .before .before .before .before .before .before .before .before .if1 .left),
+      ← c .before .before .before .before .before .before .before .before .before .part .ensures,
+      sym (c .before .before .before .before .before .before .before .before .is-good-row .ensures) ∙ c .before .before .before .before .before .before .before .if2 .taken,
+      c .before .before .before .before .wide .ensures,
+      c .before .before .wide2 .ensures,
+      c .wide3 .ensures,
     )
 
 returns-3 : tie.Need-returns-3

@@ -1,3 +1,4 @@
+-- At segment i the rest has room, and doing it from here gives what doing all from start would (`Filling`).
 use Prim.Native.Nat.{_-_}
 use mathlib.Core.Path.{sym, _∙_}
 use native.Mathlib.Omega.{arith}
@@ -22,7 +23,9 @@ loop-holds : tie.Need-loop-holds Inv-loop μ-loop
 loop-holds c = begun (c .before .before .before .before .pre)
 
 fill-segment-requires : tie.Need-fill-segment-requires Inv-loop μ-loop
-fill-segment-requires c κs = rw (rows-counted _ _ (c .before .before .before .before .loop .inv .rest .fits .arenas .long .state)) (c .before .before .before .before .loop .inv .rest .fits, omega (arith, c .before .before .before .before .loop .inv .rest .within), good-here (c .before .before .before .before .loop .inv) (c .before .before .before .loop-test .taken), room-here (c .before .before .before .before .loop .inv) (c .before .before .before .loop-test .taken))
+fill-segment-requires c κs =
+    let held = c .before .before .before .before .loop .inv in
+    rw (rows-counted _ _ (held .rest .fits .arenas .long .state)) (held .rest .fits, omega (arith, held .rest .within), good-here held (c .before .before .before .loop-test .taken), room-here held (c .before .before .before .loop-test .taken))
 
 add-i : tie.Need-add-i Inv-loop μ-loop
 add-i c = record { fits = omega arith }
@@ -31,7 +34,11 @@ loop-less : tie.Need-loop-less Inv-loop μ-loop
 loop-less c = omega arith
 
 loop-again : tie.Need-loop-again Inv-loop μ-loop
-loop-again c = again (c .before .before .before .before .before .before .before .before .before .before .before .loop .inv) (c .before .before .before .before .before .before .before .before .before .before .loop-test .taken) _ (long-after _ _ _ (c .before .before .before .before .before .before .before .before .before .before .before .loop .inv .rest .fits .arenas .long) (search needs) (search needs) (search needs)) (rw (rows-counted _ _ (c .before .before .before .before .before .before .before .before .before .before .before .loop .inv .rest .fits .arenas .long .state)) at (c .before .before .before .before .before .before .fill-segment .ensures))
+loop-again c =
+    let held = c .before .before .before .before .before .before .before .before .before .before .before .loop .inv in
+    again held (c .before .before .before .before .before .before .before .before .before .before .loop-test .taken) _
+    (long-after _ _ _ (held .rest .fits .arenas .long) (search needs) (search needs) (search needs))
+    (rw (rows-counted _ _ (held .rest .fits .arenas .long .state)) at (c .before .before .before .before .before .before .fill-segment .ensures))
 
 same-length : tie.Need-same-length Inv-loop μ-loop
 same-length c = c .before .loop .inv .rest .fits .arenas .long .state ∙ sym (c .before .before .before .before .before .before .pre .fits .arenas .long .state)

@@ -1,3 +1,4 @@
+-- By where the segment is placed: nothing is done, or its act on its row.
 use mathlib.Core.Path.{sym, _∙_, ap}
 use Rattle.rules.specs.Segments.{good-segment}
 use Rattle.segments.specs.Segs.{seg-at}
@@ -26,10 +27,18 @@ enum-known-placed : tie.Need-enum-known-placed
 enum-known-placed c = search needs
 
 fill-row-requires : tie.Need-fill-row-requires
-fill-row-requires c κs = on-its-row _ _ _ (seg-at (c .before .before .before .before .before .before .before .before .before .before .before .before .before .args .segs .now) (c .before .before .before .before .before .before .before .before .before .before .before .before .before .args .i)) _ (c .before .before .before .before .before .before .before .before .before .before .before .before .before .pre .0) (placed-at (c .before .before .before .before .before .before .before .before .before .before .before .before .before .args .job .scene) (c .before .before .before .before .placed .given .1) (c .before .before .before .before .before .before .place .ensures) (c .before .before .before .before .before .before .before .segment-at .ensures)) (c .before .before .before .before .before .before .before .before .before .before .before .before .before .pre .2) (c .before .before .before .before .before .before .before .before .before .before .before .before .before .pre .3)
+fill-row-requires c κs =
+    let start = c .before .before .before .before .before .before .before .before .before .before .before .before .before in
+    let g = seg-at (start .args .segs .now) (start .args .i) in
+    on-its-row _ _ _ g _ (start .pre .0)
+    (placed-at (start .args .job .scene) (c .before .before .before .before .placed .given .1) (c .before .before .before .before .before .before .place .ensures) (c .before .before .before .before .before .before .before .segment-at .ensures)) (start .pre .2) (start .pre .3)
 
 returns : tie.Need-returns
-returns c = sym (one-none (c .before .before .before .before .before .before .before .before .before .args .job) (seg-at (c .before .before .before .before .before .before .before .before .before .args .segs .now) (c .before .before .before .before .before .before .before .before .before .args .i)) (cut (sizes (c .before .before .before .before .before .before .before .before .before .args .job .c) (c .before .before .before .before .before .before .before .before .before .args .job .d)) (count-rows (c .before .before .before .before .before .before .before .before .before .args .rows .now)) (words (c .before .before .before .before .before .before .before .before .before .args .rows .now) (c .before .before .before .before .before .before .before .before .before .args .render .now) (c .before .before .before .before .before .before .before .before .before .args .fills .now))) (placed-at (c .before .before .before .before .before .before .before .before .before .args .job .scene) (c .enum-told .given .1) (c .before .before .place .ensures) (c .before .before .before .segment-at .ensures)))
+returns c =
+    let start = c .before .before .before .before .before .before .before .before .before in
+    let g = seg-at (start .args .segs .now) (start .args .i) in
+    let rs = cut (sizes (start .args .job .c) (start .args .job .d)) (count-rows (start .args .rows .now)) (words (start .args .rows .now) (start .args .render .now) (start .args .fills .now)) in
+    sym (one-none (start .args .job) g rs (placed-at (start .args .job .scene) (c .enum-told .given .1) (c .before .before .place .ensures) (c .before .before .before .segment-at .ensures)))
 
 same-length : tie.Need-same-length
 same-length c = search needs
@@ -41,7 +50,14 @@ same-length-3 : tie.Need-same-length-3
 same-length-3 c = search needs
 
 returns-2 : tie.Need-returns-2
-returns-2 c = c .before .before .before .before .before .before .fill-row .ensures ∙ sym (one-some (c .before .before .before .before .before .before .before .before .before .before .before .before .before .before .before .before .before .before .before .before .args .job) (seg-at (c .before .before .before .before .before .before .before .before .before .before .before .before .before .before .before .before .before .before .before .before .args .segs .now) (c .before .before .before .before .before .before .before .before .before .before .before .before .before .before .before .before .before .before .before .before .args .i)) (cut (sizes (c .before .before .before .before .before .before .before .before .before .before .before .before .before .before .before .before .before .before .before .before .args .job .c) (c .before .before .before .before .before .before .before .before .before .before .before .before .before .before .before .before .before .before .before .before .args .job .d)) (count-rows (c .before .before .before .before .before .before .before .before .before .before .before .before .before .before .before .before .before .before .before .before .args .rows .now)) (words (c .before .before .before .before .before .before .before .before .before .before .before .before .before .before .before .before .before .before .before .before .args .rows .now) (c .before .before .before .before .before .before .before .before .before .before .before .before .before .before .before .before .before .before .before .before .args .render .now) (c .before .before .before .before .before .before .before .before .before .before .before .before .before .before .before .before .before .before .before .before .args .fills .now))) _ (placed-at (c .before .before .before .before .before .before .before .before .before .before .before .before .before .before .before .before .before .before .before .before .args .job .scene) (c .before .before .before .before .before .before .before .before .before .before .before .placed .given .1) (c .before .before .before .before .before .before .before .before .before .before .before .before .before .place .ensures) (c .before .before .before .before .before .before .before .before .before .before .before .before .before .before .segment-at .ensures)))
+returns-2 c =
+    let start = c .before .before .before .before .before .before .before .before .before .before .before .before .before .before .before .before .before .before .before .before in
+    let g = seg-at (start .args .segs .now) (start .args .i) in
+    let rs = cut (sizes (start .args .job .c) (start .args .job .d)) (count-rows (start .args .rows .now)) (words (start .args .rows .now) (start .args .render .now) (start .args .fills .now)) in
+    let at-place = c .before .before .before .before .before .before .before .before .before .before .before .before .before in
+    c .before .before .before .before .before .before .fill-row .ensures
+    ∙ sym (one-some (start .args .job) g rs _
+    (placed-at (start .args .job .scene) (c .before .before .before .before .before .before .before .before .before .before .before .placed .given .1) (at-place .place .ensures) (at-place .before .segment-at .ensures)))
 
 pub fill-segment-spec : {M : Type 1} → statement M
 fill-segment-spec =

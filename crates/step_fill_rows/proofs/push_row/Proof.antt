@@ -1,3 +1,4 @@
+-- A row that has its layers gets one command, which is what drawing puts there (`drawn-once`); any other goes by `push_fill`.
 use Rattle.row.specs.Words.{words}
 use mathlib.Core.Path.{sym, _∙_}
 use Rattle.span.specs.Spans.{tiles}
@@ -19,7 +20,12 @@ is-unsplit-requires : tie.Need-is-unsplit-requires
 is-unsplit-requires c κs = search needs
 
 push-paint-requires : tie.Need-push-paint-requires
-push-paint-requires c κs = (c .before .before .before .before .before .before .before .before .before .before .pre .0, rw (drawn-once (c .before .before .before .before .before .before .before .before .before .before .args .n) (tiles (c .before .before .before .before .before .before .before .before .before .before .args .span)) (c .before .before .before .before .before .before .before .before .before .before .args .attrs-idx) (c .before .before .before .before .before .before .before .before .before .before .args .draw-id) (words (c .before .before .before .before .before .before .before .before .before .before .args .state .now) (c .before .before .before .before .before .before .before .before .before .before .args .render .now) (c .before .before .before .before .before .before .before .before .before .before .args .fills .now)) (c .before .before .before .before .before .if1 .taken) (c .before .before .before .before .before .before .before .before .before .before .args .eligible) (alpha-of (c .before .before .before .before .before .before .before .before .before .before .args .alpha)) (sym (c .before .before .before .before .is-unsplit .ensures) ∙ c .before .before .before .if2 .taken)) at (c .before .before .before .before .before .before .before .before .before .before .pre .2))
+push-paint-requires c κs =
+    let start = c .before .before .before .before .before .before .before .before .before .before in
+    let a = start .args in
+    let w = words (a .state .now) (a .render .now) (a .fills .now) in
+    let one = sym (c .before .before .before .before .is-unsplit .ensures) ∙ c .before .before .before .if2 .taken in
+    (start .pre .0, rw (drawn-once (a .n) (tiles (a .span)) (a .attrs-idx) (a .draw-id) w (c .before .before .before .before .before .if1 .taken) (a .eligible) (alpha-of (a .alpha)) one) at (start .pre .2))
 
 same-length : tie.Need-same-length
 same-length c = search needs
@@ -31,7 +37,11 @@ same-length-3 : tie.Need-same-length-3
 same-length-3 c = search needs
 
 returns : tie.Need-returns
-returns c = c .before .before .before .before .before .before .push-paint .ensures ∙ sym (drawn-once (c .before .before .before .before .before .before .before .before .before .before .before .before .before .before .before .before .before .args .n) (tiles (c .before .before .before .before .before .before .before .before .before .before .before .before .before .before .before .before .before .args .span)) (c .before .before .before .before .before .before .before .before .before .before .before .before .before .before .before .before .before .args .attrs-idx) (c .before .before .before .before .before .before .before .before .before .before .before .before .before .before .before .before .before .args .draw-id) _ (c .before .before .before .before .before .before .before .before .before .before .before .before .if1 .taken) (c .before .before .before .before .before .before .before .before .before .before .before .before .before .before .before .before .before .args .eligible) (alpha-of (c .before .before .before .before .before .before .before .before .before .before .before .before .before .before .before .before .before .args .alpha)) (sym (c .before .before .before .before .before .before .before .before .before .before .before .is-unsplit .ensures) ∙ c .before .before .before .before .before .before .before .before .before .before .if2 .taken))
+returns c =
+    let a = c .before .before .before .before .before .before .before .before .before .before .before .before .before .before .before .before .before .args in
+    let one = sym (c .before .before .before .before .before .before .before .before .before .before .before .is-unsplit .ensures) ∙ c .before .before .before .before .before .before .before .before .before .before .if2 .taken in
+    c .before .before .before .before .before .before .push-paint .ensures
+    ∙ sym (drawn-once (a .n) (tiles (a .span)) (a .attrs-idx) (a .draw-id) _ (c .before .before .before .before .before .before .before .before .before .before .before .before .if1 .taken) (a .eligible) (alpha-of (a .alpha)) one)
 
 push-fill-requires : tie.Need-push-fill-requires
 push-fill-requires c κs = search needs

@@ -1,3 +1,4 @@
+-- After its layers the row has room for the command.
 use mathlib.Core.Bool.{false}
 use mathlib.Core.Option.{none}
 use Rattle.span.specs.Spans.{tiles}
@@ -11,10 +12,16 @@ use Rattle.row_acts.proofs.ensure_row_layers.Reads as ensure-row-layers-reads
 use Rattle.row.proofs.push_paint.Reads as push-paint-reads
 
 ensure-row-layers-requires : tie.Need-ensure-row-layers-requires
-ensure-row-layers-requires c κs = (c .before .before .before .before .before .before .pre .1, first-room _ _ 0 (tiles (c .before .before .before .before .before .before .args .span)) _ (c .before .before .before .before .before .before .pre .2 .state) (c .before .before .before .before .before .before .pre .2 .levels) (c .before .before .before .before .before .before .pre .1) false none (c .before .before .before .before .before .before .pre .2))
+ensure-row-layers-requires c κs =
+    let start = c .before .before .before .before .before .before in
+    let room = start .pre .2 in
+    (start .pre .1, first-room _ _ 0 (tiles (start .args .span)) _ (room .state) (room .levels) (start .pre .1) false none room)
 
 push-paint-requires : tie.Need-push-paint-requires
-push-paint-requires c κs = (c .before .before .before .before .before .before .before .before .before .before .before .before .before .before .before .before .pre .0, rw (← c .before .before .before .before .before .before .before .before .before .ensure-row-layers .ensures) at (layers-then _ (c .before .before .before .before .before .before .before .before .before .before .before .before .before .before .before .before .pre .1) (c .before .before .before .before .before .before .before .before .before .ensure-row-layers .ensures) (rw drawn-plain at (c .before .before .before .before .before .before .before .before .before .before .before .before .before .before .before .before .pre .2))))
+push-paint-requires c κs =
+    let start = c .before .before .before .before .before .before .before .before .before .before .before .before .before .before .before .before in
+    let layered = c .before .before .before .before .before .before .before .before .before .ensure-row-layers .ensures in
+    (start .pre .0, rw (← layered) at (layers-then _ (start .pre .1) layered (rw drawn-plain at (start .pre .2))))
 
 same-length : tie.Need-same-length
 same-length c = search needs

@@ -31,8 +31,9 @@ loop-less c = omega arith
 loop-again : tie.Need-loop-again Inv-loop μ-loop
 loop-again c =
     let at-loop = c .before .before .before .before .before .before .before .before .before .before .before in
-    let long = long-after (c .before .before .before .before .before .before .before .before .before .before .before .before .before .before .before .args .screen) _ _ _ _ (at-loop .loop .inv .on .whole .long) (search needs) (search needs) (search needs) in
-    band-again (at-loop .loop .inv) (c .before .before .before .before .before .before .before .before .before .before .loop-test .taken) _ long (c .before .before .before .before .before .before .on-row .ensures)
+    let held = at-loop .loop .inv in
+    band-again held (c .before .before .before .before .before .before .before .before .before .before .loop-test .taken) _
+    (long-after (c .before .before .before .before .before .before .before .before .before .before .before .before .before .before .before .args .screen) _ _ _ _ (held .on .whole .long) (search needs) (search needs) (search needs)) (c .before .before .before .before .before .before .on-row .ensures)
 
 same-length : tie.Need-same-length Inv-loop μ-loop
 same-length c = c .before .loop .inv .on .whole .long .state ∙ sym (c .before .before .before .before .before .pre .1 .whole .long .state)

@@ -24,7 +24,7 @@ use Rattle.cmd.specs.declared.attrs.PaintFillAttrs.{PaintFillAttrs}
 use Rattle.row.specs.Words.{Words, word, word-ops}
 use Rattle.row_screen.specs.Arena.{sizes, lay}
 use Rattle.row_screen.proofs.Laws.{lay-cut}
-use Rattle.row_judge.specs.Building.{screen-at, good-rows, step-number}
+use Rattle.row_judge.specs.Building.{rows-at, screen-at, good-rows, step-number}
 use Rattle.rect.specs.Rects.{box-of}
 use Rattle.screen.specs.declared.Screen.{Screen}
 use Rattle.screen.specs.Screens.{good-screen, frame-of, state-of, screen-after, counted}
@@ -279,7 +279,7 @@ module _ (l : FillLent) (ps ss : List ℕ) (d : Draw) (z : Zero l ps ss d) where
 
     pub done-some : {s : Screen} {w : Words} {t : List ℕ} → 0 ≡ fill-number l ps ss d
         → s ≡ counted (l .screen) (l .screen .«next_draw_id» + 1) (l .screen .«paint_attrs» + 1) (l .screen .«layer_attrs») (l .screen .«filter_paints»)
-        → w ≡ lay (filling.done (job-of (l .screen) ps d) (puts-of (job-of (l .screen) ps d) (cuts-of (job-of (l .screen) ps d) ss (d .start) (d .end))) (filling.rows-of (job-of (l .screen) ps d) (rows-of (box-of (l .screen .viewport))) (l .words)))
+        → w ≡ lay (filling.done (job-of (l .screen) ps d) (puts-of (job-of (l .screen) ps d) (cuts-of (job-of (l .screen) ps d) ss (d .start) (d .end))) (rows-at (frame-of (l .screen)) (l .words)))
         → t ≡ put-paint (l .paint-attrs) (l .screen .«paint_attrs») (attr-of (l .screen) d)
         → answer 0 (lent s w t) ≡ filled l ps ss d
     unfolding fill-done

@@ -18,7 +18,7 @@ use Rattle.rules.specs.Steps.{done, passes, refusal}
 use Rattle.rules.proofs.All.{both}
 use Rattle.row.specs.Words.{Words, word, word-ops}
 use Rattle.row_screen.specs.Arena.{sizes, Long, count-rows}
-use Rattle.row_judge.specs.Building.{screen-at, good-rows, step-number}
+use Rattle.row_judge.specs.Building.{rows-at, screen-at, good-rows, step-number}
 use Rattle.rect.specs.Rects.{box-of}
 use Rattle.screen.specs.Screens.{frame-of, state-of}
 use Rattle.screen.specs.Judging.{judged}
@@ -189,7 +189,7 @@ module _ (l : FillLent) (ps ss : List ℕ) (d : Draw) where
       bad-list e = own-four (refused-are (l .screen) ps ss d drawn q ∙ e)
 
       pub good-are : good-records
-          ≡ good-rows (frame-of (l .screen)) (l .screen .layers) (puts-of (job-of (l .screen) ps d) (cuts-of (job-of (l .screen) ps d) ss (d .start) (d .end))) (filling.rows-of (job-of (l .screen) ps d) (rows-of (box-of (l .screen .viewport))) (l .words))
+          ≡ good-rows (frame-of (l .screen)) (l .screen .layers) (puts-of (job-of (l .screen) ps d) (cuts-of (job-of (l .screen) ps d) ss (d .start) (d .end))) (rows-at (frame-of (l .screen)) (l .words))
       good-are = rw (puts-are (l .screen) ps ss d drawn passing, state-frame (l .screen))
 
       module _ (h : judge-segments false (segs.segs ss (d .start) (d .end - d .start)) ≡ 4 → ⊥) where
@@ -225,8 +225,8 @@ module _ (l : FillLent) (ps ss : List ℕ) (d : Draw) where
 
             -- the tally's verdict is the rules' last two tests
             last-tests : verdict (tally-cuts (job-of (l .screen) ps d) (l .words .state) none-yet (cuts-of (job-of (l .screen) ps d) ss (d .start) (d .end)))
-                ≡ cond (passes Words word-ops 32 (word 0) (l .screen .c) (puts-of (job-of (l .screen) ps d) (cuts-of (job-of (l .screen) ps d) ss (d .start) (d .end))) (filling.done (job-of (l .screen) ps d) (puts-of (job-of (l .screen) ps d) (cuts-of (job-of (l .screen) ps d) ss (d .start) (d .end))) (filling.rows-of (job-of (l .screen) ps d) (rows-of (box-of (l .screen .viewport))) (l .words)))) 10
-                (cond (passes Words word-ops 32 (word 1) (l .screen .d) (puts-of (job-of (l .screen) ps d) (cuts-of (job-of (l .screen) ps d) ss (d .start) (d .end))) (filling.done (job-of (l .screen) ps d) (puts-of (job-of (l .screen) ps d) (cuts-of (job-of (l .screen) ps d) ss (d .start) (d .end))) (filling.rows-of (job-of (l .screen) ps d) (rows-of (box-of (l .screen .viewport))) (l .words)))) 11 0)
+                ≡ cond (passes Words word-ops 32 (word 0) (l .screen .c) (puts-of (job-of (l .screen) ps d) (cuts-of (job-of (l .screen) ps d) ss (d .start) (d .end))) (filling.done (job-of (l .screen) ps d) (puts-of (job-of (l .screen) ps d) (cuts-of (job-of (l .screen) ps d) ss (d .start) (d .end))) (rows-at (frame-of (l .screen)) (l .words)))) 10
+                (cond (passes Words word-ops 32 (word 1) (l .screen .d) (puts-of (job-of (l .screen) ps d) (cuts-of (job-of (l .screen) ps d) ss (d .start) (d .end))) (filling.done (job-of (l .screen) ps d) (puts-of (job-of (l .screen) ps d) (cuts-of (job-of (l .screen) ps d) ss (d .start) (d .end))) (rows-at (frame-of (l .screen)) (l .words)))) 11 0)
             last-tests =
                 verdict-is (job-of (l .screen) ps d) (box-of (l .screen .viewport)) (rows-of (box-of (l .screen .viewport))) (l .words) (rowed .layers) long
                 (few-rows (box-of (l .screen .viewport)) (passing .view)) (all-landed rowed (segs.segs ss (d .start) (d .end - d .start)) all-good)

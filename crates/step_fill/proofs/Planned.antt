@@ -17,7 +17,7 @@ use Rattle.rules.specs.Plans.{with-paint, draw-puts, plan-fill}
 use Rattle.rules.specs.Steps.{done}
 use Rattle.cmd.specs.Blends.{blend-of}
 use Rattle.row.specs.Words.{Words, word-ops}
-use Rattle.row_judge.specs.Building.{screen-at}
+use Rattle.row_judge.specs.Building.{rows-at, screen-at}
 use Rattle.rect.specs.Rects.{box-of}
 use Rattle.screen.specs.declared.Screen.{Screen}
 use Rattle.screen.specs.Screens.{frame-of, state-of}
@@ -83,7 +83,7 @@ module _ (s : Screen) (ps ss : List ℕ) (d : Draw) where
         (ap (draw-puts (job-of s ps d .eligible) (s .«paint_attrs») (s .«next_draw_id»)) (same-cuts s ps d (segs.segs ss (d .start) (d .end - d .start))))
 
     pub rows-are : (w : Words) → Passing s → done Words word-ops 32 (fill-plan s ps ss d) (screen-at (state-of s) w) .rows
-        ≡ filling.done (job-of s ps d) (puts-of (job-of s ps d) (cuts-of (job-of s ps d) ss (d .start) (d .end))) (filling.rows-of (job-of s ps d) (rows-of (box-of (s .viewport))) w)
+        ≡ filling.done (job-of s ps d) (puts-of (job-of s ps d) (cuts-of (job-of s ps d) ss (d .start) (d .end))) (rows-at (frame-of s) w)
     unfolding done
     rows-are w o = rw (plan-layers, layer-count s, puts-are o, state-frame s)
 

@@ -6,7 +6,7 @@ use mathlib.Core.Option.{Option, none, some}
 use Prim.Native.Nat.{ℕ, zero, suc, _+_, _-_, _*_, _/_, _≤_, _<_}
 use native.Mathlib.Omega.{arith}
 use lib.Dec.{leb, ltb, eqb}
-use lib.ListN.{length, getD, take, drop}
+use lib.ListN.{length, getD}
 use borrow.Author.Tests.{le-leb, lt-leb, leb-true, leb-false}
 use Rattle.rules.specs.Lists.{times, keep}
 use Rattle.rules.proofs.All.{both}
@@ -263,7 +263,3 @@ pub lands : (j : Job) (n : ℕ) (rows : List ℕ) (g : Segment) (k : Cut) → Ro
 lands j n rows g k o t e =
     let l = landed (origin (j .scene)) (bounds (j .scene)) g k t (o .starts) e in
     (omega (arith, l .row, o .bottom), omega (arith, l .order, l .ends), l .ends)
-
--- a row's record as code cuts it out
-pub row-part : (r : ℕ) (rows : List ℕ) → take (r * 54 + 54 - r * 54) (drop (r * 54) rows) ≡ record-at rows r
-row-part r rows = let e : r * 54 + 54 - r * 54 ≡ 54 = omega arith in rw e

@@ -1,27 +1,19 @@
 // Judging a fill's segments and the rows that they come to (answers 4, 5, 10 and 11), in one pass, before anything is done. Parts.
 use row_judge::is_good_row;
+use row_screen::part;
 use step_fill_rows::Job;
 use row::wide;
-use segments::NO_SEGMENT;
 use segments::Placed;
 use segments::Segment;
 use segments::place;
 use segments::segment_at;
 use span::Alpha;
 use span::Stretch;
-use sizes::BUCKET;
-use sizes::BUCKET_ROUND;
-use sizes::TILE_END;
-use sizes::ROW;
-use sizes::RENDERS;
-use sizes::DEPTHS;
-use sizes::LEVELS;
 ghost use mathlib.Core.Path.{_≡_};
 ghost use mathlib.Core.Bool.{true, false};
 ghost use Prim.Native.Nat.{_-_, _*_, _≤_, _<_};
 ghost use lib.Dec.{ltb};
 ghost use lib.ListN.{length};
-ghost use Rattle.sizes.specs.Sizes.{tile-end};
 ghost use Rattle.rules.specs.Segments.{cut-in, good-segment, judge-segments};
 ghost use Rattle.span.specs.Spans.{tiles, alpha};
 ghost use Rattle.row_counts.specs.Counts.{counts};
@@ -51,7 +43,7 @@ fn edge(first: u32, end: u32) -> usize
 
 // What a stretch becomes, on a row that has its layers.
 fn added_by(eligible: bool, stretch: Stretch) -> Counts
-    requires { ⌜ (stretch .tiles .first ≤ tile-end) × (stretch .tiles .«end» ≤ tile-end) ⌝ }
+    requires { ⌜ (stretch .tiles .first ≤ 8192) × (stretch .tiles .«end» ≤ 8192) ⌝ }
     ensures { λ r. ⌜ counts (r .renders) (r .depths) 0 ≡ added eligible (tiles (stretch .tiles)) (alpha (stretch .alpha)) ⌝ }
 {
     let alpha = stretch.alpha;
@@ -63,8 +55,8 @@ fn added_by(eligible: bool, stretch: Stretch) -> Counts
         },
         Alpha::Solid => {
             if eligible {
-                let a = (tiles.first + BUCKET_ROUND) / BUCKET * BUCKET;
-                let b = tiles.end / BUCKET * BUCKET;
+                let a = (tiles.first + 31) / 32 * 32;
+                let b = tiles.end / 32 * 32;
                 if b <= a {
                     return Counts {
                         renders: 1,
@@ -126,14 +118,13 @@ fn turn_to(rows: &[u32], job: Job, hand: Hand, r: u32) -> Hand
     if hand.row == r {
         return hand;
     }
-    let at = (r as usize) * ROW;
-    let state = &rows[at..at + ROW];
+    let state = part(rows, 54, r as usize);
     if is_good_row(state, job.c, job.d, job.layers) {
-        let lacking = wide(job.layers - state[LEVELS]);
+        let lacking = wide(job.layers - state[5]);
         return Hand {
             row: r,
-            renders: wide(state[RENDERS]) + lacking,
-            depths: wide(state[DEPTHS]),
+            renders: wide(state[0]) + lacking,
+            depths: wide(state[1]),
             code: hand.code,
         };
     }
@@ -147,7 +138,7 @@ fn turn_to(rows: &[u32], job: Job, hand: Hand, r: u32) -> Hand
 
 // One more stretch, on the row at hand.
 fn tally_on(job: Job, hand: Hand, stretch: Stretch) -> Hand
-    requires { ⌜ Low hand × (stretch .tiles .first ≤ tile-end) × (stretch .tiles .«end» ≤ tile-end) ⌝ }
+    requires { ⌜ Low hand × (stretch .tiles .first ≤ 8192) × (stretch .tiles .«end» ≤ 8192) ⌝ }
     ensures { λ u. ⌜ u ≡ stretched job hand (tiles (stretch .tiles)) (alpha (stretch .alpha)) ⌝ }
 {
     let more = added_by(job.eligible, stretch);
@@ -186,9 +177,15 @@ pub fn judge_list(rows: &[u32], list: &[u32], start: usize, end: usize, job: Job
     requires { ⌜ Rowed job (count-rows (now rows)) (now rows) × (start ≤ «end») × (5 * «end» ≤ length (now list)) ⌝ }
     ensures { λ r. ⌜ r ≡ list-number (judge-segments false (segs (now (list .entry)) start («end» - start))) (verdict (tally-cuts job (now (rows .entry)) none-yet (cuts-of job (now (list .entry)) start «end»))) ⌝ }
 {
-    let mut last = NO_SEGMENT;
+    let mut last = Segment {
+        kind: 0,
+        row: 0,
+        first: 0,
+        end: 0,
+        alpha: 0,
+    };
     let mut hand = Hand {
-        row: TILE_END,
+        row: 8192,
         renders: 0,
         depths: 0,
         code: 0,

@@ -95,13 +95,9 @@ module _ {s : Screen} {n : ℕ} {f : Words → Words} {a b : ℕ} {w₀ : Words}
         rest = rw (e, ← next r) (rw (one-less b r h, ← next r) at (v .rest));
       }
 
--- a row has room for an act as it is lent, and an act grows it
-module _ (a : Act) {s : Screen} {n r : ℕ} {w u : Words} (o : OnRow s n (acted n a) r w) (e : u ≡ getD (rows-at (frame-of s) w) r nowhere) where
-  pub room-lent : Room u (acted n a u)
-  room-lent = rw e (o .room)
-
-  pub grows : Grown u (acted n a u)
-  grows = acted-sound n u (room-lent .state) (room-lent .levels) (o .layers) a .grown
+-- an act grows a row that has room for it
+pub act-grows : (n : ℕ) (a : Act) (w : Words) → n ≤ 16 → Room w (acted n a w) → Grown w (acted n a w)
+act-grows n a w m r = acted-sound n w (r .state) (r .levels) m a .grown
 
 -- the words that come back from a call are as many
 pub long-after : (s : Screen) (w : Words) (x y z : List ℕ) → Long (sizes (s .c) (s .d)) (rows-of (box-of (s .viewport))) w

@@ -1,4 +1,4 @@
--- So far the segments before i are drawn; the rows still have room for those from i on.
+-- At segment i the rest has room, and doing it from here gives what doing all from start would (`Filling`).
 use Prim.Native.Nat.{_-_}
 use mathlib.Core.Path.{sym, _∙_}
 use native.Mathlib.Omega.{arith}
@@ -24,11 +24,8 @@ loop-holds c = begun (c .before .before .before .before .pre)
 
 fill-segment-requires : tie.Need-fill-segment-requires Inv-loop μ-loop
 fill-segment-requires c κs =
-    let at-loop-test = c .before .before .before in
-    let at-loop = at-loop-test .before in
-    rw (rows-counted _ _ (at-loop .loop .inv .rest .fits .arenas .long .state)) (at-loop .loop .inv .rest .fits, omega (arith,
-    at-loop .loop .inv .rest .within), good-here (at-loop .loop .inv) (at-loop-test .loop-test .taken),
-    room-here (at-loop .loop .inv) (at-loop-test .loop-test .taken))
+    let held = c .before .before .before .before .loop .inv in
+    rw (rows-counted _ _ (held .rest .fits .arenas .long .state)) (held .rest .fits, omega (arith, held .rest .within), good-here held (c .before .before .before .loop-test .taken), room-here held (c .before .before .before .loop-test .taken))
 
 add-i : tie.Need-add-i Inv-loop μ-loop
 add-i c = record { fits = omega arith }
@@ -38,11 +35,10 @@ loop-less c = omega arith
 
 loop-again : tie.Need-loop-again Inv-loop μ-loop
 loop-again c =
-    let at-fill-segment = c .before .before .before .before .before .before in
-    let at-loop-test = at-fill-segment .before .before .before .before in
-    let at-loop = at-loop-test .before in
-    again (at-loop .loop .inv) (at-loop-test .loop-test .taken) _ (long-after _ _ _ (at-loop .loop .inv .rest .fits .arenas .long) (search needs) (search needs)
-    (search needs)) (rw (rows-counted _ _ (at-loop .loop .inv .rest .fits .arenas .long .state)) at (at-fill-segment .fill-segment .ensures))
+    let held = c .before .before .before .before .before .before .before .before .before .before .before .loop .inv in
+    again held (c .before .before .before .before .before .before .before .before .before .before .loop-test .taken) _
+    (long-after _ _ _ (held .rest .fits .arenas .long) (search needs) (search needs) (search needs))
+    (rw (rows-counted _ _ (held .rest .fits .arenas .long .state)) at (c .before .before .before .before .before .before .fill-segment .ensures))
 
 same-length : tie.Need-same-length Inv-loop μ-loop
 same-length c = c .before .loop .inv .rest .fits .arenas .long .state ∙ sym (c .before .before .before .before .before .before .pre .fits .arenas .long .state)

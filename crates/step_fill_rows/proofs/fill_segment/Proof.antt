@@ -1,3 +1,4 @@
+-- By where the segment is placed: nothing is done, or its act on its row.
 use mathlib.Core.Path.{sym, _∙_, ap}
 use Rattle.rules.specs.Segments.{good-segment}
 use Rattle.segments.specs.Segs.{seg-at}
@@ -17,9 +18,7 @@ segment-at-requires : tie.Need-segment-at-requires
 segment-at-requires c κs = search needs
 
 place-requires : tie.Need-place-requires
-place-requires c κs =
-    let at-pre = c .before .before .before .before .before .before in
-    (ap good-segment (c .segment-at .ensures) ∙ at-pre .pre .2, at-pre .pre .0 .starts)
+place-requires c κs = (ap good-segment (c .segment-at .ensures) ∙ c .before .before .before .before .before .before .pre .2, c .before .before .before .before .before .before .pre .0 .starts)
 
 enum-told : tie.Need-enum-told
 enum-told c = search needs
@@ -29,21 +28,17 @@ enum-known-placed c = search needs
 
 fill-row-requires : tie.Need-fill-row-requires
 fill-row-requires c κs =
-    let at-placed = c .before .before .before .before in
-    let at-place = at-placed .before .before in
-    let at-segment-at = at-place .before in
-    let at-args = at-segment-at .before .before .before .before .before .before in
-    on-its-row _ _ _ (seg-at (at-args .args .segs .now) (at-args .args .i)) _ (at-args .pre .0) (placed-at (at-args .args .job .scene)
-    (at-placed .placed .given .1) (at-place .place .ensures) (at-segment-at .segment-at .ensures)) (at-args .pre .2) (at-args .pre .3)
+    let start = c .before .before .before .before .before .before .before .before .before .before .before .before .before in
+    let g = seg-at (start .args .segs .now) (start .args .i) in
+    on-its-row _ _ _ g _ (start .pre .0)
+    (placed-at (start .args .job .scene) (c .before .before .before .before .placed .given .1) (c .before .before .before .before .before .before .place .ensures) (c .before .before .before .before .before .before .before .segment-at .ensures)) (start .pre .2) (start .pre .3)
 
 returns : tie.Need-returns
 returns c =
-    let at-place = c .before .before in
-    let at-segment-at = at-place .before in
-    let at-args = at-segment-at .before .before .before .before .before .before in
-    sym (one-none (at-args .args .job) (seg-at (at-args .args .segs .now) (at-args .args .i)) (cut (sizes (at-args .args .job .c) (at-args .args .job .d))
-    (count-rows (at-args .args .rows .now)) (words (at-args .args .rows .now) (at-args .args .render .now) (at-args .args .fills .now))) (placed-at
-    (at-args .args .job .scene) (c .enum-told .given .1) (at-place .place .ensures) (at-segment-at .segment-at .ensures)))
+    let start = c .before .before .before .before .before .before .before .before .before in
+    let g = seg-at (start .args .segs .now) (start .args .i) in
+    let rs = cut (sizes (start .args .job .c) (start .args .job .d)) (count-rows (start .args .rows .now)) (words (start .args .rows .now) (start .args .render .now) (start .args .fills .now)) in
+    sym (one-none (start .args .job) g rs (placed-at (start .args .job .scene) (c .enum-told .given .1) (c .before .before .place .ensures) (c .before .before .before .segment-at .ensures)))
 
 same-length : tie.Need-same-length
 same-length c = search needs
@@ -56,15 +51,13 @@ same-length-3 c = search needs
 
 returns-2 : tie.Need-returns-2
 returns-2 c =
-    let at-fill-row = c .before .before .before .before .before .before in
-    let at-placed = at-fill-row .before .before .before .before .before in
-    let at-place = at-placed .before .before in
-    let at-segment-at = at-place .before in
-    let at-args = at-segment-at .before .before .before .before .before .before in
-    at-fill-row .fill-row .ensures ∙ sym (one-some (at-args .args .job) (seg-at (at-args .args .segs .now) (at-args .args .i)) (cut (sizes
-    (at-args .args .job .c) (at-args .args .job .d)) (count-rows (at-args .args .rows .now)) (words (at-args .args .rows .now) (at-args .args .render .now)
-    (at-args .args .fills .now))) _ (placed-at (at-args .args .job .scene) (at-placed .placed .given .1) (at-place .place .ensures)
-    (at-segment-at .segment-at .ensures)))
+    let start = c .before .before .before .before .before .before .before .before .before .before .before .before .before .before .before .before .before .before .before .before in
+    let g = seg-at (start .args .segs .now) (start .args .i) in
+    let rs = cut (sizes (start .args .job .c) (start .args .job .d)) (count-rows (start .args .rows .now)) (words (start .args .rows .now) (start .args .render .now) (start .args .fills .now)) in
+    let at-place = c .before .before .before .before .before .before .before .before .before .before .before .before .before in
+    c .before .before .before .before .before .before .fill-row .ensures
+    ∙ sym (one-some (start .args .job) g rs _
+    (placed-at (start .args .job .scene) (c .before .before .before .before .before .before .before .before .before .before .before .placed .given .1) (at-place .place .ensures) (at-place .before .segment-at .ensures)))
 
 pub fill-segment-spec : {M : Type 1} → statement M
 fill-segment-spec =

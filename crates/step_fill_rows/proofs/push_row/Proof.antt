@@ -1,3 +1,4 @@
+-- A row that has its layers gets one command, which is what drawing puts there (`drawn-once`); any other goes by `push_fill`.
 use Rattle.row.specs.Words.{words}
 use mathlib.Core.Path.{sym, _∙_}
 use Rattle.span.specs.Spans.{tiles}
@@ -20,13 +21,11 @@ is-unsplit-requires c κs = search needs
 
 push-paint-requires : tie.Need-push-paint-requires
 push-paint-requires c κs =
-    let at-if2 = c .before .before .before in
-    let at-is-unsplit = at-if2 .before in
-    let at-if1 = at-is-unsplit .before in
-    let at-pre = at-if1 .before .before .before .before .before in
-    (at-pre .pre .0, rw (drawn-once (at-pre .args .n) (tiles (at-pre .args .span)) (at-pre .args .attrs-idx) (at-pre .args .draw-id) (words
-    (at-pre .args .state .now) (at-pre .args .render .now) (at-pre .args .fills .now)) (at-if1 .if1 .taken) (at-pre .args .eligible) (alpha-of
-    (at-pre .args .alpha)) (sym (at-is-unsplit .is-unsplit .ensures) ∙ at-if2 .if2 .taken)) at (at-pre .pre .2))
+    let start = c .before .before .before .before .before .before .before .before .before .before in
+    let a = start .args in
+    let w = words (a .state .now) (a .render .now) (a .fills .now) in
+    let one = sym (c .before .before .before .before .is-unsplit .ensures) ∙ c .before .before .before .if2 .taken in
+    (start .pre .0, rw (drawn-once (a .n) (tiles (a .span)) (a .attrs-idx) (a .draw-id) w (c .before .before .before .before .before .if1 .taken) (a .eligible) (alpha-of (a .alpha)) one) at (start .pre .2))
 
 same-length : tie.Need-same-length
 same-length c = search needs
@@ -39,13 +38,10 @@ same-length-3 c = search needs
 
 returns : tie.Need-returns
 returns c =
-    let at-push-paint = c .before .before .before .before .before .before in
-    let at-if2 = at-push-paint .before .before .before .before in
-    let at-is-unsplit = at-if2 .before in
-    let at-if1 = at-is-unsplit .before in
-    let at-args = at-if1 .before .before .before .before .before in
-    at-push-paint .push-paint .ensures ∙ sym (drawn-once (at-args .args .n) (tiles (at-args .args .span)) (at-args .args .attrs-idx) (at-args .args .draw-id) _
-    (at-if1 .if1 .taken) (at-args .args .eligible) (alpha-of (at-args .args .alpha)) (sym (at-is-unsplit .is-unsplit .ensures) ∙ at-if2 .if2 .taken))
+    let a = c .before .before .before .before .before .before .before .before .before .before .before .before .before .before .before .before .before .args in
+    let one = sym (c .before .before .before .before .before .before .before .before .before .before .before .is-unsplit .ensures) ∙ c .before .before .before .before .before .before .before .before .before .before .if2 .taken in
+    c .before .before .before .before .before .before .push-paint .ensures
+    ∙ sym (drawn-once (a .n) (tiles (a .span)) (a .attrs-idx) (a .draw-id) _ (c .before .before .before .before .before .before .before .before .before .before .before .before .if1 .taken) (a .eligible) (alpha-of (a .alpha)) one)
 
 push-fill-requires : tie.Need-push-fill-requires
 push-fill-requires c κs = search needs

@@ -20,11 +20,7 @@ loop-holds : tie.Need-loop-holds Inv-loop μ-loop
 loop-holds c = banding (c .before .before .before .pre .1)
 
 on-row-requires : tie.Need-on-row-requires Inv-loop μ-loop
-on-row-requires c κs =
-    let at-loop-test = c .before .before .before in
-    let at-loop = at-loop-test .before in
-    let at-pre = at-loop .before .before .before .before in
-    (at-pre .pre .0, band-row (at-loop .loop .inv) (at-loop-test .loop-test .taken))
+on-row-requires c κs = (c .before .before .before .before .before .before .before .before .pre .0, band-row (c .before .before .before .before .loop .inv) (c .before .before .before .loop-test .taken))
 
 add-r : tie.Need-add-r Inv-loop μ-loop
 add-r c = record { fits = omega arith }
@@ -34,13 +30,10 @@ loop-less c = omega arith
 
 loop-again : tie.Need-loop-again Inv-loop μ-loop
 loop-again c =
-    let at-on-row = c .before .before .before .before .before .before in
-    let at-loop-test = at-on-row .before .before .before .before in
-    let back = at-loop-test .before in
-    let at-args = back .before .before .before .before in
-    let at-loop = back in
-    band-again (at-loop .loop .inv) (at-loop-test .loop-test .taken) _ (long-after (at-args .args .screen) _ _ _ _ (at-loop .loop .inv .on .whole .long) (search
-    needs) (search needs) (search needs)) (at-on-row .on-row .ensures)
+    let at-loop = c .before .before .before .before .before .before .before .before .before .before .before in
+    let held = at-loop .loop .inv in
+    band-again held (c .before .before .before .before .before .before .before .before .before .before .loop-test .taken) _
+    (long-after (c .before .before .before .before .before .before .before .before .before .before .before .before .before .before .before .args .screen) _ _ _ _ (held .on .whole .long) (search needs) (search needs) (search needs)) (c .before .before .before .before .before .before .on-row .ensures)
 
 same-length : tie.Need-same-length Inv-loop μ-loop
 same-length c = c .before .loop .inv .on .whole .long .state ∙ sym (c .before .before .before .before .before .pre .1 .whole .long .state)

@@ -1,3 +1,4 @@
+-- After its layers the row has room for the command.
 use mathlib.Core.Bool.{false}
 use mathlib.Core.Option.{none}
 use Rattle.span.specs.Spans.{tiles}
@@ -12,16 +13,15 @@ use Rattle.row.proofs.push_paint.Reads as push-paint-reads
 
 ensure-row-layers-requires : tie.Need-ensure-row-layers-requires
 ensure-row-layers-requires c κs =
-    let at-pre = c .before .before .before .before .before .before in
-    (at-pre .pre .1, first-room _ _ 0 (tiles (at-pre .args .span)) _ (at-pre .pre .2 .state) (at-pre .pre .2 .levels) (at-pre .pre .1) false none
-    (at-pre .pre .2))
+    let start = c .before .before .before .before .before .before in
+    let room = start .pre .2 in
+    (start .pre .1, first-room _ _ 0 (tiles (start .args .span)) _ (room .state) (room .levels) (start .pre .1) false none room)
 
 push-paint-requires : tie.Need-push-paint-requires
 push-paint-requires c κs =
-    let at-ensure-row-layers = c .before .before .before .before .before .before .before .before .before in
-    let at-pre = at-ensure-row-layers .before .before .before .before .before .before .before in
-    (at-pre .pre .0, rw (← at-ensure-row-layers .ensure-row-layers .ensures) at (layers-then _ (at-pre .pre .1)
-    (at-ensure-row-layers .ensure-row-layers .ensures) (rw drawn-plain at (at-pre .pre .2))))
+    let start = c .before .before .before .before .before .before .before .before .before .before .before .before .before .before .before .before in
+    let layered = c .before .before .before .before .before .before .before .before .before .ensure-row-layers .ensures in
+    (start .pre .0, rw (← layered) at (layers-then _ (start .pre .1) layered (rw drawn-plain at (start .pre .2))))
 
 same-length : tie.Need-same-length
 same-length c = search needs
@@ -33,10 +33,7 @@ same-length-3 : tie.Need-same-length-3
 same-length-3 c = search needs
 
 returns : tie.Need-returns
-returns c =
-    let at-push-paint = c .before .before .before .before .before .before in
-    let at-ensure-row-layers = at-push-paint .before .before .before .before .before .before .before .before .before .before in
-    rw (drawn-plain, ← at-ensure-row-layers .ensure-row-layers .ensures) (at-push-paint .push-paint .ensures)
+returns c = rw (drawn-plain, ← c .before .before .before .before .before .before .before .before .before .before .before .before .before .before .before .before .ensure-row-layers .ensures) (c .before .before .before .before .before .before .push-paint .ensures)
 
 pub push-plain-spec : {M : Type 1} → statement M
 push-plain-spec =

@@ -3,17 +3,26 @@ use row_judge::is_good_row;
 use row_screen::part;
 use step_fill_rows::Job;
 use row::wide;
+use segments::NO_SEGMENT;
 use segments::Placed;
 use segments::Segment;
 use segments::place;
 use segments::segment_at;
 use span::Alpha;
 use span::Stretch;
+use sizes::BUCKET;
+use sizes::BUCKET_ROUND;
+use sizes::TILE_END;
+use sizes::ROW;
+use sizes::RENDERS;
+use sizes::DEPTHS;
+use sizes::LEVELS;
 ghost use mathlib.Core.Path.{_≡_};
 ghost use mathlib.Core.Bool.{true, false};
 ghost use Prim.Native.Nat.{_-_, _*_, _≤_, _<_};
 ghost use lib.Dec.{ltb};
 ghost use lib.ListN.{length};
+ghost use Rattle.sizes.specs.Sizes.{tile-end};
 ghost use Rattle.rules.specs.Segments.{cut-in, good-segment, judge-segments};
 ghost use Rattle.span.specs.Spans.{tiles, alpha};
 ghost use Rattle.row_counts.specs.Counts.{counts};
@@ -43,7 +52,7 @@ fn edge(first: u32, end: u32) -> usize
 
 // What a stretch becomes, on a row that has its layers.
 fn added_by(eligible: bool, stretch: Stretch) -> Counts
-    requires { ⌜ (stretch .tiles .first ≤ 8192) × (stretch .tiles .«end» ≤ 8192) ⌝ }
+    requires { ⌜ (stretch .tiles .first ≤ tile-end) × (stretch .tiles .«end» ≤ tile-end) ⌝ }
     ensures { λ r. ⌜ counts (r .renders) (r .depths) 0 ≡ added eligible (tiles (stretch .tiles)) (alpha (stretch .alpha)) ⌝ }
 {
     let alpha = stretch.alpha;
@@ -55,8 +64,8 @@ fn added_by(eligible: bool, stretch: Stretch) -> Counts
         },
         Alpha::Solid => {
             if eligible {
-                let a = (tiles.first + 31) / 32 * 32;
-                let b = tiles.end / 32 * 32;
+                let a = (tiles.first + BUCKET_ROUND) / BUCKET * BUCKET;
+                let b = tiles.end / BUCKET * BUCKET;
                 if b <= a {
                     return Counts {
                         renders: 1,
@@ -118,13 +127,13 @@ fn turn_to(rows: &[u32], job: Job, hand: Hand, r: u32) -> Hand
     if hand.row == r {
         return hand;
     }
-    let state = part(rows, 54, r as usize);
+    let state = part(rows, ROW, r as usize);
     if is_good_row(state, job.c, job.d, job.layers) {
-        let lacking = wide(job.layers - state[5]);
+        let lacking = wide(job.layers - state[LEVELS]);
         return Hand {
             row: r,
-            renders: wide(state[0]) + lacking,
-            depths: wide(state[1]),
+            renders: wide(state[RENDERS]) + lacking,
+            depths: wide(state[DEPTHS]),
             code: hand.code,
         };
     }
@@ -138,7 +147,7 @@ fn turn_to(rows: &[u32], job: Job, hand: Hand, r: u32) -> Hand
 
 // One more stretch, on the row at hand.
 fn tally_on(job: Job, hand: Hand, stretch: Stretch) -> Hand
-    requires { ⌜ Low hand × (stretch .tiles .first ≤ 8192) × (stretch .tiles .«end» ≤ 8192) ⌝ }
+    requires { ⌜ Low hand × (stretch .tiles .first ≤ tile-end) × (stretch .tiles .«end» ≤ tile-end) ⌝ }
     ensures { λ u. ⌜ u ≡ stretched job hand (tiles (stretch .tiles)) (alpha (stretch .alpha)) ⌝ }
 {
     let more = added_by(job.eligible, stretch);
@@ -177,15 +186,9 @@ pub fn judge_list(rows: &[u32], list: &[u32], start: usize, end: usize, job: Job
     requires { ⌜ Rowed job (count-rows (now rows)) (now rows) × (start ≤ «end») × (5 * «end» ≤ length (now list)) ⌝ }
     ensures { λ r. ⌜ r ≡ list-number (judge-segments false (segs (now (list .entry)) start («end» - start))) (verdict (tally-cuts job (now (rows .entry)) none-yet (cuts-of job (now (list .entry)) start «end»))) ⌝ }
 {
-    let mut last = Segment {
-        kind: 0,
-        row: 0,
-        first: 0,
-        end: 0,
-        alpha: 0,
-    };
+    let mut last = NO_SEGMENT;
     let mut hand = Hand {
-        row: 8192,
+        row: TILE_END,
         renders: 0,
         depths: 0,
         code: 0,

@@ -23,7 +23,11 @@ is-good-row-requires c κs =
     (ap length (c .part .ensures) ∙ part-long _ _ 54 _ (o .1) (o .0 .long), o .0 .layers)
 
 shared-slice-read-wide : tie.Need-shared-slice-read-wide
-shared-slice-read-wide c = let o = c .before .before .before .before .before .before .before .pre in omega (arith, ap length (c .before .before .before .part .ensures) ∙ part-long _ _ 54 _ (o .1) (o .0 .long))
+shared-slice-read-wide c =
+    let at-part = c .before .before .before in
+    let at-pre = at-part .before .before .before .before in
+    let o = at-pre .pre in
+    omega (arith, ap length (at-part .part .ensures) ∙ part-long _ _ 54 _ (o .1) (o .0 .long))
 
 sub-wide : tie.Need-sub-wide
 sub-wide c = omega (arith, good-small _ _ _ _ (sym (c .before .before .before .is-good-row .ensures) ∙ c .before .before .if2 .taken) .levels)
@@ -32,18 +36,29 @@ wide-requires : tie.Need-wide-requires
 wide-requires c κs = search needs
 
 shared-slice-read-wide-2 : tie.Need-shared-slice-read-wide-2
-shared-slice-read-wide-2 c = let o = c .before .before .before .before .before .before .before .before .before .before .pre in omega (arith, ap length (c .before .before .before .before .before .before .part .ensures) ∙ part-long _ _ 54 _ (o .1) (o .0 .long))
+shared-slice-read-wide-2 c =
+    let at-part = c .before .before .before .before .before .before in
+    let at-pre = at-part .before .before .before .before in
+    let o = at-pre .pre in
+    omega (arith, ap length (at-part .part .ensures) ∙ part-long _ _ 54 _ (o .1) (o .0 .long))
 
 wide-requires-2 : tie.Need-wide-requires-2
 wide-requires-2 c κs = search needs
 
 add-t15 : tie.Need-add-t15
 add-t15 c =
-    let small = good-small _ _ _ _ (sym (c .before .before .before .before .before .before .is-good-row .ensures) ∙ c .before .before .before .before .before .if2 .taken) in
-    record { fits = omega (arith, c .before .before .wide .ensures, c .wide2 .ensures, small .renders) }
+    let at-wide = c .before .before in
+    let at-if2 = at-wide .before .before .before in
+    let at-is-good-row = at-if2 .before in
+    let small = good-small _ _ _ _ (sym (at-is-good-row .is-good-row .ensures) ∙ at-if2 .if2 .taken) in
+    record { fits = omega (arith, at-wide .wide .ensures, c .wide2 .ensures, small .renders) }
 
 shared-slice-read-wide-3 : tie.Need-shared-slice-read-wide-3
-shared-slice-read-wide-3 c = let o = c .before .before .before .before .before .before .before .before .before .before .before .before .pre in omega (arith, ap length (c .before .before .before .before .before .before .before .before .part .ensures) ∙ part-long _ _ 54 _ (o .1) (o .0 .long))
+shared-slice-read-wide-3 c =
+    let at-part = c .before .before .before .before .before .before .before .before in
+    let at-pre = at-part .before .before .before .before in
+    let o = at-pre .pre in
+    omega (arith, ap length (at-part .part .ensures) ∙ part-long _ _ 54 _ (o .1) (o .0 .long))
 
 wide-requires-3 : tie.Need-wide-requires-3
 wide-requires-3 c κs = search needs
@@ -51,14 +66,14 @@ wide-requires-3 c κs = search needs
 returns-2 : tie.Need-returns-2
 unfolding turned-to
 returns-2 c =
-    rw (
-      ne-eqb _ _ (c .before .before .before .before .before .before .before .before .before .before .if1 .left),
-      ← c .before .before .before .before .before .before .before .before .before .part .ensures,
-      sym (c .before .before .before .before .before .before .before .before .is-good-row .ensures) ∙ c .before .before .before .before .before .before .before .if2 .taken,
-      c .before .before .before .before .wide .ensures,
-      c .before .before .wide2 .ensures,
-      c .wide3 .ensures,
-    )
+    let at-wide2 = c .before .before in
+    let at-wide = at-wide2 .before .before in
+    let at-if2 = at-wide .before .before .before in
+    let at-is-good-row = at-if2 .before in
+    let at-part = at-is-good-row .before in
+    let at-if1 = at-part .before in
+    rw ( ne-eqb _ _ (at-if1 .if1 .left), ← at-part .part .ensures, sym (at-is-good-row .is-good-row .ensures) ∙ at-if2 .if2 .taken, at-wide .wide .ensures,
+    at-wide2 .wide2 .ensures, c .wide3 .ensures, )
 
 returns-3 : tie.Need-returns-3
 unfolding turned-to

@@ -24,8 +24,11 @@ loop-holds c = begun (c .before .before .before .before .pre)
 
 fill-segment-requires : tie.Need-fill-segment-requires Inv-loop μ-loop
 fill-segment-requires c κs =
-    let held = c .before .before .before .before .loop .inv in
-    rw (rows-counted _ _ (held .rest .fits .arenas .long .state)) (held .rest .fits, omega (arith, held .rest .within), good-here held (c .before .before .before .loop-test .taken), room-here held (c .before .before .before .loop-test .taken))
+    let at-loop-test = c .before .before .before in
+    let at-loop = at-loop-test .before in
+    let held = at-loop .loop .inv in
+    rw (rows-counted _ _ (held .rest .fits .arenas .long .state)) (held .rest .fits, omega (arith, held .rest .within),
+    good-here held (at-loop-test .loop-test .taken), room-here held (at-loop-test .loop-test .taken))
 
 add-i : tie.Need-add-i Inv-loop μ-loop
 add-i c = record { fits = omega arith }
@@ -35,10 +38,12 @@ loop-less c = omega arith
 
 loop-again : tie.Need-loop-again Inv-loop μ-loop
 loop-again c =
-    let held = c .before .before .before .before .before .before .before .before .before .before .before .loop .inv in
-    again held (c .before .before .before .before .before .before .before .before .before .before .loop-test .taken) _
-    (long-after _ _ _ (held .rest .fits .arenas .long) (search needs) (search needs) (search needs))
-    (rw (rows-counted _ _ (held .rest .fits .arenas .long .state)) at (c .before .before .before .before .before .before .fill-segment .ensures))
+    let at-fill-segment = c .before .before .before .before .before .before in
+    let at-loop-test = at-fill-segment .before .before .before .before in
+    let at-loop = at-loop-test .before in
+    let held = at-loop .loop .inv in
+    again held (at-loop-test .loop-test .taken) _ (long-after _ _ _ (held .rest .fits .arenas .long) (search needs) (search needs) (search needs)) (rw
+    (rows-counted _ _ (held .rest .fits .arenas .long .state)) at (at-fill-segment .fill-segment .ensures))
 
 same-length : tie.Need-same-length Inv-loop μ-loop
 same-length c = c .before .loop .inv .rest .fits .arenas .long .state ∙ sym (c .before .before .before .before .before .before .pre .fits .arenas .long .state)

@@ -18,7 +18,9 @@ segment-at-requires : tie.Need-segment-at-requires
 segment-at-requires c κs = search needs
 
 place-requires : tie.Need-place-requires
-place-requires c κs = (ap good-segment (c .segment-at .ensures) ∙ c .before .before .before .before .before .before .pre .2, c .before .before .before .before .before .before .pre .0 .starts)
+place-requires c κs =
+    let at-pre = c .before .before .before .before .before .before in
+    (ap good-segment (c .segment-at .ensures) ∙ at-pre .pre .2, at-pre .pre .0 .starts)
 
 enum-told : tie.Need-enum-told
 enum-told c = search needs
@@ -28,17 +30,26 @@ enum-known-placed c = search needs
 
 fill-row-requires : tie.Need-fill-row-requires
 fill-row-requires c κs =
-    let start = c .before .before .before .before .before .before .before .before .before .before .before .before .before in
+    let at-placed = c .before .before .before .before in
+    let at-place = at-placed .before .before in
+    let at-segment-at = at-place .before in
+    let back = at-segment-at .before .before .before .before .before .before in
+    let start = back in
     let g = seg-at (start .args .segs .now) (start .args .i) in
-    on-its-row _ _ _ g _ (start .pre .0)
-    (placed-at (start .args .job .scene) (c .before .before .before .before .placed .given .1) (c .before .before .before .before .before .before .place .ensures) (c .before .before .before .before .before .before .before .segment-at .ensures)) (start .pre .2) (start .pre .3)
+    on-its-row _ _ _ g _ (start .pre .0) (placed-at (start .args .job .scene) (at-placed .placed .given .1) (at-place .place .ensures)
+    (at-segment-at .segment-at .ensures)) (start .pre .2) (start .pre .3)
 
 returns : tie.Need-returns
 returns c =
-    let start = c .before .before .before .before .before .before .before .before .before in
+    let at-place = c .before .before in
+    let at-segment-at = at-place .before in
+    let back = at-segment-at .before .before .before .before .before .before in
+    let start = back in
     let g = seg-at (start .args .segs .now) (start .args .i) in
-    let rs = cut (sizes (start .args .job .c) (start .args .job .d)) (count-rows (start .args .rows .now)) (words (start .args .rows .now) (start .args .render .now) (start .args .fills .now)) in
-    sym (one-none (start .args .job) g rs (placed-at (start .args .job .scene) (c .enum-told .given .1) (c .before .before .place .ensures) (c .before .before .before .segment-at .ensures)))
+    let rs = cut (sizes (start .args .job .c) (start .args .job .d)) (count-rows (start .args .rows .now)) (words (start .args .rows .now)
+    (start .args .render .now) (start .args .fills .now)) in
+    sym (one-none (start .args .job) g rs (placed-at (start .args .job .scene) (c .enum-told .given .1) (at-place .place .ensures)
+    (at-segment-at .segment-at .ensures)))
 
 same-length : tie.Need-same-length
 same-length c = search needs

@@ -21,11 +21,16 @@ is-unsplit-requires c κs = search needs
 
 push-paint-requires : tie.Need-push-paint-requires
 push-paint-requires c κs =
-    let start = c .before .before .before .before .before .before .before .before .before .before in
+    let at-if2 = c .before .before .before in
+    let at-is-unsplit = at-if2 .before in
+    let at-if1 = at-is-unsplit .before in
+    let back = at-if1 .before .before .before .before .before in
+    let start = back in
     let a = start .args in
     let w = words (a .state .now) (a .render .now) (a .fills .now) in
-    let one = sym (c .before .before .before .before .is-unsplit .ensures) ∙ c .before .before .before .if2 .taken in
-    (start .pre .0, rw (drawn-once (a .n) (tiles (a .span)) (a .attrs-idx) (a .draw-id) w (c .before .before .before .before .before .if1 .taken) (a .eligible) (alpha-of (a .alpha)) one) at (start .pre .2))
+    let one = sym (at-is-unsplit .is-unsplit .ensures) ∙ at-if2 .if2 .taken in
+    (start .pre .0, rw (drawn-once (a .n) (tiles (a .span)) (a .attrs-idx) (a .draw-id) w (at-if1 .if1 .taken) (a .eligible) (alpha-of (a .alpha)) one) at
+    (start .pre .2))
 
 same-length : tie.Need-same-length
 same-length c = search needs
@@ -38,10 +43,15 @@ same-length-3 c = search needs
 
 returns : tie.Need-returns
 returns c =
-    let a = c .before .before .before .before .before .before .before .before .before .before .before .before .before .before .before .before .before .args in
-    let one = sym (c .before .before .before .before .before .before .before .before .before .before .before .is-unsplit .ensures) ∙ c .before .before .before .before .before .before .before .before .before .before .if2 .taken in
-    c .before .before .before .before .before .before .push-paint .ensures
-    ∙ sym (drawn-once (a .n) (tiles (a .span)) (a .attrs-idx) (a .draw-id) _ (c .before .before .before .before .before .before .before .before .before .before .before .before .if1 .taken) (a .eligible) (alpha-of (a .alpha)) one)
+    let at-push-paint = c .before .before .before .before .before .before in
+    let at-if2 = at-push-paint .before .before .before .before in
+    let at-is-unsplit = at-if2 .before in
+    let at-if1 = at-is-unsplit .before in
+    let at-args = at-if1 .before .before .before .before .before in
+    let a = at-args .args in
+    let one = sym (at-is-unsplit .is-unsplit .ensures) ∙ at-if2 .if2 .taken in
+    at-push-paint .push-paint .ensures ∙ sym (drawn-once (a .n) (tiles (a .span)) (a .attrs-idx) (a .draw-id) _ (at-if1 .if1 .taken) (a .eligible) (alpha-of
+    (a .alpha)) one)
 
 push-fill-requires : tie.Need-push-fill-requires
 push-fill-requires c κs = search needs

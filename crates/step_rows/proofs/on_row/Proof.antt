@@ -11,22 +11,31 @@ y-within : tie.Need-part-do-act-end-2
 y-within c = let o = c .before .before .before .before .before .pre .1 in y-end (o .whole) (o .within) (c .before .place-of .ensures)
 
 z-within : tie.Need-part-do-act-end-3
-z-within c = let o = c .before .before .before .before .before .before .pre .1 in z-end (o .whole) (o .within) (c .before .before .place-of .ensures)
+z-within c =
+    let at-place-of = c .before .before in
+    let at-pre = at-place-of .before .before .before .before in
+    let o = at-pre .pre .1 in
+    z-end (o .whole) (o .within) (at-place-of .place-of .ensures)
 
 do-act-requires : tie.Need-do-act-requires
 do-act-requires c κs =
-    let start = c .before .before .before .before .before .before .before in
+    let at-place-of = c .before .before .before in
+    let back = at-place-of .before .before .before .before in
+    let start = back in
     let o = start .pre .1 in
-    (start .pre .0, o .layers, roomy (o .whole) (o .within) (c .before .before .before .place-of .ensures) (acted (start .args .n) (act-of (start .args .act))) (o .room))
+    (start .pre .0, o .layers, roomy (o .whole) (o .within) (at-place-of .place-of .ensures) (acted (start .args .n) (act-of (start .args .act))) (o .room))
 
 returns : tie.Need-returns
 returns c =
-    let start = c .before .before .before .before .before .before .before .before .before .before .before .before .before .before in
+    let at-do-act = c .before .before .before .before .before .before in
+    let at-place-of = at-do-act .before .before .before .before in
+    let back-2 = at-place-of .before .before .before .before in
+    let start = back-2 in
     let o = start .pre .1 in
-    let s = c .before .before .before .before .before .before .before .before .before .before .place-of .ensures in
+    let s = at-place-of .place-of .ensures in
     let a = act-of (start .args .act) in
     let f = acted (start .args .n) a in
-    back (o .whole) (o .within) s f _ _ _ (act-grows (start .args .n) a _ (o .layers) (roomy (o .whole) (o .within) s f (o .room))) (c .before .before .before .before .before .before .do-act .ensures)
+    back (o .whole) (o .within) s f _ _ _ (act-grows (start .args .n) a _ (o .layers) (roomy (o .whole) (o .within) s f (o .room))) (at-do-act .do-act .ensures)
 
 pub on-row-spec : {M : Type 1} → statement M
 on-row-spec =

@@ -20,7 +20,11 @@ loop-holds : tie.Need-loop-holds Inv-loop μ-loop
 loop-holds c = banding (c .before .before .before .pre .1)
 
 on-row-requires : tie.Need-on-row-requires Inv-loop μ-loop
-on-row-requires c κs = (c .before .before .before .before .before .before .before .before .pre .0, band-row (c .before .before .before .before .loop .inv) (c .before .before .before .loop-test .taken))
+on-row-requires c κs =
+    let at-loop-test = c .before .before .before in
+    let at-loop = at-loop-test .before in
+    let at-pre = at-loop .before .before .before .before in
+    (at-pre .pre .0, band-row (at-loop .loop .inv) (at-loop-test .loop-test .taken))
 
 add-r : tie.Need-add-r Inv-loop μ-loop
 add-r c = record { fits = omega arith }

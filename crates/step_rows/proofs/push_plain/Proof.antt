@@ -19,8 +19,10 @@ ensure-row-layers-requires c κs =
 
 push-paint-requires : tie.Need-push-paint-requires
 push-paint-requires c κs =
-    let start = c .before .before .before .before .before .before .before .before .before .before .before .before .before .before .before .before in
-    let layered = c .before .before .before .before .before .before .before .before .before .ensure-row-layers .ensures in
+    let at-ensure-row-layers = c .before .before .before .before .before .before .before .before .before in
+    let back = at-ensure-row-layers .before .before .before .before .before .before .before in
+    let start = back in
+    let layered = at-ensure-row-layers .ensure-row-layers .ensures in
     (start .pre .0, rw (← layered) at (layers-then _ (start .pre .1) layered (rw drawn-plain at (start .pre .2))))
 
 same-length : tie.Need-same-length
@@ -33,7 +35,10 @@ same-length-3 : tie.Need-same-length-3
 same-length-3 c = search needs
 
 returns : tie.Need-returns
-returns c = rw (drawn-plain, ← c .before .before .before .before .before .before .before .before .before .before .before .before .before .before .before .before .ensure-row-layers .ensures) (c .before .before .before .before .before .before .push-paint .ensures)
+returns c =
+    let at-push-paint = c .before .before .before .before .before .before in
+    let at-ensure-row-layers = at-push-paint .before .before .before .before .before .before .before .before .before .before in
+    rw (drawn-plain, ← at-ensure-row-layers .ensure-row-layers .ensures) (at-push-paint .push-paint .ensures)
 
 pub push-plain-spec : {M : Type 1} → statement M
 push-plain-spec =

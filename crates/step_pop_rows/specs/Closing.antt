@@ -17,7 +17,7 @@ use Rattle.rules.specs.Steps.{do-puts}
 use Rattle.rules.proofs.All.{All}
 use Rattle.row.specs.Words.{Words, word, word-ops, put-command, end-buf, Room, Ends}
 use Rattle.row_screen.specs.Arena.{nowhere}
-use Rattle.row_judge.specs.Building.{rows-at, FrameArenas, good-row}
+use Rattle.row_judge.specs.Building.{rows-at, Whole, good-row}
 use Rattle.segments.specs.declared.Scene.{Scene}
 use Rattle.segments.specs.Segs.{segs, origin, bounds, Starts}
 use Rattle.step_pop_rows.specs.declared.Count.{Count}
@@ -85,7 +85,7 @@ clip-puts i touched e ss = close-puts i touched (join (cut-in (origin e) (bounds
 
 -- what closing by the segments from i to j requires: n layers are open, the attribute is k
 pub record Clips (f : Frame) (n k : ℕ) (ws : List ℕ) (i j : ℕ) (e : Scene) (a b : ℕ) (w : Words) : Type 0 where
-  pub whole : FrameArenas f w
+  pub whole : Whole f w
   pub layers : n ≤ most-layers
   pub bottom : b ≤ rows-of (f .viewport)
   pub starts : Starts (origin e) (bounds e)

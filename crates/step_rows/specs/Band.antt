@@ -12,7 +12,7 @@ use Rattle.rules.specs.Boxes.{rows-of}
 use Rattle.row.specs.Words.{Words, Room}
 use Rattle.row.specs.Cmds.{Short}
 use Rattle.row_screen.specs.Arena.{nowhere}
-use Rattle.row_judge.specs.Building.{rows-at, ScreenArenas, good-row}
+use Rattle.row_judge.specs.Building.{rows-at, Whole, good-row}
 use Rattle.rect.specs.Rects.{box-of}
 use Rattle.screen.specs.declared.Screen.{Screen}
 use Rattle.screen.specs.Screens.{frame-of}
@@ -56,14 +56,14 @@ ShortAct (Paint s i) = Short (tiles s)
 
 -- row r has room for f, which is done with n layers open
 pub record OnRow (s : Screen) (n : ℕ) (f : Words → Words) (r : ℕ) (w : Words) : Type 0 where
-  pub whole : ScreenArenas (frame-of s) w
+  pub whole : Whole (frame-of s) w
   pub layers : n ≤ most-layers
   pub within : r < rows-of (box-of (s .viewport))
   pub room : Room (getD (rows-at (frame-of s) w) r nowhere) (f (getD (rows-at (frame-of s) w) r nowhere))
 
 -- each of the rows a to b has
 pub record OnRows (s : Screen) (n : ℕ) (f : Words → Words) (a b : ℕ) (w : Words) : Type 0 where
-  pub whole : ScreenArenas (frame-of s) w
+  pub whole : Whole (frame-of s) w
   pub layers : n ≤ most-layers
   pub within : b ≤ rows-of (box-of (s .viewport))
   pub room : (i : ℕ) → a ≤ i → i < b → Room (getD (rows-at (frame-of s) w) i nowhere) (f (getD (rows-at (frame-of s) w) i nowhere))

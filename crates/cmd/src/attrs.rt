@@ -1,8 +1,8 @@
 // Attributes of fills, and the tables that hold them. Each table has a fixed number of words for each attribute.
 use crate::blend::Blend;
+use sizes::LAYER_ATTR;
 use sizes::OPACITY_BASE;
 use sizes::PAINT_ATTR;
-use sizes::LAYER_ATTR;
 ghost use mathlib.Core.Path.{_≡_};
 ghost use Prim.Native.Nat.{_+_, _*_, _<_};
 ghost use lib.ListN.{length, getD};

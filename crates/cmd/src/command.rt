@@ -1,8 +1,8 @@
 // Render commands, and the four words that stand for one.
+use sizes::TILE_ALPHAS;
+use sizes::TILE_END;
 use span::Alpha;
 use span::TileSpan;
-use sizes::TILE_END;
-use sizes::TILE_ALPHAS;
 ghost use mathlib.Core.Path.{_≡_};
 ghost use mathlib.Core.Bool.{_&&_};
 ghost use Prim.Native.Nat.{_<_, _≤_};

@@ -1,11 +1,11 @@
 // Runs of buckets in one row's depth words. The private functions are parts: their callers have judged the range and the room.
-use sizes::BUCKET;
 use cmd::Answer;
+use sizes::BUCKET;
+use sizes::TILE_END;
 use span::BucketRange;
 use span::TileSpan;
 use span::larger;
 use span::smaller;
-use sizes::TILE_END;
 ghost use mathlib.Core.Path.{_≡_};
 ghost use Prim.Native.Nat.{_≤_, _<_, _*_, _/_};
 ghost use lib.ListN.{length};

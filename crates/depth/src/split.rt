@@ -1,9 +1,9 @@
 // Rule 7: an opaque span is split into a depth fill of whole buckets and regular pieces beside it.
-use sizes::BUCKET;
 use cmd::Answer;
+use sizes::BUCKET;
+use sizes::TILE_END;
 use span::BucketRange;
 use span::TileSpan;
-use sizes::TILE_END;
 ghost use mathlib.Core.Path.{_≡_};
 ghost use Rattle.sizes.specs.Sizes.{bucket-tiles};
 ghost use Rattle.rules.specs.Split.{split-answer};

@@ -1,8 +1,8 @@
 // A row's depth summary: the union of its depth fills' spans, and the largest of their ids.
 use cmd::Answer;
+use sizes::TILE_END;
 use span::TileSpan;
 use span::larger;
-use sizes::TILE_END;
 ghost use mathlib.Core.Path.{_≡_};
 ghost use Rattle.rules.specs.Depth.{no-depth, included, can-skip-answer};
 ghost use Rattle.span.specs.Spans.{tiles};

@@ -1,6 +1,6 @@
 // Runs as spans in a lent slice of them. `depth` has the form over tile numbers, two words a run.
-use span::TileSpan;
 use sizes::MOST_RUNS;
+use span::TileSpan;
 ghost use mathlib.Core.Path.{_≡_};
 ghost use Prim.Native.Nat.{_+_, _*_, _<_, _≤_};
 ghost use lib.ListN.{length, replicate};

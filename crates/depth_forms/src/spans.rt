@@ -2,8 +2,8 @@
 use crate::runs::runs_of;
 use depth::Runs;
 use depth::visible_runs;
-use span::TileSpan;
 use sizes::MOST_RUNS;
+use span::TileSpan;
 ghost use mathlib.Core.Path.{_≡_};
 ghost use lib.ListN.{replicate};
 ghost use Rattle.sizes.specs.Sizes.{bucket-tiles, most-runs};

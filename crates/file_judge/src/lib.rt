@@ -21,8 +21,8 @@ use file_form::Layout;
 use rect::Rect;
 use segments::judge_segments;
 use segments::segment_at;
-use sizes::THREAD_END;
 use sizes::HANDLE_END;
+use sizes::THREAD_END;
 
 fn wide(x: u32) -> usize
     ensures { λ r. ⌜ r ≡ x ⌝ }

@@ -17,13 +17,13 @@ ghost use Rattle.file_steps.specs.Steps.{call-at, work, work-into};
 ghost use Rattle.file_nodes.specs.Ready.{WalkReady};
 use cmd::Answer;
 use file_form::Layout;
-use step_push::push_layer;
 use file_read::props_at;
-use screen::Built;
-use screen::Screen;
 use file_steps::pop_at;
 use file_steps::walk_draws;
 use file_steps::walk_filter;
+use screen::Built;
+use screen::Screen;
+use step_push::push_layer;
 
 fn wide(x: u32) -> usize
     ensures { λ r. ⌜ r ≡ x ⌝ }

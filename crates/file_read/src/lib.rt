@@ -7,11 +7,11 @@ ghost use Rattle.rules.specs.Walk.{props-of};
 ghost use Rattle.file_form.specs.Places.{draw-from, layer-from};
 ghost use Rattle.file_read.specs.Reading.{draw-in, pattern-of, clip-in, clip-read, props-in, present, buffered};
 use cmd::blend::Blend;
-use step_fill::Draw;
+use file_judge::box_at;
 use screen_layers::Clip;
 use screen_layers::LayerClip;
 use screen_layers::LayerProps;
-use file_judge::box_at;
+use step_fill::Draw;
 
 fn wide(x: u32) -> usize
     ensures { λ r. ⌜ r ≡ x ⌝ }

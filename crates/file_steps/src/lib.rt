@@ -21,18 +21,18 @@ ghost use Rattle.step_filter.specs.Filter.{given, filtered};
 ghost use Rattle.file_read.specs.Reading.{draw-in};
 ghost use Rattle.file_steps.specs.Steps.{placement-in, call-at, draw-step, fill-into, work, work-into};
 use cmd::Answer;
-use step_fill::fill;
-use step_filter::Placement;
-use step_filter::filter_fill;
 use file_form::Layout;
-use step_pop::pop_layer;
-use step_push::push_layer;
+use file_judge::box_at;
 use file_read::draw_at;
 use file_read::needs_buffer;
 use file_read::props_at;
-use file_judge::box_at;
 use screen::Built;
 use screen::Screen;
+use step_fill::fill;
+use step_filter::Placement;
+use step_filter::filter_fill;
+use step_pop::pop_layer;
+use step_push::push_layer;
 
 // The placement of the filter layer at a place.
 fn placement_at(w: &[u32], at: usize) -> Placement

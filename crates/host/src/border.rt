@@ -2,13 +2,13 @@
 // Each asks the judge that the call itself asks first, so that 3, 2 and 1 come before that 4. Parts of the calls.
 use file_form::Form;
 use file_form::read_form;
+use file_judge::box_at;
 use host_screen::before_4;
 use host_screen::screen_at;
 use paint_screen::judge::judge_begin;
 use paint_screen::judge::judge_runs;
 use paint_screen::judge::judge_skip;
 use paint_screen::judge::judge_step;
-use file_judge::box_at;
 use rect::Rect;
 use screen::fresh;
 use screen::is_good_rooms;

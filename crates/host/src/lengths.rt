@@ -2,12 +2,12 @@
 use rect::Rect;
 use screen::fresh;
 use screen::is_good_room;
-use sizes::ROW;
-use sizes::OPEN_TABLE;
-use sizes::OPACITIES;
-use sizes::PAINT_TABLE;
-use sizes::LAYER_TABLE;
 use sizes::FILTER_TABLE;
+use sizes::LAYER_TABLE;
+use sizes::OPACITIES;
+use sizes::OPEN_TABLE;
+use sizes::PAINT_TABLE;
+use sizes::ROW;
 ghost use mathlib.Core.Path.{_≡_};
 ghost use mathlib.Core.List.{_∷_};
 ghost use lib.ListN.{length};

@@ -2,6 +2,6 @@
 // All `coarse_` functions are public calls: they have no `requires`. The others are parts of them.
 mod border;
 pub mod build;
-pub mod painting;
 pub mod lengths;
+pub mod painting;
 pub mod spans;

@@ -1,12 +1,12 @@
 // A row's depth summary as its record has it: the union's first tile and end, and the largest id, in words 2 to 4.
 use depth::Bounds;
 use depth::DepthState;
-use span::TileSpan;
-use sizes::TILE_END;
-use sizes::LAST_ID;
-use sizes::FIRST;
 use sizes::END;
+use sizes::FIRST;
 use sizes::LARGEST;
+use sizes::LAST_ID;
+use sizes::TILE_END;
+use span::TileSpan;
 ghost use mathlib.Core.Path.{_≡_};
 ghost use lib.ListN.{length};
 ghost use Rattle.sizes.specs.Sizes.{row-size};

@@ -1,9 +1,9 @@
 // What a call's screen, its lengths and its row say, before anything of the row is read.
 use screen::Screen;
 use screen::is_good_room;
-use sizes::ROW;
-use sizes::PAINT_TABLE;
 use sizes::LAYER_TABLE;
+use sizes::PAINT_TABLE;
+use sizes::ROW;
 ghost use mathlib.Core.Path.{_≡_};
 ghost use mathlib.Core.Bool.{true};
 ghost use Rattle.paint_screen.specs.Judging.{depth-long, arenas-long, tables-long, judged, of-row, begin-number, step-number, runs-number, skip-number};
@@ -149,5 +149,9 @@ pub fn judge_runs(screen: Screen, row: usize, depth: usize) -> u32
 pub fn judge_skip(screen: Screen, row: usize, rows: usize) -> u32
     ensures { λ r. ⌜ r ≡ skip-number screen row rows ⌝ }
 {
-    judge_row(judge(screen, true, rows == screen.rows() * ROW), screen, row)
+    judge_row(
+        judge(screen, true, rows == screen.rows() * ROW),
+        screen,
+        row,
+    )
 }

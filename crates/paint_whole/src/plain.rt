@@ -2,19 +2,19 @@
 // Parts: where a function asks something, its callers have judged it.
 use paint_runs::is_good_summary;
 use sizes::BUCKET;
-use sizes::BUCKET_TILES;
 use sizes::BUCKET_ROUND;
-use sizes::TILE_END;
-use sizes::TILE_ALPHAS;
-use sizes::MOST_LAYERS;
-use sizes::LAST_ID;
-use sizes::RENDERS;
+use sizes::BUCKET_TILES;
 use sizes::DEPTHS;
-use sizes::FIRST;
 use sizes::END;
+use sizes::FIRST;
 use sizes::LARGEST;
-use sizes::PAINT_ATTR;
+use sizes::LAST_ID;
 use sizes::LAYER_ATTR;
+use sizes::MOST_LAYERS;
+use sizes::PAINT_ATTR;
+use sizes::RENDERS;
+use sizes::TILE_ALPHAS;
+use sizes::TILE_END;
 ghost use mathlib.Core.Path.{_≡_};
 ghost use mathlib.Core.Bool.{true};
 ghost use mathlib.Core.List.{List, [], _∷_};

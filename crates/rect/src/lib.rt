@@ -4,11 +4,11 @@ ghost use Prim.Native.Nat.{_-_};
 ghost use Rattle.rules.specs.Boxes.{width, height, empty-box, meet, to-local, bounded, good-dest, good-box, good-viewport, whole, span-of, box};
 ghost use Rattle.span.specs.Spans.{tiles};
 ghost use Rattle.rect.specs.Rects.{box-of, same-box};
+use sizes::MOST_HEIGHT;
+use sizes::MOST_WIDTH;
 use span::TileSpan;
 use span::larger;
 use span::smaller;
-use sizes::MOST_WIDTH;
-use sizes::MOST_HEIGHT;
 
 // From a left and a top edge to a right and a bottom edge, in pixels.
 pub struct Rect {

@@ -2,19 +2,19 @@
 // one row and not its place on the screen; all take the row's three slices: state, render commands, depth fills.
 use cmd::command::span_word;
 use cmd::depth_fill::DepthFill;
+use sizes::BUCKET;
+use sizes::DEPTHS;
+use sizes::END;
+use sizes::FIRST;
+use sizes::LARGEST;
+use sizes::LEVEL;
+use sizes::LEVEL_BASE;
+use sizes::LEVELS;
+use sizes::RENDERS;
 use span::Alpha;
 use span::TileSpan;
 use span::larger;
 use span::smaller;
-use sizes::BUCKET;
-use sizes::RENDERS;
-use sizes::DEPTHS;
-use sizes::FIRST;
-use sizes::END;
-use sizes::LARGEST;
-use sizes::LEVELS;
-use sizes::LEVEL_BASE;
-use sizes::LEVEL;
 ghost use mathlib.Core.Path.{_≡_};
 ghost use Prim.Native.Nat.{_+_, _*_, _≤_, _<_};
 ghost use lib.ListN.{length, getD, set};

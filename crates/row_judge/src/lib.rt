@@ -5,16 +5,16 @@ ghost use lib.ListN.{length};
 ghost use Rattle.sizes.specs.Sizes.{most-layers, row-size};
 ghost use Rattle.row_judge.specs.Building.{good-union, good-row};
 use row::wide;
-use sizes::TILE_END;
-use sizes::LAST_ID;
-use sizes::RENDERS;
 use sizes::DEPTHS;
-use sizes::FIRST;
 use sizes::END;
+use sizes::FIRST;
 use sizes::LARGEST;
-use sizes::LEVELS;
-use sizes::LEVEL_BASE;
+use sizes::LAST_ID;
 use sizes::LEVEL;
+use sizes::LEVEL_BASE;
+use sizes::LEVELS;
+use sizes::RENDERS;
+use sizes::TILE_END;
 
 // The tag and the span word of an open buffer's union.
 fn is_good_union(tag: u32, span: u32) -> bool

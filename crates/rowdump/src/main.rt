@@ -1,14 +1,12 @@
 // Prints what `rowlist` prints of each recording of a stream on standard input, and the attributes and painted pieces of those that are not
 // refused. Each recording stands after its length in bytes, a little-endian u32; a length past the stream's end takes what is left. A read or
 // a write that fails is told on standard error, and nothing else goes there.
-use text_row::attrs_text;
-use text_row::row_text;
 use libc::STDERR_FILENO;
 use libc::STDIN_FILENO;
 use libc::STDOUT_FILENO;
-use text_file::file_text;
 use paint_screen::begin::begin_painting;
 use screen::Screen;
+use text_file::file_text;
 use text_programs::Input;
 use text_programs::read_all;
 use text_programs::tables::depth_words;
@@ -23,6 +21,8 @@ use text_programs::tables::piece_words;
 use text_programs::tables::render_words;
 use text_programs::tables::row_words;
 use text_programs::tables::text_buffer;
+use text_row::attrs_text;
+use text_row::row_text;
 ghost use Prim.Native.Nat.{_<_};
 
 // Writes the first n bytes; whether that could be done.

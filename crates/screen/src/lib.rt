@@ -15,16 +15,16 @@ use cmd::Answer;
 use rect::Rect;
 use sizes::BUCKET;
 use sizes::BUCKET_ROUND;
-use sizes::MOST_LAYERS;
-use sizes::MOST_ROOM;
+use sizes::FILTER_TABLE;
+use sizes::LAYER_TABLE;
 use sizes::MOST_ATTRS;
 use sizes::MOST_FILTERS;
-use sizes::OPEN_TABLE;
+use sizes::MOST_LAYERS;
+use sizes::MOST_ROOM;
 use sizes::OPACITIES;
+use sizes::OPEN_TABLE;
 use sizes::PAINT_TABLE;
 use sizes::ROW;
-use sizes::LAYER_TABLE;
-use sizes::FILTER_TABLE;
 
 pub struct Screen {
     pub viewport: Rect,

@@ -12,9 +12,9 @@ ghost use Rattle.screen_layers.specs.Layers.{clip-of, good-pattern, good
 use cmd::blend::Blend;
 use rect::NOWHERE;
 use rect::Rect;
-use sizes::THREAD_END;
 use sizes::HANDLE_END;
 use sizes::OPEN_LAYER;
+use sizes::THREAD_END;
 
 // The box, the range of its segments, the thread.
 pub struct Clip {

@@ -9,12 +9,12 @@ ghost use Rattle.span.specs.Spans.{alpha};
 ghost use Rattle.rect.specs.Rects.{box-of, Small};
 ghost use Rattle.segments.specs.Segs.{segment-of, seg-at, segs, placed-of, origin, bounds, Starts, SceneOf};
 use rect::Rect;
+use sizes::TILE_ALPHAS;
+use sizes::TILE_END;
 use span::Alpha;
 use span::Cut;
 use span::Stretch;
 use span::TileSpan;
-use sizes::TILE_END;
-use sizes::TILE_ALPHAS;
 
 // Kind 0 is solid, 1 has an alpha index, that of its first tile.
 pub struct Segment {

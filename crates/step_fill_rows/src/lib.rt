@@ -1,15 +1,15 @@
 // The doing half of a fill (rules 3 to 7), over a whole screen's words. Parts: each has a `requires`, which `fill` has judged.
+use row::push_paint;
 use row_acts::push_fill;
 use row_screen::place_of;
-use row::push_paint;
 use segments::Placed;
 use segments::Scene;
 use segments::place;
 use segments::segment_at;
+use sizes::LEVELS;
 use span::Alpha;
 use span::Stretch;
 use span::TileSpan;
-use sizes::LEVELS;
 ghost use mathlib.Core.Path.{_≡_};
 ghost use mathlib.Core.Bool.{true};
 ghost use Prim.Native.Nat.{_+_, _*_, _-_, _≤_, _<_};

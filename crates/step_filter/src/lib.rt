@@ -12,8 +12,6 @@ ghost use Rattle.rect.specs.Rects.{box-of};
 ghost use Rattle.row.specs.Words.{words};
 ghost use Rattle.screen.specs.Screens.{counted};
 ghost use Rattle.step_filter.specs.Filter.{given, good-given, paint-from, attrs-of, lent, filter-number, after, filtered, Drawing};
-use step_rows::judge_rows;
-use step_rows::paint_rows;
 use cmd::Answer;
 use cmd::attrs::FilterPaint;
 use cmd::attrs::PaintFillAttrs;
@@ -25,11 +23,13 @@ use screen::Built;
 use screen::Screen;
 use screen::answer_of;
 use screen::judge_screen;
+use sizes::FILTER_TABLE;
+use sizes::HANDLE_END;
 use sizes::MOST_ATTRS;
 use sizes::MOST_FILTERS;
-use sizes::HANDLE_END;
 use sizes::PAINT_TABLE;
-use sizes::FILTER_TABLE;
+use step_rows::judge_rows;
+use step_rows::paint_rows;
 
 // Where a filter layer is drawn, and from where in its pixmap.
 pub struct Placement {

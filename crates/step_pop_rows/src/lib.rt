@@ -1,23 +1,23 @@
 // The rows of a closing layer (bucketer.rs, pop_layer; rules 9 and 10): judging them, the closing LayerFills, the PopBufs. These are parts:
 // each has a `requires`, which its callers have judged. The layer that closes is the innermost of `screen.layers`; a to b are its box's rows.
-use row_judge::is_good_row;
-use row_screen::part;
-use row_screen::place_of;
 use cmd::command::Fill;
 use row::pop_buf;
 use row::push_closing;
 use row::wide;
-use sizes::ROW;
+use row_judge::is_good_row;
+use row_screen::part;
+use row_screen::place_of;
 use screen::Screen;
 use segments::Placed;
 use segments::Scene;
 use segments::place;
 use segments::segment_at;
+use sizes::LEVEL;
+use sizes::LEVEL_BASE;
+use sizes::LEVELS;
+use sizes::ROW;
 use span::Alpha;
 use span::TileSpan;
-use sizes::LEVELS;
-use sizes::LEVEL_BASE;
-use sizes::LEVEL;
 ghost use mathlib.Core.Path.{_≡_};
 ghost use mathlib.Core.Bool.{true, cond};
 ghost use mathlib.Core.List.{[], _∷_, map};
@@ -288,11 +288,7 @@ fn pop_at(screen: Screen, rows: &mut [u32], render: &mut [u32], fills: &mut [u32
     let y1 = p.y1;
     let z0 = p.z0;
     let z1 = p.z1;
-    pop_buf(
-        &mut rows[x0..x1],
-        &mut render[y0..y1],
-        &mut fills[z0..z1],
-    );
+    pop_buf(&mut rows[x0..x1], &mut render[y0..y1], &mut fills[z0..z1]);
 }
 
 // Without a clip: a LayerFill of the layer's span on row r, if it is touched.

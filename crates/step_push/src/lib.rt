@@ -7,22 +7,22 @@ ghost use Rattle.cmd.specs.Answers.{number-of};
 ghost use Rattle.rect.specs.Rects.{box-of};
 ghost use Rattle.row.specs.Words.{words};
 ghost use Rattle.step_push.specs.Push.{touch-run, on-layer, lent, push-number, after, pushed};
-use step_rows::judge_rows;
-use step_rows::touch_rows;
 use cmd::Answer;
 use cmd::blend::Blend;
-use screen_layers::LayerProps;
-use screen_layers::is_good_props;
-use screen_layers::layer_box;
-use screen_layers::put_layer;
 use rect::Rect;
 use screen::Built;
 use screen::Screen;
 use screen::answer_of;
 use screen::judge_screen;
+use screen_layers::LayerProps;
+use screen_layers::is_good_props;
+use screen_layers::layer_box;
+use screen_layers::put_layer;
 use sizes::MOST_LAYERS;
-use sizes::OPEN_TABLE;
 use sizes::OPACITIES;
+use sizes::OPEN_TABLE;
+use step_rows::judge_rows;
+use step_rows::touch_rows;
 
 // Rows a to b.
 struct Run {

@@ -15,17 +15,17 @@ ghost use Rattle.row_acts.specs.Acts.{acted, drawn};
 ghost use Rattle.row_judge.specs.Building.{rows-at};
 ghost use Rattle.screen.specs.Screens.{frame-of};
 ghost use Rattle.step_rows.specs.Band.{row-number, band-number, act-of, ShortAct, OnRow, OnRows, each};
+use row::push_paint;
 use row_acts::ensure_row_layers;
 use row_judge::is_good_row;
 use row_screen::part;
 use row_screen::place_of;
-use row::push_paint;
-use sizes::ROW;
 use screen::Screen;
+use sizes::LEVELS;
+use sizes::RENDERS;
+use sizes::ROW;
 use span::Alpha;
 use span::TileSpan;
-use sizes::RENDERS;
-use sizes::LEVELS;
 
 // A row's record: 4 if it is not good; 10 if one more command, with what the row lacks of the open layers, passes C; or 0.
 fn judge_row(state: &[u32], c: u32, d: u32, open: u32) -> u32

@@ -3,12 +3,12 @@
 use file_form::words_of_bytes;
 use libc::STDIN_FILENO;
 use libc::STDOUT_FILENO;
-use sizes::PROGRAM_DEPTH;
-use sizes::OPEN_TABLE;
-use sizes::OPACITIES;
-use sizes::PAINT_TABLE;
-use sizes::LAYER_TABLE;
 use sizes::FILTER_TABLE;
+use sizes::LAYER_TABLE;
+use sizes::OPACITIES;
+use sizes::OPEN_TABLE;
+use sizes::PAINT_TABLE;
+use sizes::PROGRAM_DEPTH;
 ghost use mathlib.Core.Path.{_≡_};
 ghost use Prim.Native.Nat.{_+_, _*_, _≤_, _<_};
 ghost use lib.ListN.{length};

@@ -1,9 +1,9 @@
 // What no call does: a word of the screen's numbers, arenas or tables set to anything, and a sum of all that is there.
-use test_words::wide;
-use test_words::word;
 use rect::Rect;
 use screen::Screen;
 use sizes::STATE;
+use test_words::wide;
+use test_words::word;
 ghost use mathlib.Core.Path.{_≡_};
 ghost use Prim.Native.Nat.{_≤_};
 ghost use lib.ListN.{length};

@@ -3,11 +3,11 @@
 // step that takes a command, the three runs, `can_skip`. `!` marks a refused call that changed a word.
 use file_form::words_of_bytes;
 use libc::STDOUT_FILENO;
-use sizes::OPEN_TABLE;
-use sizes::OPACITIES;
-use sizes::PAINT_TABLE;
-use sizes::LAYER_TABLE;
 use sizes::FILTER_TABLE;
+use sizes::LAYER_TABLE;
+use sizes::OPACITIES;
+use sizes::OPEN_TABLE;
+use sizes::PAINT_TABLE;
 ghost use mathlib.Core.Path.{_≡_};
 ghost use Prim.Native.Nat.{_+_, _*_, _≤_, _<_};
 ghost use lib.ListN.{length};

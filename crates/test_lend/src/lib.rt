@@ -1,4 +1,5 @@
 // One building, painting or showing call of a sequence, on the parts of the arenas and tables that it is lent.
+use screen::Screen;
 use test_build::build_step;
 use test_build::built;
 use test_paint::do_painting;
@@ -9,7 +10,6 @@ use test_words::lens::lens_of;
 use test_words::lens::less;
 use test_words::put;
 use test_words::word;
-use screen::Screen;
 ghost use mathlib.Core.Path.{_≡_};
 ghost use Prim.Native.Nat.{_≤_};
 ghost use lib.ListN.{length};

@@ -1,12 +1,4 @@
 // The painting calls of a sequence. A call that lists something is lent so many words of the list, full of marks; they follow its answer.
-use test_words::MARK;
-use test_words::Turn;
-use test_words::after;
-use test_words::copy;
-use test_words::mark;
-use test_words::put;
-use test_words::wide;
-use test_words::word;
 use depth::Runs;
 use depth::Skip;
 use paint_screen::begin_painting;
@@ -18,6 +10,14 @@ use paint_screen::visible_runs;
 use screen::Screen;
 use span::BucketRange;
 use span::TileSpan;
+use test_words::MARK;
+use test_words::Turn;
+use test_words::after;
+use test_words::copy;
+use test_words::mark;
+use test_words::put;
+use test_words::wide;
+use test_words::word;
 ghost use mathlib.Core.Path.{_≡_};
 ghost use Prim.Native.Nat.{_≤_};
 ghost use lib.ListN.{length};

@@ -1,5 +1,8 @@
 // A sequence of calls on one screen, run one after another: their words in, the words of their answers out. oracle/README.md has both.
 // A harness for runs against the original: what a call promises is in its own contract.
+use rect::NOWHERE;
+use screen::Screen;
+use screen::fresh;
 use test_forge::forged;
 use test_forge::sum_all;
 use test_forge::with_number;
@@ -8,9 +11,6 @@ use test_words::after;
 use test_words::put;
 use test_words::wide;
 use test_words::word;
-use rect::NOWHERE;
-use screen::Screen;
-use screen::fresh;
 ghost use mathlib.Core.Path.{_≡_};
 ghost use Prim.Native.Nat.{_≤_};
 ghost use lib.ListN.{length};

@@ -1,5 +1,8 @@
 // Everything that stands on a screen, as words: its numbers; each row's counts, summary, levels, commands, depth fills, depth words and
 // painting; the attributes and filter paints.
+use screen::Screen;
+use sizes::OPACITY_BASE;
+use sizes::ROW;
 use test_words::after;
 use test_words::copy;
 use test_words::lens::Lens;
@@ -7,10 +10,7 @@ use test_words::lens::all_rows;
 use test_words::put;
 use test_words::wide;
 use test_words::word;
-use sizes::ROW;
-use screen::Screen;
 use text::magnitude;
-use sizes::OPACITY_BASE;
 ghost use mathlib.Core.Path.{_≡_};
 ghost use Prim.Native.Nat.{_≤_, _<_};
 ghost use lib.ListN.{length};

@@ -1,11 +1,11 @@
 // What `rowdump` prints after the lines of `rowlist`: attributes, filter paints, pieces. Parts: each asks for a place that is
 // not far, and its callers have seen to it.
+use sizes::OPACITY_BASE;
 use text::magnitude;
 use text::put_byte;
 use text::put_number;
 use text::put_signed;
 use text::put_text;
-use sizes::OPACITY_BASE;
 ghost use mathlib.Core.Path.{_≡_};
 ghost use mathlib.Core.List.{[], _∷_, _++_};
 ghost use Prim.Native.Nat.{_+_, _*_, _≤_};

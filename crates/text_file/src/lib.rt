@@ -1,24 +1,24 @@
 // The text that `rowlist` prints of a recording file.
+use file_call::bucket_recording;
 use file_form::Form;
 use file_form::read_form;
 use file_form::words_of_bytes;
-use text_screen::list_screen;
-use text_screen::refusal_line;
 use file_judge::box_at;
 use rect::NOWHERE;
 use screen::Screen;
 use screen::fresh;
-use file_call::bucket_recording;
-use sizes::PROGRAM_RENDERS;
-use sizes::PROGRAM_DEPTHS;
 use sizes::FILE_BYTES;
-use sizes::PROGRAM_ROWS;
-use sizes::PROGRAM_ROOM;
-use sizes::PROGRAM_RENDER;
-use sizes::PROGRAM_FILLS;
 use sizes::PROGRAM_DEPTH;
+use sizes::PROGRAM_DEPTHS;
+use sizes::PROGRAM_FILLS;
 use sizes::PROGRAM_RECORDS;
+use sizes::PROGRAM_RENDER;
+use sizes::PROGRAM_RENDERS;
+use sizes::PROGRAM_ROOM;
+use sizes::PROGRAM_ROWS;
 use sizes::ROW;
+use text_screen::list_screen;
+use text_screen::refusal_line;
 ghost use mathlib.Core.Path.{_≡_};
 ghost use Prim.Native.Nat.{_≤_};
 ghost use lib.ListN.{length};
@@ -45,11 +45,7 @@ pub struct Size {
 pub fn no_screen() -> Screen
     ensures { λ r. ⌜ r ≡ nothing ⌝ }
 {
-    fresh(
-        NOWHERE,
-        1,
-        1,
-    )
+    fresh(NOWHERE, 1, 1)
 }
 
 // A refusal prints only its number.

@@ -2,15 +2,15 @@
 ghost use mathlib.Core.Path.{_≡_};
 ghost use lib.ListN.{length};
 ghost use Rattle.sizes.specs.Sizes.{program-render, program-fills, program-depth, program-records, program-painting, open-layer-table, opacity-count, layer-attr-table, filter-paint-table};
-use sizes::PROGRAM_RENDER;
-use sizes::PROGRAM_FILLS;
-use sizes::PROGRAM_DEPTH;
-use sizes::PROGRAM_RECORDS;
-use sizes::PROGRAM_PAINTING;
-use sizes::OPEN_TABLE;
-use sizes::OPACITIES;
-use sizes::LAYER_TABLE;
 use sizes::FILTER_TABLE;
+use sizes::LAYER_TABLE;
+use sizes::OPACITIES;
+use sizes::OPEN_TABLE;
+use sizes::PROGRAM_DEPTH;
+use sizes::PROGRAM_FILLS;
+use sizes::PROGRAM_PAINTING;
+use sizes::PROGRAM_RECORDS;
+use sizes::PROGRAM_RENDER;
 
 // Tables for 32 rows of 32 buckets.
 pub fn render_words() -> [u32; PROGRAM_RENDER]

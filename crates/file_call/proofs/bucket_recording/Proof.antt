@@ -67,7 +67,7 @@ same-length-10 c = search needs
 returns-2 : tie.Need-returns-2
 returns-2 c =
     let at-reset = c .before .before .before .before .before .before .before .before .before .before .before .before .before .before .before .before
-        .before .before .before .before .before in
+    .before .before .before .before .before in
     let at-box-at = at-reset .before .before .before .before .before .before .before .before .before .before .before in
     let at-l = at-box-at .before .before in
     let at-read-form = at-l .before .before in
@@ -78,8 +78,8 @@ returns-2 c =
 play-requires : tie.Need-play-requires
 play-requires c κs =
     let at-l = c .before .before .before .before .before .before .before .before .before .before .before .before .before .before .before .before .before
-        .before .before .before .before .before .before .before .before .before .before .before .before .before .before .before .before .before .before
-        .before .before .before .before .before .before .before .before in
+    .before .before .before .before .before .before .before .before .before .before .before .before .before .before .before .before .before .before
+    .before .before .before .before .before .before .before .before in
     let at-read-form = at-l .before .before in
     let at-args = at-read-form .before .before .before .before .before .before .before .before .before .before .before in
     (good-form (at-args .args .file .now) (at-l .l .given .0 .0) (sym (at-l .l .given .1) ∙ at-read-form .read-form .ensures)) .fits
@@ -91,70 +91,70 @@ same-length-11 : tie.Need-same-length-11
 same-length-11 c =
     let at-play = c .before .before .before .before .before .before .before .before .before .before .before .before .before .before .before .before .before in
     let at-reset = at-play .before .before .before .before .before .before .before .before .before .before .before .before .before .before .before
-        .before .before .before .before .before .before .before .before .before .before .before .before .before .before .before .before in
+    .before .before .before .before .before .before .before .before .before .before .before .before .before .before .before .before in
     at-play .play .kept .1 .1 .1 .1 .0 ∙ at-reset .reset .kept .1 .1 .1 .1 .0
 
 same-length-12 : tie.Need-same-length-12
 same-length-12 c =
     let at-play = c .before .before .before .before .before .before .before .before .before .before .before .before .before .before .before .before .before in
     let at-reset = at-play .before .before .before .before .before .before .before .before .before .before .before .before .before .before .before
-        .before .before .before .before .before .before .before .before .before .before .before .before .before .before .before .before in
+    .before .before .before .before .before .before .before .before .before .before .before .before .before .before .before .before in
     at-play .play .kept .1 .1 .1 .1 .1 .0 ∙ at-reset .reset .kept .1 .1 .1 .1 .1 .0
 
 same-length-13 : tie.Need-same-length-13
 same-length-13 c =
     let at-reset = c .before .before .before .before .before .before .before .before .before .before .before .before .before .before .before .before
-        .before .before .before .before .before .before .before .before .before .before .before .before .before .before .before .before .before .before
-        .before .before .before .before .before .before .before .before .before .before .before .before .before .before in
+    .before .before .before .before .before .before .before .before .before .before .before .before .before .before .before .before .before .before
+    .before .before .before .before .before .before .before .before .before .before .before .before .before .before in
     at-reset .reset .kept .1 .1 .1 .1 .1 .1 .0
 
 same-length-14 : tie.Need-same-length-14
 same-length-14 c =
     let at-play = c .before .before .before .before .before .before .before .before .before .before .before .before .before .before .before .before .before in
     let at-reset = at-play .before .before .before .before .before .before .before .before .before .before .before .before .before .before .before
-        .before .before .before .before .before .before .before .before .before .before .before .before .before .before .before .before in
+    .before .before .before .before .before .before .before .before .before .before .before .before .before .before .before .before in
     at-play .play .kept .1 .1 .1 .0 ∙ at-reset .reset .kept .1 .1 .1 .1 .1 .1 .1 .0
 
 same-length-15 : tie.Need-same-length-15
 same-length-15 c =
     let at-reset = c .before .before .before .before .before .before .before .before .before .before .before .before .before .before .before .before
-        .before .before .before .before .before .before .before .before .before .before .before .before .before .before .before .before .before .before
-        .before .before .before .before .before .before .before .before .before .before .before .before .before .before in
+    .before .before .before .before .before .before .before .before .before .before .before .before .before .before .before .before .before .before
+    .before .before .before .before .before .before .before .before .before .before .before .before .before .before in
     at-reset .reset .kept .1 .1 .1 .1 .1 .1 .1 .1 .0
 
 same-length-16 : tie.Need-same-length-16
 same-length-16 c =
     let at-play = c .before .before .before .before .before .before .before .before .before .before .before .before .before .before .before .before .before in
     let at-reset = at-play .before .before .before .before .before .before .before .before .before .before .before .before .before .before .before
-        .before .before .before .before .before .before .before .before .before .before .before .before .before .before .before .before in
+    .before .before .before .before .before .before .before .before .before .before .before .before .before .before .before .before in
     at-play .play .kept .1 .1 .1 .1 .1 .1 .0 ∙ at-reset .reset .kept .1 .1 .1 .1 .1 .1 .1 .1 .1 .0
 
 same-length-17 : tie.Need-same-length-17
 same-length-17 c =
     let at-play = c .before .before .before .before .before .before .before .before .before .before .before .before .before .before .before .before .before in
     let at-reset = at-play .before .before .before .before .before .before .before .before .before .before .before .before .before .before .before
-        .before .before .before .before .before .before .before .before .before .before .before .before .before .before .before .before in
+    .before .before .before .before .before .before .before .before .before .before .before .before .before .before .before .before in
     at-play .play .kept .1 .1 .1 .1 .1 .1 .1 .0 ∙ at-reset .reset .kept .1 .1 .1 .1 .1 .1 .1 .1 .1 .1 .0
 
 same-length-18 : tie.Need-same-length-18
 same-length-18 c =
     let at-play = c .before .before .before .before .before .before .before .before .before .before .before .before .before .before .before .before .before in
     let at-reset = at-play .before .before .before .before .before .before .before .before .before .before .before .before .before .before .before
-        .before .before .before .before .before .before .before .before .before .before .before .before .before .before .before .before in
+    .before .before .before .before .before .before .before .before .before .before .before .before .before .before .before .before in
     at-play .play .kept .1 .1 .1 .1 .1 .1 .1 .1 .0 ∙ at-reset .reset .kept .1 .1 .1 .1 .1 .1 .1 .1 .1 .1 .1 .0
 
 same-length-19 : tie.Need-same-length-19
 same-length-19 c =
     let at-play = c .before .before .before .before .before .before .before .before .before .before .before .before .before .before .before .before .before in
     let at-reset = at-play .before .before .before .before .before .before .before .before .before .before .before .before .before .before .before
-        .before .before .before .before .before .before .before .before .before .before .before .before .before .before .before .before in
+    .before .before .before .before .before .before .before .before .before .before .before .before .before .before .before .before in
     at-play .play .kept .1 .1 .1 .1 .1 .1 .1 .1 .1 .0 ∙ at-reset .reset .kept .1 .1 .1 .1 .1 .1 .1 .1 .1 .1 .1 .1 .0
 
 same-length-20 : tie.Need-same-length-20
 same-length-20 c =
     let at-play = c .before .before .before .before .before .before .before .before .before .before .before .before .before .before .before .before .before in
     let at-reset = at-play .before .before .before .before .before .before .before .before .before .before .before .before .before .before .before
-        .before .before .before .before .before .before .before .before .before .before .before .before .before .before .before .before in
+    .before .before .before .before .before .before .before .before .before .before .before .before .before .before .before .before in
     at-play .play .kept .1 .1 .1 .1 .1 .1 .1 .1 .1 .1 .0 ∙ at-reset .reset .kept .1 .1 .1 .1 .1 .1 .1 .1 .1 .1 .1 .1 .1 .0
 
 returns-3 : tie.Need-returns-3
@@ -163,7 +163,7 @@ returns-3 c =
     let at-if1 = at-play .before .before .before .before .before .before .before .before .before .before in
     let at-number = at-if1 .before in
     let at-reset = at-number .before .before .before .before .before .before .before .before .before .before .before .before .before .before .before
-        .before .before .before .before .before in
+    .before .before .before .before .before in
     let at-box-at = at-reset .before .before .before .before .before .before .before .before .before .before .before in
     let at-l = at-box-at .before .before in
     let at-read-form = at-l .before .before in
@@ -179,118 +179,118 @@ reset-requires-2 c κs = search needs
 same-length-21 : tie.Need-same-length-21
 same-length-21 c =
     let at-reset2 = c .before .before .before .before .before .before .before .before .before .before .before .before .before .before .before .before
-        .before .before .before .before in
+    .before .before .before .before in
     let at-play = at-reset2 .before .before .before .before .before .before .before .before .before .before .before .before .before .before .before
-        .before .before .before .before .before .before .before .before .before .before .before .before .before in
+    .before .before .before .before .before .before .before .before .before .before .before .before .before in
     let at-reset = at-play .before .before .before .before .before .before .before .before .before .before .before .before .before .before .before
-        .before .before .before .before .before .before .before .before .before .before .before .before .before .before .before .before in
+    .before .before .before .before .before .before .before .before .before .before .before .before .before .before .before .before in
     at-reset2 .reset2 .kept .1 .1 .1 .1 .0 ∙ at-play .play .kept .1 .1 .1 .1 .0 ∙ at-reset .reset .kept .1 .1 .1 .1 .0
 
 same-length-22 : tie.Need-same-length-22
 same-length-22 c =
     let at-reset2 = c .before .before .before .before .before .before .before .before .before .before .before .before .before .before .before .before
-        .before .before .before .before in
+    .before .before .before .before in
     let at-play = at-reset2 .before .before .before .before .before .before .before .before .before .before .before .before .before .before .before
-        .before .before .before .before .before .before .before .before .before .before .before .before .before in
+    .before .before .before .before .before .before .before .before .before .before .before .before .before in
     let at-reset = at-play .before .before .before .before .before .before .before .before .before .before .before .before .before .before .before
-        .before .before .before .before .before .before .before .before .before .before .before .before .before .before .before .before in
+    .before .before .before .before .before .before .before .before .before .before .before .before .before .before .before .before in
     at-reset2 .reset2 .kept .1 .1 .1 .1 .1 .0 ∙ at-play .play .kept .1 .1 .1 .1 .1 .0 ∙ at-reset .reset .kept .1 .1 .1 .1 .1 .0
 
 same-length-23 : tie.Need-same-length-23
 same-length-23 c =
     let at-reset2 = c .before .before .before .before .before .before .before .before .before .before .before .before .before .before .before .before
-        .before .before .before .before in
+    .before .before .before .before in
     let at-reset = at-reset2 .before .before .before .before .before .before .before .before .before .before .before .before .before .before .before
-        .before .before .before .before .before .before .before .before .before .before .before .before .before .before .before .before .before .before
-        .before .before .before .before .before .before .before .before .before .before .before .before .before .before .before .before .before .before
-        .before .before .before .before .before .before .before .before in
+    .before .before .before .before .before .before .before .before .before .before .before .before .before .before .before .before .before .before
+    .before .before .before .before .before .before .before .before .before .before .before .before .before .before .before .before .before .before
+    .before .before .before .before .before .before .before .before in
     at-reset2 .reset2 .kept .1 .1 .1 .1 .1 .1 .0 ∙ at-reset .reset .kept .1 .1 .1 .1 .1 .1 .0
 
 same-length-24 : tie.Need-same-length-24
 same-length-24 c =
     let at-reset2 = c .before .before .before .before .before .before .before .before .before .before .before .before .before .before .before .before
-        .before .before .before .before in
+    .before .before .before .before in
     let at-play = at-reset2 .before .before .before .before .before .before .before .before .before .before .before .before .before .before .before
-        .before .before .before .before .before .before .before .before .before .before .before .before .before in
+    .before .before .before .before .before .before .before .before .before .before .before .before .before in
     let at-reset = at-play .before .before .before .before .before .before .before .before .before .before .before .before .before .before .before
-        .before .before .before .before .before .before .before .before .before .before .before .before .before .before .before .before in
+    .before .before .before .before .before .before .before .before .before .before .before .before .before .before .before .before in
     at-reset2 .reset2 .kept .1 .1 .1 .1 .1 .1 .1 .0 ∙ at-play .play .kept .1 .1 .1 .0 ∙ at-reset .reset .kept .1 .1 .1 .1 .1 .1 .1 .0
 
 same-length-25 : tie.Need-same-length-25
 same-length-25 c =
     let at-reset2 = c .before .before .before .before .before .before .before .before .before .before .before .before .before .before .before .before
-        .before .before .before .before in
+    .before .before .before .before in
     let at-reset = at-reset2 .before .before .before .before .before .before .before .before .before .before .before .before .before .before .before
-        .before .before .before .before .before .before .before .before .before .before .before .before .before .before .before .before .before .before
-        .before .before .before .before .before .before .before .before .before .before .before .before .before .before .before .before .before .before
-        .before .before .before .before .before .before .before .before in
+    .before .before .before .before .before .before .before .before .before .before .before .before .before .before .before .before .before .before
+    .before .before .before .before .before .before .before .before .before .before .before .before .before .before .before .before .before .before
+    .before .before .before .before .before .before .before .before in
     at-reset2 .reset2 .kept .1 .1 .1 .1 .1 .1 .1 .1 .0 ∙ at-reset .reset .kept .1 .1 .1 .1 .1 .1 .1 .1 .0
 
 same-length-26 : tie.Need-same-length-26
 same-length-26 c =
     let at-reset2 = c .before .before .before .before .before .before .before .before .before .before .before .before .before .before .before .before
-        .before .before .before .before in
+    .before .before .before .before in
     let at-play = at-reset2 .before .before .before .before .before .before .before .before .before .before .before .before .before .before .before
-        .before .before .before .before .before .before .before .before .before .before .before .before .before in
+    .before .before .before .before .before .before .before .before .before .before .before .before .before in
     let at-reset = at-play .before .before .before .before .before .before .before .before .before .before .before .before .before .before .before
-        .before .before .before .before .before .before .before .before .before .before .before .before .before .before .before .before in
+    .before .before .before .before .before .before .before .before .before .before .before .before .before .before .before .before in
     at-reset2 .reset2 .kept .1 .1 .1 .1 .1 .1 .1 .1 .1 .0 ∙ at-play .play .kept .1 .1 .1 .1 .1 .1 .0 ∙ at-reset .reset .kept .1 .1 .1 .1 .1 .1 .1 .1 .1 .0
 
 same-length-27 : tie.Need-same-length-27
 same-length-27 c =
     let at-reset2 = c .before .before .before .before .before .before .before .before .before .before .before .before .before .before .before .before
-        .before .before .before .before in
+    .before .before .before .before in
     let at-play = at-reset2 .before .before .before .before .before .before .before .before .before .before .before .before .before .before .before
-        .before .before .before .before .before .before .before .before .before .before .before .before .before in
+    .before .before .before .before .before .before .before .before .before .before .before .before .before in
     let at-reset = at-play .before .before .before .before .before .before .before .before .before .before .before .before .before .before .before
-        .before .before .before .before .before .before .before .before .before .before .before .before .before .before .before .before in
+    .before .before .before .before .before .before .before .before .before .before .before .before .before .before .before .before in
     at-reset2 .reset2 .kept .1 .1 .1 .1 .1 .1 .1 .1 .1 .1 .0 ∙ at-play .play .kept .1 .1 .1 .1 .1 .1 .1 .0 ∙
     at-reset .reset .kept .1 .1 .1 .1 .1 .1 .1 .1 .1 .1 .0
 
 same-length-28 : tie.Need-same-length-28
 same-length-28 c =
     let at-reset2 = c .before .before .before .before .before .before .before .before .before .before .before .before .before .before .before .before
-        .before .before .before .before in
+    .before .before .before .before in
     let at-play = at-reset2 .before .before .before .before .before .before .before .before .before .before .before .before .before .before .before
-        .before .before .before .before .before .before .before .before .before .before .before .before .before in
+    .before .before .before .before .before .before .before .before .before .before .before .before .before in
     let at-reset = at-play .before .before .before .before .before .before .before .before .before .before .before .before .before .before .before
-        .before .before .before .before .before .before .before .before .before .before .before .before .before .before .before .before in
+    .before .before .before .before .before .before .before .before .before .before .before .before .before .before .before .before in
     at-reset2 .reset2 .kept .1 .1 .1 .1 .1 .1 .1 .1 .1 .1 .1 .0 ∙ at-play .play .kept .1 .1 .1 .1 .1 .1 .1 .1 .0 ∙
     at-reset .reset .kept .1 .1 .1 .1 .1 .1 .1 .1 .1 .1 .1 .0
 
 same-length-29 : tie.Need-same-length-29
 same-length-29 c =
     let at-reset2 = c .before .before .before .before .before .before .before .before .before .before .before .before .before .before .before .before
-        .before .before .before .before in
+    .before .before .before .before in
     let at-play = at-reset2 .before .before .before .before .before .before .before .before .before .before .before .before .before .before .before
-        .before .before .before .before .before .before .before .before .before .before .before .before .before in
+    .before .before .before .before .before .before .before .before .before .before .before .before .before in
     let at-reset = at-play .before .before .before .before .before .before .before .before .before .before .before .before .before .before .before
-        .before .before .before .before .before .before .before .before .before .before .before .before .before .before .before .before in
+    .before .before .before .before .before .before .before .before .before .before .before .before .before .before .before .before in
     at-reset2 .reset2 .kept .1 .1 .1 .1 .1 .1 .1 .1 .1 .1 .1 .1 .0 ∙ at-play .play .kept .1 .1 .1 .1 .1 .1 .1 .1 .1 .0 ∙
     at-reset .reset .kept .1 .1 .1 .1 .1 .1 .1 .1 .1 .1 .1 .1 .0
 
 same-length-30 : tie.Need-same-length-30
 same-length-30 c =
     let at-reset2 = c .before .before .before .before .before .before .before .before .before .before .before .before .before .before .before .before
-        .before .before .before .before in
+    .before .before .before .before in
     let at-play = at-reset2 .before .before .before .before .before .before .before .before .before .before .before .before .before .before .before
-        .before .before .before .before .before .before .before .before .before .before .before .before .before in
+    .before .before .before .before .before .before .before .before .before .before .before .before .before in
     let at-reset = at-play .before .before .before .before .before .before .before .before .before .before .before .before .before .before .before
-        .before .before .before .before .before .before .before .before .before .before .before .before .before .before .before .before in
+    .before .before .before .before .before .before .before .before .before .before .before .before .before .before .before .before in
     at-reset2 .reset2 .kept .1 .1 .1 .1 .1 .1 .1 .1 .1 .1 .1 .1 .1 .0 ∙ at-play .play .kept .1 .1 .1 .1 .1 .1 .1 .1 .1 .1 .0 ∙
     at-reset .reset .kept .1 .1 .1 .1 .1 .1 .1 .1 .1 .1 .1 .1 .1 .0
 
 returns-4 : tie.Need-returns-4
 returns-4 c =
     let at-reset2 = c .before .before .before .before .before .before .before .before .before .before .before .before .before .before .before .before
-        .before .before .before .before in
+    .before .before .before .before in
     let at-if2 = at-reset2 .before .before .before .before .before .before .before .before .before .before .before in
     let at-number2 = at-if2 .before in
     let at-play = at-number2 .before .before .before .before .before .before .before .before .before .before .before .before .before .before .before .before in
     let at-if1 = at-play .before .before .before .before .before .before .before .before .before .before in
     let at-number = at-if1 .before in
     let at-reset = at-number .before .before .before .before .before .before .before .before .before .before .before .before .before .before .before
-        .before .before .before .before .before in
+    .before .before .before .before .before in
     let at-box-at = at-reset .before .before .before .before .before .before .before .before .before .before .before in
     let at-l = at-box-at .before .before in
     let at-read-form = at-l .before .before in
@@ -298,14 +298,25 @@ returns-4 c =
     left-fresh _ _ (good-form (at-args .args .file .now) (at-l .l .given .0 .0) (sym (at-l .l .given .1) ∙ at-read-form .read-form .ensures)) _
     (at-box-at .box-at .ensures) _ _ _ _ _ (at-reset .reset .ensures) (sym (at-number .number .ensures) ∙ at-if1 .if1 .left) _ _ (at-play .play .ensures (tables
     [] [] (at-reset .reset .last .1 .1 .1 .1 .1 .1 .0) [] (at-reset .reset .last .1 .1 .1 .1 .1 .1 .1 .1 .0) [] [] [] [] [])) (λ z. at-if2 .if2 .left
-    (at-number2 .number2 .ensures ∙ z)) _ (record { render = at-play .play .kept .1 .1 .1 .1 .0 ∙ at-reset .reset .kept .1 .1 .1 .1 .0; fills =
-    at-play .play .kept .1 .1 .1 .1 .1 .0 ∙ at-reset .reset .kept .1 .1 .1 .1 .1 .0; depth = at-reset .reset .kept .1 .1 .1 .1 .1 .1 .0; rows =
-    at-play .play .kept .1 .1 .1 .0 ∙ at-reset .reset .kept .1 .1 .1 .1 .1 .1 .1 .0; painting = at-reset .reset .kept .1 .1 .1 .1 .1 .1 .1 .1 .0; layers =
-    at-play .play .kept .1 .1 .1 .1 .1 .1 .0 ∙ at-reset .reset .kept .1 .1 .1 .1 .1 .1 .1 .1 .1 .0; opacities = at-play .play .kept .1 .1 .1 .1 .1 .1 .1 .0 ∙
-    at-reset .reset .kept .1 .1 .1 .1 .1 .1 .1 .1 .1 .1 .0; paint-attrs = at-play .play .kept .1 .1 .1 .1 .1 .1 .1 .1 .0 ∙
-    at-reset .reset .kept .1 .1 .1 .1 .1 .1 .1 .1 .1 .1 .1 .0; layer-attrs = at-play .play .kept .1 .1 .1 .1 .1 .1 .1 .1 .1 .0 ∙
-    at-reset .reset .kept .1 .1 .1 .1 .1 .1 .1 .1 .1 .1 .1 .1 .0; filter-paints = at-play .play .kept .1 .1 .1 .1 .1 .1 .1 .1 .1 .1 .0 ∙
-    at-reset .reset .kept .1 .1 .1 .1 .1 .1 .1 .1 .1 .1 .1 .1 .1 .0 }) _ _ (at-reset2 .reset2 .ensures)
+    (at-number2 .number2 .ensures ∙ z)) _ (record {
+      render = at-play .play .kept .1 .1 .1 .1 .0 ∙ at-reset .reset .kept .1 .1 .1 .1 .0;
+      fills =
+          at-play .play .kept .1 .1 .1 .1 .1 .0 ∙ at-reset .reset .kept .1 .1 .1 .1 .1 .0;
+      depth = at-reset .reset .kept .1 .1 .1 .1 .1 .1 .0;
+      rows =
+          at-play .play .kept .1 .1 .1 .0 ∙ at-reset .reset .kept .1 .1 .1 .1 .1 .1 .1 .0;
+      painting = at-reset .reset .kept .1 .1 .1 .1 .1 .1 .1 .1 .0;
+      layers =
+          at-play .play .kept .1 .1 .1 .1 .1 .1 .0 ∙ at-reset .reset .kept .1 .1 .1 .1 .1 .1 .1 .1 .1 .0;
+      opacities = at-play .play .kept .1 .1 .1 .1 .1 .1 .1 .0 ∙
+          at-reset .reset .kept .1 .1 .1 .1 .1 .1 .1 .1 .1 .1 .0;
+      paint-attrs = at-play .play .kept .1 .1 .1 .1 .1 .1 .1 .1 .0 ∙
+          at-reset .reset .kept .1 .1 .1 .1 .1 .1 .1 .1 .1 .1 .1 .0;
+      layer-attrs = at-play .play .kept .1 .1 .1 .1 .1 .1 .1 .1 .1 .0 ∙
+          at-reset .reset .kept .1 .1 .1 .1 .1 .1 .1 .1 .1 .1 .1 .1 .0;
+      filter-paints = at-play .play .kept .1 .1 .1 .1 .1 .1 .1 .1 .1 .1 .0 ∙
+          at-reset .reset .kept .1 .1 .1 .1 .1 .1 .1 .1 .1 .1 .1 .1 .1 .0;
+    }) _ _ (at-reset2 .reset2 .ensures)
 
 pub bucket-recording-spec : {M : Type 1} → statement M
 bucket-recording-spec =

@@ -46,10 +46,22 @@ walk-nodes-requires c κs =
     let at-if1 = at-wide .before .before .before in
     let at-judge-records = at-if1 .before in
     let back = at-judge-records .before .before .before .before .before .before .before .before .before in
-    let s = back in
-    (ready (s .args .l) (s .args .w .now) (s .pre) _ (at-judge-records .judge-records .ensures) (at-if1 .if1 .left), (omega (arith, at-wide .wide .ensures,
-    at-wide2 .wide2 .ensures, root (s .args .l) (s .args .w .now) (s .pre) _ (at-judge-records .judge-records .ensures) (at-if1 .if1 .left) .0), omega (arith,
-    at-wide2 .wide2 .ensures, root (s .args .l) (s .args .w .now) (s .pre) _ (at-judge-records .judge-records .ensures) (at-if1 .if1 .left) .1)))
+    let s = back in (
+      ready (s .args .l) (s .args .w .now) (s .pre) _ (at-judge-records .judge-records .ensures) (at-if1 .if1 .left),
+      (
+        omega (
+          arith,
+          at-wide .wide .ensures,
+          at-wide2 .wide2 .ensures,
+          root (s .args .l) (s .args .w .now) (s .pre) _ (at-judge-records .judge-records .ensures) (at-if1 .if1 .left) .0,
+        ),
+        omega (
+          arith,
+          at-wide2 .wide2 .ensures,
+          root (s .args .l) (s .args .w .now) (s .pre) _ (at-judge-records .judge-records .ensures) (at-if1 .if1 .left) .1,
+        ),
+      ),
+    )
 
 same-length : tie.Need-same-length
 same-length c = search needs
@@ -84,8 +96,10 @@ returns-2 c =
     let at-judge-records = at-if1 .before in
     let back = at-judge-records .before .before .before .before .before .before .before .before .before in
     let s = back in
-    λ t. good-walk (s .args .l) (s .args .w .now) (s .pre) _ (at-judge-records .judge-records .ensures) (at-if1 .if1 .left) _ _ (rw (at-wide .wide .ensures,
-    at-wide2 .wide2 .ensures) at (at-walk-nodes .walk-nodes .ensures t))
+    λ t. good-walk (s .args .l) (s .args .w .now) (s .pre) _ (at-judge-records .judge-records .ensures) (at-if1 .if1 .left) _ _ (rw (
+      at-wide .wide .ensures,
+      at-wide2 .wide2 .ensures,
+    ) at (at-walk-nodes .walk-nodes .ensures t))
 
 pub play-spec : {M : Type 1} → statement M
 play-spec =

@@ -38,8 +38,13 @@ mul-if3 : tie.Need-mul-if3
 mul-if3 c =
     let at-is-good-count = c .before .before in
     let at-args = at-is-good-count .before .before .before .before in
-    rw (c .wide .ensures) (record { fits = omega (arith, product (at-args .args .fixed) (getD (at-args .args .words .now) (at-args .args .at) 0)
-    (at-args .args .size) (sym (at-is-good-count .is-good-count .ensures) ∙ not-false _ (c .before .if2 .left)) (at-args .pre)) })
+    rw (c .wide .ensures) (record {
+      fits = omega (
+        arith,
+        product (at-args .args .fixed) (getD (at-args .args .words .now) (at-args .args .at) 0)
+            (at-args .args .size) (sym (at-is-good-count .is-good-count .ensures) ∙ not-false _ (c .before .if2 .left)) (at-args .pre),
+      );
+    })
 
 returns-3 : tie.Need-returns-3
 unfolding stands
@@ -47,8 +52,11 @@ returns-3 c =
     let at-if2 = c .before .before in
     let at-is-good-count = at-if2 .before in
     let at-if1 = at-is-good-count .before .before in
-    rw (lt-ltb _ _ (at-if1 .if1 .left), sym (at-is-good-count .is-good-count .ensures) ∙ not-false _ (at-if2 .if2 .left),
-    lt-leb _ _ (rw (c .before .wide .ensures) at (c .if3 .taken)))
+    rw (
+      lt-ltb _ _ (at-if1 .if1 .left),
+      sym (at-is-good-count .is-good-count .ensures) ∙ not-false _ (at-if2 .if2 .left),
+      lt-leb _ _ (rw (c .before .wide .ensures) at (c .if3 .taken)),
+    )
 
 add-first : tie.Need-add-first
 add-first c = search needs
@@ -66,8 +74,12 @@ returns-4 c =
     let at-if2 = at-wide .before in
     let at-is-good-count = at-if2 .before in
     let at-if1 = at-is-good-count .before .before in
-    rw (lt-ltb _ _ (at-if1 .if1 .left), sym (at-is-good-count .is-good-count .ensures) ∙ not-false _ (at-if2 .if2 .left),
-    le-leb _ _ (rw (at-wide .wide .ensures) at (c .if3 .left)), at-wide .wide .ensures)
+    rw (
+      lt-ltb _ _ (at-if1 .if1 .left),
+      sym (at-is-good-count .is-good-count .ensures) ∙ not-false _ (at-if2 .if2 .left),
+      le-leb _ _ (rw (at-wide .wide .ensures) at (c .if3 .left)),
+      at-wide .wide .ensures,
+    )
 
 pub find-section-spec : {M : Type 1} → statement M
 find-section-spec =

@@ -47,9 +47,11 @@ loop-less c = omega arith
 loop-again : tie.Need-loop-again Inv-loop μ-loop
 loop-again c =
     let at-loop = c .before .before .before in
-    let at-args = at-loop .before .before .before in
-    (omega arith, turned layer-from 22 _ (clip-ordered (segs-of (at-args .args .list .now))) _ _ _ (omega arith) (at-loop .loop .inv .1) (sym
-    (c .before .is-clip-ordered .ensures) ∙ not-false _ (c .if1 .left)))
+    let at-args = at-loop .before .before .before in (
+      omega arith,
+      turned layer-from 22 _ (clip-ordered (segs-of (at-args .args .list .now))) _ _ _ (omega arith) (at-loop .loop .inv .1) (sym
+          (c .before .is-clip-ordered .ensures) ∙ not-false _ (c .if1 .left)),
+    )
 
 returns-2 : tie.Need-returns-2 Inv-loop μ-loop
 returns-2 c = ended layer-from 22 _ (clip-ordered (segs-of (c .before .before .before .before .args .list .now))) _ _ _ (omega arith) (c .before .loop .inv .1)

@@ -68,9 +68,11 @@ loop-again : tie.Need-loop-again Inv-loop μ-loop
 unfolding draw-ordered draw-from
 loop-again c =
     let at-loop = c .before .before .before .before .before in
-    let at-args = at-loop .before .before .before in
-    (omega arith, turned draw-from 7 _ (draw-ordered (segs-of (at-args .args .list .now))) _ _ _ (omega arith) (at-loop .loop .inv .1) (sym
-    (c .before .is-ordered .ensures) ∙ not-false _ (c .if1 .left)))
+    let at-args = at-loop .before .before .before in (
+      omega arith,
+      turned draw-from 7 _ (draw-ordered (segs-of (at-args .args .list .now))) _ _ _ (omega arith) (at-loop .loop .inv .1) (sym
+          (c .before .is-ordered .ensures) ∙ not-false _ (c .if1 .left)),
+    )
 
 returns-2 : tie.Need-returns-2 Inv-loop μ-loop
 returns-2 c = ended draw-from 7 _ (draw-ordered (segs-of (c .before .before .before .before .args .list .now))) _ _ _ (omega arith) (c .before .loop .inv .1)

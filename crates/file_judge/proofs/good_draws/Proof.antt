@@ -43,9 +43,11 @@ loop-less c = omega arith
 loop-again : tie.Need-loop-again Inv-loop μ-loop
 loop-again c =
     let at-loop = c .before .before .before in
-    let at-args = at-loop .before .before in
-    (omega arith, turned draw-from 7 _ (draw-fields (at-args .args .paints) (at-args .args .segments)) _ _ _ (omega arith) (at-loop .loop .inv .1) (sym
-    (c .before .is-good-draw .ensures) ∙ not-false _ (c .if1 .left)))
+    let at-args = at-loop .before .before in (
+      omega arith,
+      turned draw-from 7 _ (draw-fields (at-args .args .paints) (at-args .args .segments)) _ _ _ (omega arith) (at-loop .loop .inv .1) (sym
+          (c .before .is-good-draw .ensures) ∙ not-false _ (c .if1 .left)),
+    )
 
 returns-2 : tie.Need-returns-2 Inv-loop μ-loop
 returns-2 c = ended draw-from 7 _ (draw-fields (c .before .before .before .args .paints) (c .before .before .before .args .segments)) _ _ _ (omega arith) (c .before .loop .inv .1)

@@ -43,9 +43,11 @@ loop-less c = omega arith
 loop-again : tie.Need-loop-again Inv-loop μ-loop
 loop-again c =
     let at-loop = c .before .before .before in
-    let at-args = at-loop .before .before in
-    (omega arith, turned layer-from 22 _ (layer-fields (at-args .args .nodes) (at-args .args .segments)) _ _ _ (omega arith) (at-loop .loop .inv .1) (sym
-    (c .before .is-good-layer .ensures) ∙ not-false _ (c .if1 .left)))
+    let at-args = at-loop .before .before in (
+      omega arith,
+      turned layer-from 22 _ (layer-fields (at-args .args .nodes) (at-args .args .segments)) _ _ _ (omega arith) (at-loop .loop .inv .1) (sym
+          (c .before .is-good-layer .ensures) ∙ not-false _ (c .if1 .left)),
+    )
 
 returns-2 : tie.Need-returns-2 Inv-loop μ-loop
 returns-2 c = ended layer-from 22 _ (layer-fields (c .before .before .before .args .nodes) (c .before .before .before .args .segments)) _ _ _ (omega arith) (c .before .loop .inv .1)

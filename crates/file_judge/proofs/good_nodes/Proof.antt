@@ -43,9 +43,11 @@ loop-less c = omega arith
 loop-again : tie.Need-loop-again Inv-loop μ-loop
 loop-again c =
     let at-loop = c .before .before .before in
-    let at-args = at-loop .before .before in
-    (omega arith, turned node-from 3 _ (node-fields (at-args .args .draws) (at-args .args .layers)) _ _ _ (omega arith) (at-loop .loop .inv .1) (sym
-    (c .before .is-good-node .ensures) ∙ not-false _ (c .if1 .left)))
+    let at-args = at-loop .before .before in (
+      omega arith,
+      turned node-from 3 _ (node-fields (at-args .args .draws) (at-args .args .layers)) _ _ _ (omega arith) (at-loop .loop .inv .1) (sym
+          (c .before .is-good-node .ensures) ∙ not-false _ (c .if1 .left)),
+    )
 
 returns-2 : tie.Need-returns-2 Inv-loop μ-loop
 returns-2 c = ended node-from 3 _ (node-fields (c .before .before .before .args .draws) (c .before .before .before .args .layers)) _ _ _ (omega arith) (c .before .loop .inv .1)

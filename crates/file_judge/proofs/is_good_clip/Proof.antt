@@ -47,8 +47,10 @@ returns-2 c =
     let at-if1 = c .before .before .before in
     let at-is-good = at-if1 .before in
     let at-box-at = at-is-good .before in
-    rw (sym (at-is-good .is-good .ensures ∙ ap good-box (at-box-at .box-at .ensures ∙ clip-box _ _)) ∙ not-false _ (at-if1 .if1 .left),
-    lt-leb _ _ (c .if2 .taken))
+    rw (
+      sym (at-is-good .is-good .ensures ∙ ap good-box (at-box-at .box-at .ensures ∙ clip-box _ _)) ∙ not-false _ (at-if1 .if1 .left),
+      lt-leb _ _ (c .if2 .taken),
+    )
 
 add-if3 : tie.Need-add-if3
 add-if3 c = omega arith
@@ -66,8 +68,11 @@ returns-3 c =
     let at-if1 = at-if2 .before .before .before in
     let at-is-good = at-if1 .before in
     let at-box-at = at-is-good .before in
-    rw (sym (at-is-good .is-good .ensures ∙ ap good-box (at-box-at .box-at .ensures ∙ clip-box _ _)) ∙ not-false _ (at-if1 .if1 .left),
-    le-leb _ _ (at-if2 .if2 .left), le-ltb _ _ (c .if3 .taken))
+    rw (
+      sym (at-is-good .is-good .ensures ∙ ap good-box (at-box-at .box-at .ensures ∙ clip-box _ _)) ∙ not-false _ (at-if1 .if1 .left),
+      le-leb _ _ (at-if2 .if2 .left),
+      le-ltb _ _ (c .if3 .taken),
+    )
 
 add-wide : tie.Need-add-wide
 add-wide c = omega arith
@@ -89,8 +94,12 @@ returns-4 c =
     let at-if1 = at-if2 .before .before .before in
     let at-is-good = at-if1 .before in
     let at-box-at = at-is-good .before in
-    rw (sym (at-is-good .is-good .ensures ∙ ap good-box (at-box-at .box-at .ensures ∙ clip-box _ _)) ∙ not-false _ (at-if1 .if1 .left),
-    le-leb _ _ (at-if2 .if2 .left), lt-ltb _ _ (at-if3 .if3 .left), c .wide .ensures)
+    rw (
+      sym (at-is-good .is-good .ensures ∙ ap good-box (at-box-at .box-at .ensures ∙ clip-box _ _)) ∙ not-false _ (at-if1 .if1 .left),
+      le-leb _ _ (at-if2 .if2 .left),
+      lt-ltb _ _ (at-if3 .if3 .left),
+      c .wide .ensures,
+    )
 
 pub is-good-clip-spec : {M : Type 1} → statement M
 is-good-clip-spec =

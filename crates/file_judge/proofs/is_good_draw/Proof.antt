@@ -61,8 +61,11 @@ returns-3 c =
     let at-if2 = c .before .before .before in
     let at-is-good-range = at-if2 .before in
     let at-if1 = at-is-good-range .before .before .before in
-    rw (lt-ltb _ _ (at-if1 .if1 .left), sym (at-is-good-range .is-good-range .ensures) ∙ not-false _ (at-if2 .if2 .left),
-    le-ltb _ _ (rw (c .before .wide .ensures) at (c .if3 .taken)))
+    rw (
+      lt-ltb _ _ (at-if1 .if1 .left),
+      sym (at-is-good-range .is-good-range .ensures) ∙ not-false _ (at-if2 .if2 .left),
+      le-ltb _ _ (rw (c .before .wide .ensures) at (c .if3 .taken)),
+    )
 
 add-is-good-blend : tie.Need-add-is-good-blend
 add-is-good-blend c = omega arith
@@ -93,8 +96,12 @@ returns-4 c =
     let at-if2 = at-wide .before .before in
     let at-is-good-range = at-if2 .before in
     let at-if1 = at-is-good-range .before .before .before in
-    rw (lt-ltb _ _ (at-if1 .if1 .left), sym (at-is-good-range .is-good-range .ensures) ∙ not-false _ (at-if2 .if2 .left),
-    lt-ltb _ _ (rw (at-wide .wide .ensures) at (at-if3 .if3 .left)), sym (c .before .is-good-blend .ensures) ∙ not-true _ (c .if4 .taken))
+    rw (
+      lt-ltb _ _ (at-if1 .if1 .left),
+      sym (at-is-good-range .is-good-range .ensures) ∙ not-false _ (at-if2 .if2 .left),
+      lt-ltb _ _ (rw (at-wide .wide .ensures) at (at-if3 .if3 .left)),
+      sym (c .before .is-good-blend .ensures) ∙ not-true _ (c .if4 .taken),
+    )
 
 add-result : tie.Need-add-result
 add-result c = omega arith
@@ -114,8 +121,12 @@ returns-5 c =
     let at-if2 = at-wide .before .before in
     let at-is-good-range = at-if2 .before in
     let at-if1 = at-is-good-range .before .before .before in
-    rw (lt-ltb _ _ (at-if1 .if1 .left), sym (at-is-good-range .is-good-range .ensures) ∙ not-false _ (at-if2 .if2 .left),
-    lt-ltb _ _ (rw (at-wide .wide .ensures) at (at-if3 .if3 .left)), sym (at-is-good-blend .is-good-blend .ensures) ∙ not-false _ (c .before .if4 .left))
+    rw (
+      lt-ltb _ _ (at-if1 .if1 .left),
+      sym (at-is-good-range .is-good-range .ensures) ∙ not-false _ (at-if2 .if2 .left),
+      lt-ltb _ _ (rw (at-wide .wide .ensures) at (at-if3 .if3 .left)),
+      sym (at-is-good-blend .is-good-blend .ensures) ∙ not-false _ (c .before .if4 .left),
+    )
 
 pub is-good-draw-spec : {M : Type 1} → statement M
 is-good-draw-spec =

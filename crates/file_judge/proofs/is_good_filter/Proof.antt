@@ -50,8 +50,12 @@ returns-3 c =
     let at-is-good-dest = at-if2 .before in
     let at-box-at = at-is-good-dest .before in
     let at-if1 = at-box-at .before in
-    rw (lt-ltb _ _ (at-if1 .if1 .left), sym (at-is-good-dest .is-good-dest .ensures ∙ ap good-dest (at-box-at .box-at .ensures ∙ filter-box _ _)) ∙ not-false _
-    (at-if2 .if2 .left), lt-leb _ _ (c .if3 .taken))
+    rw (
+      lt-ltb _ _ (at-if1 .if1 .left),
+      sym (at-is-good-dest .is-good-dest .ensures ∙ ap good-dest (at-box-at .box-at .ensures ∙ filter-box _ _)) ∙ not-false _
+          (at-if2 .if2 .left),
+      lt-leb _ _ (c .if3 .taken),
+    )
 
 add-result : tie.Need-add-result
 add-result c = omega arith
@@ -69,8 +73,12 @@ returns-4 c =
     let at-is-good-dest = at-if2 .before in
     let at-box-at = at-is-good-dest .before in
     let at-if1 = at-box-at .before in
-    rw (lt-ltb _ _ (at-if1 .if1 .left), sym (at-is-good-dest .is-good-dest .ensures ∙ ap good-dest (at-box-at .box-at .ensures ∙ filter-box _ _)) ∙ not-false _
-    (at-if2 .if2 .left), le-leb _ _ (c .before .if3 .left))
+    rw (
+      lt-ltb _ _ (at-if1 .if1 .left),
+      sym (at-is-good-dest .is-good-dest .ensures ∙ ap good-dest (at-box-at .box-at .ensures ∙ filter-box _ _)) ∙ not-false _
+          (at-if2 .if2 .left),
+      le-leb _ _ (c .before .if3 .left),
+    )
 
 pub is-good-filter-spec : {M : Type 1} → statement M
 is-good-filter-spec =

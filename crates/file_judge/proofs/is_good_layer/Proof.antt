@@ -70,8 +70,11 @@ returns-3 c =
     let at-if2 = c .before .before .before .before in
     let at-is-good-range = at-if2 .before in
     let at-if1 = at-is-good-range .before .before .before in
-    rw (le-leb _ _ (at-if1 .if1 .left), sym (at-is-good-range .is-good-range .ensures) ∙ not-false _ (at-if2 .if2 .left),
-    sym (c .before .is-good-blend .ensures) ∙ not-true _ (c .if3 .taken))
+    rw (
+      le-leb _ _ (at-if1 .if1 .left),
+      sym (at-is-good-range .is-good-range .ensures) ∙ not-false _ (at-if2 .if2 .left),
+      sym (c .before .is-good-blend .ensures) ∙ not-true _ (c .if3 .taken),
+    )
 
 add-if4 : tie.Need-add-if4
 add-if4 c = omega arith
@@ -90,8 +93,12 @@ returns-4 c =
     let at-if2 = at-is-good-blend .before .before .before in
     let at-is-good-range = at-if2 .before in
     let at-if1 = at-is-good-range .before .before .before in
-    rw (le-leb _ _ (at-if1 .if1 .left), sym (at-is-good-range .is-good-range .ensures) ∙ not-false _ (at-if2 .if2 .left),
-    sym (at-is-good-blend .is-good-blend .ensures) ∙ not-false _ (at-if3 .if3 .left), le-ltb _ _ (c .if4 .taken))
+    rw (
+      le-leb _ _ (at-if1 .if1 .left),
+      sym (at-is-good-range .is-good-range .ensures) ∙ not-false _ (at-if2 .if2 .left),
+      sym (at-is-good-blend .is-good-blend .ensures) ∙ not-false _ (at-if3 .if3 .left),
+      le-ltb _ _ (c .if4 .taken),
+    )
 
 add-if5 : tie.Need-add-if5
 add-if5 c = omega arith
@@ -111,8 +118,13 @@ returns-5 c =
     let at-if2 = at-is-good-blend .before .before .before in
     let at-is-good-range = at-if2 .before in
     let at-if1 = at-is-good-range .before .before .before in
-    rw (le-leb _ _ (at-if1 .if1 .left), sym (at-is-good-range .is-good-range .ensures) ∙ not-false _ (at-if2 .if2 .left),
-    sym (at-is-good-blend .is-good-blend .ensures) ∙ not-false _ (at-if3 .if3 .left), lt-ltb _ _ (at-if4 .if4 .left), lt-leb _ _ (c .if5 .taken))
+    rw (
+      le-leb _ _ (at-if1 .if1 .left),
+      sym (at-is-good-range .is-good-range .ensures) ∙ not-false _ (at-if2 .if2 .left),
+      sym (at-is-good-blend .is-good-blend .ensures) ∙ not-false _ (at-if3 .if3 .left),
+      lt-ltb _ _ (at-if4 .if4 .left),
+      lt-leb _ _ (c .if5 .taken),
+    )
 
 is-good-clip-part-requires : tie.Need-is-good-clip-part-requires
 is-good-clip-part-requires c κs = search needs
@@ -127,9 +139,14 @@ returns-6 c =
     let at-if2 = at-is-good-blend .before .before .before in
     let at-is-good-range = at-if2 .before in
     let at-if1 = at-is-good-range .before .before .before in
-    rw (le-leb _ _ (at-if1 .if1 .left), sym (at-is-good-range .is-good-range .ensures) ∙ not-false _ (at-if2 .if2 .left),
-    sym (at-is-good-blend .is-good-blend .ensures) ∙ not-false _ (at-if3 .if3 .left), lt-ltb _ _ (at-if4 .if4 .left), le-leb _ _ (at-if5 .if5 .left),
-    sym (c .before .is-good-clip-part .ensures) ∙ not-true _ (c .if6 .taken))
+    rw (
+      le-leb _ _ (at-if1 .if1 .left),
+      sym (at-is-good-range .is-good-range .ensures) ∙ not-false _ (at-if2 .if2 .left),
+      sym (at-is-good-blend .is-good-blend .ensures) ∙ not-false _ (at-if3 .if3 .left),
+      lt-ltb _ _ (at-if4 .if4 .left),
+      le-leb _ _ (at-if5 .if5 .left),
+      sym (c .before .is-good-clip-part .ensures) ∙ not-true _ (c .if6 .taken),
+    )
 
 is-good-filter-part-requires : tie.Need-is-good-filter-part-requires
 is-good-filter-part-requires c κs = search needs
@@ -145,9 +162,14 @@ returns-7 c =
     let at-if2 = at-is-good-blend .before .before .before in
     let at-is-good-range = at-if2 .before in
     let at-if1 = at-is-good-range .before .before .before in
-    rw (le-leb _ _ (at-if1 .if1 .left), sym (at-is-good-range .is-good-range .ensures) ∙ not-false _ (at-if2 .if2 .left),
-    sym (at-is-good-blend .is-good-blend .ensures) ∙ not-false _ (at-if3 .if3 .left), lt-ltb _ _ (at-if4 .if4 .left), le-leb _ _ (at-if5 .if5 .left),
-    sym (at-is-good-clip-part .is-good-clip-part .ensures) ∙ not-false _ (c .before .if6 .left)) (c .is-good-filter-part .ensures)
+    rw (
+      le-leb _ _ (at-if1 .if1 .left),
+      sym (at-is-good-range .is-good-range .ensures) ∙ not-false _ (at-if2 .if2 .left),
+      sym (at-is-good-blend .is-good-blend .ensures) ∙ not-false _ (at-if3 .if3 .left),
+      lt-ltb _ _ (at-if4 .if4 .left),
+      le-leb _ _ (at-if5 .if5 .left),
+      sym (at-is-good-clip-part .is-good-clip-part .ensures) ∙ not-false _ (c .before .if6 .left),
+    ) (c .is-good-filter-part .ensures)
 
 pub is-good-layer-spec : {M : Type 1} → statement M
 is-good-layer-spec =

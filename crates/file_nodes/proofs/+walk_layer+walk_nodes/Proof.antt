@@ -55,10 +55,22 @@ walk-nodes-below t =
 
 -- what the functions that they call promise
 abbrev layer-claims : ℕ → walk-layer-lts.Claims
-layer-claims t =
-    (wide-reads.Asked, wide-reads.Learnt, walk-filter-reads.Asked, walk-filter-reads.Learnt, props-at-reads.Asked, props-at-reads.Learnt,
-    push-layer-reads.Asked, push-layer-reads.Learnt, number-reads.Asked, number-reads.Learnt, walk-nodes-below t, walk-nodes.Post, pop-at-reads.Asked,
-    pop-at-reads.Learnt)
+layer-claims t = (
+  wide-reads.Asked,
+  wide-reads.Learnt,
+  walk-filter-reads.Asked,
+  walk-filter-reads.Learnt,
+  props-at-reads.Asked,
+  props-at-reads.Learnt,
+  push-layer-reads.Asked,
+  push-layer-reads.Learnt,
+  number-reads.Asked,
+  number-reads.Learnt,
+  walk-nodes-below t,
+  walk-nodes.Post,
+  pop-at-reads.Asked,
+  pop-at-reads.Learnt,
+)
 
 abbrev nodes-claims : ℕ → walk-nodes-lts.Claims
 nodes-claims t = (wide-reads.Asked, wide-reads.Learnt, walk-draws-reads.Asked, walk-draws-reads.Learnt, number-reads.Asked, number-reads.Learnt, walk-layer-below t, walk-layer.Post)
@@ -87,8 +99,13 @@ walk-layer-add-at t c =
     let at-if1 = at-wide .before .before in
     let back = at-if1 .before .before .before .before .before .before .before .before .before in
     let s = back in
-    omega (arith, at-wide .wide .ensures, s .pre .1 .1, s .pre .1 .0 .fits .layers .few,
-    layer-room (s .args .l) (s .args .w .now) (s .pre .1 .0) (at-wide .wide .result) (omega (arith, at-wide .wide .ensures, s .pre .1 .1, at-if1 .if1 .left)))
+    omega (
+      arith,
+      at-wide .wide .ensures,
+      s .pre .1 .1,
+      s .pre .1 .0 .fits .layers .few,
+      layer-room (s .args .l) (s .args .w .now) (s .pre .1 .0) (at-wide .wide .result) (omega (arith, at-wide .wide .ensures, s .pre .1 .1, at-if1 .if1 .left)),
+    )
 
 walk-layer-mul-if2 : (t : ℕ) → walk-layer-lts.Need-mul-if2 (layer-claims t) (walk-layer-at t) walk-layer.Post
 walk-layer-mul-if2 t c =
@@ -96,8 +113,15 @@ walk-layer-mul-if2 t c =
     let at-if1 = at-wide .before .before in
     let back = at-if1 .before .before .before .before .before .before .before .before .before in
     let s = back in
-    omega (arith, layer-room (s .args .l) (s .args .w .now) (s .pre .1 .0) (at-wide .wide .result) (omega (arith, at-wide .wide .ensures, s .pre .1 .1,
-    at-if1 .if1 .left)))
+    omega (
+      arith,
+      layer-room (s .args .l) (s .args .w .now) (s .pre .1 .0) (at-wide .wide .result) (omega (
+        arith,
+        at-wide .wide .ensures,
+        s .pre .1 .1,
+        at-if1 .if1 .left,
+      )),
+    )
 
 walk-layer-shared-slice-read-if2 : (t : ℕ) → walk-layer-lts.Need-shared-slice-read-if2 (layer-claims t) (walk-layer-at t) walk-layer.Post
 walk-layer-shared-slice-read-if2 t c =
@@ -105,17 +129,30 @@ walk-layer-shared-slice-read-if2 t c =
     let at-if1 = at-wide .before .before in
     let back = at-if1 .before .before .before .before .before .before .before .before .before in
     let s = back in
-    omega (arith, layer-room (s .args .l) (s .args .w .now) (s .pre .1 .0) (at-wide .wide .result) (omega (arith, at-wide .wide .ensures, s .pre .1 .1,
-    at-if1 .if1 .left)))
+    omega (
+      arith,
+      layer-room (s .args .l) (s .args .w .now) (s .pre .1 .0) (at-wide .wide .result) (omega (
+        arith,
+        at-wide .wide .ensures,
+        s .pre .1 .1,
+        at-if1 .if1 .left,
+      )),
+    )
 
 walk-layer-walk-filter-requires : (t : ℕ) → walk-layer-lts.Need-walk-filter-requires (layer-claims t) (walk-layer-at t) walk-layer.Post
 walk-layer-walk-filter-requires t c κs =
     let at-wide = c .before .before .before .before .before .before .before .before .before .before .before in
     let at-if1 = at-wide .before .before in
     let back = at-if1 .before .before .before .before .before .before .before .before .before in
-    let s = back in
-    (s .pre .1 .0 .fits, layer-room (s .args .l) (s .args .w .now) (s .pre .1 .0) (at-wide .wide .result) (omega (arith, at-wide .wide .ensures, s .pre .1 .1,
-    at-if1 .if1 .left)))
+    let s = back in (
+      s .pre .1 .0 .fits,
+      layer-room (s .args .l) (s .args .w .now) (s .pre .1 .0) (at-wide .wide .result) (omega (
+        arith,
+        at-wide .wide .ensures,
+        s .pre .1 .1,
+        at-if1 .if1 .left,
+      )),
+    )
 
 walk-layer-same-length : (t : ℕ) → walk-layer-lts.Need-same-length (layer-claims t) (walk-layer-at t) walk-layer.Post
 walk-layer-same-length t c =
@@ -167,8 +204,16 @@ walk-layer-returns-2 t c =
     let back = at-if1 .before .before .before .before .before .before .before .before .before in
     let s = back in
     λ u. at-walk-filter .walk-filter .ensures u ∙ as-filter (recorded (s .args .l) (s .args .w .now)) (layer-from (s .args .w .now) (s .args .l .layers .at + 22
-    * at-wide .wide .result)) _ (omega (arith, layer-kind (s .args .l) (s .args .w .now) (s .pre .1 .0) (at-wide .wide .result) (omega (arith,
-    at-wide .wide .ensures, s .pre .1 .1, at-if1 .if1 .left)), at-if2 .if2 .taken)) _ ∙ sym (names-one (s .args .l) (s .args .w .now) _ _ _
+    * at-wide .wide .result)) _ (omega (
+      arith,
+      layer-kind (s .args .l) (s .args .w .now) (s .pre .1 .0) (at-wide .wide .result) (omega (
+        arith,
+        at-wide .wide .ensures,
+        s .pre .1 .1,
+        at-if1 .if1 .left,
+      )),
+      at-if2 .if2 .taken,
+    )) _ ∙ sym (names-one (s .args .l) (s .args .w .now) _ _ _
     (at-wide .wide .result) (at-wide .wide .ensures) (at-if1 .if1 .left) (s .pre .1 .1))
 
 walk-layer-props-at-requires : (t : ℕ) → walk-layer-lts.Need-props-at-requires (layer-claims t) (walk-layer-at t) walk-layer.Post
@@ -267,32 +312,53 @@ walk-layer-returns-4 t c =
 walk-layer-add-wide : (t : ℕ) → walk-layer-lts.Need-add-wide (layer-claims t) (walk-layer-at t) walk-layer.Post
 walk-layer-add-wide t c =
     let at-wide = c .before .before .before .before .before .before .before .before .before .before .before .before .before .before .before .before
-        .before .before .before .before .before .before .before .before in
+    .before .before .before .before .before .before .before .before in
     let at-if1 = at-wide .before .before in
     let back = at-if1 .before .before .before .before .before .before .before .before .before in
     let s = back in
-    omega (arith, layer-room (s .args .l) (s .args .w .now) (s .pre .1 .0) (at-wide .wide .result) (omega (arith, at-wide .wide .ensures, s .pre .1 .1,
-    at-if1 .if1 .left)))
+    omega (
+      arith,
+      layer-room (s .args .l) (s .args .w .now) (s .pre .1 .0) (at-wide .wide .result) (omega (
+        arith,
+        at-wide .wide .ensures,
+        s .pre .1 .1,
+        at-if1 .if1 .left,
+      )),
+    )
 
 walk-layer-mul-wide : (t : ℕ) → walk-layer-lts.Need-mul-wide (layer-claims t) (walk-layer-at t) walk-layer.Post
 walk-layer-mul-wide t c =
     let at-wide = c .before .before .before .before .before .before .before .before .before .before .before .before .before .before .before .before
-        .before .before .before .before .before .before .before .before in
+    .before .before .before .before .before .before .before .before in
     let at-if1 = at-wide .before .before in
     let back = at-if1 .before .before .before .before .before .before .before .before .before in
     let s = back in
-    omega (arith, layer-room (s .args .l) (s .args .w .now) (s .pre .1 .0) (at-wide .wide .result) (omega (arith, at-wide .wide .ensures, s .pre .1 .1,
-    at-if1 .if1 .left)))
+    omega (
+      arith,
+      layer-room (s .args .l) (s .args .w .now) (s .pre .1 .0) (at-wide .wide .result) (omega (
+        arith,
+        at-wide .wide .ensures,
+        s .pre .1 .1,
+        at-if1 .if1 .left,
+      )),
+    )
 
 walk-layer-shared-slice-read-wide : (t : ℕ) → walk-layer-lts.Need-shared-slice-read-wide (layer-claims t) (walk-layer-at t) walk-layer.Post
 walk-layer-shared-slice-read-wide t c =
     let at-wide = c .before .before .before .before .before .before .before .before .before .before .before .before .before .before .before .before
-        .before .before .before .before .before .before .before .before .before in
+    .before .before .before .before .before .before .before .before .before in
     let at-if1 = at-wide .before .before in
     let back = at-if1 .before .before .before .before .before .before .before .before .before in
     let s = back in
-    omega (arith, layer-room (s .args .l) (s .args .w .now) (s .pre .1 .0) (at-wide .wide .result) (omega (arith, at-wide .wide .ensures, s .pre .1 .1,
-    at-if1 .if1 .left)))
+    omega (
+      arith,
+      layer-room (s .args .l) (s .args .w .now) (s .pre .1 .0) (at-wide .wide .result) (omega (
+        arith,
+        at-wide .wide .ensures,
+        s .pre .1 .1,
+        at-if1 .if1 .left,
+      )),
+    )
 
 walk-layer-wide-requires-2 : (t : ℕ) → walk-layer-lts.Need-wide-requires-2 (layer-claims t) (walk-layer-at t) walk-layer.Post
 walk-layer-wide-requires-2 t c κs = search needs
@@ -300,32 +366,53 @@ walk-layer-wide-requires-2 t c κs = search needs
 walk-layer-add-wide-2 : (t : ℕ) → walk-layer-lts.Need-add-wide-2 (layer-claims t) (walk-layer-at t) walk-layer.Post
 walk-layer-add-wide-2 t c =
     let at-wide = c .before .before .before .before .before .before .before .before .before .before .before .before .before .before .before .before
-        .before .before .before .before .before .before .before .before .before .before in
+    .before .before .before .before .before .before .before .before .before .before in
     let at-if1 = at-wide .before .before in
     let back = at-if1 .before .before .before .before .before .before .before .before .before in
     let s = back in
-    omega (arith, layer-room (s .args .l) (s .args .w .now) (s .pre .1 .0) (at-wide .wide .result) (omega (arith, at-wide .wide .ensures, s .pre .1 .1,
-    at-if1 .if1 .left)))
+    omega (
+      arith,
+      layer-room (s .args .l) (s .args .w .now) (s .pre .1 .0) (at-wide .wide .result) (omega (
+        arith,
+        at-wide .wide .ensures,
+        s .pre .1 .1,
+        at-if1 .if1 .left,
+      )),
+    )
 
 walk-layer-mul-wide-2 : (t : ℕ) → walk-layer-lts.Need-mul-wide-2 (layer-claims t) (walk-layer-at t) walk-layer.Post
 walk-layer-mul-wide-2 t c =
     let at-wide = c .before .before .before .before .before .before .before .before .before .before .before .before .before .before .before .before
-        .before .before .before .before .before .before .before .before .before .before in
+    .before .before .before .before .before .before .before .before .before .before in
     let at-if1 = at-wide .before .before in
     let back = at-if1 .before .before .before .before .before .before .before .before .before in
     let s = back in
-    omega (arith, layer-room (s .args .l) (s .args .w .now) (s .pre .1 .0) (at-wide .wide .result) (omega (arith, at-wide .wide .ensures, s .pre .1 .1,
-    at-if1 .if1 .left)))
+    omega (
+      arith,
+      layer-room (s .args .l) (s .args .w .now) (s .pre .1 .0) (at-wide .wide .result) (omega (
+        arith,
+        at-wide .wide .ensures,
+        s .pre .1 .1,
+        at-if1 .if1 .left,
+      )),
+    )
 
 walk-layer-shared-slice-read-wide-2 : (t : ℕ) → walk-layer-lts.Need-shared-slice-read-wide-2 (layer-claims t) (walk-layer-at t) walk-layer.Post
 walk-layer-shared-slice-read-wide-2 t c =
     let at-wide = c .before .before .before .before .before .before .before .before .before .before .before .before .before .before .before .before
-        .before .before .before .before .before .before .before .before .before .before .before in
+    .before .before .before .before .before .before .before .before .before .before .before in
     let at-if1 = at-wide .before .before in
     let back = at-if1 .before .before .before .before .before .before .before .before .before in
     let s = back in
-    omega (arith, layer-room (s .args .l) (s .args .w .now) (s .pre .1 .0) (at-wide .wide .result) (omega (arith, at-wide .wide .ensures, s .pre .1 .1,
-    at-if1 .if1 .left)))
+    omega (
+      arith,
+      layer-room (s .args .l) (s .args .w .now) (s .pre .1 .0) (at-wide .wide .result) (omega (
+        arith,
+        at-wide .wide .ensures,
+        s .pre .1 .1,
+        at-if1 .if1 .left,
+      )),
+    )
 
 walk-layer-wide-requires-3 : (t : ℕ) → walk-layer-lts.Need-wide-requires-3 (layer-claims t) (walk-layer-at t) walk-layer.Post
 walk-layer-wide-requires-3 t c κs = search needs
@@ -339,14 +426,34 @@ walk-layer-walk-nodes-requires t c κs =
     let at-wide2 = at-wide3 .before .before in
     let at-if4 = at-wide2 .before .before .before in
     let at-wide = at-if4 .before .before .before .before .before .before .before .before .before .before .before .before .before .before .before .before
-        .before .before .before .before .before .before .before in
+    .before .before .before .before .before .before .before in
     let at-if1 = at-wide .before .before in
     let back = at-if1 .before .before .before .before .before .before .before .before .before in
-    let s = back in
-    (omega (arith, at-if4 .if4 .left, s .pre .0), (s .pre .1 .0, (omega (arith, at-wide2 .wide2 .ensures, at-wide3 .wide3 .ensures,
-    layer-range (s .args .l) (s .args .w .now) (s .pre .1 .0) (at-wide .wide .result) (omega (arith, at-wide .wide .ensures, s .pre .1 .1,
-    at-if1 .if1 .left)) .0), omega (arith, at-wide3 .wide3 .ensures, layer-range (s .args .l) (s .args .w .now) (s .pre .1 .0) (at-wide .wide .result) (omega
-    (arith, at-wide .wide .ensures, s .pre .1 .1, at-if1 .if1 .left)) .1))))
+    let s = back in (
+      omega (arith, at-if4 .if4 .left, s .pre .0),
+      (
+        s .pre .1 .0,
+        (
+          omega (
+            arith,
+            at-wide2 .wide2 .ensures,
+            at-wide3 .wide3 .ensures,
+            layer-range (s .args .l) (s .args .w .now) (s .pre .1 .0) (at-wide .wide .result) (omega (
+              arith,
+              at-wide .wide .ensures,
+              s .pre .1 .1,
+              at-if1 .if1 .left,
+            )) .0,
+          ),
+          omega (
+            arith,
+            at-wide3 .wide3 .ensures,
+            layer-range (s .args .l) (s .args .w .now) (s .pre .1 .0) (at-wide .wide .result) (omega
+                (arith, at-wide .wide .ensures, s .pre .1 .1, at-if1 .if1 .left)) .1,
+          ),
+        ),
+      ),
+    )
 
 walk-layer-number-requires-2 : (t : ℕ) → walk-layer-lts.Need-number-requires-2 (layer-claims t) (walk-layer-at t) walk-layer.Post
 walk-layer-number-requires-2 t c κs = search needs
@@ -354,66 +461,66 @@ walk-layer-number-requires-2 t c κs = search needs
 walk-layer-same-length-19 : (t : ℕ) → walk-layer-lts.Need-same-length-19 (layer-claims t) (walk-layer-at t) walk-layer.Post
 walk-layer-same-length-19 t c =
     let at-walk-nodes = c .before .before .before .before .before .before .before .before .before .before .before .before .before .before .before
-        .before .before in
+    .before .before in
     let at-push-layer = at-walk-nodes .before .before .before .before .before .before .before .before .before .before .before .before .before .before
-        .before .before .before .before .before .before .before .before .before .before .before .before .before in
+    .before .before .before .before .before .before .before .before .before .before .before .before .before in
     at-walk-nodes .walk-nodes .kept .1 .1 .1 .1 .1 .1 .0 ∙ at-push-layer .push-layer .kept .1 .0
 
 walk-layer-same-length-20 : (t : ℕ) → walk-layer-lts.Need-same-length-20 (layer-claims t) (walk-layer-at t) walk-layer.Post
 walk-layer-same-length-20 t c =
     let at-walk-nodes = c .before .before .before .before .before .before .before .before .before .before .before .before .before .before .before
-        .before .before in
+    .before .before in
     let at-push-layer = at-walk-nodes .before .before .before .before .before .before .before .before .before .before .before .before .before .before
-        .before .before .before .before .before .before .before .before .before .before .before .before .before in
+    .before .before .before .before .before .before .before .before .before .before .before .before .before in
     at-walk-nodes .walk-nodes .kept .1 .1 .1 .1 .1 .1 .1 .0 ∙ at-push-layer .push-layer .kept .1 .1 .0
 
 walk-layer-same-length-21 : (t : ℕ) → walk-layer-lts.Need-same-length-21 (layer-claims t) (walk-layer-at t) walk-layer.Post
 walk-layer-same-length-21 t c =
     let at-walk-nodes = c .before .before .before .before .before .before .before .before .before .before .before .before .before .before .before
-        .before .before in
+    .before .before in
     let at-push-layer = at-walk-nodes .before .before .before .before .before .before .before .before .before .before .before .before .before .before
-        .before .before .before .before .before .before .before .before .before .before .before .before .before in
+    .before .before .before .before .before .before .before .before .before .before .before .before .before in
     at-walk-nodes .walk-nodes .kept .1 .1 .1 .1 .1 .1 .1 .1 .0 ∙ at-push-layer .push-layer .kept .1 .1 .1 .0
 
 walk-layer-same-length-22 : (t : ℕ) → walk-layer-lts.Need-same-length-22 (layer-claims t) (walk-layer-at t) walk-layer.Post
 walk-layer-same-length-22 t c =
     let at-walk-nodes = c .before .before .before .before .before .before .before .before .before .before .before .before .before .before .before
-        .before .before in
+    .before .before in
     let at-push-layer = at-walk-nodes .before .before .before .before .before .before .before .before .before .before .before .before .before .before
-        .before .before .before .before .before .before .before .before .before .before .before .before .before in
+    .before .before .before .before .before .before .before .before .before .before .before .before .before in
     at-walk-nodes .walk-nodes .kept .1 .1 .1 .1 .1 .1 .1 .1 .1 .0 ∙ at-push-layer .push-layer .kept .1 .1 .1 .1 .0
 
 walk-layer-same-length-23 : (t : ℕ) → walk-layer-lts.Need-same-length-23 (layer-claims t) (walk-layer-at t) walk-layer.Post
 walk-layer-same-length-23 t c =
     let at-walk-nodes = c .before .before .before .before .before .before .before .before .before .before .before .before .before .before .before
-        .before .before in
+    .before .before in
     let at-push-layer = at-walk-nodes .before .before .before .before .before .before .before .before .before .before .before .before .before .before
-        .before .before .before .before .before .before .before .before .before .before .before .before .before in
+    .before .before .before .before .before .before .before .before .before .before .before .before .before in
     at-walk-nodes .walk-nodes .kept .1 .1 .1 .1 .1 .1 .1 .1 .1 .1 .0 ∙ at-push-layer .push-layer .kept .1 .1 .1 .1 .1 .0
 
 walk-layer-same-length-24 : (t : ℕ) → walk-layer-lts.Need-same-length-24 (layer-claims t) (walk-layer-at t) walk-layer.Post
 walk-layer-same-length-24 t c =
     let at-walk-nodes = c .before .before .before .before .before .before .before .before .before .before .before .before .before .before .before
-        .before .before in
+    .before .before in
     at-walk-nodes .walk-nodes .kept .1 .1 .1 .1 .1 .1 .1 .1 .1 .1 .1 .0
 
 walk-layer-same-length-25 : (t : ℕ) → walk-layer-lts.Need-same-length-25 (layer-claims t) (walk-layer-at t) walk-layer.Post
 walk-layer-same-length-25 t c =
     let at-walk-nodes = c .before .before .before .before .before .before .before .before .before .before .before .before .before .before .before
-        .before .before in
+    .before .before in
     at-walk-nodes .walk-nodes .kept .1 .1 .1 .1 .1 .1 .1 .1 .1 .1 .1 .1 .0
 
 walk-layer-same-length-26 : (t : ℕ) → walk-layer-lts.Need-same-length-26 (layer-claims t) (walk-layer-at t) walk-layer.Post
 walk-layer-same-length-26 t c =
     let at-walk-nodes = c .before .before .before .before .before .before .before .before .before .before .before .before .before .before .before
-        .before .before in
+    .before .before in
     at-walk-nodes .walk-nodes .kept .1 .1 .1 .1 .1 .1 .1 .1 .1 .1 .1 .1 .1 .0
 
 walk-layer-returns-5 : (t : ℕ) → walk-layer-lts.Need-returns-5 (layer-claims t) (walk-layer-at t) walk-layer.Post
 unfolding layer-from
 walk-layer-returns-5 t c =
     let at-walk-nodes = c .before .before .before .before .before .before .before .before .before .before .before .before .before .before .before
-        .before .before in
+    .before .before in
     let at-wide3 = at-walk-nodes .before .before .before .before .before .before .before .before .before in
     let at-wide2 = at-wide3 .before .before in
     let at-if4 = at-wide2 .before .before .before in
@@ -428,53 +535,55 @@ walk-layer-returns-5 t c =
     let s = back in
     λ u. not-walked (recorded (s .args .l) (s .args .w .now)) (layer-from (s .args .w .now) (s .args .l .layers .at + 22 * at-wide .wide .result))
     (at-if2 .if2 .left) _ _ _ (push-step u _ _ _ _ _ _ _ _ _ _ _ _ _ (rw (at-props-at .props-at .ensures) at (at-push-layer .push-layer .ensures))) _
-    (at-if4 .if4 .left) (sym (at-number .number .ensures) ∙ at-if3 .if3 .left) _ _ (rw (at-wide2 .wide2 .ensures,
-    at-wide3 .wide3 .ensures) at (at-walk-nodes .walk-nodes .ensures u)) (λ z. c .if5 .taken (c .before .number2 .ensures ∙ z)) ∙ sym (names-one (s .args .l)
+    (at-if4 .if4 .left) (sym (at-number .number .ensures) ∙ at-if3 .if3 .left) _ _ (rw (
+      at-wide2 .wide2 .ensures,
+      at-wide3 .wide3 .ensures,
+    ) at (at-walk-nodes .walk-nodes .ensures u)) (λ z. c .if5 .taken (c .before .number2 .ensures ∙ z)) ∙ sym (names-one (s .args .l)
     (s .args .w .now) _ _ _ (at-wide .wide .result) (at-wide .wide .ensures) (at-if1 .if1 .left) (s .pre .1 .1))
 
 walk-layer-pop-at-requires : (t : ℕ) → walk-layer-lts.Need-pop-at-requires (layer-claims t) (walk-layer-at t) walk-layer.Post
 walk-layer-pop-at-requires t c κs =
     let at-pre = c .before .before .before .before .before .before .before .before .before .before .before .before .before .before .before .before
-        .before .before .before .before .before .before .before .before .before .before .before .before .before .before .before .before .before .before
-        .before .before .before .before .before .before .before .before .before .before .before .before .before .before .before .before .before .before
-        .before .before .before .before .before .before .before .before .before .before .before .before .before .before .before .before .before .before
-        .before .before in
+    .before .before .before .before .before .before .before .before .before .before .before .before .before .before .before .before .before .before
+    .before .before .before .before .before .before .before .before .before .before .before .before .before .before .before .before .before .before
+    .before .before .before .before .before .before .before .before .before .before .before .before .before .before .before .before .before .before
+    .before .before in
     at-pre .pre .1 .0 .fits
 
 walk-layer-same-length-27 : (t : ℕ) → walk-layer-lts.Need-same-length-27 (layer-claims t) (walk-layer-at t) walk-layer.Post
 walk-layer-same-length-27 t c =
     let at-pop-at = c .before .before .before .before .before .before .before .before .before .before .before .before in
     let at-walk-nodes = at-pop-at .before .before .before .before .before .before .before .before .before .before .before .before .before .before
-        .before .before .before .before .before .before .before .before .before .before .before in
+    .before .before .before .before .before .before .before .before .before .before .before in
     let at-push-layer = at-walk-nodes .before .before .before .before .before .before .before .before .before .before .before .before .before .before
-        .before .before .before .before .before .before .before .before .before .before .before .before .before in
+    .before .before .before .before .before .before .before .before .before .before .before .before .before in
     at-pop-at .pop-at .kept .1 .1 .1 .0 ∙ at-walk-nodes .walk-nodes .kept .1 .1 .1 .1 .1 .1 .0 ∙ at-push-layer .push-layer .kept .1 .0
 
 walk-layer-same-length-28 : (t : ℕ) → walk-layer-lts.Need-same-length-28 (layer-claims t) (walk-layer-at t) walk-layer.Post
 walk-layer-same-length-28 t c =
     let at-pop-at = c .before .before .before .before .before .before .before .before .before .before .before .before in
     let at-walk-nodes = at-pop-at .before .before .before .before .before .before .before .before .before .before .before .before .before .before
-        .before .before .before .before .before .before .before .before .before .before .before in
+    .before .before .before .before .before .before .before .before .before .before .before in
     let at-push-layer = at-walk-nodes .before .before .before .before .before .before .before .before .before .before .before .before .before .before
-        .before .before .before .before .before .before .before .before .before .before .before .before .before in
+    .before .before .before .before .before .before .before .before .before .before .before .before .before in
     at-pop-at .pop-at .kept .1 .1 .1 .1 .0 ∙ at-walk-nodes .walk-nodes .kept .1 .1 .1 .1 .1 .1 .1 .0 ∙ at-push-layer .push-layer .kept .1 .1 .0
 
 walk-layer-same-length-29 : (t : ℕ) → walk-layer-lts.Need-same-length-29 (layer-claims t) (walk-layer-at t) walk-layer.Post
 walk-layer-same-length-29 t c =
     let at-pop-at = c .before .before .before .before .before .before .before .before .before .before .before .before in
     let at-walk-nodes = at-pop-at .before .before .before .before .before .before .before .before .before .before .before .before .before .before
-        .before .before .before .before .before .before .before .before .before .before .before in
+    .before .before .before .before .before .before .before .before .before .before .before in
     let at-push-layer = at-walk-nodes .before .before .before .before .before .before .before .before .before .before .before .before .before .before
-        .before .before .before .before .before .before .before .before .before .before .before .before .before in
+    .before .before .before .before .before .before .before .before .before .before .before .before .before in
     at-pop-at .pop-at .kept .1 .1 .1 .1 .1 .0 ∙ at-walk-nodes .walk-nodes .kept .1 .1 .1 .1 .1 .1 .1 .1 .0 ∙ at-push-layer .push-layer .kept .1 .1 .1 .0
 
 walk-layer-same-length-30 : (t : ℕ) → walk-layer-lts.Need-same-length-30 (layer-claims t) (walk-layer-at t) walk-layer.Post
 walk-layer-same-length-30 t c =
     let at-pop-at = c .before .before .before .before .before .before .before .before .before .before .before .before in
     let at-walk-nodes = at-pop-at .before .before .before .before .before .before .before .before .before .before .before .before .before .before
-        .before .before .before .before .before .before .before .before .before .before .before in
+    .before .before .before .before .before .before .before .before .before .before .before in
     let at-push-layer = at-walk-nodes .before .before .before .before .before .before .before .before .before .before .before .before .before .before
-        .before .before .before .before .before .before .before .before .before .before .before .before .before in
+    .before .before .before .before .before .before .before .before .before .before .before .before .before in
     at-pop-at .pop-at .kept .1 .1 .1 .1 .1 .1 .0 ∙ at-walk-nodes .walk-nodes .kept .1 .1 .1 .1 .1 .1 .1 .1 .1 .0 ∙
     at-push-layer .push-layer .kept .1 .1 .1 .1 .0
 
@@ -482,31 +591,31 @@ walk-layer-same-length-31 : (t : ℕ) → walk-layer-lts.Need-same-length-31 (la
 walk-layer-same-length-31 t c =
     let at-pop-at = c .before .before .before .before .before .before .before .before .before .before .before .before in
     let at-walk-nodes = at-pop-at .before .before .before .before .before .before .before .before .before .before .before .before .before .before
-        .before .before .before .before .before .before .before .before .before .before .before in
+    .before .before .before .before .before .before .before .before .before .before .before in
     let at-push-layer = at-walk-nodes .before .before .before .before .before .before .before .before .before .before .before .before .before .before
-        .before .before .before .before .before .before .before .before .before .before .before .before .before in
+    .before .before .before .before .before .before .before .before .before .before .before .before .before in
     at-pop-at .pop-at .kept .1 .1 .1 .1 .1 .1 .1 .0 ∙ at-walk-nodes .walk-nodes .kept .1 .1 .1 .1 .1 .1 .1 .1 .1 .1 .0 ∙
     at-push-layer .push-layer .kept .1 .1 .1 .1 .1 .0
 
 walk-layer-same-length-32 : (t : ℕ) → walk-layer-lts.Need-same-length-32 (layer-claims t) (walk-layer-at t) walk-layer.Post
 walk-layer-same-length-32 t c =
     let at-walk-nodes = c .before .before .before .before .before .before .before .before .before .before .before .before .before .before .before
-        .before .before .before .before .before .before .before .before .before .before .before .before .before .before .before .before .before .before
-        .before .before .before .before in
+    .before .before .before .before .before .before .before .before .before .before .before .before .before .before .before .before .before .before
+    .before .before .before .before in
     at-walk-nodes .walk-nodes .kept .1 .1 .1 .1 .1 .1 .1 .1 .1 .1 .1 .0
 
 walk-layer-same-length-33 : (t : ℕ) → walk-layer-lts.Need-same-length-33 (layer-claims t) (walk-layer-at t) walk-layer.Post
 walk-layer-same-length-33 t c =
     let at-pop-at = c .before .before .before .before .before .before .before .before .before .before .before .before in
     let at-walk-nodes = at-pop-at .before .before .before .before .before .before .before .before .before .before .before .before .before .before
-        .before .before .before .before .before .before .before .before .before .before .before in
+    .before .before .before .before .before .before .before .before .before .before .before in
     at-pop-at .pop-at .kept .1 .1 .1 .1 .1 .1 .1 .1 .0 ∙ at-walk-nodes .walk-nodes .kept .1 .1 .1 .1 .1 .1 .1 .1 .1 .1 .1 .1 .0
 
 walk-layer-same-length-34 : (t : ℕ) → walk-layer-lts.Need-same-length-34 (layer-claims t) (walk-layer-at t) walk-layer.Post
 walk-layer-same-length-34 t c =
     let at-walk-nodes = c .before .before .before .before .before .before .before .before .before .before .before .before .before .before .before
-        .before .before .before .before .before .before .before .before .before .before .before .before .before .before .before .before .before .before
-        .before .before .before .before in
+    .before .before .before .before .before .before .before .before .before .before .before .before .before .before .before .before .before .before
+    .before .before .before .before in
     at-walk-nodes .walk-nodes .kept .1 .1 .1 .1 .1 .1 .1 .1 .1 .1 .1 .1 .1 .0
 
 walk-layer-returns-6 : (t : ℕ) → walk-layer-lts.Need-returns-6 (layer-claims t) (walk-layer-at t) walk-layer.Post
@@ -516,7 +625,7 @@ walk-layer-returns-6 t c =
     let at-if5 = at-pop-at .before .before .before .before .before .before .before .before in
     let at-number2 = at-if5 .before in
     let at-walk-nodes = at-number2 .before .before .before .before .before .before .before .before .before .before .before .before .before .before
-        .before .before in
+    .before .before in
     let at-wide3 = at-walk-nodes .before .before .before .before .before .before .before .before .before in
     let at-wide2 = at-wide3 .before .before in
     let at-if4 = at-wide2 .before .before .before in
@@ -531,8 +640,10 @@ walk-layer-returns-6 t c =
     let s = back in
     λ u. closed (recorded (s .args .l) (s .args .w .now)) (layer-from (s .args .w .now) (s .args .l .layers .at + 22 * at-wide .wide .result))
     (at-if2 .if2 .left) _ _ _ (push-step u _ _ _ _ _ _ _ _ _ _ _ _ _ (rw (at-props-at .props-at .ensures) at (at-push-layer .push-layer .ensures))) _
-    (at-if4 .if4 .left) (sym (at-number .number .ensures) ∙ at-if3 .if3 .left) _ _ (rw (at-wide2 .wide2 .ensures,
-    at-wide3 .wide3 .ensures) at (at-walk-nodes .walk-nodes .ensures u)) (sym (at-number2 .number2 .ensures) ∙ at-if5 .if5 .left) _ (pop-step u _ _ _ _ _ _ _ _
+    (at-if4 .if4 .left) (sym (at-number .number .ensures) ∙ at-if3 .if3 .left) _ _ (rw (
+      at-wide2 .wide2 .ensures,
+      at-wide3 .wide3 .ensures,
+    ) at (at-walk-nodes .walk-nodes .ensures u)) (sym (at-number2 .number2 .ensures) ∙ at-if5 .if5 .left) _ (pop-step u _ _ _ _ _ _ _ _
     _ _ _ _ _ _ (at-pop-at .pop-at .ensures)) ∙ sym (names-one (s .args .l) (s .args .w .now) _ _ _ (at-wide .wide .result) (at-wide .wide .ensures)
     (at-if1 .if1 .left) (s .pre .1 .1))
 
@@ -570,8 +681,13 @@ walk-nodes-add-at t c =
     let at-loop = at-loop-test .before in
     let back = at-loop .before .before .before .before .before .before .before .before .before .before in
     let s = back in
-    omega (arith, at-loop-test .loop-test .taken, s .pre .1 .1 .1, s .pre .1 .0 .fits .nodes .few,
-    node-room (s .args .l) (s .args .w .now) (s .pre .1 .0) (at-loop .loop .i) (omega (arith, at-loop-test .loop-test .taken, s .pre .1 .1 .1)))
+    omega (
+      arith,
+      at-loop-test .loop-test .taken,
+      s .pre .1 .1 .1,
+      s .pre .1 .0 .fits .nodes .few,
+      node-room (s .args .l) (s .args .w .now) (s .pre .1 .0) (at-loop .loop .i) (omega (arith, at-loop-test .loop-test .taken, s .pre .1 .1 .1)),
+    )
 
 walk-nodes-mul-wide : (t : ℕ) → walk-nodes-lts.Need-mul-wide (nodes-claims t) (walk-nodes-at t) walk-nodes.Post walk-nodes-Inv-loop walk-nodes-μ-loop
 walk-nodes-mul-wide t c =
@@ -625,11 +741,26 @@ walk-nodes-walk-draws-requires t c κs =
     let at-loop-test = at-wide .before .before .before in
     let at-loop = at-loop-test .before in
     let back = at-loop .before .before .before .before .before .before .before .before .before .before in
-    let s = back in
-    (s .pre .1 .0 .fits, (omega (arith, at-wide .wide .ensures, at-wide2 .wide2 .ensures,
-    node-range (s .args .l) (s .args .w .now) (s .pre .1 .0) (at-loop .loop .i) (omega (arith, at-loop-test .loop-test .taken, s .pre .1 .1 .1)) .0),
-    omega (arith, at-wide2 .wide2 .ensures, node-range (s .args .l) (s .args .w .now) (s .pre .1 .0) (at-loop .loop .i) (omega (arith,
-    at-loop-test .loop-test .taken, s .pre .1 .1 .1)) .1 .0)))
+    let s = back in (
+      s .pre .1 .0 .fits,
+      (
+        omega (
+          arith,
+          at-wide .wide .ensures,
+          at-wide2 .wide2 .ensures,
+          node-range (s .args .l) (s .args .w .now) (s .pre .1 .0) (at-loop .loop .i) (omega (arith, at-loop-test .loop-test .taken, s .pre .1 .1 .1)) .0,
+        ),
+        omega (
+          arith,
+          at-wide2 .wide2 .ensures,
+          node-range (s .args .l) (s .args .w .now) (s .pre .1 .0) (at-loop .loop .i) (omega (
+            arith,
+            at-loop-test .loop-test .taken,
+            s .pre .1 .1 .1,
+          )) .1 .0,
+        ),
+      ),
+    )
 
 walk-nodes-number-requires : (t : ℕ) → walk-nodes-lts.Need-number-requires (nodes-claims t) (walk-nodes-at t) walk-nodes.Post walk-nodes-Inv-loop walk-nodes-μ-loop
 walk-nodes-number-requires t c κs = search needs
@@ -655,13 +786,13 @@ walk-nodes-same-length-3 t c =
 walk-nodes-same-length-4 : (t : ℕ) → walk-nodes-lts.Need-same-length-4 (nodes-claims t) (walk-nodes-at t) walk-nodes.Post walk-nodes-Inv-loop walk-nodes-μ-loop
 walk-nodes-same-length-4 t c =
     let at-loop = c .before .before .before .before .before .before .before .before .before .before .before .before .before .before .before .before
-        .before .before .before .before .before in
+    .before .before .before .before .before in
     at-loop .loop .inv .1 .1 .1 .1 .0
 
 walk-nodes-same-length-5 : (t : ℕ) → walk-nodes-lts.Need-same-length-5 (nodes-claims t) (walk-nodes-at t) walk-nodes.Post walk-nodes-Inv-loop walk-nodes-μ-loop
 walk-nodes-same-length-5 t c =
     let at-loop = c .before .before .before .before .before .before .before .before .before .before .before .before .before .before .before .before
-        .before .before .before .before .before in
+    .before .before .before .before .before in
     at-loop .loop .inv .1 .1 .1 .1 .1 .0
 
 walk-nodes-same-length-6 : (t : ℕ) → walk-nodes-lts.Need-same-length-6 (nodes-claims t) (walk-nodes-at t) walk-nodes.Post walk-nodes-Inv-loop walk-nodes-μ-loop
@@ -673,13 +804,13 @@ walk-nodes-same-length-6 t c =
 walk-nodes-same-length-7 : (t : ℕ) → walk-nodes-lts.Need-same-length-7 (nodes-claims t) (walk-nodes-at t) walk-nodes.Post walk-nodes-Inv-loop walk-nodes-μ-loop
 walk-nodes-same-length-7 t c =
     let at-loop = c .before .before .before .before .before .before .before .before .before .before .before .before .before .before .before .before
-        .before .before .before .before .before in
+    .before .before .before .before .before in
     at-loop .loop .inv .1 .1 .1 .1 .1 .1 .1 .0
 
 walk-nodes-same-length-8 : (t : ℕ) → walk-nodes-lts.Need-same-length-8 (nodes-claims t) (walk-nodes-at t) walk-nodes.Post walk-nodes-Inv-loop walk-nodes-μ-loop
 walk-nodes-same-length-8 t c =
     let at-loop = c .before .before .before .before .before .before .before .before .before .before .before .before .before .before .before .before
-        .before .before .before .before .before in
+    .before .before .before .before .before in
     at-loop .loop .inv .1 .1 .1 .1 .1 .1 .1 .1 .0
 
 walk-nodes-returns : (t : ℕ) → walk-nodes-lts.Need-returns (nodes-claims t) (walk-nodes-at t) walk-nodes.Post walk-nodes-Inv-loop walk-nodes-μ-loop
@@ -693,13 +824,15 @@ walk-nodes-returns t c =
     let s = back in
     draws-refused (at-loop .loop .inv .1 .1 .1 .1 .1 .1 .1 .1 .1) (at-loop-test .loop-test .taken) (s .pre .1 .1 .1) _ _ (λ u. draws-work (s .args .l)
     (s .args .w .now) (getD (s .args .w .now) (s .args .l .nodes .at + 3 * at-loop .loop .i) 0) (getD (s .args .w .now) ((s .args .l .nodes .at + 3 *
-    at-loop .loop .i) + 1) 0) u _ _ _ _ _ _ _ _ _ _ _ (λ v. rw (at-wide .wide .ensures,
-    at-wide2 .wide2 .ensures) at (at-walk-draws .walk-draws .ensures v))) (λ z. c .if1 .taken (c .before .number .ensures ∙ z))
+    at-loop .loop .i) + 1) 0) u _ _ _ _ _ _ _ _ _ _ _ (λ v. rw (
+      at-wide .wide .ensures,
+      at-wide2 .wide2 .ensures,
+    ) at (at-walk-draws .walk-draws .ensures v))) (λ z. c .if1 .taken (c .before .number .ensures ∙ z))
 
 walk-nodes-add-walk-layer : (t : ℕ) → walk-nodes-lts.Need-add-walk-layer (nodes-claims t) (walk-nodes-at t) walk-nodes.Post walk-nodes-Inv-loop walk-nodes-μ-loop
 walk-nodes-add-walk-layer t c =
     let at-loop-test = c .before .before .before .before .before .before .before .before .before .before .before .before .before .before .before .before
-        .before .before .before .before .before in
+    .before .before .before .before .before in
     let at-loop = at-loop-test .before in
     let back = at-loop .before .before .before .before .before .before .before .before .before .before in
     let s = back in
@@ -708,7 +841,7 @@ walk-nodes-add-walk-layer t c =
 walk-nodes-mul-walk-layer : (t : ℕ) → walk-nodes-lts.Need-mul-walk-layer (nodes-claims t) (walk-nodes-at t) walk-nodes.Post walk-nodes-Inv-loop walk-nodes-μ-loop
 walk-nodes-mul-walk-layer t c =
     let at-loop-test = c .before .before .before .before .before .before .before .before .before .before .before .before .before .before .before .before
-        .before .before .before .before .before in
+    .before .before .before .before .before in
     let at-loop = at-loop-test .before in
     let back = at-loop .before .before .before .before .before .before .before .before .before .before in
     let s = back in
@@ -727,7 +860,7 @@ walk-nodes-shared-slice-read-walk-layer :
     ) (walk-nodes-at t) walk-nodes.Post walk-nodes-Inv-loop walk-nodes-μ-loop
 walk-nodes-shared-slice-read-walk-layer t c =
     let at-loop-test = c .before .before .before .before .before .before .before .before .before .before .before .before .before .before .before .before
-        .before .before .before .before .before .before in
+    .before .before .before .before .before .before in
     let at-loop = at-loop-test .before in
     let back = at-loop .before .before .before .before .before .before .before .before .before .before in
     let s = back in
@@ -736,12 +869,20 @@ walk-nodes-shared-slice-read-walk-layer t c =
 walk-nodes-walk-layer-requires : (t : ℕ) → walk-nodes-lts.Need-walk-layer-requires (nodes-claims t) (walk-nodes-at t) walk-nodes.Post walk-nodes-Inv-loop walk-nodes-μ-loop
 walk-nodes-walk-layer-requires t c κs =
     let at-loop-test = c .before .before .before .before .before .before .before .before .before .before .before .before .before .before .before .before
-        .before .before .before .before .before .before .before .before .before .before .before .before .before .before in
+    .before .before .before .before .before .before .before .before .before .before .before .before .before .before in
     let at-loop = at-loop-test .before in
     let back = at-loop .before .before .before .before .before .before .before .before .before .before in
-    let s = back in
-    (omega (arith, s .pre .0), (s .pre .1 .0, node-range (s .args .l) (s .args .w .now) (s .pre .1 .0) (at-loop .loop .i) (omega (arith,
-    at-loop-test .loop-test .taken, s .pre .1 .1 .1)) .1 .1))
+    let s = back in (
+      omega (arith, s .pre .0),
+      (
+        s .pre .1 .0,
+        node-range (s .args .l) (s .args .w .now) (s .pre .1 .0) (at-loop .loop .i) (omega (
+          arith,
+          at-loop-test .loop-test .taken,
+          s .pre .1 .1 .1,
+        )) .1 .1,
+      ),
+    )
 
 walk-nodes-number-requires-2 : (t : ℕ) → walk-nodes-lts.Need-number-requires-2 (nodes-claims t) (walk-nodes-at t) walk-nodes.Post walk-nodes-Inv-loop walk-nodes-μ-loop
 walk-nodes-number-requires-2 t c κs = search needs
@@ -749,52 +890,52 @@ walk-nodes-number-requires-2 t c κs = search needs
 walk-nodes-same-length-9 : (t : ℕ) → walk-nodes-lts.Need-same-length-9 (nodes-claims t) (walk-nodes-at t) walk-nodes.Post walk-nodes-Inv-loop walk-nodes-μ-loop
 walk-nodes-same-length-9 t c =
     let at-walk-layer = c .before .before .before .before .before .before .before .before .before .before .before .before .before .before .before
-        .before .before in
+    .before .before in
     let at-walk-draws = at-walk-layer .before .before .before .before .before .before .before .before .before .before .before .before .before .before
-        .before .before .before .before .before .before .before in
+    .before .before .before .before .before .before .before in
     let at-loop = at-walk-draws .before .before .before .before .before .before .before .before .before .before .before in
     at-walk-layer .walk-layer .kept .1 .1 .1 .1 .1 .0 ∙ at-walk-draws .walk-draws .kept .1 .1 .1 .1 .1 .0 ∙ at-loop .loop .inv .1 .0
 
 walk-nodes-same-length-10 : (t : ℕ) → walk-nodes-lts.Need-same-length-10 (nodes-claims t) (walk-nodes-at t) walk-nodes.Post walk-nodes-Inv-loop walk-nodes-μ-loop
 walk-nodes-same-length-10 t c =
     let at-walk-layer = c .before .before .before .before .before .before .before .before .before .before .before .before .before .before .before
-        .before .before in
+    .before .before in
     let at-walk-draws = at-walk-layer .before .before .before .before .before .before .before .before .before .before .before .before .before .before
-        .before .before .before .before .before .before .before in
+    .before .before .before .before .before .before .before in
     let at-loop = at-walk-draws .before .before .before .before .before .before .before .before .before .before .before in
     at-walk-layer .walk-layer .kept .1 .1 .1 .1 .1 .1 .0 ∙ at-walk-draws .walk-draws .kept .1 .1 .1 .1 .1 .1 .0 ∙ at-loop .loop .inv .1 .1 .0
 
 walk-nodes-same-length-11 : (t : ℕ) → walk-nodes-lts.Need-same-length-11 (nodes-claims t) (walk-nodes-at t) walk-nodes.Post walk-nodes-Inv-loop walk-nodes-μ-loop
 walk-nodes-same-length-11 t c =
     let at-walk-layer = c .before .before .before .before .before .before .before .before .before .before .before .before .before .before .before
-        .before .before in
+    .before .before in
     let at-walk-draws = at-walk-layer .before .before .before .before .before .before .before .before .before .before .before .before .before .before
-        .before .before .before .before .before .before .before in
+    .before .before .before .before .before .before .before in
     let at-loop = at-walk-draws .before .before .before .before .before .before .before .before .before .before .before in
     at-walk-layer .walk-layer .kept .1 .1 .1 .1 .1 .1 .1 .0 ∙ at-walk-draws .walk-draws .kept .1 .1 .1 .1 .1 .1 .1 .0 ∙ at-loop .loop .inv .1 .1 .1 .0
 
 walk-nodes-same-length-12 : (t : ℕ) → walk-nodes-lts.Need-same-length-12 (nodes-claims t) (walk-nodes-at t) walk-nodes.Post walk-nodes-Inv-loop walk-nodes-μ-loop
 walk-nodes-same-length-12 t c =
     let at-walk-layer = c .before .before .before .before .before .before .before .before .before .before .before .before .before .before .before
-        .before .before in
+    .before .before in
     let at-loop = at-walk-layer .before .before .before .before .before .before .before .before .before .before .before .before .before .before .before
-        .before .before .before .before .before .before .before .before .before .before .before .before .before .before .before .before .before in
+    .before .before .before .before .before .before .before .before .before .before .before .before .before .before .before .before .before in
     at-walk-layer .walk-layer .kept .1 .1 .1 .1 .1 .1 .1 .1 .0 ∙ at-loop .loop .inv .1 .1 .1 .1 .0
 
 walk-nodes-same-length-13 : (t : ℕ) → walk-nodes-lts.Need-same-length-13 (nodes-claims t) (walk-nodes-at t) walk-nodes.Post walk-nodes-Inv-loop walk-nodes-μ-loop
 walk-nodes-same-length-13 t c =
     let at-walk-layer = c .before .before .before .before .before .before .before .before .before .before .before .before .before .before .before
-        .before .before in
+    .before .before in
     let at-loop = at-walk-layer .before .before .before .before .before .before .before .before .before .before .before .before .before .before .before
-        .before .before .before .before .before .before .before .before .before .before .before .before .before .before .before .before .before in
+    .before .before .before .before .before .before .before .before .before .before .before .before .before .before .before .before .before in
     at-walk-layer .walk-layer .kept .1 .1 .1 .1 .1 .1 .1 .1 .1 .0 ∙ at-loop .loop .inv .1 .1 .1 .1 .1 .0
 
 walk-nodes-same-length-14 : (t : ℕ) → walk-nodes-lts.Need-same-length-14 (nodes-claims t) (walk-nodes-at t) walk-nodes.Post walk-nodes-Inv-loop walk-nodes-μ-loop
 walk-nodes-same-length-14 t c =
     let at-walk-layer = c .before .before .before .before .before .before .before .before .before .before .before .before .before .before .before
-        .before .before in
+    .before .before in
     let at-walk-draws = at-walk-layer .before .before .before .before .before .before .before .before .before .before .before .before .before .before
-        .before .before .before .before .before .before .before in
+    .before .before .before .before .before .before .before in
     let at-loop = at-walk-draws .before .before .before .before .before .before .before .before .before .before .before in
     at-walk-layer .walk-layer .kept .1 .1 .1 .1 .1 .1 .1 .1 .1 .1 .0 ∙ at-walk-draws .walk-draws .kept .1 .1 .1 .1 .1 .1 .1 .1 .0 ∙
     at-loop .loop .inv .1 .1 .1 .1 .1 .1 .0
@@ -802,23 +943,23 @@ walk-nodes-same-length-14 t c =
 walk-nodes-same-length-15 : (t : ℕ) → walk-nodes-lts.Need-same-length-15 (nodes-claims t) (walk-nodes-at t) walk-nodes.Post walk-nodes-Inv-loop walk-nodes-μ-loop
 walk-nodes-same-length-15 t c =
     let at-walk-layer = c .before .before .before .before .before .before .before .before .before .before .before .before .before .before .before
-        .before .before in
+    .before .before in
     let at-loop = at-walk-layer .before .before .before .before .before .before .before .before .before .before .before .before .before .before .before
-        .before .before .before .before .before .before .before .before .before .before .before .before .before .before .before .before .before in
+    .before .before .before .before .before .before .before .before .before .before .before .before .before .before .before .before .before in
     at-walk-layer .walk-layer .kept .1 .1 .1 .1 .1 .1 .1 .1 .1 .1 .1 .0 ∙ at-loop .loop .inv .1 .1 .1 .1 .1 .1 .1 .0
 
 walk-nodes-same-length-16 : (t : ℕ) → walk-nodes-lts.Need-same-length-16 (nodes-claims t) (walk-nodes-at t) walk-nodes.Post walk-nodes-Inv-loop walk-nodes-μ-loop
 walk-nodes-same-length-16 t c =
     let at-walk-layer = c .before .before .before .before .before .before .before .before .before .before .before .before .before .before .before
-        .before .before in
+    .before .before in
     let at-loop = at-walk-layer .before .before .before .before .before .before .before .before .before .before .before .before .before .before .before
-        .before .before .before .before .before .before .before .before .before .before .before .before .before .before .before .before .before in
+    .before .before .before .before .before .before .before .before .before .before .before .before .before .before .before .before .before in
     at-walk-layer .walk-layer .kept .1 .1 .1 .1 .1 .1 .1 .1 .1 .1 .1 .1 .0 ∙ at-loop .loop .inv .1 .1 .1 .1 .1 .1 .1 .1 .0
 
 walk-nodes-returns-2 : (t : ℕ) → walk-nodes-lts.Need-returns-2 (nodes-claims t) (walk-nodes-at t) walk-nodes.Post walk-nodes-Inv-loop walk-nodes-μ-loop
 walk-nodes-returns-2 t c =
     let at-walk-layer = c .before .before .before .before .before .before .before .before .before .before .before .before .before .before .before
-        .before .before in
+    .before .before in
     let at-if1 = at-walk-layer .before .before .before .before .before .before .before .before .before .before .before in
     let at-number = at-if1 .before in
     let at-walk-draws = at-number .before .before .before .before .before .before .before .before .before in
@@ -830,15 +971,17 @@ walk-nodes-returns-2 t c =
     let s = back in
     layer-refused (at-loop .loop .inv .1 .1 .1 .1 .1 .1 .1 .1 .1) (at-loop-test .loop-test .taken) (s .pre .1 .1 .1) _ _ (λ u. draws-work (s .args .l)
     (s .args .w .now) (getD (s .args .w .now) (s .args .l .nodes .at + 3 * at-loop .loop .i) 0) (getD (s .args .w .now) ((s .args .l .nodes .at + 3 *
-    at-loop .loop .i) + 1) 0) u _ _ _ _ _ _ _ _ _ _ _ (λ v. rw (at-wide .wide .ensures,
-    at-wide2 .wide2 .ensures) at (at-walk-draws .walk-draws .ensures v))) (sym (at-number .number .ensures) ∙ at-if1 .if1 .left) _ _
+    at-loop .loop .i) + 1) 0) u _ _ _ _ _ _ _ _ _ _ _ (λ v. rw (
+      at-wide .wide .ensures,
+      at-wide2 .wide2 .ensures,
+    ) at (at-walk-draws .walk-draws .ensures v))) (sym (at-number .number .ensures) ∙ at-if1 .if1 .left) _ _
     (at-walk-layer .walk-layer .ensures) (λ z. c .if2 .taken (c .before .number2 .ensures ∙ z))
 
 walk-nodes-add-i : (t : ℕ) → walk-nodes-lts.Need-add-i (nodes-claims t) (walk-nodes-at t) walk-nodes.Post walk-nodes-Inv-loop walk-nodes-μ-loop
 walk-nodes-add-i t c =
     let at-loop-test = c .before .before .before .before .before .before .before .before .before .before .before .before .before .before .before .before
-        .before .before .before .before .before .before .before .before .before .before .before .before .before .before .before .before .before .before
-        .before .before .before .before .before .before .before .before .before .before .before .before .before .before .before in
+    .before .before .before .before .before .before .before .before .before .before .before .before .before .before .before .before .before .before
+    .before .before .before .before .before .before .before .before .before .before .before .before .before .before .before in
     let back = at-loop-test .before .before .before .before .before .before .before .before .before .before .before in
     let s = back in
     omega (arith, at-loop-test .loop-test .taken, s .pre .1 .1 .1, s .pre .1 .0 .fits .nodes .few)
@@ -846,15 +989,15 @@ walk-nodes-add-i t c =
 walk-nodes-loop-less : (t : ℕ) → walk-nodes-lts.Need-loop-less (nodes-claims t) (walk-nodes-at t) walk-nodes.Post walk-nodes-Inv-loop walk-nodes-μ-loop
 walk-nodes-loop-less t c =
     let at-loop-test = c .before .before .before .before .before .before .before .before .before .before .before .before .before .before .before .before
-        .before .before .before .before .before .before .before .before .before .before .before .before .before .before .before .before .before .before
-        .before .before .before .before .before .before .before .before .before .before .before .before .before .before .before in
+    .before .before .before .before .before .before .before .before .before .before .before .before .before .before .before .before .before .before
+    .before .before .before .before .before .before .before .before .before .before .before .before .before .before .before in
     omega (arith, at-loop-test .loop-test .taken)
 
 walk-nodes-loop-again : (t : ℕ) → walk-nodes-lts.Need-loop-again (nodes-claims t) (walk-nodes-at t) walk-nodes.Post walk-nodes-Inv-loop walk-nodes-μ-loop
 walk-nodes-loop-again t c =
     let at-number2 = c .before .before in
     let at-walk-layer = at-number2 .before .before .before .before .before .before .before .before .before .before .before .before .before .before
-        .before .before in
+    .before .before in
     let at-if1 = at-walk-layer .before .before .before .before .before .before .before .before .before .before .before in
     let at-number = at-if1 .before in
     let at-walk-draws = at-number .before .before .before .before .before .before .before .before .before in
@@ -863,20 +1006,44 @@ walk-nodes-loop-again t c =
     let at-loop-test = at-wide .before .before .before in
     let at-loop = at-loop-test .before in
     let back = at-loop .before .before .before .before .before .before .before .before .before .before in
-    let s = back in
-    (omega (arith, at-loop-test .loop-test .taken), (at-walk-layer .walk-layer .kept .1 .1 .1 .1 .1 .0 ∙ at-walk-draws .walk-draws .kept .1 .1 .1 .1 .1 .0 ∙
-    at-loop .loop .inv .1 .0, (at-walk-layer .walk-layer .kept .1 .1 .1 .1 .1 .1 .0 ∙ at-walk-draws .walk-draws .kept .1 .1 .1 .1 .1 .1 .0 ∙
-    at-loop .loop .inv .1 .1 .0, (at-walk-layer .walk-layer .kept .1 .1 .1 .1 .1 .1 .1 .0 ∙ at-walk-draws .walk-draws .kept .1 .1 .1 .1 .1 .1 .1 .0 ∙
-    at-loop .loop .inv .1 .1 .1 .0, (at-walk-layer .walk-layer .kept .1 .1 .1 .1 .1 .1 .1 .1 .0 ∙ at-loop .loop .inv .1 .1 .1 .1 .0,
-    (at-walk-layer .walk-layer .kept .1 .1 .1 .1 .1 .1 .1 .1 .1 .0 ∙ at-loop .loop .inv .1 .1 .1 .1 .1 .0,
-    (at-walk-layer .walk-layer .kept .1 .1 .1 .1 .1 .1 .1 .1 .1 .1 .0 ∙ at-walk-draws .walk-draws .kept .1 .1 .1 .1 .1 .1 .1 .1 .0 ∙
-    at-loop .loop .inv .1 .1 .1 .1 .1 .1 .0, (at-walk-layer .walk-layer .kept .1 .1 .1 .1 .1 .1 .1 .1 .1 .1 .1 .0 ∙ at-loop .loop .inv .1 .1 .1 .1 .1 .1 .1 .0,
-    (at-walk-layer .walk-layer .kept .1 .1 .1 .1 .1 .1 .1 .1 .1 .1 .1 .1 .0 ∙ at-loop .loop .inv .1 .1 .1 .1 .1 .1 .1 .1 .0,
-    node-turned (at-loop .loop .inv .1 .1 .1 .1 .1 .1 .1 .1 .1) (at-loop-test .loop-test .taken) (s .pre .1 .1 .1) _ _ (λ u. draws-work (s .args .l)
-    (s .args .w .now) (getD (s .args .w .now) (s .args .l .nodes .at + 3 * at-loop .loop .i) 0) (getD (s .args .w .now) ((s .args .l .nodes .at + 3 *
-    at-loop .loop .i) + 1) 0) u _ _ _ _ _ _ _ _ _ _ _ (λ v. rw (at-wide .wide .ensures,
-    at-wide2 .wide2 .ensures) at (at-walk-draws .walk-draws .ensures v))) (sym (at-number .number .ensures) ∙ at-if1 .if1 .left) _ _
-    (at-walk-layer .walk-layer .ensures) (sym (at-number2 .number2 .ensures) ∙ c .before .if2 .left))))))))))
+    let s = back in (
+      omega (arith, at-loop-test .loop-test .taken),
+      (
+        at-walk-layer .walk-layer .kept .1 .1 .1 .1 .1 .0 ∙ at-walk-draws .walk-draws .kept .1 .1 .1 .1 .1 .0 ∙
+            at-loop .loop .inv .1 .0,
+        (
+          at-walk-layer .walk-layer .kept .1 .1 .1 .1 .1 .1 .0 ∙ at-walk-draws .walk-draws .kept .1 .1 .1 .1 .1 .1 .0 ∙
+              at-loop .loop .inv .1 .1 .0,
+          (
+            at-walk-layer .walk-layer .kept .1 .1 .1 .1 .1 .1 .1 .0 ∙ at-walk-draws .walk-draws .kept .1 .1 .1 .1 .1 .1 .1 .0 ∙
+                at-loop .loop .inv .1 .1 .1 .0,
+            (
+              at-walk-layer .walk-layer .kept .1 .1 .1 .1 .1 .1 .1 .1 .0 ∙ at-loop .loop .inv .1 .1 .1 .1 .0,
+              (
+                at-walk-layer .walk-layer .kept .1 .1 .1 .1 .1 .1 .1 .1 .1 .0 ∙ at-loop .loop .inv .1 .1 .1 .1 .1 .0,
+                (
+                  at-walk-layer .walk-layer .kept .1 .1 .1 .1 .1 .1 .1 .1 .1 .1 .0 ∙ at-walk-draws .walk-draws .kept .1 .1 .1 .1 .1 .1 .1 .1 .0 ∙
+                      at-loop .loop .inv .1 .1 .1 .1 .1 .1 .0,
+                  (
+                    at-walk-layer .walk-layer .kept .1 .1 .1 .1 .1 .1 .1 .1 .1 .1 .1 .0 ∙ at-loop .loop .inv .1 .1 .1 .1 .1 .1 .1 .0,
+                    (
+                      at-walk-layer .walk-layer .kept .1 .1 .1 .1 .1 .1 .1 .1 .1 .1 .1 .1 .0 ∙ at-loop .loop .inv .1 .1 .1 .1 .1 .1 .1 .1 .0,
+                      node-turned (at-loop .loop .inv .1 .1 .1 .1 .1 .1 .1 .1 .1) (at-loop-test .loop-test .taken) (s .pre .1 .1 .1) _ _ (λ u. draws-work (s .args .l)
+                          (s .args .w .now) (getD (s .args .w .now) (s .args .l .nodes .at + 3 * at-loop .loop .i) 0) (getD (s .args .w .now) ((s .args .l .nodes .at + 3 *
+                          at-loop .loop .i) + 1) 0) u _ _ _ _ _ _ _ _ _ _ _ (λ v. rw (
+                            at-wide .wide .ensures,
+                            at-wide2 .wide2 .ensures,
+                          ) at (at-walk-draws .walk-draws .ensures v))) (sym (at-number .number .ensures) ∙ at-if1 .if1 .left) _ _
+                          (at-walk-layer .walk-layer .ensures) (sym (at-number2 .number2 .ensures) ∙ c .before .if2 .left),
+                    ),
+                  ),
+                ),
+              ),
+            ),
+          ),
+        ),
+      ),
+    )
 
 walk-nodes-same-length-17 : (t : ℕ) → walk-nodes-lts.Need-same-length-17 (nodes-claims t) (walk-nodes-at t) walk-nodes.Post walk-nodes-Inv-loop walk-nodes-μ-loop
 walk-nodes-same-length-17 t c = c .before .loop .inv .1 .0

@@ -30,8 +30,12 @@ returns-4 c =
     let at-if2 = c .before .before .before in
     let at-if1 = at-if2 .before .before in
     let at-is-default = at-if1 .before in
-    rw (← at-is-default .is-default .ensures, not-false (at-is-default .is-default .result) (at-if1 .if1 .left), at-if2 .if2 .left,
-    eq-eqb _ _ (c .before .if3 .left)) (c .is-present .ensures)
+    rw (
+      ← at-is-default .is-default .ensures,
+      not-false (at-is-default .is-default .result) (at-if1 .if1 .left),
+      at-if2 .if2 .left,
+      eq-eqb _ _ (c .before .if3 .left),
+    ) (c .is-present .ensures)
 
 pub needs-buffer-spec : {M : Type 1} → statement M
 needs-buffer-spec =

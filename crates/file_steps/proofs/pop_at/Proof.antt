@@ -48,7 +48,7 @@ returns : tie.Need-returns
 returns c =
     let at-pop-layer = c .before .before .before .before .before .before .before .before .before .before .before .before in
     let back = at-pop-layer .before .before .before .before .before .before .before .before .before .before .before .before .before .before .before
-        .before .before in
+    .before .before in
     let s = back in
     at-pop-layer .pop-layer .ensures ∙ same-pop _ _ _ _ (segments-lent (s .args .l) (s .args .w .now) (s .pre)) (segments-lent-length (s .args .l)
     (s .args .w .now) (s .pre))

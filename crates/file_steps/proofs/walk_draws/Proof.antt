@@ -86,13 +86,23 @@ loop-again c =
     let at-loop-test = at-fill-draw .before .before .before .before .before in
     let at-loop = at-loop-test .before in
     let back = at-loop .before .before .before .before .before .before in
-    let s = back in
-    (omega (arith, at-loop-test .loop-test .taken), (at-fill-draw .fill-draw .kept .1 .1 .1 .1 .0 ∙ at-loop .loop .inv .1 .0,
-    (at-fill-draw .fill-draw .kept .1 .1 .1 .1 .1 .0 ∙ at-loop .loop .inv .1 .1 .0,
-    (at-fill-draw .fill-draw .kept .1 .1 .1 .1 .1 .1 .0 ∙ at-loop .loop .inv .1 .1 .1 .0,
-    (at-fill-draw .fill-draw .kept .1 .1 .1 .1 .1 .1 .1 .0 ∙ at-loop .loop .inv .1 .1 .1 .1 .0,
-    draw-turned (at-loop .loop .inv .1 .1 .1 .1 .1) (s .pre .0) (at-loop-test .loop-test .taken) (s .pre .1 .1) _ _ (at-fill-draw .fill-draw .ensures) (sym
-    (at-number .number .ensures) ∙ c .before .if1 .left))))))
+    let s = back in (
+      omega (arith, at-loop-test .loop-test .taken),
+      (
+        at-fill-draw .fill-draw .kept .1 .1 .1 .1 .0 ∙ at-loop .loop .inv .1 .0,
+        (
+          at-fill-draw .fill-draw .kept .1 .1 .1 .1 .1 .0 ∙ at-loop .loop .inv .1 .1 .0,
+          (
+            at-fill-draw .fill-draw .kept .1 .1 .1 .1 .1 .1 .0 ∙ at-loop .loop .inv .1 .1 .1 .0,
+            (
+              at-fill-draw .fill-draw .kept .1 .1 .1 .1 .1 .1 .1 .0 ∙ at-loop .loop .inv .1 .1 .1 .1 .0,
+              draw-turned (at-loop .loop .inv .1 .1 .1 .1 .1) (s .pre .0) (at-loop-test .loop-test .taken) (s .pre .1 .1) _ _ (at-fill-draw .fill-draw .ensures) (sym
+                  (at-number .number .ensures) ∙ c .before .if1 .left),
+            ),
+          ),
+        ),
+      ),
+    )
 
 same-length-5 : tie.Need-same-length-5 Inv-loop μ-loop
 same-length-5 c = c .before .loop .inv .1 .0

@@ -49,8 +49,10 @@ returns c =
     let back = at-shared-slice-known .before in
     let s = back in
     λ t. plain (recorded (s .args .l) (s .args .w .now)) (layer-from (s .args .w .now) (s .args .at)) (sym (at-needs-buffer .needs-buffer .ensures ∙ rw
-    (at-props-at .props-at .ensures) (buffered-by-bits (props-of (layer-from (s .args .w .now) (s .args .at))) (omega (arith,
-    at-shared-slice-known .shared-slice-known .given (s .args .at + 5))))) ∙ not-true _ (at-if1 .if1 .taken)) _ _ (filter-step t _ _ _ _ _ _ _ _ _ _ _ _ _ _
+    (at-props-at .props-at .ensures) (buffered-by-bits (props-of (layer-from (s .args .w .now) (s .args .at))) (omega (
+      arith,
+      at-shared-slice-known .shared-slice-known .given (s .args .at + 5),
+    )))) ∙ not-true _ (at-if1 .if1 .taken)) _ _ (filter-step t _ _ _ _ _ _ _ _ _ _ _ _ _ _
     (at-filter-at .filter-at .ensures))
 
 push-layer-requires : tie.Need-push-layer-requires
@@ -85,15 +87,17 @@ returns-2 c =
     let back = at-shared-slice-known .before in
     let s = back in
     λ t. not-pushed (recorded (s .args .l) (s .args .w .now)) (layer-from (s .args .w .now) (s .args .at)) (sym (at-needs-buffer .needs-buffer .ensures ∙ rw
-    (at-props-at .props-at .ensures) (buffered-by-bits (props-of (layer-from (s .args .w .now) (s .args .at))) (omega (arith,
-    at-shared-slice-known .shared-slice-known .given (s .args .at + 5))))) ∙ not-false _ (at-if1 .if1 .left)) _ _ _ (push-step t _ _ _ _ _ _ _ _ _ _ _ _ _ (rw
+    (at-props-at .props-at .ensures) (buffered-by-bits (props-of (layer-from (s .args .w .now) (s .args .at))) (omega (
+      arith,
+      at-shared-slice-known .shared-slice-known .given (s .args .at + 5),
+    )))) ∙ not-false _ (at-if1 .if1 .left)) _ _ _ (push-step t _ _ _ _ _ _ _ _ _ _ _ _ _ (rw
     (at-props-at .props-at .ensures) at (at-push-layer .push-layer .ensures))) (λ z. c .if2 .taken (c .before .number .ensures ∙ z))
 
 filter-at-requires-2 : tie.Need-filter-at-requires-2
 filter-at-requires-2 c κs =
     let at-pre = c .before .before .before .before .before .before .before .before .before .before .before .before .before .before .before .before
-        .before .before .before .before .before .before .before .before .before .before .before .before .before .before .before .before .before .before
-        .before in
+    .before .before .before .before .before .before .before .before .before .before .before .before .before .before .before .before .before .before
+    .before in
     at-pre .pre
 
 number-requires-2 : tie.Need-number-requires-2
@@ -103,21 +107,21 @@ same-length-11 : tie.Need-same-length-11
 same-length-11 c =
     let at-filter-at2 = c .before .before .before .before .before .before .before .before .before .before .before in
     let at-push-layer = at-filter-at2 .before .before .before .before .before .before .before .before .before .before .before .before .before .before
-        .before .before .before .before .before in
+    .before .before .before .before .before in
     at-filter-at2 .filter-at2 .kept .1 .1 .1 .1 .0 ∙ at-push-layer .push-layer .kept .1 .0
 
 same-length-12 : tie.Need-same-length-12
 same-length-12 c =
     let at-filter-at2 = c .before .before .before .before .before .before .before .before .before .before .before in
     let at-push-layer = at-filter-at2 .before .before .before .before .before .before .before .before .before .before .before .before .before .before
-        .before .before .before .before .before in
+    .before .before .before .before .before in
     at-filter-at2 .filter-at2 .kept .1 .1 .1 .1 .1 .0 ∙ at-push-layer .push-layer .kept .1 .1 .0
 
 same-length-13 : tie.Need-same-length-13
 same-length-13 c =
     let at-filter-at2 = c .before .before .before .before .before .before .before .before .before .before .before in
     let at-push-layer = at-filter-at2 .before .before .before .before .before .before .before .before .before .before .before .before .before .before
-        .before .before .before .before .before in
+    .before .before .before .before .before in
     at-filter-at2 .filter-at2 .kept .1 .1 .1 .1 .1 .1 .0 ∙ at-push-layer .push-layer .kept .1 .1 .1 .0
 
 same-length-14 : tie.Need-same-length-14
@@ -146,60 +150,62 @@ returns-3 c =
     let back = at-shared-slice-known .before in
     let s = back in
     λ t. not-drawn (recorded (s .args .l) (s .args .w .now)) (layer-from (s .args .w .now) (s .args .at)) (sym (at-needs-buffer .needs-buffer .ensures ∙ rw
-    (at-props-at .props-at .ensures) (buffered-by-bits (props-of (layer-from (s .args .w .now) (s .args .at))) (omega (arith,
-    at-shared-slice-known .shared-slice-known .given (s .args .at + 5))))) ∙ not-false _ (at-if1 .if1 .left)) _ _ _ (push-step t _ _ _ _ _ _ _ _ _ _ _ _ _ (rw
+    (at-props-at .props-at .ensures) (buffered-by-bits (props-of (layer-from (s .args .w .now) (s .args .at))) (omega (
+      arith,
+      at-shared-slice-known .shared-slice-known .given (s .args .at + 5),
+    )))) ∙ not-false _ (at-if1 .if1 .left)) _ _ _ (push-step t _ _ _ _ _ _ _ _ _ _ _ _ _ (rw
     (at-props-at .props-at .ensures) at (at-push-layer .push-layer .ensures))) (sym (at-number .number .ensures) ∙ at-if2 .if2 .left) _ _ (filter-step t _ _ _ _
     _ _ _ _ _ _ _ _ _ _ (at-filter-at2 .filter-at2 .ensures)) (λ z. c .if3 .taken (c .before .number2 .ensures ∙ z))
 
 pop-at-requires : tie.Need-pop-at-requires
 pop-at-requires c κs =
     let at-pre = c .before .before .before .before .before .before .before .before .before .before .before .before .before .before .before .before
-        .before .before .before .before .before .before .before .before .before .before .before .before .before .before .before .before .before .before
-        .before .before .before .before .before .before .before .before .before .before .before .before .before .before .before .before .before .before
-        .before .before in
+    .before .before .before .before .before .before .before .before .before .before .before .before .before .before .before .before .before .before
+    .before .before .before .before .before .before .before .before .before .before .before .before .before .before .before .before .before .before
+    .before .before in
     at-pre .pre .0
 
 same-length-18 : tie.Need-same-length-18
 same-length-18 c =
     let at-pop-at = c .before .before .before .before .before .before .before .before .before .before .before .before in
     let at-filter-at2 = at-pop-at .before .before .before .before .before .before .before .before .before .before .before .before .before .before
-        .before .before .before .before .before in
+    .before .before .before .before .before in
     let at-push-layer = at-filter-at2 .before .before .before .before .before .before .before .before .before .before .before .before .before .before
-        .before .before .before .before .before in
+    .before .before .before .before .before in
     at-pop-at .pop-at .kept .1 .1 .1 .0 ∙ at-filter-at2 .filter-at2 .kept .1 .1 .1 .1 .0 ∙ at-push-layer .push-layer .kept .1 .0
 
 same-length-19 : tie.Need-same-length-19
 same-length-19 c =
     let at-pop-at = c .before .before .before .before .before .before .before .before .before .before .before .before in
     let at-filter-at2 = at-pop-at .before .before .before .before .before .before .before .before .before .before .before .before .before .before
-        .before .before .before .before .before in
+    .before .before .before .before .before in
     let at-push-layer = at-filter-at2 .before .before .before .before .before .before .before .before .before .before .before .before .before .before
-        .before .before .before .before .before in
+    .before .before .before .before .before in
     at-pop-at .pop-at .kept .1 .1 .1 .1 .0 ∙ at-filter-at2 .filter-at2 .kept .1 .1 .1 .1 .1 .0 ∙ at-push-layer .push-layer .kept .1 .1 .0
 
 same-length-20 : tie.Need-same-length-20
 same-length-20 c =
     let at-pop-at = c .before .before .before .before .before .before .before .before .before .before .before .before in
     let at-filter-at2 = at-pop-at .before .before .before .before .before .before .before .before .before .before .before .before .before .before
-        .before .before .before .before .before in
+    .before .before .before .before .before in
     let at-push-layer = at-filter-at2 .before .before .before .before .before .before .before .before .before .before .before .before .before .before
-        .before .before .before .before .before in
+    .before .before .before .before .before in
     at-pop-at .pop-at .kept .1 .1 .1 .1 .1 .0 ∙ at-filter-at2 .filter-at2 .kept .1 .1 .1 .1 .1 .1 .0 ∙ at-push-layer .push-layer .kept .1 .1 .1 .0
 
 same-length-21 : tie.Need-same-length-21
 same-length-21 c =
     let at-pop-at = c .before .before .before .before .before .before .before .before .before .before .before .before in
     let at-push-layer = at-pop-at .before .before .before .before .before .before .before .before .before .before .before .before .before .before
-        .before .before .before .before .before .before .before .before .before .before .before .before .before .before .before .before .before .before
-        .before .before .before .before .before .before in
+    .before .before .before .before .before .before .before .before .before .before .before .before .before .before .before .before .before .before
+    .before .before .before .before .before .before in
     at-pop-at .pop-at .kept .1 .1 .1 .1 .1 .1 .0 ∙ at-push-layer .push-layer .kept .1 .1 .1 .1 .0
 
 same-length-22 : tie.Need-same-length-22
 same-length-22 c =
     let at-pop-at = c .before .before .before .before .before .before .before .before .before .before .before .before in
     let at-push-layer = at-pop-at .before .before .before .before .before .before .before .before .before .before .before .before .before .before
-        .before .before .before .before .before .before .before .before .before .before .before .before .before .before .before .before .before .before
-        .before .before .before .before .before .before in
+    .before .before .before .before .before .before .before .before .before .before .before .before .before .before .before .before .before .before
+    .before .before .before .before .before .before in
     at-pop-at .pop-at .kept .1 .1 .1 .1 .1 .1 .1 .0 ∙ at-push-layer .push-layer .kept .1 .1 .1 .1 .1 .0
 
 same-length-23 : tie.Need-same-length-23
@@ -228,8 +234,10 @@ returns-4 c =
     let back = at-shared-slice-known .before in
     let s = back in
     λ t. closed (recorded (s .args .l) (s .args .w .now)) (layer-from (s .args .w .now) (s .args .at)) (sym (at-needs-buffer .needs-buffer .ensures ∙ rw
-    (at-props-at .props-at .ensures) (buffered-by-bits (props-of (layer-from (s .args .w .now) (s .args .at))) (omega (arith,
-    at-shared-slice-known .shared-slice-known .given (s .args .at + 5))))) ∙ not-false _ (at-if1 .if1 .left)) _ _ _ (push-step t _ _ _ _ _ _ _ _ _ _ _ _ _ (rw
+    (at-props-at .props-at .ensures) (buffered-by-bits (props-of (layer-from (s .args .w .now) (s .args .at))) (omega (
+      arith,
+      at-shared-slice-known .shared-slice-known .given (s .args .at + 5),
+    )))) ∙ not-false _ (at-if1 .if1 .left)) _ _ _ (push-step t _ _ _ _ _ _ _ _ _ _ _ _ _ (rw
     (at-props-at .props-at .ensures) at (at-push-layer .push-layer .ensures))) (sym (at-number .number .ensures) ∙ at-if2 .if2 .left) _ _ (filter-step t _ _ _ _
     _ _ _ _ _ _ _ _ _ _ (at-filter-at2 .filter-at2 .ensures)) (sym (at-number2 .number2 .ensures) ∙ at-if3 .if3 .left) _ (pop-step t _ _ _ _ _ _ _ _ _ _ _ _ _ _
     (at-pop-at .pop-at .ensures))

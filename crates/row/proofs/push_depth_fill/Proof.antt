@@ -106,9 +106,20 @@ returns c =
     let at-larger = at-larger2 .before .before in
     let at-if1 = at-larger .before .before .before in
     let at-words = at-if1 .before .before .before in
-    ⊎-elim (λ w. rw (← at-words .words .ensures) (simp (w .2, eq-eqb _ _ (w .0 .taken), at-larger .larger .ensures, at-larger2 .larger2 .ensures,
-    c .wide .ensures))) (λ w. rw (← at-words .words .ensures) (simp (w .4, w .3 .ensures, ne-eqb _ _ (w .0 .left), at-larger .larger .ensures,
-    at-larger2 .larger2 .ensures, c .wide .ensures))) (at-if1 .if1 .came)
+    ⊎-elim (λ w. rw (← at-words .words .ensures) (simp (
+      w .2,
+      eq-eqb _ _ (w .0 .taken),
+      at-larger .larger .ensures,
+      at-larger2 .larger2 .ensures,
+      c .wide .ensures,
+    ))) (λ w. rw (← at-words .words .ensures) (simp (
+      w .4,
+      w .3 .ensures,
+      ne-eqb _ _ (w .0 .left),
+      at-larger .larger .ensures,
+      at-larger2 .larger2 .ensures,
+      c .wide .ensures,
+    ))) (at-if1 .if1 .came)
 
 pub push-depth-fill-spec : {M : Type 1} → statement M
 push-depth-fill-spec =

@@ -8,9 +8,11 @@ use Rattle.row_acts.proofs.push_fill.Tie as tie
 
 ensure-row-layers-requires : tie.Need-ensure-row-layers-requires
 ensure-row-layers-requires c κs =
-    let at-pre = c .before .before .before .before .before .before in
-    (at-pre .pre .1, first-room _ _ _ (tiles (at-pre .args .span)) _ (at-pre .pre .2 .state) (at-pre .pre .2 .levels) (at-pre .pre .1) (at-pre .args .eligible)
-    (alpha-of (at-pre .args .alpha)) (at-pre .pre .2))
+    let at-pre = c .before .before .before .before .before .before in (
+      at-pre .pre .1,
+      first-room _ _ _ (tiles (at-pre .args .span)) _ (at-pre .pre .2 .state) (at-pre .pre .2 .levels) (at-pre .pre .1) (at-pre .args .eligible)
+          (alpha-of (at-pre .args .alpha)) (at-pre .pre .2),
+    )
 
 enum-told : tie.Need-enum-told
 enum-told c = search needs
@@ -20,9 +22,11 @@ push-opaque-requires c κs =
     let at-if1 = c .before .before .before in
     let at-enum-told = at-if1 .before in
     let at-ensure-row-layers = at-enum-told .before .before .before .before .before .before .before .before in
-    let at-pre = at-ensure-row-layers .before .before .before .before .before .before .before in
-    (at-pre .pre .0, rw (← at-ensure-row-layers .ensure-row-layers .ensures) at (layers-then _ (at-pre .pre .1)
-    (at-ensure-row-layers .ensure-row-layers .ensures) (rw (at-enum-told .enum-told .given .1, at-if1 .if1 .taken, drawn-parts) at (at-pre .pre .2))))
+    let at-pre = at-ensure-row-layers .before .before .before .before .before .before .before in (
+      at-pre .pre .0,
+      rw (← at-ensure-row-layers .ensure-row-layers .ensures) at (layers-then _ (at-pre .pre .1)
+          (at-ensure-row-layers .ensure-row-layers .ensures) (rw (at-enum-told .enum-told .given .1, at-if1 .if1 .taken, drawn-parts) at (at-pre .pre .2))),
+    )
 
 same-length : tie.Need-same-length
 same-length c = search needs
@@ -47,9 +51,11 @@ push-paint-requires c κs =
     let at-if1 = c .before .before .before in
     let at-enum-told = at-if1 .before in
     let at-ensure-row-layers = at-enum-told .before .before .before .before .before .before .before .before in
-    let at-pre = at-ensure-row-layers .before .before .before .before .before .before .before in
-    (at-pre .pre .0, rw (← at-ensure-row-layers .ensure-row-layers .ensures) at (layers-then _ (at-pre .pre .1)
-    (at-ensure-row-layers .ensure-row-layers .ensures) (rw (at-enum-told .enum-told .given .1, at-if1 .if1 .left, drawn-plain) at (at-pre .pre .2))))
+    let at-pre = at-ensure-row-layers .before .before .before .before .before .before .before in (
+      at-pre .pre .0,
+      rw (← at-ensure-row-layers .ensure-row-layers .ensures) at (layers-then _ (at-pre .pre .1)
+          (at-ensure-row-layers .ensure-row-layers .ensures) (rw (at-enum-told .enum-told .given .1, at-if1 .if1 .left, drawn-plain) at (at-pre .pre .2))),
+    )
 
 enum-known-alpha : tie.Need-enum-known-alpha
 enum-known-alpha c = search needs
@@ -58,9 +64,11 @@ push-paint-requires-2 : tie.Need-push-paint-requires-2
 push-paint-requires-2 c κs =
     let at-alpha = c .before .before .before .before in
     let at-ensure-row-layers = at-alpha .before .before .before .before .before .before .before .before in
-    let at-pre = at-ensure-row-layers .before .before .before .before .before .before .before in
-    (at-pre .pre .0, rw (← at-ensure-row-layers .ensure-row-layers .ensures) at (layers-then _ (at-pre .pre .1)
-    (at-ensure-row-layers .ensure-row-layers .ensures) (rw (at-alpha .alpha .given .1, drawn-alpha) at (at-pre .pre .2))))
+    let at-pre = at-ensure-row-layers .before .before .before .before .before .before .before in (
+      at-pre .pre .0,
+      rw (← at-ensure-row-layers .ensure-row-layers .ensures) at (layers-then _ (at-pre .pre .1)
+          (at-ensure-row-layers .ensure-row-layers .ensures) (rw (at-alpha .alpha .given .1, drawn-alpha) at (at-pre .pre .2))),
+    )
 
 same-length-4 : tie.Need-same-length-4
 same-length-4 c = search needs

@@ -54,8 +54,13 @@ returns-5 c =
     let at-if3 = at-if4 .before .before .before in
     let at-if2 = at-if3 .before in
     let at-if1 = at-if2 .before .before in
-    rw (le-leb _ _ (at-if1 .if1 .left), le-leb _ _ (at-if2 .if2 .left), le-leb _ _ (at-if3 .if3 .left), le-leb _ _ (at-if4 .if4 .left),
-    lt-leb _ _ (c .if5 .taken))
+    rw (
+      le-leb _ _ (at-if1 .if1 .left),
+      le-leb _ _ (at-if2 .if2 .left),
+      le-leb _ _ (at-if3 .if3 .left),
+      le-leb _ _ (at-if4 .if4 .left),
+      lt-leb _ _ (c .if5 .taken),
+    )
 
 shared-slice-read-if6 : tie.Need-shared-slice-read-if6
 shared-slice-read-if6 c = search needs
@@ -68,8 +73,14 @@ returns-6 c =
     let at-if3 = at-if4 .before .before .before in
     let at-if2 = at-if3 .before in
     let at-if1 = at-if2 .before .before in
-    rw (le-leb _ _ (at-if1 .if1 .left), le-leb _ _ (at-if2 .if2 .left), le-leb _ _ (at-if3 .if3 .left), le-leb _ _ (at-if4 .if4 .left),
-    le-leb _ _ (at-if5 .if5 .left), lt-leb _ _ (c .if6 .taken))
+    rw (
+      le-leb _ _ (at-if1 .if1 .left),
+      le-leb _ _ (at-if2 .if2 .left),
+      le-leb _ _ (at-if3 .if3 .left),
+      le-leb _ _ (at-if4 .if4 .left),
+      le-leb _ _ (at-if5 .if5 .left),
+      lt-leb _ _ (c .if6 .taken),
+    )
 
 returns-7 : tie.Need-returns-7
 unfolding good-row
@@ -79,8 +90,15 @@ returns-7 c =
     let at-if3 = at-if4 .before .before .before in
     let at-if2 = at-if3 .before in
     let at-if1 = at-if2 .before .before in
-    rw (le-leb _ _ (at-if1 .if1 .left), le-leb _ _ (at-if2 .if2 .left), le-leb _ _ (at-if3 .if3 .left), le-leb _ _ (at-if4 .if4 .left),
-    le-leb _ _ (at-if5 .if5 .left), le-leb _ _ (c .before .if6 .left), eq-eqb _ _ (c .if7 .taken))
+    rw (
+      le-leb _ _ (at-if1 .if1 .left),
+      le-leb _ _ (at-if2 .if2 .left),
+      le-leb _ _ (at-if3 .if3 .left),
+      le-leb _ _ (at-if4 .if4 .left),
+      le-leb _ _ (at-if5 .if5 .left),
+      le-leb _ _ (c .before .if6 .left),
+      eq-eqb _ _ (c .if7 .taken),
+    )
 
 wide-requires : tie.Need-wide-requires
 wide-requires c κs = search needs
@@ -108,8 +126,17 @@ returns-8 c =
     let at-if3 = at-if4 .before .before .before in
     let at-if2 = at-if3 .before in
     let at-if1 = at-if2 .before .before in
-    rw (le-leb _ _ (at-if1 .if1 .left), le-leb _ _ (at-if2 .if2 .left), le-leb _ _ (at-if3 .if3 .left), le-leb _ _ (at-if4 .if4 .left),
-    le-leb _ _ (at-if5 .if5 .left), le-leb _ _ (at-if6 .if6 .left), ne-eqb _ _ (at-if7 .if7 .left), ← at-wide .wide .ensures, le-ltb _ _ (c .if8 .taken))
+    rw (
+      le-leb _ _ (at-if1 .if1 .left),
+      le-leb _ _ (at-if2 .if2 .left),
+      le-leb _ _ (at-if3 .if3 .left),
+      le-leb _ _ (at-if4 .if4 .left),
+      le-leb _ _ (at-if5 .if5 .left),
+      le-leb _ _ (at-if6 .if6 .left),
+      ne-eqb _ _ (at-if7 .if7 .left),
+      ← at-wide .wide .ensures,
+      le-ltb _ _ (c .if8 .taken),
+    )
 
 add-is-good-union : tie.Need-add-is-good-union
 add-is-good-union c = search needs
@@ -144,9 +171,17 @@ returns-9 c =
     let at-if3 = at-if4 .before .before .before in
     let at-if2 = at-if3 .before in
     let at-if1 = at-if2 .before .before in
-    rw (le-leb _ _ (at-if1 .if1 .left), le-leb _ _ (at-if2 .if2 .left), le-leb _ _ (at-if3 .if3 .left), le-leb _ _ (at-if4 .if4 .left),
-    le-leb _ _ (at-if5 .if5 .left), le-leb _ _ (at-if6 .if6 .left), ne-eqb _ _ (at-if7 .if7 .left), ← at-wide .wide .ensures,
-    lt-ltb _ _ (at-if8 .if8 .left)) (c .is-good-union .ensures)
+    rw (
+      le-leb _ _ (at-if1 .if1 .left),
+      le-leb _ _ (at-if2 .if2 .left),
+      le-leb _ _ (at-if3 .if3 .left),
+      le-leb _ _ (at-if4 .if4 .left),
+      le-leb _ _ (at-if5 .if5 .left),
+      le-leb _ _ (at-if6 .if6 .left),
+      ne-eqb _ _ (at-if7 .if7 .left),
+      ← at-wide .wide .ensures,
+      lt-ltb _ _ (at-if8 .if8 .left),
+    ) (c .is-good-union .ensures)
 
 pub is-good-row-spec : {M : Type 1} → statement M
 is-good-row-spec =

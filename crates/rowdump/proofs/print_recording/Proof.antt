@@ -132,7 +132,7 @@ slice-aggregate-print-screen-9 c = search needs
 slice-aggregate-print-screen-10 : tie.Need-slice-aggregate-print-screen-10
 slice-aggregate-print-screen-10 c =
     let back = c .before .before .before .before .before .before .before .before .before .before .before .before .before .before .before .before .before
-        .before .before .before in
+    .before .before .before in
     let at-text = back in
     let at-pieces =
     at-text .before .before .before .before .before .before .before .before .before .before .before .before .before .before .before .before .before .before .before .before .before .before .before .before .before

@@ -38,8 +38,12 @@ returns-4 c =
     let at-if2 = at-if3 .before .before in
     let at-is-in-tiles = at-if2 .before in
     let at-if1 = at-is-in-tiles .before in
-    rw (ne-eqb _ _ (at-if1 .if1 .left), sym (at-is-in-tiles .is-in-tiles .ensures) ∙ not-false _ (at-if2 .if2 .left), le-leb _ _ (at-if3 .if3 .left),
-    lt-leb _ _ (c .if4 .taken))
+    rw (
+      ne-eqb _ _ (at-if1 .if1 .left),
+      sym (at-is-in-tiles .is-in-tiles .ensures) ∙ not-false _ (at-if2 .if2 .left),
+      le-leb _ _ (at-if3 .if3 .left),
+      lt-leb _ _ (c .if4 .taken),
+    )
 
 width-requires : tie.Need-width-requires
 width-requires c κs = search needs
@@ -53,8 +57,13 @@ returns-5 c =
     let at-if2 = at-if3 .before .before in
     let at-is-in-tiles = at-if2 .before in
     let at-if1 = at-is-in-tiles .before in
-    rw (ne-eqb _ _ (at-if1 .if1 .left), sym (at-is-in-tiles .is-in-tiles .ensures) ∙ not-false _ (at-if2 .if2 .left), le-leb _ _ (at-if3 .if3 .left),
-    le-leb _ _ (at-if4 .if4 .left), lt-leb _ _ (rw (at-width .width .ensures) at (c .if5 .taken)))
+    rw (
+      ne-eqb _ _ (at-if1 .if1 .left),
+      sym (at-is-in-tiles .is-in-tiles .ensures) ∙ not-false _ (at-if2 .if2 .left),
+      le-leb _ _ (at-if3 .if3 .left),
+      le-leb _ _ (at-if4 .if4 .left),
+      lt-leb _ _ (rw (at-width .width .ensures) at (c .if5 .taken)),
+    )
 
 height-requires : tie.Need-height-requires
 height-requires c κs = search needs
@@ -69,8 +78,14 @@ returns-6 c =
     let at-if2 = at-if3 .before .before in
     let at-is-in-tiles = at-if2 .before in
     let at-if1 = at-is-in-tiles .before in
-    rw (ne-eqb _ _ (at-if1 .if1 .left), sym (at-is-in-tiles .is-in-tiles .ensures) ∙ not-false _ (at-if2 .if2 .left), le-leb _ _ (at-if3 .if3 .left),
-    le-leb _ _ (at-if4 .if4 .left), le-leb _ _ (rw (at-width .width .ensures) at (at-if5 .if5 .left)), c .before .height .ensures)
+    rw (
+      ne-eqb _ _ (at-if1 .if1 .left),
+      sym (at-is-in-tiles .is-in-tiles .ensures) ∙ not-false _ (at-if2 .if2 .left),
+      le-leb _ _ (at-if3 .if3 .left),
+      le-leb _ _ (at-if4 .if4 .left),
+      le-leb _ _ (rw (at-width .width .ensures) at (at-if5 .if5 .left)),
+      c .before .height .ensures,
+    )
 
 pub is-good-clip-spec : {M : Type 1} → statement M
 is-good-clip-spec =

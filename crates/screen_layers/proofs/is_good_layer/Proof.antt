@@ -31,8 +31,12 @@ returns-4 c =
     let at-if2 = at-if3 .before .before in
     let at-if1 = at-if2 .before .before in
     let at-is-good = at-if1 .before in
-    rw (sym (at-is-good .is-good .ensures) ∙ not-false _ (at-if1 .if1 .left), lt-ltb _ _ (at-if2 .if2 .left), le-leb _ _ (at-if3 .if3 .left),
-    lt-leb _ _ (c .if4 .taken))
+    rw (
+      sym (at-is-good .is-good .ensures) ∙ not-false _ (at-if1 .if1 .left),
+      lt-ltb _ _ (at-if2 .if2 .left),
+      le-leb _ _ (at-if3 .if3 .left),
+      lt-leb _ _ (c .if4 .taken),
+    )
 
 returns-5 : tie.Need-returns-5
 unfolding good-layer
@@ -41,8 +45,12 @@ returns-5 c =
     let at-if2 = at-if3 .before .before in
     let at-if1 = at-if2 .before .before in
     let at-is-good = at-if1 .before in
-    rw (sym (at-is-good .is-good .ensures) ∙ not-false _ (at-if1 .if1 .left), lt-ltb _ _ (at-if2 .if2 .left), le-leb _ _ (at-if3 .if3 .left),
-    le-leb _ _ (c .before .if4 .left))
+    rw (
+      sym (at-is-good .is-good .ensures) ∙ not-false _ (at-if1 .if1 .left),
+      lt-ltb _ _ (at-if2 .if2 .left),
+      le-leb _ _ (at-if3 .if3 .left),
+      le-leb _ _ (c .before .if4 .left),
+    )
 
 pub is-good-layer-spec : {M : Type 1} → statement M
 is-good-layer-spec =

@@ -31,8 +31,13 @@ returns-5 c =
     let at-if3 = at-if4 .before .before in
     let at-if2 = at-if3 .before .before in
     let at-if1 = at-if2 .before .before in
-    rw (eq-eqb _ _ (at-if1 .if1 .left), eq-eqb _ _ (at-if2 .if2 .left), eq-eqb _ _ (at-if3 .if3 .left), eq-eqb _ _ (at-if4 .if4 .left),
-    lt-leb _ _ (c .if5 .taken))
+    rw (
+      eq-eqb _ _ (at-if1 .if1 .left),
+      eq-eqb _ _ (at-if2 .if2 .left),
+      eq-eqb _ _ (at-if3 .if3 .left),
+      eq-eqb _ _ (at-if4 .if4 .left),
+      lt-leb _ _ (c .if5 .taken),
+    )
 
 returns-6 : tie.Need-returns-6
 unfolding good-own-box
@@ -42,8 +47,14 @@ returns-6 c =
     let at-if3 = at-if4 .before .before in
     let at-if2 = at-if3 .before .before in
     let at-if1 = at-if2 .before .before in
-    rw (eq-eqb _ _ (at-if1 .if1 .left), eq-eqb _ _ (at-if2 .if2 .left), eq-eqb _ _ (at-if3 .if3 .left), eq-eqb _ _ (at-if4 .if4 .left),
-    le-leb _ _ (at-if5 .if5 .left), lt-leb _ _ (c .if6 .taken))
+    rw (
+      eq-eqb _ _ (at-if1 .if1 .left),
+      eq-eqb _ _ (at-if2 .if2 .left),
+      eq-eqb _ _ (at-if3 .if3 .left),
+      eq-eqb _ _ (at-if4 .if4 .left),
+      le-leb _ _ (at-if5 .if5 .left),
+      lt-leb _ _ (c .if6 .taken),
+    )
 
 width-requires : tie.Need-width-requires
 width-requires c κs = search needs
@@ -58,8 +69,15 @@ returns-7 c =
     let at-if3 = at-if4 .before .before in
     let at-if2 = at-if3 .before .before in
     let at-if1 = at-if2 .before .before in
-    rw (eq-eqb _ _ (at-if1 .if1 .left), eq-eqb _ _ (at-if2 .if2 .left), eq-eqb _ _ (at-if3 .if3 .left), eq-eqb _ _ (at-if4 .if4 .left),
-    le-leb _ _ (at-if5 .if5 .left), le-leb _ _ (at-if6 .if6 .left), lt-leb _ _ (rw (at-width .width .ensures) at (c .if7 .taken)))
+    rw (
+      eq-eqb _ _ (at-if1 .if1 .left),
+      eq-eqb _ _ (at-if2 .if2 .left),
+      eq-eqb _ _ (at-if3 .if3 .left),
+      eq-eqb _ _ (at-if4 .if4 .left),
+      le-leb _ _ (at-if5 .if5 .left),
+      le-leb _ _ (at-if6 .if6 .left),
+      lt-leb _ _ (rw (at-width .width .ensures) at (c .if7 .taken)),
+    )
 
 height-requires : tie.Need-height-requires
 height-requires c κs = search needs
@@ -75,9 +93,16 @@ returns-8 c =
     let at-if3 = at-if4 .before .before in
     let at-if2 = at-if3 .before .before in
     let at-if1 = at-if2 .before .before in
-    rw (eq-eqb _ _ (at-if1 .if1 .left), eq-eqb _ _ (at-if2 .if2 .left), eq-eqb _ _ (at-if3 .if3 .left), eq-eqb _ _ (at-if4 .if4 .left),
-    le-leb _ _ (at-if5 .if5 .left), le-leb _ _ (at-if6 .if6 .left), le-leb _ _ (rw (at-width .width .ensures) at (at-if7 .if7 .left)),
-    c .before .height .ensures)
+    rw (
+      eq-eqb _ _ (at-if1 .if1 .left),
+      eq-eqb _ _ (at-if2 .if2 .left),
+      eq-eqb _ _ (at-if3 .if3 .left),
+      eq-eqb _ _ (at-if4 .if4 .left),
+      le-leb _ _ (at-if5 .if5 .left),
+      le-leb _ _ (at-if6 .if6 .left),
+      le-leb _ _ (rw (at-width .width .ensures) at (at-if7 .if7 .left)),
+      c .before .height .ensures,
+    )
 
 pub is-good-own-box-spec : {M : Type 1} → statement M
 is-good-own-box-spec =

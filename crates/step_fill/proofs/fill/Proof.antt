@@ -55,14 +55,17 @@ taken-requires : tie.Need-taken-requires
 taken-requires c κs =
     let at-if1 = c .before in
     let at-judge-fill = at-if1 .before in
-    let at-args = at-judge-fill .before .before .before .before .before .before .before .before .before .before .before in
-    ((zero-says (lent (at-args .args .screen) (words (at-args .args .rows .now) (at-args .args .render .now) (at-args .args .fills .now))
-    (at-args .args .paint-attrs .now)) (at-args .args .paints .now) (at-args .args .segments .now) (at-args .args .draw) (sym (sym (at-if1 .if1 .left) ∙
-    (at-judge-fill .judge-fill .ensures)))) .ids, bounds (at-args .args .screen) (passing (lent (at-args .args .screen) (words (at-args .args .rows .now)
-    (at-args .args .render .now) (at-args .args .fills .now)) (at-args .args .paint-attrs .now)) (at-args .args .paints .now) (at-args .args .segments .now)
-    (at-args .args .draw) ((zero-says (lent (at-args .args .screen) (words (at-args .args .rows .now) (at-args .args .render .now) (at-args .args .fills .now))
-    (at-args .args .paint-attrs .now)) (at-args .args .paints .now) (at-args .args .segments .now) (at-args .args .draw) (sym (sym (at-if1 .if1 .left) ∙
-    (at-judge-fill .judge-fill .ensures)))) .first) .screen) .paints, omega arith)
+    let at-args = at-judge-fill .before .before .before .before .before .before .before .before .before .before .before in (
+      (zero-says (lent (at-args .args .screen) (words (at-args .args .rows .now) (at-args .args .render .now) (at-args .args .fills .now))
+          (at-args .args .paint-attrs .now)) (at-args .args .paints .now) (at-args .args .segments .now) (at-args .args .draw) (sym (sym (at-if1 .if1 .left) ∙
+          (at-judge-fill .judge-fill .ensures)))) .ids,
+      bounds (at-args .args .screen) (passing (lent (at-args .args .screen) (words (at-args .args .rows .now)
+          (at-args .args .render .now) (at-args .args .fills .now)) (at-args .args .paint-attrs .now)) (at-args .args .paints .now) (at-args .args .segments .now)
+          (at-args .args .draw) ((zero-says (lent (at-args .args .screen) (words (at-args .args .rows .now) (at-args .args .render .now) (at-args .args .fills .now))
+          (at-args .args .paint-attrs .now)) (at-args .args .paints .now) (at-args .args .segments .now) (at-args .args .draw) (sym (sym (at-if1 .if1 .left) ∙
+          (at-judge-fill .judge-fill .ensures)))) .first) .screen) .paints,
+      omega arith,
+    )
 
 same-length-5 : tie.Need-same-length-5
 same-length-5 c = search needs
@@ -91,15 +94,17 @@ job-of-requires : tie.Need-job-of-requires
 job-of-requires c κs =
     let at-if1 = c .before in
     let at-judge-fill = at-if1 .before in
-    let at-args = at-judge-fill .before .before .before .before .before .before .before .before .before .before .before in
-    (passing (lent (at-args .args .screen) (words (at-args .args .rows .now) (at-args .args .render .now) (at-args .args .fills .now))
-    (at-args .args .paint-attrs .now)) (at-args .args .paints .now) (at-args .args .segments .now) (at-args .args .draw) ((zero-says (lent
-    (at-args .args .screen) (words (at-args .args .rows .now) (at-args .args .render .now) (at-args .args .fills .now)) (at-args .args .paint-attrs .now))
-    (at-args .args .paints .now) (at-args .args .segments .now) (at-args .args .draw) (sym (sym (at-if1 .if1 .left) ∙
-    (at-judge-fill .judge-fill .ensures)))) .first), draw-facts (at-args .args .paints .now) (at-args .args .segments .now) (at-args .args .draw) ((zero-says
-    (lent (at-args .args .screen) (words (at-args .args .rows .now) (at-args .args .render .now) (at-args .args .fills .now)) (at-args .args .paint-attrs .now))
-    (at-args .args .paints .now) (at-args .args .segments .now) (at-args .args .draw) (sym (sym (at-if1 .if1 .left) ∙
-    (at-judge-fill .judge-fill .ensures)))) .draw) .paint)
+    let at-args = at-judge-fill .before .before .before .before .before .before .before .before .before .before .before in (
+      passing (lent (at-args .args .screen) (words (at-args .args .rows .now) (at-args .args .render .now) (at-args .args .fills .now))
+          (at-args .args .paint-attrs .now)) (at-args .args .paints .now) (at-args .args .segments .now) (at-args .args .draw) ((zero-says (lent
+          (at-args .args .screen) (words (at-args .args .rows .now) (at-args .args .render .now) (at-args .args .fills .now)) (at-args .args .paint-attrs .now))
+          (at-args .args .paints .now) (at-args .args .segments .now) (at-args .args .draw) (sym (sym (at-if1 .if1 .left) ∙
+          (at-judge-fill .judge-fill .ensures)))) .first),
+      draw-facts (at-args .args .paints .now) (at-args .args .segments .now) (at-args .args .draw) ((zero-says
+          (lent (at-args .args .screen) (words (at-args .args .rows .now) (at-args .args .render .now) (at-args .args .fills .now)) (at-args .args .paint-attrs .now))
+          (at-args .args .paints .now) (at-args .args .segments .now) (at-args .args .draw) (sym (sym (at-if1 .if1 .left) ∙
+          (at-judge-fill .judge-fill .ensures)))) .draw) .paint,
+    )
 
 cast-put-paint-attrs : tie.Need-cast-put-paint-attrs
 cast-put-paint-attrs c = search needs
@@ -109,15 +114,17 @@ put-paint-attrs-requires c κs =
     let at-if2 = c .before .before .before .before .before in
     let at-if1 = at-if2 .before in
     let at-judge-fill = at-if1 .before in
-    let at-args = at-judge-fill .before .before .before .before .before .before .before .before .before .before .before in
-    (room-for-attr (lent (at-args .args .screen) (words (at-args .args .rows .now) (at-args .args .render .now) (at-args .args .fills .now))
-    (at-args .args .paint-attrs .now)) (at-args .args .paints .now) (at-args .args .segments .now) (at-args .args .draw) (zero-says (lent
-    (at-args .args .screen) (words (at-args .args .rows .now) (at-args .args .render .now) (at-args .args .fills .now)) (at-args .args .paint-attrs .now))
-    (at-args .args .paints .now) (at-args .args .segments .now) (at-args .args .draw) (sym (sym (at-if1 .if1 .left) ∙ (at-judge-fill .judge-fill .ensures))))
-    (at-if2 .if2 .left), right-lengths (lent (at-args .args .screen) (words (at-args .args .rows .now) (at-args .args .render .now) (at-args .args .fills .now))
-    (at-args .args .paint-attrs .now)) (at-args .args .paints .now) (at-args .args .segments .now) ((zero-says (lent (at-args .args .screen) (words
-    (at-args .args .rows .now) (at-args .args .render .now) (at-args .args .fills .now)) (at-args .args .paint-attrs .now)) (at-args .args .paints .now)
-    (at-args .args .segments .now) (at-args .args .draw) (sym (sym (at-if1 .if1 .left) ∙ (at-judge-fill .judge-fill .ensures)))) .first) .1)
+    let at-args = at-judge-fill .before .before .before .before .before .before .before .before .before .before .before in (
+      room-for-attr (lent (at-args .args .screen) (words (at-args .args .rows .now) (at-args .args .render .now) (at-args .args .fills .now))
+          (at-args .args .paint-attrs .now)) (at-args .args .paints .now) (at-args .args .segments .now) (at-args .args .draw) (zero-says (lent
+          (at-args .args .screen) (words (at-args .args .rows .now) (at-args .args .render .now) (at-args .args .fills .now)) (at-args .args .paint-attrs .now))
+          (at-args .args .paints .now) (at-args .args .segments .now) (at-args .args .draw) (sym (sym (at-if1 .if1 .left) ∙ (at-judge-fill .judge-fill .ensures))))
+          (at-if2 .if2 .left),
+      right-lengths (lent (at-args .args .screen) (words (at-args .args .rows .now) (at-args .args .render .now) (at-args .args .fills .now))
+          (at-args .args .paint-attrs .now)) (at-args .args .paints .now) (at-args .args .segments .now) ((zero-says (lent (at-args .args .screen) (words
+          (at-args .args .rows .now) (at-args .args .render .now) (at-args .args .fills .now)) (at-args .args .paint-attrs .now)) (at-args .args .paints .now)
+          (at-args .args .segments .now) (at-args .args .draw) (sym (sym (at-if1 .if1 .left) ∙ (at-judge-fill .judge-fill .ensures)))) .first) .1,
+    )
 
 fill-rows-requires : tie.Need-fill-rows-requires
 fill-rows-requires c κs =
@@ -125,26 +132,32 @@ fill-rows-requires c κs =
     let at-if1 = at-job-of .before .before in
     let at-judge-fill = at-if1 .before in
     let at-args = at-judge-fill .before .before .before .before .before .before .before .before .before .before .before in
-    rw (at-job-of .job-of .ensures, (rows-counted (at-args .args .rows .now) (rows-of (box-of (at-args .args .screen .viewport))) ((zero-says (lent
-    (at-args .args .screen) (words (at-args .args .rows .now) (at-args .args .render .now) (at-args .args .fills .now)) (at-args .args .paint-attrs .now))
-    (at-args .args .paints .now) (at-args .args .segments .now) (at-args .args .draw) (sym (sym (at-if1 .if1 .left) ∙
-    (at-judge-fill .judge-fill .ensures)))) .ready .fits .arenas .long .state))) ((zero-says (lent (at-args .args .screen) (words (at-args .args .rows .now)
+    rw (
+      at-job-of .job-of .ensures,
+      (rows-counted (at-args .args .rows .now) (rows-of (box-of (at-args .args .screen .viewport))) ((zero-says (lent
+          (at-args .args .screen) (words (at-args .args .rows .now) (at-args .args .render .now) (at-args .args .fills .now)) (at-args .args .paint-attrs .now))
+          (at-args .args .paints .now) (at-args .args .segments .now) (at-args .args .draw) (sym (sym (at-if1 .if1 .left) ∙
+          (at-judge-fill .judge-fill .ensures)))) .ready .fits .arenas .long .state)),
+    ) ((zero-says (lent (at-args .args .screen) (words (at-args .args .rows .now)
     (at-args .args .render .now) (at-args .args .fills .now)) (at-args .args .paint-attrs .now)) (at-args .args .paints .now) (at-args .args .segments .now)
     (at-args .args .draw) (sym (sym (at-if1 .if1 .left) ∙ (at-judge-fill .judge-fill .ensures)))) .ready)
 
 taken-requires-2 : tie.Need-taken-requires-2
 taken-requires-2 c κs =
     let at-if1 = c .before .before .before .before .before .before .before .before .before .before .before .before .before .before .before .before
-        .before .before .before in
+    .before .before .before in
     let at-judge-fill = at-if1 .before in
-    let at-args = at-judge-fill .before .before .before .before .before .before .before .before .before .before .before in
-    ((zero-says (lent (at-args .args .screen) (words (at-args .args .rows .now) (at-args .args .render .now) (at-args .args .fills .now))
-    (at-args .args .paint-attrs .now)) (at-args .args .paints .now) (at-args .args .segments .now) (at-args .args .draw) (sym (sym (at-if1 .if1 .left) ∙
-    (at-judge-fill .judge-fill .ensures)))) .ids, bounds (at-args .args .screen) (passing (lent (at-args .args .screen) (words (at-args .args .rows .now)
-    (at-args .args .render .now) (at-args .args .fills .now)) (at-args .args .paint-attrs .now)) (at-args .args .paints .now) (at-args .args .segments .now)
-    (at-args .args .draw) ((zero-says (lent (at-args .args .screen) (words (at-args .args .rows .now) (at-args .args .render .now) (at-args .args .fills .now))
-    (at-args .args .paint-attrs .now)) (at-args .args .paints .now) (at-args .args .segments .now) (at-args .args .draw) (sym (sym (at-if1 .if1 .left) ∙
-    (at-judge-fill .judge-fill .ensures)))) .first) .screen) .paints, omega arith)
+    let at-args = at-judge-fill .before .before .before .before .before .before .before .before .before .before .before in (
+      (zero-says (lent (at-args .args .screen) (words (at-args .args .rows .now) (at-args .args .render .now) (at-args .args .fills .now))
+          (at-args .args .paint-attrs .now)) (at-args .args .paints .now) (at-args .args .segments .now) (at-args .args .draw) (sym (sym (at-if1 .if1 .left) ∙
+          (at-judge-fill .judge-fill .ensures)))) .ids,
+      bounds (at-args .args .screen) (passing (lent (at-args .args .screen) (words (at-args .args .rows .now)
+          (at-args .args .render .now) (at-args .args .fills .now)) (at-args .args .paint-attrs .now)) (at-args .args .paints .now) (at-args .args .segments .now)
+          (at-args .args .draw) ((zero-says (lent (at-args .args .screen) (words (at-args .args .rows .now) (at-args .args .render .now) (at-args .args .fills .now))
+          (at-args .args .paint-attrs .now)) (at-args .args .paints .now) (at-args .args .segments .now) (at-args .args .draw) (sym (sym (at-if1 .if1 .left) ∙
+          (at-judge-fill .judge-fill .ensures)))) .first) .screen) .paints,
+      omega arith,
+    )
 
 same-length-9 : tie.Need-same-length-9
 same-length-9 c = search needs
@@ -171,11 +184,13 @@ returns-3 c =
     (at-args .args .paint-attrs .now)) (at-args .args .paints .now) (at-args .args .segments .now) (at-args .args .draw) (zero-says (lent
     (at-args .args .screen) (words (at-args .args .rows .now) (at-args .args .render .now) (at-args .args .fills .now)) (at-args .args .paint-attrs .now))
     (at-args .args .paints .now) (at-args .args .segments .now) (at-args .args .draw) (sym (sym (at-if1 .if1 .left) ∙ (at-judge-fill .judge-fill .ensures))))
-    (at-if2 .if2 .left) (sym (at-if1 .if1 .left) ∙ (at-judge-fill .judge-fill .ensures)) (c .taken2 .ensures) (rw (at-job-of .job-of .ensures,
-    (rows-counted (at-args .args .rows .now) (rows-of (box-of (at-args .args .screen .viewport))) ((zero-says (lent (at-args .args .screen) (words
-    (at-args .args .rows .now) (at-args .args .render .now) (at-args .args .fills .now)) (at-args .args .paint-attrs .now)) (at-args .args .paints .now)
-    (at-args .args .segments .now) (at-args .args .draw) (sym (sym (at-if1 .if1 .left) ∙
-    (at-judge-fill .judge-fill .ensures)))) .ready .fits .arenas .long .state))) at (at-fill-rows .fill-rows .ensures))
+    (at-if2 .if2 .left) (sym (at-if1 .if1 .left) ∙ (at-judge-fill .judge-fill .ensures)) (c .taken2 .ensures) (rw (
+      at-job-of .job-of .ensures,
+      (rows-counted (at-args .args .rows .now) (rows-of (box-of (at-args .args .screen .viewport))) ((zero-says (lent (at-args .args .screen) (words
+          (at-args .args .rows .now) (at-args .args .render .now) (at-args .args .fills .now)) (at-args .args .paint-attrs .now)) (at-args .args .paints .now)
+          (at-args .args .segments .now) (at-args .args .draw) (sym (sym (at-if1 .if1 .left) ∙
+          (at-judge-fill .judge-fill .ensures)))) .ready .fits .arenas .long .state)),
+    ) at (at-fill-rows .fill-rows .ensures))
     (at-put-paint-attrs .put-paint-attrs .ensures)
 
 pub fill-spec : {M : Type 1} → statement M

@@ -24,8 +24,12 @@ returns-3 c =
     let at-if2 = c .before .before in
     let at-is-default = at-if2 .before in
     let at-if1 = at-is-default .before in
-    rw (eq-eqb _ _ (at-if1 .if1 .left), ← at-is-default .is-default .ensures, not-false (at-is-default .is-default .result) (at-if2 .if2 .left),
-    ne-eqb _ _ (c .if3 .taken))
+    rw (
+      eq-eqb _ _ (at-if1 .if1 .left),
+      ← at-is-default .is-default .ensures,
+      not-false (at-is-default .is-default .result) (at-if2 .if2 .left),
+      ne-eqb _ _ (c .if3 .taken),
+    )
 
 mul-result : tie.Need-mul-result
 mul-result c = search needs
@@ -42,8 +46,13 @@ returns-4 c =
     let at-is-default = at-if2 .before in
     let at-if1 = at-is-default .before in
     let at-pre = at-if1 .before .before .before .before in
-    rw (eq-eqb _ _ (at-if1 .if1 .left), ← at-is-default .is-default .ensures, not-false (at-is-default .is-default .result) (at-if2 .if2 .left),
-    eq-eqb _ _ (c .before .if3 .left), paint-there _ _ _ (at-pre .pre))
+    rw (
+      eq-eqb _ _ (at-if1 .if1 .left),
+      ← at-is-default .is-default .ensures,
+      not-false (at-is-default .is-default .result) (at-if2 .if2 .left),
+      eq-eqb _ _ (c .before .if3 .left),
+      paint-there _ _ _ (at-pre .pre),
+    )
 
 pub is-eligible-spec : {M : Type 1} → statement M
 is-eligible-spec =

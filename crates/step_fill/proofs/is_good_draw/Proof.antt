@@ -32,8 +32,14 @@ returns-4 c =
     let at-if3 = c .before .before in
     let at-if2 = at-if3 .before .before in
     let at-args = at-if2 .before .before .before .before .before .before .before in
-    rw (lt-ltb (at-args .args .draw .thread) 256 (omega arith), le-leb _ _ (at-if2 .if2 .left), segs-count, le-leb _ _ (at-if3 .if3 .left), paints-count,
-    le-ltb _ _ (c .if4 .taken))
+    rw (
+      lt-ltb (at-args .args .draw .thread) 256 (omega arith),
+      le-leb _ _ (at-if2 .if2 .left),
+      segs-count,
+      le-leb _ _ (at-if3 .if3 .left),
+      paints-count,
+      le-ltb _ _ (c .if4 .taken),
+    )
 
 mul-if5 : tie.Need-mul-if5
 mul-if5 c = search needs
@@ -50,8 +56,16 @@ returns-5 c =
     let at-if3 = at-if4 .before .before in
     let at-if2 = at-if3 .before .before in
     let at-args = at-if2 .before .before .before .before .before .before .before in
-    rw (lt-ltb (at-args .args .draw .thread) 256 (omega arith), le-leb _ _ (at-if2 .if2 .left), segs-count, le-leb _ _ (at-if3 .if3 .left), paints-count,
-    lt-ltb _ _ (at-if4 .if4 .left), paint-there _ _ _ (at-if4 .if4 .left), lt-leb _ _ (c .if5 .taken))
+    rw (
+      lt-ltb (at-args .args .draw .thread) 256 (omega arith),
+      le-leb _ _ (at-if2 .if2 .left),
+      segs-count,
+      le-leb _ _ (at-if3 .if3 .left),
+      paints-count,
+      lt-ltb _ _ (at-if4 .if4 .left),
+      paint-there _ _ _ (at-if4 .if4 .left),
+      lt-leb _ _ (c .if5 .taken),
+    )
 
 mul-if6 : tie.Need-mul-if6
 mul-if6 c = search needs
@@ -72,9 +86,17 @@ returns-6 c =
     let at-if3 = at-if4 .before .before in
     let at-if2 = at-if3 .before .before in
     let at-args = at-if2 .before .before .before .before .before .before .before in
-    rw (lt-ltb (at-args .args .draw .thread) 256 (omega arith), le-leb _ _ (at-if2 .if2 .left), segs-count, le-leb _ _ (at-if3 .if3 .left), paints-count,
-    lt-ltb _ _ (at-if4 .if4 .left), paint-there _ _ _ (at-if4 .if4 .left), le-leb _ _ (at-if5 .if5 .left),
-    le-ltb (getD (at-args .args .paints .now) (4 * at-args .args .draw .paint + 1) 0) 2147483648 (omega arith))
+    rw (
+      lt-ltb (at-args .args .draw .thread) 256 (omega arith),
+      le-leb _ _ (at-if2 .if2 .left),
+      segs-count,
+      le-leb _ _ (at-if3 .if3 .left),
+      paints-count,
+      lt-ltb _ _ (at-if4 .if4 .left),
+      paint-there _ _ _ (at-if4 .if4 .left),
+      le-leb _ _ (at-if5 .if5 .left),
+      le-ltb (getD (at-args .args .paints .now) (4 * at-args .args .draw .paint + 1) 0) 2147483648 (omega arith),
+    )
 
 is-good-requires : tie.Need-is-good-requires
 is-good-requires c κs = search needs
@@ -87,10 +109,19 @@ returns-7 c =
     let at-if3 = at-if4 .before .before in
     let at-if2 = at-if3 .before .before in
     let at-args = at-if2 .before .before .before .before .before .before .before in
-    rw (lt-ltb (at-args .args .draw .thread) 256 (omega arith), le-leb _ _ (at-if2 .if2 .left), segs-count, le-leb _ _ (at-if3 .if3 .left), paints-count,
-    lt-ltb _ _ (at-if4 .if4 .left), paint-there _ _ _ (at-if4 .if4 .left), le-leb _ _ (at-if5 .if5 .left),
-    lt-ltb (getD (at-args .args .paints .now) (4 * at-args .args .draw .paint + 1) 0) 2147483648 (omega arith), ← at-is-good .is-good .ensures,
-    not-true (at-is-good .is-good .result) (c .if7 .taken))
+    rw (
+      lt-ltb (at-args .args .draw .thread) 256 (omega arith),
+      le-leb _ _ (at-if2 .if2 .left),
+      segs-count,
+      le-leb _ _ (at-if3 .if3 .left),
+      paints-count,
+      lt-ltb _ _ (at-if4 .if4 .left),
+      paint-there _ _ _ (at-if4 .if4 .left),
+      le-leb _ _ (at-if5 .if5 .left),
+      lt-ltb (getD (at-args .args .paints .now) (4 * at-args .args .draw .paint + 1) 0) 2147483648 (omega arith),
+      ← at-is-good .is-good .ensures,
+      not-true (at-is-good .is-good .result) (c .if7 .taken),
+    )
 
 returns-8 : tie.Need-returns-8
 returns-8 c =
@@ -100,10 +131,19 @@ returns-8 c =
     let at-if3 = at-if4 .before .before in
     let at-if2 = at-if3 .before .before in
     let at-args = at-if2 .before .before .before .before .before .before .before in
-    rw (lt-ltb (at-args .args .draw .thread) 256 (omega arith), le-leb _ _ (at-if2 .if2 .left), segs-count, le-leb _ _ (at-if3 .if3 .left), paints-count,
-    lt-ltb _ _ (at-if4 .if4 .left), paint-there _ _ _ (at-if4 .if4 .left), le-leb _ _ (at-if5 .if5 .left),
-    lt-ltb (getD (at-args .args .paints .now) (4 * at-args .args .draw .paint + 1) 0) 2147483648 (omega arith), ← at-is-good .is-good .ensures,
-    not-false (at-is-good .is-good .result) (c .before .if7 .left)) (handle-test (at-args .args .draw .mask))
+    rw (
+      lt-ltb (at-args .args .draw .thread) 256 (omega arith),
+      le-leb _ _ (at-if2 .if2 .left),
+      segs-count,
+      le-leb _ _ (at-if3 .if3 .left),
+      paints-count,
+      lt-ltb _ _ (at-if4 .if4 .left),
+      paint-there _ _ _ (at-if4 .if4 .left),
+      le-leb _ _ (at-if5 .if5 .left),
+      lt-ltb (getD (at-args .args .paints .now) (4 * at-args .args .draw .paint + 1) 0) 2147483648 (omega arith),
+      ← at-is-good .is-good .ensures,
+      not-false (at-is-good .is-good .result) (c .before .if7 .left),
+    ) (handle-test (at-args .args .draw .mask))
 
 pub is-good-draw-spec : {M : Type 1} → statement M
 is-good-draw-spec =

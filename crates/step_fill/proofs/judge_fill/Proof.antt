@@ -44,11 +44,13 @@ job-of-requires c κs =
     let at-is-good-fill = c .before in
     let at-if1 = at-is-good-fill .before in
     let at-judge-lent = at-if1 .before in
-    let at-args = at-judge-lent .before .before .before .before .before .before .before in
-    (passing (lent (at-args .args .screen) (words (at-args .args .rows .now) (at-args .args .render .now) (at-args .args .fills .now))
-    (at-args .args .paint-attrs .now)) (at-args .args .paints .now) (at-args .args .segments .now) (at-args .args .draw) (sym
-    (at-judge-lent .judge-lent .ensures) ∙ at-if1 .if1 .left), (draw-facts (at-args .args .paints .now) (at-args .args .segments .now) (at-args .args .draw)
-    (sym (at-is-good-fill .is-good-fill .ensures) ∙ not-false (at-is-good-fill .is-good-fill .result) (c .if2 .left))) .paint)
+    let at-args = at-judge-lent .before .before .before .before .before .before .before in (
+      passing (lent (at-args .args .screen) (words (at-args .args .rows .now) (at-args .args .render .now) (at-args .args .fills .now))
+          (at-args .args .paint-attrs .now)) (at-args .args .paints .now) (at-args .args .segments .now) (at-args .args .draw) (sym
+          (at-judge-lent .judge-lent .ensures) ∙ at-if1 .if1 .left),
+      (draw-facts (at-args .args .paints .now) (at-args .args .segments .now) (at-args .args .draw)
+          (sym (at-is-good-fill .is-good-fill .ensures) ∙ not-false (at-is-good-fill .is-good-fill .result) (c .if2 .left))) .paint,
+    )
 
 judge-list-requires : tie.Need-judge-list-requires
 judge-list-requires c κs =

@@ -28,8 +28,13 @@ returns-4 c =
     let at-if2 = c .before .before in
     let at-if1 = at-if2 .before in
     let at-judge-screen = at-if1 .before in
-    rw (← at-judge-screen .judge-screen .ensures, eq-eqb _ _ (at-if1 .if1 .left), eq-eqb _ _ (at-if2 .if2 .left), eq-eqb _ _ (c .before .if3 .left),
-    ne-eqb _ _ (c .if4 .taken))
+    rw (
+      ← at-judge-screen .judge-screen .ensures,
+      eq-eqb _ _ (at-if1 .if1 .left),
+      eq-eqb _ _ (at-if2 .if2 .left),
+      eq-eqb _ _ (c .before .if3 .left),
+      ne-eqb _ _ (c .if4 .taken),
+    )
 
 returns-5 : tie.Need-returns-5
 unfolding first-number
@@ -37,8 +42,13 @@ returns-5 c =
     let at-if2 = c .before .before in
     let at-if1 = at-if2 .before in
     let at-judge-screen = at-if1 .before in
-    rw (← at-judge-screen .judge-screen .ensures, eq-eqb _ _ (at-if1 .if1 .left), eq-eqb _ _ (at-if2 .if2 .left), eq-eqb _ _ (c .before .if3 .left),
-    eq-eqb _ _ (c .if4 .left))
+    rw (
+      ← at-judge-screen .judge-screen .ensures,
+      eq-eqb _ _ (at-if1 .if1 .left),
+      eq-eqb _ _ (at-if2 .if2 .left),
+      eq-eqb _ _ (c .before .if3 .left),
+      eq-eqb _ _ (c .if4 .left),
+    )
 
 pub judge-lent-spec : {M : Type 1} → statement M
 judge-lent-spec =

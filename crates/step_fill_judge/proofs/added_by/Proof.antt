@@ -40,8 +40,16 @@ edge-requires-2 c κs = search needs
 add-t14 : tie.Need-add-t14
 add-t14 c =
     let at-args = c .before .before .before .before .before .before .before .before .before in
-    record { fits = omega (arith, c .before .edge .ensures, c .edge2 .ensures, edge-small (at-args .args .stretch .tiles .first)
-    ((at-args .args .stretch .tiles .first + 31) / 32 * 32), edge-small (at-args .args .stretch .tiles .end / 32 * 32) (at-args .args .stretch .tiles .end)) }
+    record {
+      fits = omega (
+        arith,
+        c .before .edge .ensures,
+        c .edge2 .ensures,
+        edge-small (at-args .args .stretch .tiles .first)
+            ((at-args .args .stretch .tiles .first + 31) / 32 * 32),
+        edge-small (at-args .args .stretch .tiles .end / 32 * 32) (at-args .args .stretch .tiles .end),
+      );
+    }
 
 returns-2 : tie.Need-returns-2
 returns-2 c =
@@ -49,8 +57,13 @@ returns-2 c =
     let at-if1 = at-if2 .before .before .before in
     let at-enum-told2 = at-if1 .before in
     let at-args = at-enum-told2 .before .before .before in
-    rw (at-enum-told2 .enum-told2 .given .1, at-if1 .if1 .taken, added-more (tiles (at-args .args .stretch .tiles)) (at-if2 .if2 .left),
-    c .before .edge .ensures, c .edge2 .ensures)
+    rw (
+      at-enum-told2 .enum-told2 .given .1,
+      at-if1 .if1 .taken,
+      added-more (tiles (at-args .args .stretch .tiles)) (at-if2 .if2 .left),
+      c .before .edge .ensures,
+      c .edge2 .ensures,
+    )
 
 returns-3 : tie.Need-returns-3
 returns-3 c = rw (c .enum-told .given .1, added-alpha)

@@ -50,9 +50,11 @@ judge-segment-requires : tie.Need-judge-segment-requires Inv-loop μ-loop
 judge-segment-requires c κs =
     let at-if1 = c .before .before in
     let at-is-good = at-if1 .before in
-    let at-loop = at-is-good .before .before .before in
-    (at-loop .loop .inv .rowed, sym (at-is-good .is-good .ensures) ∙ not-false _ (at-if1 .if1 .left),
-    rw (c .mark .ensures) (low-marked (at-loop .loop .inv) (c .before .precedes .result) (omega (arith, at-loop .loop .inv .within))))
+    let at-loop = at-is-good .before .before .before in (
+      at-loop .loop .inv .rowed,
+      sym (at-is-good .is-good .ensures) ∙ not-false _ (at-if1 .if1 .left),
+      rw (c .mark .ensures) (low-marked (at-loop .loop .inv) (c .before .precedes .result) (omega (arith, at-loop .loop .inv .within))),
+    )
 
 returns-2 : tie.Need-returns-2 Inv-loop μ-loop
 returns-2 c =

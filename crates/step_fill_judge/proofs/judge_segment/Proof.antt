@@ -24,9 +24,11 @@ enum-known-placed c = search needs
 turn-to-requires : tie.Need-turn-to-requires
 turn-to-requires c κs =
     let at-place = c .before .before .before in
-    let at-pre = at-place .before .before .before in
-    (at-pre .pre .0, lands (at-pre .args .job) _ _ (segment-of (at-pre .args .segment)) _ (at-pre .pre .0) (at-pre .pre .1) (placed-at
-    (at-pre .args .job .scene) (c .before .placed .given .1) (at-place .place .ensures) refl) .0)
+    let at-pre = at-place .before .before .before in (
+      at-pre .pre .0,
+      lands (at-pre .args .job) _ _ (segment-of (at-pre .args .segment)) _ (at-pre .pre .0) (at-pre .pre .1) (placed-at
+          (at-pre .args .job .scene) (c .before .placed .given .1) (at-place .place .ensures) refl) .0,
+    )
 
 returns : tie.Need-returns
 returns c =
@@ -44,9 +46,12 @@ tally-on-requires c κs =
     let at-place = at-placed .before .before in
     let at-args = at-place .before .before .before in
     let l = lands (at-args .args .job) _ _ (segment-of (at-args .args .segment)) _ (at-args .pre .0) (at-args .pre .1) (placed-at (at-args .args .job .scene)
-    (at-placed .placed .given .1) (at-place .place .ensures) refl) in
-    (rw (at-turn-to .turn-to .ensures) (low-turned (at-args .args .job) _ (at-args .args .rows .now) (at-args .args .hand) (at-placed .placed .given .0 .0)
-    (at-args .pre .0) (at-args .pre .2)), l .1, l .2)
+    (at-placed .placed .given .1) (at-place .place .ensures) refl) in (
+      rw (at-turn-to .turn-to .ensures) (low-turned (at-args .args .job) _ (at-args .args .rows .now) (at-args .args .hand) (at-placed .placed .given .0 .0)
+          (at-args .pre .0) (at-args .pre .2)),
+      l .1,
+      l .2,
+    )
 
 returns-2 : tie.Need-returns-2
 returns-2 c =

@@ -19,15 +19,27 @@ add-renders : tie.Need-add-renders
 add-renders c =
     let at-added-by = c .before .before in
     let at-pre = at-added-by .before in
-    record { fits = omega (arith, at-pre .pre .0 .renders, ap (λ (k : Counts). k .renders) (at-added-by .added-by .ensures),
-    few-commands (at-pre .args .job .eligible) (tiles (at-pre .args .stretch .tiles)) (alpha (at-pre .args .stretch .alpha))) }
+    record {
+      fits = omega (
+        arith,
+        at-pre .pre .0 .renders,
+        ap (λ (k : Counts). k .renders) (at-added-by .added-by .ensures),
+        few-commands (at-pre .args .job .eligible) (tiles (at-pre .args .stretch .tiles)) (alpha (at-pre .args .stretch .alpha)),
+      );
+    }
 
 add-depths : tie.Need-add-depths
 add-depths c =
     let at-added-by = c .before .before .before .before in
     let at-pre = at-added-by .before in
-    record { fits = omega (arith, at-pre .pre .0 .depths, ap (λ (k : Counts). k .depths) (at-added-by .added-by .ensures),
-    few-depths (at-pre .args .job .eligible) (tiles (at-pre .args .stretch .tiles)) (alpha (at-pre .args .stretch .alpha))) }
+    record {
+      fits = omega (
+        arith,
+        at-pre .pre .0 .depths,
+        ap (λ (k : Counts). k .depths) (at-added-by .added-by .ensures),
+        few-depths (at-pre .args .job .eligible) (tiles (at-pre .args .stretch .tiles)) (alpha (at-pre .args .stretch .alpha)),
+      );
+    }
 
 note-requires : tie.Need-note-requires
 note-requires c κs = search needs

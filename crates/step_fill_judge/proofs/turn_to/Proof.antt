@@ -72,8 +72,14 @@ returns-2 c =
     let at-is-good-row = at-if2 .before in
     let at-part = at-is-good-row .before in
     let at-if1 = at-part .before in
-    rw ( ne-eqb _ _ (at-if1 .if1 .left), ← at-part .part .ensures, sym (at-is-good-row .is-good-row .ensures) ∙ at-if2 .if2 .taken, at-wide .wide .ensures,
-    at-wide2 .wide2 .ensures, c .wide3 .ensures, )
+    rw (
+      ne-eqb _ _ (at-if1 .if1 .left),
+      ← at-part .part .ensures,
+      sym (at-is-good-row .is-good-row .ensures) ∙ at-if2 .if2 .taken,
+      at-wide .wide .ensures,
+      at-wide2 .wide2 .ensures,
+      c .wide3 .ensures,
+    )
 
 returns-3 : tie.Need-returns-3
 unfolding turned-to

@@ -27,8 +27,12 @@ fill-segment-requires c κs =
     let at-loop-test = c .before .before .before in
     let at-loop = at-loop-test .before in
     let held = at-loop .loop .inv in
-    rw (rows-counted _ _ (held .rest .fits .arenas .long .state)) (held .rest .fits, omega (arith, held .rest .within),
-    good-here held (at-loop-test .loop-test .taken), room-here held (at-loop-test .loop-test .taken))
+    rw (rows-counted _ _ (held .rest .fits .arenas .long .state)) (
+      held .rest .fits,
+      omega (arith, held .rest .within),
+      good-here held (at-loop-test .loop-test .taken),
+      room-here held (at-loop-test .loop-test .taken),
+    )
 
 add-i : tie.Need-add-i Inv-loop μ-loop
 add-i c = record { fits = omega arith }

@@ -28,9 +28,11 @@ push-paint-requires c κs =
     let start = back in
     let a = start .args in
     let w = words (a .state .now) (a .render .now) (a .fills .now) in
-    let one = sym (at-is-unsplit .is-unsplit .ensures) ∙ at-if2 .if2 .taken in
-    (start .pre .0, rw (drawn-once (a .n) (tiles (a .span)) (a .attrs-idx) (a .draw-id) w (at-if1 .if1 .taken) (a .eligible) (alpha-of (a .alpha)) one) at
-    (start .pre .2))
+    let one = sym (at-is-unsplit .is-unsplit .ensures) ∙ at-if2 .if2 .taken in (
+      start .pre .0,
+      rw (drawn-once (a .n) (tiles (a .span)) (a .attrs-idx) (a .draw-id) w (at-if1 .if1 .taken) (a .eligible) (alpha-of (a .alpha)) one) at
+          (start .pre .2),
+    )
 
 same-length : tie.Need-same-length
 same-length c = search needs

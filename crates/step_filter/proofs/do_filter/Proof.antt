@@ -34,7 +34,7 @@ cast-paint-rows c = search needs
 add-paint-rows : tie.Need-add-paint-rows
 add-paint-rows c =
     let at-pre = c .before .before .before .before .before .before .before .before .before .before .before .before .before .before .before .before
-        .before .before .before .before .before in
+    .before .before .before .before .before in
     omega (arith, bottom (at-pre .pre))
 
 cast-paint-rows-2 : tie.Need-cast-paint-rows-2
@@ -46,13 +46,13 @@ bbox-span-requires c κs = search needs
 paint-rows-requires : tie.Need-paint-rows-requires
 paint-rows-requires c κs =
     let at-pre = c .before .before .before .before .before .before .before .before .before .before .before .before .before .before .before .before
-        .before .before .before .before .before .before in
+    .before .before .before .before .before .before in
     rows-needs (at-pre .pre) _ (c .bbox-span .ensures)
 
 taken-requires : tie.Need-taken-requires
 taken-requires c κs =
     let at-pre = c .before .before .before .before .before .before .before .before .before .before .before .before .before .before .before .before
-        .before .before .before .before .before .before .before .before .before .before .before .before .before in
+    .before .before .before .before .before .before .before .before .before .before .before .before .before in
     counts-needs (at-pre .pre)
 
 same-length : tie.Need-same-length
@@ -67,13 +67,13 @@ same-length-3 c = search needs
 same-length-4 : tie.Need-same-length-4
 same-length-4 c =
     let at-put-paint-attrs = c .before .before .before .before .before .before .before .before .before .before .before .before .before .before .before
-        .before in
+    .before in
     at-put-paint-attrs .put-paint-attrs .kept .0
 
 same-length-5 : tie.Need-same-length-5
 same-length-5 c =
     let at-put-filter-paint = c .before .before .before .before .before .before .before .before .before .before .before .before .before .before .before
-        .before .before .before .before .before in
+    .before .before .before .before .before in
     at-put-filter-paint .put-filter-paint .kept .0
 
 returns : tie.Need-returns
@@ -85,8 +85,12 @@ returns c =
     let at-filter-attrs = at-put-filter-paint .before .before .before in
     let at-filter-paint = at-filter-attrs .before in
     let at-pre = at-filter-paint .before .before .before .before .before .before in
-    rw (at-put-filter-paint .put-filter-paint .ensures, at-put-paint-attrs .put-paint-attrs .ensures, at-filter-paint .filter-paint .ensures,
-    at-filter-attrs .filter-attrs .ensures) (leaves (at-pre .pre) _ _ _ (at-bbox-span .bbox-span .ensures) (c .taken .ensures)
+    rw (
+      at-put-filter-paint .put-filter-paint .ensures,
+      at-put-paint-attrs .put-paint-attrs .ensures,
+      at-filter-paint .filter-paint .ensures,
+      at-filter-attrs .filter-attrs .ensures,
+    ) (leaves (at-pre .pre) _ _ _ (at-bbox-span .bbox-span .ensures) (c .taken .ensures)
     (at-paint-rows .paint-rows .ensures))
 
 pub do-filter-spec : {M : Type 1} → statement M

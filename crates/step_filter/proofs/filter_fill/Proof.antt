@@ -74,8 +74,12 @@ do-filter-requires c κs =
     let at-filter-box = at-draws-nothing .before in
     let at-if1 = at-filter-box .before .before .before .before in
     let at-judge-filter = at-if1 .before in
-    record { number = sym (at-judge-filter .judge-filter .ensures) ∙ at-if1 .if1 .left; bounds = at-filter-box .filter-box .ensures; drawn = sym
-    (at-draws-nothing .draws-nothing .ensures) ∙ at-if2 .if2 .left }
+    record {
+      number = sym (at-judge-filter .judge-filter .ensures) ∙ at-if1 .if1 .left;
+      bounds = at-filter-box .filter-box .ensures;
+      drawn = sym
+          (at-draws-nothing .draws-nothing .ensures) ∙ at-if2 .if2 .left;
+    }
 
 same-length-11 : tie.Need-same-length-11
 same-length-11 c = search needs

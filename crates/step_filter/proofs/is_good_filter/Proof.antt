@@ -26,8 +26,12 @@ returns-4 c =
     let at-if2 = at-if3 .before .before in
     let at-is-good-dest = at-if2 .before in
     let at-if1 = at-is-good-dest .before in
-    rw (lt-ltb _ _ (at-if1 .if1 .left), sym (at-is-good-dest .is-good-dest .ensures) ∙ not-false _ (at-if2 .if2 .left), le-leb _ _ (at-if3 .if3 .left),
-    lt-leb _ _ (c .if4 .taken))
+    rw (
+      lt-ltb _ _ (at-if1 .if1 .left),
+      sym (at-is-good-dest .is-good-dest .ensures) ∙ not-false _ (at-if2 .if2 .left),
+      le-leb _ _ (at-if3 .if3 .left),
+      lt-leb _ _ (c .if4 .taken),
+    )
 
 returns-5 : tie.Need-returns-5
 returns-5 c =
@@ -35,8 +39,12 @@ returns-5 c =
     let at-if2 = at-if3 .before .before in
     let at-is-good-dest = at-if2 .before in
     let at-if1 = at-is-good-dest .before in
-    rw (lt-ltb _ _ (at-if1 .if1 .left), sym (at-is-good-dest .is-good-dest .ensures) ∙ not-false _ (at-if2 .if2 .left), le-leb _ _ (at-if3 .if3 .left),
-    le-leb _ _ (c .if4 .left))
+    rw (
+      lt-ltb _ _ (at-if1 .if1 .left),
+      sym (at-is-good-dest .is-good-dest .ensures) ∙ not-false _ (at-if2 .if2 .left),
+      le-leb _ _ (at-if3 .if3 .left),
+      le-leb _ _ (c .if4 .left),
+    )
 
 pub is-good-filter-spec : {M : Type 1} → statement M
 is-good-filter-spec =

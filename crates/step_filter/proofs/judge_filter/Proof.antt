@@ -63,8 +63,11 @@ add-judge-rows c =
     let at-judge-screen = at-if1 .before in
     let at-args = at-judge-screen .before .before .before .before .before in
     let a = at-args .args in
-    omega (arith, bottom-small (given (a .placement) (a .pixmap) (a .paint-count)) (a .screen) (words (a .rows .now) (a .render .now) (a .fills .now)) (sym
-    (at-judge-screen .judge-screen .ensures) ∙ at-if1 .if1 .left) _ (at-filter-box .filter-box .ensures))
+    omega (
+      arith,
+      bottom-small (given (a .placement) (a .pixmap) (a .paint-count)) (a .screen) (words (a .rows .now) (a .render .now) (a .fills .now)) (sym
+          (at-judge-screen .judge-screen .ensures) ∙ at-if1 .if1 .left) _ (at-filter-box .filter-box .ensures),
+    )
 
 cast-judge-rows-2 : tie.Need-cast-judge-rows-2
 cast-judge-rows-2 c = search needs

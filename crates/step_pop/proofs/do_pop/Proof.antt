@@ -16,13 +16,14 @@ use Rattle.step_pop.proofs.parent_box.Reads as parent-box-reads
 
 parent-box-requires : tie.Need-parent-box-requires
 parent-box-requires c κs =
-    let at-args = c .before .before .before .before .before .before .before .before .before in
-    (zero-judged (at-args .args .screen) (lent (words (at-args .args .rows .now) (at-args .args .render .now) (at-args .args .fills .now))
-    (at-args .args .layers .now) (at-args .args .opacities .now) (at-args .args .layer-attrs .now)) (at-args .args .list .now) (at-args .pre) .some,
-    seen (zero-judged (at-args .args .screen) (lent (words (at-args .args .rows .now) (at-args .args .render .now) (at-args .args .fills .now))
-    (at-args .args .layers .now) (at-args .args .opacities .now) (at-args .args .layer-attrs .now)) (at-args .args .list .now) (at-args .pre)) .bounds .deep,
-    zero-lengths (at-args .args .screen) (lent (words (at-args .args .rows .now) (at-args .args .render .now) (at-args .args .fills .now))
-    (at-args .args .layers .now) (at-args .args .opacities .now) (at-args .args .layer-attrs .now)) (at-args .args .list .now) (at-args .pre) .0)
+    let at-args = c .before .before .before .before .before .before .before .before .before in (
+      zero-judged (at-args .args .screen) (lent (words (at-args .args .rows .now) (at-args .args .render .now) (at-args .args .fills .now))
+          (at-args .args .layers .now) (at-args .args .opacities .now) (at-args .args .layer-attrs .now)) (at-args .args .list .now) (at-args .pre) .some,
+      seen (zero-judged (at-args .args .screen) (lent (words (at-args .args .rows .now) (at-args .args .render .now) (at-args .args .fills .now))
+          (at-args .args .layers .now) (at-args .args .opacities .now) (at-args .args .layer-attrs .now)) (at-args .args .list .now) (at-args .pre)) .bounds .deep,
+      zero-lengths (at-args .args .screen) (lent (words (at-args .args .rows .now) (at-args .args .render .now) (at-args .args .fills .now))
+          (at-args .args .layers .now) (at-args .args .opacities .now) (at-args .args .layer-attrs .now)) (at-args .args .list .now) (at-args .pre) .0,
+    )
 
 do-rows-requires : tie.Need-do-rows-requires
 do-rows-requires c κs =
@@ -33,47 +34,61 @@ do-rows-requires c κs =
 do-tables-requires : tie.Need-do-tables-requires
 do-tables-requires c κs =
     let at-args = c .before .before .before .before .before .before .before .before .before .before .before .before .before .before .before .before
-        .before .before .before .before .before .before .before .before in
-    (zero-lengths (at-args .args .screen) (lent (words (at-args .args .rows .now) (at-args .args .render .now) (at-args .args .fills .now))
-    (at-args .args .layers .now) (at-args .args .opacities .now) (at-args .args .layer-attrs .now)) (at-args .args .list .now) (at-args .pre) .0,
-    zero-lengths (at-args .args .screen) (lent (words (at-args .args .rows .now) (at-args .args .render .now) (at-args .args .fills .now))
-    (at-args .args .layers .now) (at-args .args .opacities .now) (at-args .args .layer-attrs .now)) (at-args .args .list .now) (at-args .pre) .1,
-    zero-lengths (at-args .args .screen) (lent (words (at-args .args .rows .now) (at-args .args .render .now) (at-args .args .fills .now))
-    (at-args .args .layers .now) (at-args .args .opacities .now) (at-args .args .layer-attrs .now)) (at-args .args .list .now) (at-args .pre) .2,
-    zero-judged (at-args .args .screen) (lent (words (at-args .args .rows .now) (at-args .args .render .now) (at-args .args .fills .now))
-    (at-args .args .layers .now) (at-args .args .opacities .now) (at-args .args .layer-attrs .now)) (at-args .args .list .now) (at-args .pre) .some,
-    seen (zero-judged (at-args .args .screen) (lent (words (at-args .args .rows .now) (at-args .args .render .now) (at-args .args .fills .now))
-    (at-args .args .layers .now) (at-args .args .opacities .now) (at-args .args .layer-attrs .now)) (at-args .args .list .now) (at-args .pre)) .bounds .deep,
-    ready (zero-judged (at-args .args .screen) (lent (words (at-args .args .rows .now) (at-args .args .render .now) (at-args .args .fills .now))
-    (at-args .args .layers .now) (at-args .args .opacities .now) (at-args .args .layer-attrs .now)) (at-args .args .list .now) (at-args .pre)) .attrs)
+    .before .before .before .before .before .before .before .before in (
+      zero-lengths (at-args .args .screen) (lent (words (at-args .args .rows .now) (at-args .args .render .now) (at-args .args .fills .now))
+          (at-args .args .layers .now) (at-args .args .opacities .now) (at-args .args .layer-attrs .now)) (at-args .args .list .now) (at-args .pre) .0,
+      zero-lengths (at-args .args .screen) (lent (words (at-args .args .rows .now) (at-args .args .render .now) (at-args .args .fills .now))
+          (at-args .args .layers .now) (at-args .args .opacities .now) (at-args .args .layer-attrs .now)) (at-args .args .list .now) (at-args .pre) .1,
+      zero-lengths (at-args .args .screen) (lent (words (at-args .args .rows .now) (at-args .args .render .now) (at-args .args .fills .now))
+          (at-args .args .layers .now) (at-args .args .opacities .now) (at-args .args .layer-attrs .now)) (at-args .args .list .now) (at-args .pre) .2,
+      zero-judged (at-args .args .screen) (lent (words (at-args .args .rows .now) (at-args .args .render .now) (at-args .args .fills .now))
+          (at-args .args .layers .now) (at-args .args .opacities .now) (at-args .args .layer-attrs .now)) (at-args .args .list .now) (at-args .pre) .some,
+      seen (zero-judged (at-args .args .screen) (lent (words (at-args .args .rows .now) (at-args .args .render .now) (at-args .args .fills .now))
+          (at-args .args .layers .now) (at-args .args .opacities .now) (at-args .args .layer-attrs .now)) (at-args .args .list .now) (at-args .pre)) .bounds .deep,
+      ready (zero-judged (at-args .args .screen) (lent (words (at-args .args .rows .now) (at-args .args .render .now) (at-args .args .fills .now))
+          (at-args .args .layers .now) (at-args .args .opacities .now) (at-args .args .layer-attrs .now)) (at-args .args .list .now) (at-args .pre)) .attrs,
+    )
 
 add-t28 : tie.Need-add-t28
 add-t28 c =
     let at-args = c .before .before .before .before .before .before .before .before .before .before .before .before .before .before .before .before
-        .before .before .before .before .before .before .before .before .before .before .before .before .before .before .before .before in
-    record { fits = omega (arith, ready (zero-judged (at-args .args .screen) (lent (words (at-args .args .rows .now) (at-args .args .render .now)
-    (at-args .args .fills .now)) (at-args .args .layers .now) (at-args .args .opacities .now) (at-args .args .layer-attrs .now)) (at-args .args .list .now)
-    (at-args .pre)) .ids) }
+    .before .before .before .before .before .before .before .before .before .before .before .before .before .before .before .before in
+    record {
+      fits = omega (
+        arith,
+        ready (zero-judged (at-args .args .screen) (lent (words (at-args .args .rows .now) (at-args .args .render .now)
+            (at-args .args .fills .now)) (at-args .args .layers .now) (at-args .args .opacities .now) (at-args .args .layer-attrs .now)) (at-args .args .list .now)
+            (at-args .pre)) .ids,
+      );
+    }
 
 add-t29 : tie.Need-add-t29
 add-t29 c =
     let at-args = c .before .before .before .before .before .before .before .before .before .before .before .before .before .before .before .before
-        .before .before .before .before .before .before .before .before .before .before .before .before .before .before .before .before .before in
-    record { fits = omega (arith, ready (zero-judged (at-args .args .screen) (lent (words (at-args .args .rows .now) (at-args .args .render .now)
-    (at-args .args .fills .now)) (at-args .args .layers .now) (at-args .args .opacities .now) (at-args .args .layer-attrs .now)) (at-args .args .list .now)
-    (at-args .pre)) .attrs) }
+    .before .before .before .before .before .before .before .before .before .before .before .before .before .before .before .before .before in
+    record {
+      fits = omega (
+        arith,
+        ready (zero-judged (at-args .args .screen) (lent (words (at-args .args .rows .now) (at-args .args .render .now)
+            (at-args .args .fills .now)) (at-args .args .layers .now) (at-args .args .opacities .now) (at-args .args .layer-attrs .now)) (at-args .args .list .now)
+            (at-args .pre)) .attrs,
+      );
+    }
 
 sub-t30 : tie.Need-sub-t30
 sub-t30 c =
     let at-args = c .before .before .before .before .before .before .before .before .before .before .before .before .before .before .before .before
-        .before .before .before .before .before .before .before .before .before .before .before .before .before .before .before .before .before .before in
-    omega (arith, zero-judged (at-args .args .screen) (lent (words (at-args .args .rows .now) (at-args .args .render .now) (at-args .args .fills .now))
-    (at-args .args .layers .now) (at-args .args .opacities .now) (at-args .args .layer-attrs .now)) (at-args .args .list .now) (at-args .pre) .some)
+    .before .before .before .before .before .before .before .before .before .before .before .before .before .before .before .before .before .before in
+    omega (
+      arith,
+      zero-judged (at-args .args .screen) (lent (words (at-args .args .rows .now) (at-args .args .render .now) (at-args .args .fills .now))
+          (at-args .args .layers .now) (at-args .args .opacities .now) (at-args .args .layer-attrs .now)) (at-args .args .list .now) (at-args .pre) .some,
+    )
 
 same-length : tie.Need-same-length
 same-length c =
     let at-rows = c .before .before .before .before .before .before .before .before .before .before .before .before .before .before .before .before
-        .before .before in
+    .before .before in
     at-rows .rows .given
 
 same-length-2 : tie.Need-same-length-2

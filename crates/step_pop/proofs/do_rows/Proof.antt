@@ -35,13 +35,14 @@ pop-rows-requires c κs =
     let at-first-row = at-end-row .before in
     let at-open-layer = at-first-row .before .before in
     let at-close-rows = at-open-layer .before .before .before .before .before .before .before .before in
-    let at-pre = at-close-rows .before .before .before .before .before .before .before .before .before in
-    (long-after _ _ _ (seen (at-pre .pre) .whole) (search needs) (search needs) (search needs),
-    b-bottom (at-pre .pre) (at-open-layer .open-layer .result) (at-open-layer .open-layer .ensures) (at-first-row .first-row .result)
-    (at-end-row .end-row .result) (at-first-row .first-row .ensures) (at-end-row .end-row .ensures),
-    pop-requires (at-pre .pre) (at-open-layer .open-layer .result) (at-open-layer .open-layer .ensures) (at-first-row .first-row .result)
-    (at-end-row .end-row .result) (at-first-row .first-row .ensures) (at-end-row .end-row .ensures) _ (long-after _ _ _ (seen (at-pre .pre) .whole) (search
-    needs) (search needs) (search needs)) (at-close-rows .close-rows .ensures))
+    let at-pre = at-close-rows .before .before .before .before .before .before .before .before .before in (
+      long-after _ _ _ (seen (at-pre .pre) .whole) (search needs) (search needs) (search needs),
+      b-bottom (at-pre .pre) (at-open-layer .open-layer .result) (at-open-layer .open-layer .ensures) (at-first-row .first-row .result)
+          (at-end-row .end-row .result) (at-first-row .first-row .ensures) (at-end-row .end-row .ensures),
+      pop-requires (at-pre .pre) (at-open-layer .open-layer .result) (at-open-layer .open-layer .ensures) (at-first-row .first-row .result)
+          (at-end-row .end-row .result) (at-first-row .first-row .ensures) (at-end-row .end-row .ensures) _ (long-after _ _ _ (seen (at-pre .pre) .whole) (search
+          needs) (search needs) (search needs)) (at-close-rows .close-rows .ensures),
+    )
 
 same-length : tie.Need-same-length
 same-length c = search needs

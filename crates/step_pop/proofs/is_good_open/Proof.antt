@@ -28,8 +28,10 @@ returns-3 c =
     let at-is-good-own-box = c .before .before in
     let at-if1 = at-is-good-own-box .before in
     let at-is-good-layer = at-if1 .before in
-    rw (sym (at-is-good-layer .is-good-layer .ensures) ∙ not-false _ (at-if1 .if1 .left),
-    sym (at-is-good-own-box .is-good-own-box .ensures) ∙ not-false _ (c .before .if2 .left)) (c .is-good-own-box2 .ensures)
+    rw (
+      sym (at-is-good-layer .is-good-layer .ensures) ∙ not-false _ (at-if1 .if1 .left),
+      sym (at-is-good-own-box .is-good-own-box .ensures) ∙ not-false _ (c .before .if2 .left),
+    ) (c .is-good-own-box2 .ensures)
 
 pub is-good-open-spec : {M : Type 1} → statement M
 is-good-open-spec =

@@ -60,9 +60,14 @@ is-full-clip-requires : tie.Need-is-full-clip-requires
 is-full-clip-requires c κs =
     let at-if2 = c .before .before .before .before .before .before in
     let at-judge-segments = at-if2 .before in
-    let at-pre = at-judge-segments .before .before .before .before .before .before .before in
-    (at-pre .pre .0, at-pre .pre .1, at-pre .pre .4, at-pre .pre .5, judged _ (sym (at-judge-segments .judge-segments .ensures) ∙ at-if2 .if2 .left) .good,
-    at-pre .pre .6)
+    let at-pre = at-judge-segments .before .before .before .before .before .before .before in (
+      at-pre .pre .0,
+      at-pre .pre .1,
+      at-pre .pre .4,
+      at-pre .pre .5,
+      judged _ (sym (at-judge-segments .judge-segments .ensures) ∙ at-if2 .if2 .left) .good,
+      at-pre .pre .6,
+    )
 
 returns-6 : tie.Need-returns-6
 returns-6 c =

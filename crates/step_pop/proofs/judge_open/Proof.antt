@@ -23,15 +23,22 @@ sub-open-layer c = search needs
 
 open-layer-requires : tie.Need-open-layer-requires
 open-layer-requires c κs =
-    let at-args = c .before .before .before .before .before .before .before in
-    (omega (arith, screened _ (words (at-args .args .rows .now) (at-args .args .render .now) (at-args .args .fills .now)) (at-args .pre .0) .bounds .deep,
-    at-args .pre .2), at-args .pre .1)
+    let at-args = c .before .before .before .before .before .before .before in (
+      omega (
+        arith,
+        screened _ (words (at-args .args .rows .now) (at-args .args .render .now) (at-args .args .fills .now)) (at-args .pre .0) .bounds .deep,
+        at-args .pre .2,
+      ),
+      at-args .pre .1,
+    )
 
 parent-box-requires : tie.Need-parent-box-requires
 parent-box-requires c κs =
-    let at-pre = c .before .before .before .before .before .before .before .before in
-    (at-pre .pre .2, screened _ (words (at-pre .args .rows .now) (at-pre .args .render .now) (at-pre .args .fills .now)) (at-pre .pre .0) .bounds .deep,
-    at-pre .pre .1)
+    let at-pre = c .before .before .before .before .before .before .before .before in (
+      at-pre .pre .2,
+      screened _ (words (at-pre .args .rows .now) (at-pre .args .render .now) (at-pre .args .fills .now)) (at-pre .pre .0) .bounds .deep,
+      at-pre .pre .1,
+    )
 
 is-good-open-requires : tie.Need-is-good-open-requires
 is-good-open-requires c κs = search needs
@@ -59,13 +66,15 @@ judge-plain-requires c κs =
     let at-is-good-open = at-if1 .before in
     let at-parent-box = at-is-good-open .before in
     let at-open-layer = at-parent-box .before in
-    let at-args = at-open-layer .before .before .before .before .before .before .before .before in
-    (screened _ (words (at-args .args .rows .now) (at-args .args .render .now) (at-args .args .fills .now)) (at-args .pre .0) .whole,
-    open-bottom (at-args .args .screen) (words (at-args .args .rows .now) (at-args .args .render .now) (at-args .args .fills .now)) (at-args .args .layers .now)
-    (at-args .args .list .now) (at-args .pre .2) (screened _ (words (at-args .args .rows .now) (at-args .args .render .now) (at-args .args .fills .now))
-    (at-args .pre .0)) _ (at-open-layer .open-layer .ensures) _ (at-parent-box .parent-box .ensures) (at-is-good-open .is-good-open .ensures)
-    (at-if1 .if1 .left) (at-first-row .first-row .ensures) (at-end-row .end-row .ensures), at-args .pre .2,
-    screened _ (words (at-args .args .rows .now) (at-args .args .render .now) (at-args .args .fills .now)) (at-args .pre .0) .bounds .deep)
+    let at-args = at-open-layer .before .before .before .before .before .before .before .before in (
+      screened _ (words (at-args .args .rows .now) (at-args .args .render .now) (at-args .args .fills .now)) (at-args .pre .0) .whole,
+      open-bottom (at-args .args .screen) (words (at-args .args .rows .now) (at-args .args .render .now) (at-args .args .fills .now)) (at-args .args .layers .now)
+          (at-args .args .list .now) (at-args .pre .2) (screened _ (words (at-args .args .rows .now) (at-args .args .render .now) (at-args .args .fills .now))
+          (at-args .pre .0)) _ (at-open-layer .open-layer .ensures) _ (at-parent-box .parent-box .ensures) (at-is-good-open .is-good-open .ensures)
+          (at-if1 .if1 .left) (at-first-row .first-row .ensures) (at-end-row .end-row .ensures),
+      at-args .pre .2,
+      screened _ (words (at-args .args .rows .now) (at-args .args .render .now) (at-args .args .fills .now)) (at-args .pre .0) .bounds .deep,
+    )
 
 returns-2 : tie.Need-returns-2
 returns-2 c =
@@ -126,21 +135,29 @@ judge-clip-requires c κs =
     let at-is-good-open = at-if1 .before in
     let at-parent-box = at-is-good-open .before in
     let at-open-layer = at-parent-box .before in
-    let at-args = at-open-layer .before .before .before .before .before .before .before .before in
-    (screened _ (words (at-args .args .rows .now) (at-args .args .render .now) (at-args .args .fills .now)) (at-args .pre .0) .whole,
-    open-bottom (at-args .args .screen) (words (at-args .args .rows .now) (at-args .args .render .now) (at-args .args .fills .now)) (at-args .args .layers .now)
-    (at-args .args .list .now) (at-args .pre .2) (screened _ (words (at-args .args .rows .now) (at-args .args .render .now) (at-args .args .fills .now))
-    (at-args .pre .0)) _ (at-open-layer .open-layer .ensures) _ (at-parent-box .parent-box .ensures) (at-is-good-open .is-good-open .ensures)
-    (at-if1 .if1 .left) (at-first-row .first-row .ensures) (at-end-row .end-row .ensures), at-args .pre .2,
-    screened _ (words (at-args .args .rows .now) (at-args .args .render .now) (at-args .args .fills .now)) (at-args .pre .0) .bounds .deep, omega (arith,
-    open-range (at-args .args .screen) (words (at-args .args .rows .now) (at-args .args .render .now) (at-args .args .fills .now)) (at-args .args .layers .now)
-    (at-args .args .list .now) (at-args .pre .2) (screened _ (words (at-args .args .rows .now) (at-args .args .render .now) (at-args .args .fills .now))
-    (at-args .pre .0)) _ (at-open-layer .open-layer .ensures) _ (at-parent-box .parent-box .ensures) (at-is-good-open .is-good-open .ensures)
-    (at-if1 .if1 .left), at-wide .wide .ensures, at-wide2 .wide2 .ensures), omega (arith, c .before .if3 .left),
-    open-scene (at-args .args .screen) (words (at-args .args .rows .now) (at-args .args .render .now) (at-args .args .fills .now)) (at-args .args .layers .now)
-    (at-args .args .list .now) (at-args .pre .2) (screened _ (words (at-args .args .rows .now) (at-args .args .render .now) (at-args .args .fills .now))
-    (at-args .pre .0)) _ (at-open-layer .open-layer .ensures) _ (at-parent-box .parent-box .ensures) (at-is-good-open .is-good-open .ensures)
-    (at-if1 .if1 .left) _ (c .scene-of .ensures))
+    let at-args = at-open-layer .before .before .before .before .before .before .before .before in (
+      screened _ (words (at-args .args .rows .now) (at-args .args .render .now) (at-args .args .fills .now)) (at-args .pre .0) .whole,
+      open-bottom (at-args .args .screen) (words (at-args .args .rows .now) (at-args .args .render .now) (at-args .args .fills .now)) (at-args .args .layers .now)
+          (at-args .args .list .now) (at-args .pre .2) (screened _ (words (at-args .args .rows .now) (at-args .args .render .now) (at-args .args .fills .now))
+          (at-args .pre .0)) _ (at-open-layer .open-layer .ensures) _ (at-parent-box .parent-box .ensures) (at-is-good-open .is-good-open .ensures)
+          (at-if1 .if1 .left) (at-first-row .first-row .ensures) (at-end-row .end-row .ensures),
+      at-args .pre .2,
+      screened _ (words (at-args .args .rows .now) (at-args .args .render .now) (at-args .args .fills .now)) (at-args .pre .0) .bounds .deep,
+      omega (
+        arith,
+        open-range (at-args .args .screen) (words (at-args .args .rows .now) (at-args .args .render .now) (at-args .args .fills .now)) (at-args .args .layers .now)
+            (at-args .args .list .now) (at-args .pre .2) (screened _ (words (at-args .args .rows .now) (at-args .args .render .now) (at-args .args .fills .now))
+            (at-args .pre .0)) _ (at-open-layer .open-layer .ensures) _ (at-parent-box .parent-box .ensures) (at-is-good-open .is-good-open .ensures)
+            (at-if1 .if1 .left),
+        at-wide .wide .ensures,
+        at-wide2 .wide2 .ensures,
+      ),
+      omega (arith, c .before .if3 .left),
+      open-scene (at-args .args .screen) (words (at-args .args .rows .now) (at-args .args .render .now) (at-args .args .fills .now)) (at-args .args .layers .now)
+          (at-args .args .list .now) (at-args .pre .2) (screened _ (words (at-args .args .rows .now) (at-args .args .render .now) (at-args .args .fills .now))
+          (at-args .pre .0)) _ (at-open-layer .open-layer .ensures) _ (at-parent-box .parent-box .ensures) (at-is-good-open .is-good-open .ensures)
+          (at-if1 .if1 .left) _ (c .scene-of .ensures),
+    )
 
 returns-4 : tie.Need-returns-4
 returns-4 c =

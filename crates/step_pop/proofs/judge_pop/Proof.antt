@@ -51,9 +51,12 @@ judge-open-requires c κs =
     let at-if2 = c .before .before in
     let at-is-good-lengths = at-if2 .before in
     let at-if1 = at-is-good-lengths .before in
-    let at-judge-screen = at-if1 .before in
-    (sym (at-judge-screen .judge-screen .ensures) ∙ at-if1 .if1 .left, lengths-facts _ _ _ _ (sym (at-is-good-lengths .is-good-lengths .ensures) ∙ not-false _
-    (at-if2 .if2 .left)) .0, above-0 _ (c .if3 .left))
+    let at-judge-screen = at-if1 .before in (
+      sym (at-judge-screen .judge-screen .ensures) ∙ at-if1 .if1 .left,
+      lengths-facts _ _ _ _ (sym (at-is-good-lengths .is-good-lengths .ensures) ∙ not-false _
+          (at-if2 .if2 .left)) .0,
+      above-0 _ (c .if3 .left),
+    )
 
 returns-4 : tie.Need-returns-4
 returns-4 c =

@@ -25,10 +25,14 @@ loop-holds c = clipping-start (c .before .before .before .before .pre)
 close-segment-requires : tie.Need-close-segment-requires Inv-loop μ-loop
 close-segment-requires c κs =
     let at-loop-test = c .before .before .before in
-    let at-loop = at-loop-test .before in
-    (at-loop .loop .inv .rest .whole, at-loop .loop .inv .rest .bottom, omega (arith, at-loop-test .loop-test .taken, at-loop .loop .inv .rest .within),
-    good-here (at-loop .loop .inv) (at-loop-test .loop-test .taken), at-loop .loop .inv .rest .starts,
-    room-here (at-loop .loop .inv) (at-loop-test .loop-test .taken))
+    let at-loop = at-loop-test .before in (
+      at-loop .loop .inv .rest .whole,
+      at-loop .loop .inv .rest .bottom,
+      omega (arith, at-loop-test .loop-test .taken, at-loop .loop .inv .rest .within),
+      good-here (at-loop .loop .inv) (at-loop-test .loop-test .taken),
+      at-loop .loop .inv .rest .starts,
+      room-here (at-loop .loop .inv) (at-loop-test .loop-test .taken),
+    )
 
 add-i : tie.Need-add-i Inv-loop μ-loop
 add-i c =

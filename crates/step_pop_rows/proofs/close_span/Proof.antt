@@ -33,9 +33,13 @@ returns c =
 close-at-requires : tie.Need-close-at-requires
 close-at-requires c κs =
     let at-if1 = c .before .before .before in
-    let at-pre = at-if1 .before .before .before .before .before .before in
-    (at-pre .pre .0, at-pre .pre .1, at-pre .pre .2, each-here (at-pre .pre .0) _ _ (at-pre .pre .1) (at-if1 .if1 .left) (Fillable (tiles (at-pre .args .span))
-    none (at-pre .args .screen .«layer_attrs»)) (at-pre .pre .3))
+    let at-pre = at-if1 .before .before .before .before .before .before in (
+      at-pre .pre .0,
+      at-pre .pre .1,
+      at-pre .pre .2,
+      each-here (at-pre .pre .0) _ _ (at-pre .pre .1) (at-if1 .if1 .left) (Fillable (tiles (at-pre .args .span))
+          none (at-pre .args .screen .«layer_attrs»)) (at-pre .pre .3),
+    )
 
 same-length : tie.Need-same-length
 same-length c = search needs

@@ -29,17 +29,22 @@ abbrev μ-loop : tie.MeasureT-loop
 
 loop-holds : tie.Need-loop-holds Inv-loop μ-loop
 loop-holds c =
-    let at-pre = c .before .before .before in
-    (at-pre .pre .0, going-start (close (tiles (at-pre .args .span)) none (at-pre .args .screen .«layer_attrs»)) (Fillable (tiles (at-pre .args .span)) none
-    (at-pre .args .screen .«layer_attrs»)) (at-pre .args .screen .layers - 1) _ _ _ _ (at-pre .pre .3))
+    let at-pre = c .before .before .before in (
+      at-pre .pre .0,
+      going-start (close (tiles (at-pre .args .span)) none (at-pre .args .screen .«layer_attrs»)) (Fillable (tiles (at-pre .args .span)) none
+          (at-pre .args .screen .«layer_attrs»)) (at-pre .args .screen .layers - 1) _ _ _ _ (at-pre .pre .3),
+    )
 
 close-span-requires : tie.Need-close-span-requires Inv-loop μ-loop
 close-span-requires c κs =
     let at-loop-test = c .before .before .before in
     let at-loop = at-loop-test .before in
-    let at-pre = at-loop .before .before .before .before in
-    (at-loop .loop .inv .0, omega (arith, at-loop-test .loop-test .taken, at-pre .pre .1), at-pre .pre .2,
-    going-here (at-loop .loop .inv .1) (at-loop-test .loop-test .taken))
+    let at-pre = at-loop .before .before .before .before in (
+      at-loop .loop .inv .0,
+      omega (arith, at-loop-test .loop-test .taken, at-pre .pre .1),
+      at-pre .pre .2,
+      going-here (at-loop .loop .inv .1) (at-loop-test .loop-test .taken),
+    )
 
 add-r : tie.Need-add-r Inv-loop μ-loop
 add-r c =
@@ -56,9 +61,10 @@ loop-again : tie.Need-loop-again Inv-loop μ-loop
 loop-again c =
     let at-close-span = c .before .before .before .before .before .before in
     let at-loop-test = at-close-span .before .before .before .before in
-    let at-loop = at-loop-test .before in
-    (long-after _ _ _ (at-loop .loop .inv .0) (search needs) (search needs) (search needs),
-    going-on (at-loop .loop .inv .1) (at-loop-test .loop-test .taken) (at-close-span .close-span .ensures))
+    let at-loop = at-loop-test .before in (
+      long-after _ _ _ (at-loop .loop .inv .0) (search needs) (search needs) (search needs),
+      going-on (at-loop .loop .inv .1) (at-loop-test .loop-test .taken) (at-close-span .close-span .ensures),
+    )
 
 same-length : tie.Need-same-length Inv-loop μ-loop
 same-length c = c .before .loop .inv .0 .long .state ∙ sym (c .before .before .before .before .before .pre .0 .long .state)

@@ -53,10 +53,13 @@ so-far-requires : tie.Need-so-far-requires
 so-far-requires c κs =
     let at-is-touched = c .before in
     let at-wide = at-is-touched .before in
-    let at-pre = at-wide .before .before .before .before .before .before .before .before .before .before in
-    (touched-few (at-pre .pre .0) _ _ _ (at-pre .pre .1) _ (touched-yes (at-pre .pre .0) _ _ _ (at-pre .pre .1) _ (at-is-touched .is-touched .ensures)
-    (at-wide .wide .ensures) (c .if1 .left)), touched-long (at-pre .pre .0) _ _ _ (at-pre .pre .1) _ (touched-yes (at-pre .pre .0) _ _ _ (at-pre .pre .1) _
-    (at-is-touched .is-touched .ensures) (at-wide .wide .ensures) (c .if1 .left)), at-pre .pre .5)
+    let at-pre = at-wide .before .before .before .before .before .before .before .before .before .before in (
+      touched-few (at-pre .pre .0) _ _ _ (at-pre .pre .1) _ (touched-yes (at-pre .pre .0) _ _ _ (at-pre .pre .1) _ (at-is-touched .is-touched .ensures)
+          (at-wide .wide .ensures) (c .if1 .left)),
+      touched-long (at-pre .pre .0) _ _ _ (at-pre .pre .1) _ (touched-yes (at-pre .pre .0) _ _ _ (at-pre .pre .1) _
+          (at-is-touched .is-touched .ensures) (at-wide .wide .ensures) (c .if1 .left)),
+      at-pre .pre .5,
+    )
 
 add-n : tie.Need-add-n
 add-n c = record { fits = omega (arith, c .so-far .ensures .1) }
@@ -66,8 +69,13 @@ add-t19 c =
     let at-is-touched = c .before .before in
     let at-wide = at-is-touched .before in
     let at-pre = at-wide .before .before .before .before .before .before .before .before .before .before in
-    record { fits = omega (arith, touched-few (at-pre .pre .0) _ _ _ (at-pre .pre .1) _ (touched-yes (at-pre .pre .0) _ _ _ (at-pre .pre .1) _
-    (at-is-touched .is-touched .ensures) (at-wide .wide .ensures) (c .before .if1 .left))) }
+    record {
+      fits = omega (
+        arith,
+        touched-few (at-pre .pre .0) _ _ _ (at-pre .pre .1) _ (touched-yes (at-pre .pre .0) _ _ _ (at-pre .pre .1) _
+            (at-is-touched .is-touched .ensures) (at-wide .wide .ensures) (c .before .if1 .left)),
+      );
+    }
 
 cast-t17 : tie.Need-cast-t17
 cast-t17 c = search needs

@@ -28,9 +28,14 @@ loop-holds c =
 count-segment-requires : tie.Need-count-segment-requires Inv-loop μ-loop
 count-segment-requires c κs =
     let at-loop = c .before in
-    let at-pre = at-loop .before .before .before .before .before in
-    (at-pre .pre .0, at-pre .pre .1, omega (arith, c .loop-test .taken, at-pre .pre .3), counting-good (at-loop .loop .inv) (c .loop-test .taken),
-    at-pre .pre .5, at-loop .loop .inv .few)
+    let at-pre = at-loop .before .before .before .before .before in (
+      at-pre .pre .0,
+      at-pre .pre .1,
+      omega (arith, c .loop-test .taken, at-pre .pre .3),
+      counting-good (at-loop .loop .inv) (c .loop-test .taken),
+      at-pre .pre .5,
+      at-loop .loop .inv .few,
+    )
 
 returns : tie.Need-returns Inv-loop μ-loop
 returns c = counting-full (c .before .before .before .loop .inv) (c .before .before .loop-test .taken) (c .before .count-segment .ensures) (c .if1 .taken)

@@ -49,9 +49,10 @@ loop-again : tie.Need-loop-again Inv-loop μ-loop
 loop-again c =
     let at-pop-row = c .before .before .before .before .before .before in
     let at-loop-test = at-pop-row .before .before .before .before in
-    let at-loop = at-loop-test .before in
-    (long-after _ _ _ (at-loop .loop .inv .0) (search needs) (search needs) (search needs),
-    going-on (at-loop .loop .inv .1) (at-loop-test .loop-test .taken) (at-pop-row .pop-row .ensures))
+    let at-loop = at-loop-test .before in (
+      long-after _ _ _ (at-loop .loop .inv .0) (search needs) (search needs) (search needs),
+      going-on (at-loop .loop .inv .1) (at-loop-test .loop-test .taken) (at-pop-row .pop-row .ensures),
+    )
 
 same-length : tie.Need-same-length Inv-loop μ-loop
 same-length c = c .before .loop .inv .0 .long .state ∙ sym (c .before .before .before .before .before .pre .0 .long .state)

@@ -34,9 +34,14 @@ wide-requires-2 c κs = search needs
 returns-2 : tie.Need-returns-2
 returns-2 c =
     let at-wide = c .before .before in
-    let at-if1 = at-wide .before in
-    (rw (ne-eqb _ _ (at-if1 .if1 .left), ← at-wide .wide .ensures) (c .wide2 .ensures), omega (arith, c .wide2 .ensures,
-    c .before .shared-slice-known2 .given (at-wide .wide .result * 54)))
+    let at-if1 = at-wide .before in (
+      rw (ne-eqb _ _ (at-if1 .if1 .left), ← at-wide .wide .ensures) (c .wide2 .ensures),
+      omega (
+        arith,
+        c .wide2 .ensures,
+        c .before .shared-slice-known2 .given (at-wide .wide .result * 54),
+      ),
+    )
 
 pub so-far-spec : {M : Type 1} → statement M
 so-far-spec =

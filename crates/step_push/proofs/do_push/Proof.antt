@@ -18,37 +18,50 @@ touch-run-requires c κs =
 
 put-layer-requires : tie.Need-put-layer-requires
 put-layer-requires c κs =
-    let at-args = c .before .before .before .before .before .before .before .before .before .before .before in
-    (ready (at-args .args .props) (at-args .args .screen) (words (at-args .args .rows .now) (at-args .args .render .now) (at-args .args .fills .now))
-    (at-args .args .layers .now) (at-args .args .opacities .now) (at-args .pre) .free,
-    ready (at-args .args .props) (at-args .args .screen) (words (at-args .args .rows .now) (at-args .args .render .now) (at-args .args .fills .now))
-    (at-args .args .layers .now) (at-args .args .opacities .now) (at-args .pre) .layers)
+    let at-args = c .before .before .before .before .before .before .before .before .before .before .before in (
+      ready (at-args .args .props) (at-args .args .screen) (words (at-args .args .rows .now) (at-args .args .render .now) (at-args .args .fills .now))
+          (at-args .args .layers .now) (at-args .args .opacities .now) (at-args .pre) .free,
+      ready (at-args .args .props) (at-args .args .screen) (words (at-args .args .rows .now) (at-args .args .render .now) (at-args .args .fills .now))
+          (at-args .args .layers .now) (at-args .args .opacities .now) (at-args .pre) .layers,
+    )
 
 cast-opacities : tie.Need-cast-opacities
 cast-opacities c =
     let at-args = c .before .before .before .before .before .before .before .before .before .before .before .before .before .before in
-    omega (arith, ready (at-args .args .props) (at-args .args .screen) (words (at-args .args .rows .now) (at-args .args .render .now)
-    (at-args .args .fills .now)) (at-args .args .layers .now) (at-args .args .opacities .now) (at-args .pre) .free)
+    omega (
+      arith,
+      ready (at-args .args .props) (at-args .args .screen) (words (at-args .args .rows .now) (at-args .args .render .now)
+          (at-args .args .fills .now)) (at-args .args .layers .now) (at-args .args .opacities .now) (at-args .pre) .free,
+    )
 
 mul-opacities : tie.Need-mul-opacities
 mul-opacities c =
     let at-args = c .before .before .before .before .before .before .before .before .before .before .before .before .before .before in
-    omega (arith, ready (at-args .args .props) (at-args .args .screen) (words (at-args .args .rows .now) (at-args .args .render .now)
-    (at-args .args .fills .now)) (at-args .args .layers .now) (at-args .args .opacities .now) (at-args .pre) .free)
+    omega (
+      arith,
+      ready (at-args .args .props) (at-args .args .screen) (words (at-args .args .rows .now) (at-args .args .render .now)
+          (at-args .args .fills .now)) (at-args .args .layers .now) (at-args .args .opacities .now) (at-args .pre) .free,
+    )
 
 slice-write-opacities : tie.Need-slice-write-opacities
 slice-write-opacities c =
     let at-args = c .before .before .before .before .before .before .before .before .before .before .before .before .before .before in
-    omega (arith, ready (at-args .args .props) (at-args .args .screen) (words (at-args .args .rows .now) (at-args .args .render .now)
-    (at-args .args .fills .now)) (at-args .args .layers .now) (at-args .args .opacities .now) (at-args .pre) .free,
-    ready (at-args .args .props) (at-args .args .screen) (words (at-args .args .rows .now) (at-args .args .render .now) (at-args .args .fills .now))
-    (at-args .args .layers .now) (at-args .args .opacities .now) (at-args .pre) .opacities)
+    omega (
+      arith,
+      ready (at-args .args .props) (at-args .args .screen) (words (at-args .args .rows .now) (at-args .args .render .now)
+          (at-args .args .fills .now)) (at-args .args .layers .now) (at-args .args .opacities .now) (at-args .pre) .free,
+      ready (at-args .args .props) (at-args .args .screen) (words (at-args .args .rows .now) (at-args .args .render .now) (at-args .args .fills .now))
+          (at-args .args .layers .now) (at-args .args .opacities .now) (at-args .pre) .opacities,
+    )
 
 add-touch-rows : tie.Need-add-touch-rows
 add-touch-rows c =
     let at-args = c .before .before .before .before .before .before .before .before .before .before .before .before .before .before .before .before .before in
-    omega (arith, ready (at-args .args .props) (at-args .args .screen) (words (at-args .args .rows .now) (at-args .args .render .now)
-    (at-args .args .fills .now)) (at-args .args .layers .now) (at-args .args .opacities .now) (at-args .pre) .free)
+    omega (
+      arith,
+      ready (at-args .args .props) (at-args .args .screen) (words (at-args .args .rows .now) (at-args .args .render .now)
+          (at-args .args .fills .now)) (at-args .args .layers .now) (at-args .args .opacities .now) (at-args .pre) .free,
+    )
 
 touch-rows-requires : tie.Need-touch-rows-requires
 touch-rows-requires c κs =
@@ -64,9 +77,12 @@ touch-rows-requires c κs =
 on-layer-requires : tie.Need-on-layer-requires
 on-layer-requires c κs =
     let at-args = c .before .before .before .before .before .before .before .before .before .before .before .before .before .before .before .before
-        .before .before .before .before .before .before .before .before in
-    omega (arith, ready (at-args .args .props) (at-args .args .screen) (words (at-args .args .rows .now) (at-args .args .render .now)
-    (at-args .args .fills .now)) (at-args .args .layers .now) (at-args .args .opacities .now) (at-args .pre) .free)
+    .before .before .before .before .before .before .before .before in
+    omega (
+      arith,
+      ready (at-args .args .props) (at-args .args .screen) (words (at-args .args .rows .now) (at-args .args .render .now)
+          (at-args .args .fills .now)) (at-args .args .layers .now) (at-args .args .opacities .now) (at-args .pre) .free,
+    )
 
 same-length : tie.Need-same-length
 same-length c = search needs

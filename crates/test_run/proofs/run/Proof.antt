@@ -54,8 +54,8 @@ step-at-requires c κs = search needs
 loop-less : tie.Need-loop-less Inv-loop μ-loop
 loop-less c =
     let at-after = c .before .before .before .before .before .before .before .before .before .before .before .before .before .before .before .before
-        .before .before .before .before .before .before .before .before .before .before .before .before .before .before .before .before .before .before
-        .before .before in
+    .before .before .before .before .before .before .before .before .before .before .before .before .before .before .before .before .before .before
+    .before .before in
     let at-size-of = at-after .before in
     let at-loop-test = at-size-of .before .before in
     omega (arith, at-after .after .ensures .2 (at-size-of .size-of .ensures) (at-loop-test .loop-test .taken), at-after .after .ensures .1)
@@ -63,20 +63,23 @@ loop-less c =
 loop-again : tie.Need-loop-again Inv-loop μ-loop
 loop-again c =
     let at-step-at = c .before .before .before .before .before .before .before .before .before .before .before .before .before .before .before .before
-        .before .before .before .before .before .before .before in
+    .before .before .before .before .before .before .before in
     let at-after = at-step-at .before .before .before .before .before .before .before .before .before .before .before .before .before in
-    let at-loop = at-after .before .before .before .before in
-    ( (at-after .after .ensures .1), at-step-at .step-at .kept .1 .1 .1 .1 .0 ∙ at-loop .loop .inv .1,
-    at-step-at .step-at .kept .1 .1 .1 .1 .1 .0 ∙ at-loop .loop .inv .2, at-step-at .step-at .kept .1 .1 .1 .1 .1 .1 .0 ∙ at-loop .loop .inv .3,
-    at-step-at .step-at .kept .1 .1 .1 .1 .1 .1 .1 .0 ∙ at-loop .loop .inv .4, at-step-at .step-at .kept .1 .1 .1 .1 .1 .1 .1 .1 .0 ∙ at-loop .loop .inv .5,
-    at-step-at .step-at .kept .1 .1 .1 .1 .1 .1 .1 .1 .1 .0 ∙ at-loop .loop .inv .6,
-    at-step-at .step-at .kept .1 .1 .1 .1 .1 .1 .1 .1 .1 .1 .0 ∙ at-loop .loop .inv .7,
-    at-step-at .step-at .kept .1 .1 .1 .1 .1 .1 .1 .1 .1 .1 .1 .0 ∙ at-loop .loop .inv .8,
-    at-step-at .step-at .kept .1 .1 .1 .1 .1 .1 .1 .1 .1 .1 .1 .1 .0 ∙ at-loop .loop .inv .9,
-    at-step-at .step-at .kept .1 .1 .1 .1 .1 .1 .1 .1 .1 .1 .1 .1 .1 .0 ∙ at-loop .loop .inv .10,
-    at-step-at .step-at .kept .1 .1 .1 .1 .1 .1 .1 .1 .1 .1 .1 .1 .1 .1 .0 ∙ at-loop .loop .inv .11,
-    at-step-at .step-at .kept .1 .1 .1 .1 .1 .1 .1 .1 .1 .1 .1 .1 .1 .1 .1 .0 ∙ at-loop .loop .inv .12,
-)
+    let at-loop = at-after .before .before .before .before in (
+      (at-after .after .ensures .1),
+      at-step-at .step-at .kept .1 .1 .1 .1 .0 ∙ at-loop .loop .inv .1,
+      at-step-at .step-at .kept .1 .1 .1 .1 .1 .0 ∙ at-loop .loop .inv .2,
+      at-step-at .step-at .kept .1 .1 .1 .1 .1 .1 .0 ∙ at-loop .loop .inv .3,
+      at-step-at .step-at .kept .1 .1 .1 .1 .1 .1 .1 .0 ∙ at-loop .loop .inv .4,
+      at-step-at .step-at .kept .1 .1 .1 .1 .1 .1 .1 .1 .0 ∙ at-loop .loop .inv .5,
+      at-step-at .step-at .kept .1 .1 .1 .1 .1 .1 .1 .1 .1 .0 ∙ at-loop .loop .inv .6,
+      at-step-at .step-at .kept .1 .1 .1 .1 .1 .1 .1 .1 .1 .1 .0 ∙ at-loop .loop .inv .7,
+      at-step-at .step-at .kept .1 .1 .1 .1 .1 .1 .1 .1 .1 .1 .1 .0 ∙ at-loop .loop .inv .8,
+      at-step-at .step-at .kept .1 .1 .1 .1 .1 .1 .1 .1 .1 .1 .1 .1 .0 ∙ at-loop .loop .inv .9,
+      at-step-at .step-at .kept .1 .1 .1 .1 .1 .1 .1 .1 .1 .1 .1 .1 .1 .0 ∙ at-loop .loop .inv .10,
+      at-step-at .step-at .kept .1 .1 .1 .1 .1 .1 .1 .1 .1 .1 .1 .1 .1 .1 .0 ∙ at-loop .loop .inv .11,
+      at-step-at .step-at .kept .1 .1 .1 .1 .1 .1 .1 .1 .1 .1 .1 .1 .1 .1 .1 .0 ∙ at-loop .loop .inv .12,
+    )
 
 same-length : tie.Need-same-length Inv-loop μ-loop
 same-length c = search needs

@@ -22,8 +22,10 @@ returns c =
     let at-magnitude = at-put-digits .before in
     let at-put-sign = at-magnitude .before .before .before .before in
     let at-fits = at-put-sign .before .before .before in
-    then (rw (same (at-fits .fits .x)) at ((at-put-sign .put-sign) .ensures)) (rw ((at-magnitude .magnitude) .ensures,
-    same (at-fits .fits .x)) at ((at-put-digits .put-digits) .ensures))
+    then (rw (same (at-fits .fits .x)) at ((at-put-sign .put-sign) .ensures)) (rw (
+      (at-magnitude .magnitude) .ensures,
+      same (at-fits .fits .x),
+    ) at ((at-put-digits .put-digits) .ensures))
 
 pub put-signed-spec : {M : Type 1} → statement M
 put-signed-spec =

@@ -48,8 +48,11 @@ words-of-bytes-requires c κs =
     let at-if1 = back in
     let at-is-good-bytes = at-if1 .before in
     let entry = at-is-good-bytes .before .before .before .before .before .before .before .before .before .before .before .before in
-    omega (arith, few-words (entry .args .file .now) (sym (at-is-good-bytes .is-good-bytes .ensures) ∙ not-false _ (at-if1 .if1 .left)),
-    c .before .no-words .ensures)
+    omega (
+      arith,
+      few-words (entry .args .file .now) (sym (at-is-good-bytes .is-good-bytes .ensures) ∙ not-false _ (at-if1 .if1 .left)),
+      c .before .no-words .ensures,
+    )
 
 array-share-prefix-words : tie.Need-array-share-prefix-words
 array-share-prefix-words c =
@@ -111,7 +114,7 @@ same-length-12 c = search needs
 returns-2 : tie.Need-returns-2
 returns-2 c =
     let back = c .before .before .before .before .before .before .before .before .before .before .before .before .before .before .before .before .before
-        .before .before .before .before in
+    .before .before .before .before in
     let at-words-text = back in
     let at-words-of-bytes = at-words-text .before .before .before .before .before .before .before .before .before .before .before .before .before .before in
     let at-no-words = at-words-of-bytes .before .before in

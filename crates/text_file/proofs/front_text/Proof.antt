@@ -113,7 +113,7 @@ same-length-11 c = search needs
 returns : tie.Need-returns
 returns c =
     let back = c .before .before .before .before .before .before .before .before .before .before .before .before .before .before .before .before .before
-        .before .before .before .before in
+    .before .before .before .before in
     let at-recording-text = back in
     let entry =
     at-recording-text .before .before .before .before .before .before .before .before .before .before .before .before .before .before .before .before .before .before .before .before .before .before .before

@@ -20,13 +20,13 @@ refuse-requires c κs = search needs
 same-length : tie.Need-same-length
 same-length c =
     let at-bucket-recording = c .before .before .before .before .before .before .before .before .before .before .before .before .before .before .before
-        .before .before .before .before .before .before .before .before .before .before .before in
+    .before .before .before .before .before .before .before .before .before .before .before in
     (at-bucket-recording .bucket-recording) .kept .1 .1 .1 .1 .0
 
 same-length-2 : tie.Need-same-length-2
 same-length-2 c =
     let at-bucket-recording = c .before .before .before .before .before .before .before .before .before .before .before .before .before .before .before
-        .before .before .before .before .before .before .before .before .before .before .before in
+    .before .before .before .before .before .before .before .before .before .before .before in
     (at-bucket-recording .bucket-recording) .kept .1 .1 .1 .1 .1 .0
 
 same-length-3 : tie.Need-same-length-3
@@ -62,7 +62,7 @@ returns c =
     let at-if1 = at-refuse .before .before in
     let at-number = at-if1 .before in
     let at-bucket-recording = at-number .before .before .before .before .before .before .before .before .before .before .before .before .before .before
-        .before .before .before .before .before .before .before in
+    .before .before .before .before .before .before .before in
     let at-no-screen = at-bucket-recording .before .before .before .before .before .before .before .before .before .before .before in
     let at-args = at-no-screen .before .before .before .before .before .before .before .before .before .before .before .before in
     text-refused ((at-args .args) .file .now) (tables ((at-args .args) .render .now) ((at-args .args) .fills .now) ((at-args .args) .depth .now)
@@ -77,31 +77,31 @@ show-requires c κs = search needs
 same-length-12 : tie.Need-same-length-12
 same-length-12 c =
     let at-bucket-recording = c .before .before .before .before .before .before .before .before .before .before .before .before .before .before .before
-        .before .before .before .before .before .before .before .before .before .before .before .before .before .before in
+    .before .before .before .before .before .before .before .before .before .before .before .before .before .before in
     (at-bucket-recording .bucket-recording) .kept .1 .1 .1 .1 .0
 
 same-length-13 : tie.Need-same-length-13
 same-length-13 c =
     let at-bucket-recording = c .before .before .before .before .before .before .before .before .before .before .before .before .before .before .before
-        .before .before .before .before .before .before .before .before .before .before .before .before .before .before in
+    .before .before .before .before .before .before .before .before .before .before .before .before .before .before in
     (at-bucket-recording .bucket-recording) .kept .1 .1 .1 .1 .1 .0
 
 same-length-14 : tie.Need-same-length-14
 same-length-14 c =
     let at-bucket-recording = c .before .before .before .before .before .before .before .before .before .before .before .before .before .before .before
-        .before .before .before .before .before .before .before .before .before .before .before .before .before .before in
+    .before .before .before .before .before .before .before .before .before .before .before .before .before .before in
     (at-bucket-recording .bucket-recording) .kept .1 .1 .1 .1 .1 .1 .0
 
 same-length-15 : tie.Need-same-length-15
 same-length-15 c =
     let at-bucket-recording = c .before .before .before .before .before .before .before .before .before .before .before .before .before .before .before
-        .before .before .before .before .before .before .before .before .before .before .before .before .before .before in
+    .before .before .before .before .before .before .before .before .before .before .before .before .before .before in
     (at-bucket-recording .bucket-recording) .kept .1 .1 .1 .1 .1 .1 .1 .0
 
 same-length-16 : tie.Need-same-length-16
 same-length-16 c =
     let at-bucket-recording = c .before .before .before .before .before .before .before .before .before .before .before .before .before .before .before
-        .before .before .before .before .before .before .before .before .before .before .before .before .before .before in
+    .before .before .before .before .before .before .before .before .before .before .before .before .before .before in
     (at-bucket-recording .bucket-recording) .kept .1 .1 .1 .1 .1 .1 .1 .1 .0
 
 same-length-17 : tie.Need-same-length-17
@@ -128,7 +128,7 @@ returns-2 c =
     let at-if1 = at-show .before .before .before .before .before in
     let at-number = at-if1 .before in
     let at-bucket-recording = at-number .before .before .before .before .before .before .before .before .before .before .before .before .before .before
-        .before .before .before .before .before .before .before in
+    .before .before .before .before .before .before .before in
     let at-no-screen = at-bucket-recording .before .before .before .before .before .before .before .before .before .before .before in
     let at-args = at-no-screen .before .before .before .before .before .before .before .before .before .before .before .before in
     text-shown ((at-args .args) .file .now) (tables ((at-args .args) .render .now) ((at-args .args) .fills .now) ((at-args .args) .depth .now)

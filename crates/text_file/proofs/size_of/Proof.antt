@@ -36,9 +36,11 @@ returns-2 : tie.Need-returns-2
 returns-2 c =
     let at-box-at = c .before .before .before .before in
     let at-enum-told = at-box-at .before in
-    let at-read-form = at-enum-told .before .before in
-    (bad-viewport _ (sym ((at-enum-told .enum-told) .given .1) ∙ (at-read-form .read-form) .ensures) ((at-box-at .box-at) .ensures) (sym
-    ((c .before .is-good-viewport) .ensures) ∙ not-true _ ((c .if1) .taken)), (omega arith, omega arith))
+    let at-read-form = at-enum-told .before .before in (
+      bad-viewport _ (sym ((at-enum-told .enum-told) .given .1) ∙ (at-read-form .read-form) .ensures) ((at-box-at .box-at) .ensures) (sym
+          ((c .before .is-good-viewport) .ensures) ∙ not-true _ ((c .if1) .taken)),
+      (omega arith, omega arith),
+    )
 
 returns-3 : tie.Need-returns-3
 returns-3 c =
@@ -47,10 +49,12 @@ returns-3 c =
     let at-fresh = at-rows .before in
     let at-box-at = at-fresh .before in
     let at-enum-told = at-box-at .before in
-    let at-read-form = at-enum-told .before .before in
-    (many-rows _ (sym ((at-enum-told .enum-told) .given .1) ∙ (at-read-form .read-form) .ensures) ((at-box-at .box-at) .ensures) (sym
-    ((at-is-good-viewport .is-good-viewport) .ensures) ∙ not-false _ ((c .before .if1) .left)) (rw ((at-fresh .fresh) .ensures) at ((at-rows .rows) .ensures))
-    ((c .if2) .taken), (omega arith, omega arith))
+    let at-read-form = at-enum-told .before .before in (
+      many-rows _ (sym ((at-enum-told .enum-told) .given .1) ∙ (at-read-form .read-form) .ensures) ((at-box-at .box-at) .ensures) (sym
+          ((at-is-good-viewport .is-good-viewport) .ensures) ∙ not-false _ ((c .before .if1) .left)) (rw ((at-fresh .fresh) .ensures) at ((at-rows .rows) .ensures))
+          ((c .if2) .taken),
+      (omega arith, omega arith),
+    )
 
 buckets-requires : tie.Need-buckets-requires
 buckets-requires c κs = search needs
@@ -64,12 +68,16 @@ returns-4 c =
     let at-fresh = at-rows .before in
     let at-box-at = at-fresh .before in
     let at-enum-told = at-box-at .before in
-    let at-read-form = at-enum-told .before .before in
-    (good-size _ (sym ((at-enum-told .enum-told) .given .1) ∙ (at-read-form .read-form) .ensures) ((at-box-at .box-at) .ensures) (sym
-    ((at-is-good-viewport .is-good-viewport) .ensures) ∙ not-false _ ((at-if1 .if1) .left)) (rw ((at-fresh .fresh) .ensures) at ((at-rows .rows) .ensures)) (rw
-    ((at-fresh .fresh) .ensures) at ((c .buckets) .ensures)) ((at-if2 .if2) .left), ((at-if2 .if2) .left,
-    rw (rw ((at-fresh .fresh) .ensures) at ((c .buckets) .ensures)) (few-buckets _ (sym ((at-is-good-viewport .is-good-viewport) .ensures) ∙ not-false _
-    ((at-if1 .if1) .left)))))
+    let at-read-form = at-enum-told .before .before in (
+      good-size _ (sym ((at-enum-told .enum-told) .given .1) ∙ (at-read-form .read-form) .ensures) ((at-box-at .box-at) .ensures) (sym
+          ((at-is-good-viewport .is-good-viewport) .ensures) ∙ not-false _ ((at-if1 .if1) .left)) (rw ((at-fresh .fresh) .ensures) at ((at-rows .rows) .ensures)) (rw
+          ((at-fresh .fresh) .ensures) at ((c .buckets) .ensures)) ((at-if2 .if2) .left),
+      (
+        (at-if2 .if2) .left,
+        rw (rw ((at-fresh .fresh) .ensures) at ((c .buckets) .ensures)) (few-buckets _ (sym ((at-is-good-viewport .is-good-viewport) .ensures) ∙ not-false _
+            ((at-if1 .if1) .left))),
+      ),
+    )
 
 pub size-of-spec : {M : Type 1} → statement M
 size-of-spec =

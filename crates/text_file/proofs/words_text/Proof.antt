@@ -110,7 +110,7 @@ same-length-13 c = search needs
 returns-3 : tie.Need-returns-3
 returns-3 c =
     let back = c .before .before .before .before .before .before .before .before .before .before .before .before .before .before .before .before .before
-        .before .before .before .before in
+    .before .before .before .before in
     let at-front-text = back in
     let at-if2 = at-front-text .before .before .before .before .before .before .before .before .before .before .before .before in
     let at-is-roomy = at-if2 .before in

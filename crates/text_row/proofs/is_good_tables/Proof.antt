@@ -22,8 +22,13 @@ returns-5 c =
     let at-if3 = c .before .before in
     let at-if2 = at-if3 .before .before in
     let at-if1 = at-if2 .before .before in
-    rw (le-leb _ _ ((at-if1 .if1) .left), le-leb _ _ ((at-if2 .if2) .left), le-leb _ _ ((at-if3 .if3) .left), eq-eqb _ _ ((c .before .if4) .left),
-    ne-eqb _ _ ((c .if5) .taken))
+    rw (
+      le-leb _ _ ((at-if1 .if1) .left),
+      le-leb _ _ ((at-if2 .if2) .left),
+      le-leb _ _ ((at-if3 .if3) .left),
+      eq-eqb _ _ ((c .before .if4) .left),
+      ne-eqb _ _ ((c .if5) .taken),
+    )
 
 returns-6 : tie.Need-returns-6
 returns-6 c =
@@ -31,8 +36,14 @@ returns-6 c =
     let at-if3 = at-if4 .before in
     let at-if2 = at-if3 .before .before in
     let at-if1 = at-if2 .before .before in
-    rw (le-leb _ _ ((at-if1 .if1) .left), le-leb _ _ ((at-if2 .if2) .left), le-leb _ _ ((at-if3 .if3) .left), eq-eqb _ _ ((at-if4 .if4) .left),
-    eq-eqb _ _ ((c .before .if5) .left), ne-eqb _ _ ((c .if6) .taken))
+    rw (
+      le-leb _ _ ((at-if1 .if1) .left),
+      le-leb _ _ ((at-if2 .if2) .left),
+      le-leb _ _ ((at-if3 .if3) .left),
+      eq-eqb _ _ ((at-if4 .if4) .left),
+      eq-eqb _ _ ((c .before .if5) .left),
+      ne-eqb _ _ ((c .if6) .taken),
+    )
 
 returns-7 : tie.Need-returns-7
 returns-7 c =
@@ -40,8 +51,14 @@ returns-7 c =
     let at-if3 = at-if4 .before in
     let at-if2 = at-if3 .before .before in
     let at-if1 = at-if2 .before .before in
-    rw (le-leb _ _ ((at-if1 .if1) .left), le-leb _ _ ((at-if2 .if2) .left), le-leb _ _ ((at-if3 .if3) .left), eq-eqb _ _ ((at-if4 .if4) .left),
-    eq-eqb _ _ ((c .before .if5) .left), eq-eqb _ _ ((c .if6) .left))
+    rw (
+      le-leb _ _ ((at-if1 .if1) .left),
+      le-leb _ _ ((at-if2 .if2) .left),
+      le-leb _ _ ((at-if3 .if3) .left),
+      eq-eqb _ _ ((at-if4 .if4) .left),
+      eq-eqb _ _ ((c .before .if5) .left),
+      eq-eqb _ _ ((c .if6) .left),
+    )
 
 pub is-good-tables-spec : {M : Type 1} → statement M
 is-good-tables-spec =

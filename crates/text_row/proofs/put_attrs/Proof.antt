@@ -18,9 +18,15 @@ put-layer-attrs-requires c κs =
     let at-put-paint-attrs = back in
     let entry = at-put-paint-attrs .before .before .before .before .before .before in
     let g = good (entry .args .screen) (tables (entry .args .paint-attrs .now) (entry .args .layer-attrs .now) (entry .args .opacities .now)
-    (entry .args .filter-paints .now)) (entry .pre) in
-    (omega (arith, g .paints, g .layers, at-put-paint-attrs .put-paint-attrs .ensures .near), omega (arith, g .layers, g .layer-table), omega (arith, g .layers,
-    g .opacity-table))
+    (entry .args .filter-paints .now)) (entry .pre) in (
+      omega (arith, g .paints, g .layers, at-put-paint-attrs .put-paint-attrs .ensures .near),
+      omega (arith, g .layers, g .layer-table),
+      omega (
+        arith,
+        g .layers,
+        g .opacity-table,
+      ),
+    )
 
 put-filter-paints-requires : tie.Need-put-filter-paints-requires
 put-filter-paints-requires c κs =
@@ -29,9 +35,10 @@ put-filter-paints-requires c κs =
     let at-put-paint-attrs = at-put-layer-attrs .before .before .before .before in
     let entry = at-put-paint-attrs .before .before .before .before .before .before in
     let g = good (entry .args .screen) (tables (entry .args .paint-attrs .now) (entry .args .layer-attrs .now) (entry .args .opacities .now)
-    (entry .args .filter-paints .now)) (entry .pre) in
-    (omega (arith, g .paints, g .layers, g .filters, at-put-paint-attrs .put-paint-attrs .ensures .near, at-put-layer-attrs .put-layer-attrs .ensures .near),
-    omega (arith, g .filters, g .filter-table))
+    (entry .args .filter-paints .now)) (entry .pre) in (
+      omega (arith, g .paints, g .layers, g .filters, at-put-paint-attrs .put-paint-attrs .ensures .near, at-put-layer-attrs .put-layer-attrs .ensures .near),
+      omega (arith, g .filters, g .filter-table),
+    )
 
 same-length : tie.Need-same-length
 same-length c = search needs

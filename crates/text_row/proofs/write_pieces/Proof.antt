@@ -37,8 +37,11 @@ returns-3 c =
     let at-if1 = at-is-short-row .before in
     let entry = at-if1 .before .before .before in
     let x = at-put-pieces .put-pieces .ensures in
-    let few : length (details-text (row-lines (entry .args .row) (entry .args .list .now) (entry .args .n))) ≤ 64 * (1 + entry .args .n) = omega (arith,
-    x .near, measured x) in
+    let few : length (details-text (row-lines (entry .args .row) (entry .args .list .now) (entry .args .n))) ≤ 64 * (1 + entry .args .n) = omega (
+      arith,
+      x .near,
+      measured x,
+    ) in
     lines-done _ _ _ _ (at-if1 .if1 .left) (short-no _ _ _ (sym (at-is-short-row .is-short-row .ensures) ∙ at-if2 .if2 .left) few) x
 
 pub write-pieces-spec : {M : Type 1} → statement M

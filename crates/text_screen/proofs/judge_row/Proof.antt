@@ -26,8 +26,11 @@ is-good-row-requires c κs =
     let at-part = c .before .before in
     let at-pre = at-part .before .before .before .before in
     let o = at-pre .pre in
-    rw (at-part .part .ensures, c .before .part2 .ensures, c .part3 .ensures) (at-state _ _ _ _ (o .0 .long) (o .1), at-render _ _ _ _ (o .0 .long) (o .1),
-    at-fills _ _ _ _ (o .0 .long) (o .1))
+    rw (at-part .part .ensures, c .before .part2 .ensures, c .part3 .ensures) (
+      at-state _ _ _ _ (o .0 .long) (o .1),
+      at-render _ _ _ _ (o .0 .long) (o .1),
+      at-fills _ _ _ _ (o .0 .long) (o .1),
+    )
 
 returns : tie.Need-returns
 returns c = rw (c .before .before .before .part .ensures, c .before .before .part2 .ensures, c .before .part3 .ensures) at (c .is-good-row .ensures)

@@ -44,8 +44,11 @@ returns c =
     let at-part = at-part2 .before in
     let at-pre = at-part .before .before .before .before .before .before in
     let o = at-pre .pre in
-    laws.within (omega (arith, o .2 .commands, o .2 .depths)) (rw (at-part .part .ensures, at-part2 .part2 .ensures,
-    at-part3 .part3 .ensures) at (at-put-row .put-row .ensures))
+    laws.within (omega (arith, o .2 .commands, o .2 .depths)) (rw (
+      at-part .part .ensures,
+      at-part2 .part2 .ensures,
+      at-part3 .part3 .ensures,
+    ) at (at-put-row .put-row .ensures))
 
 pub put-row-at-spec : {M : Type 1} → statement M
 put-row-at-spec =

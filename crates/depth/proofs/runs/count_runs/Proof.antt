@@ -43,9 +43,11 @@ loop-again : tie.Need-loop-again Inv-loop2 μ-loop2 Inv-loop μ-loop
 loop-again c =
     let at-loop-test = c .before .before in
     let at-loop = at-loop-test .before in
-    let at-pre = at-loop .before in
-    (omega arith, ap (λ (k : ℕ). at-loop .loop .count + k) (ap length (sym (runs-closed (is-visible _) _ _ (at-pre .pre) _ (at-loop-test .loop-test .taken)
-    (lt-leb _ _ (c .if1 .taken))))) ∙ at-loop .loop .inv .1)
+    let at-pre = at-loop .before in (
+      omega arith,
+      ap (λ (k : ℕ). at-loop .loop .count + k) (ap length (sym (runs-closed (is-visible _) _ _ (at-pre .pre) _ (at-loop-test .loop-test .taken)
+          (lt-leb _ _ (c .if1 .taken))))) ∙ at-loop .loop .inv .1,
+    )
 
 add-next : tie.Need-add-next Inv-loop2 μ-loop2 Inv-loop μ-loop
 add-next c = omega arith

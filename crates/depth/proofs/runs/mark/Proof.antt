@@ -41,9 +41,15 @@ loop-again : tie.Need-loop-again Inv-loop μ-loop
 loop-again c =
     let at-loop-test = c .before .before in
     let at-loop = at-loop-test .before in
-    ⊎-elim (λ w. rw (w .1) (simp length-set (at-loop .loop .inv .0), sym (mark-set _ _ _ _ (omega arith) (at-loop-test .loop-test .taken) (w .0 .taken)) ∙
-    at-loop .loop .inv .1)) (λ w. rw (w .1) (at-loop .loop .inv .0, sym (mark-kept _ _ _ _ (omega arith) (at-loop-test .loop-test .taken) (w .0 .left)) ∙
-    at-loop .loop .inv .1)) (c .if1 .came)
+    ⊎-elim (λ w. rw (w .1) (
+      simp length-set (at-loop .loop .inv .0),
+      sym (mark-set _ _ _ _ (omega arith) (at-loop-test .loop-test .taken) (w .0 .taken)) ∙
+          at-loop .loop .inv .1,
+    )) (λ w. rw (w .1) (
+      at-loop .loop .inv .0,
+      sym (mark-kept _ _ _ _ (omega arith) (at-loop-test .loop-test .taken) (w .0 .left)) ∙
+          at-loop .loop .inv .1,
+    )) (c .if1 .came)
 
 same-length : tie.Need-same-length Inv-loop μ-loop
 same-length c = c .before .loop .inv .0

@@ -37,10 +37,13 @@ list-runs-requires c κs =
     let at-is-short = c .before .before in
     let at-met-end = at-is-short .before in
     let at-if2 = at-met-end .before .before in
-    let at-args = at-if2 .before .before .before .before .before .before in
-    (rw (at-met-end .met-end .ensures) (met-within 32 _ (tiles (at-args .args .span))),
-    (rw (at-met-end .met-end .ensures) (met-small _ (tiles (at-args .args .span)) (at-if2 .if2 .left)),
-    room-for _ _ (sym (c .before .if3 .left) ∙ at-is-short .is-short .ensures)))
+    let at-args = at-if2 .before .before .before .before .before .before in (
+      rw (at-met-end .met-end .ensures) (met-within 32 _ (tiles (at-args .args .span))),
+      (
+        rw (at-met-end .met-end .ensures) (met-small _ (tiles (at-args .args .span)) (at-if2 .if2 .left)),
+        room-for _ _ (sym (c .before .if3 .left) ∙ at-is-short .is-short .ensures),
+      ),
+    )
 
 same-length : tie.Need-same-length
 same-length c = search needs

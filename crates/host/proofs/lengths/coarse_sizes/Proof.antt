@@ -32,8 +32,11 @@ returns-3 c =
     let at-is-good-room = at-if2 .before in
     let at-if1 = at-is-good-room .before in
     let at-is-good-viewport = at-if1 .before in
-    rw (sym (at-is-good-viewport .is-good-viewport .ensures) ∙ not-false _ (at-if1 .if1 .left),
-    sym (at-is-good-room .is-good-room .ensures) ∙ not-false _ (at-if2 .if2 .left), sym (c .before .is-good-room2 .ensures) ∙ not-true _ (c .if3 .taken))
+    rw (
+      sym (at-is-good-viewport .is-good-viewport .ensures) ∙ not-false _ (at-if1 .if1 .left),
+      sym (at-is-good-room .is-good-room .ensures) ∙ not-false _ (at-if2 .if2 .left),
+      sym (c .before .is-good-room2 .ensures) ∙ not-true _ (c .if3 .taken),
+    )
 
 returns-4 : tie.Need-returns-4
 unfolding size-call
@@ -43,9 +46,12 @@ returns-4 c =
     let at-is-good-room = at-if2 .before in
     let at-if1 = at-is-good-room .before in
     let at-is-good-viewport = at-if1 .before in
-    rw (sym (at-is-good-viewport .is-good-viewport .ensures) ∙ not-false _ (at-if1 .if1 .left),
-    sym (at-is-good-room .is-good-room .ensures) ∙ not-false _ (at-if2 .if2 .left),
-    sym (at-is-good-room2 .is-good-room2 .ensures) ∙ not-false _ (c .before .if3 .left), ne-eqb _ _ (c .if4 .taken))
+    rw (
+      sym (at-is-good-viewport .is-good-viewport .ensures) ∙ not-false _ (at-if1 .if1 .left),
+      sym (at-is-good-room .is-good-room .ensures) ∙ not-false _ (at-if2 .if2 .left),
+      sym (at-is-good-room2 .is-good-room2 .ensures) ∙ not-false _ (c .before .if3 .left),
+      ne-eqb _ _ (c .if4 .taken),
+    )
 
 fresh-requires : tie.Need-fresh-requires
 fresh-requires c κs = search needs
@@ -63,8 +69,13 @@ mul-render-2 : tie.Need-mul-render-2
 mul-render-2 c =
     let at-rows = c .before in
     let at-args = at-rows .before .before .before .before .before .before .before .before .before .before in
-    omega (arith, mul-le-mul {n₁ = at-rows .rows .result} {m₁ = 4 * at-args .args .c} {n₂ = 1073741823} {m₂ = 17179869180} (omega (arith,
-    at-rows .rows .ensures)) (omega arith))
+    omega (
+      arith,
+      mul-le-mul {n₁ = at-rows .rows .result} {m₁ = 4 * at-args .args .c} {n₂ = 1073741823} {m₂ = 17179869180} (omega (
+        arith,
+        at-rows .rows .ensures,
+      )) (omega arith),
+    )
 
 mul-fills : tie.Need-mul-fills
 mul-fills c = search needs
@@ -73,8 +84,13 @@ mul-fills-2 : tie.Need-mul-fills-2
 mul-fills-2 c =
     let at-rows = c .before in
     let at-args = at-rows .before .before .before .before .before .before .before .before .before .before in
-    omega (arith, mul-le-mul {n₁ = at-rows .rows .result} {m₁ = 2 * at-args .args .d} {n₂ = 1073741823} {m₂ = 17179869180} (omega (arith,
-    at-rows .rows .ensures)) (omega arith))
+    omega (
+      arith,
+      mul-le-mul {n₁ = at-rows .rows .result} {m₁ = 2 * at-args .args .d} {n₂ = 1073741823} {m₂ = 17179869180} (omega (
+        arith,
+        at-rows .rows .ensures,
+      )) (omega arith),
+    )
 
 mul-put-sizes : tie.Need-mul-put-sizes
 mul-put-sizes c = omega (arith, mul-le-mul {n₁ = c .before .before .rows .result} {m₁ = c .before .buckets .result} {n₂ = 1073741823} {m₂ = 1073741823} (omega (arith, c .before .before .rows .ensures)) (omega (arith, c .before .buckets .ensures)))
@@ -105,10 +121,16 @@ returns-5 c =
     let at-is-good-room = at-if2 .before in
     let at-if1 = at-is-good-room .before in
     let at-is-good-viewport = at-if1 .before in
-    rw (sym (at-is-good-viewport .is-good-viewport .ensures) ∙ not-false _ (at-if1 .if1 .left),
-    sym (at-is-good-room .is-good-room .ensures) ∙ not-false _ (at-if2 .if2 .left),
-    sym (at-is-good-room2 .is-good-room2 .ensures) ∙ not-false _ (at-if3 .if3 .left), eq-eqb _ _ (at-if4 .if4 .left), at-put-sizes .put-sizes .ensures,
-    at-rows .rows .ensures, at-buckets .buckets .ensures, at-fresh .fresh .ensures)
+    rw (
+      sym (at-is-good-viewport .is-good-viewport .ensures) ∙ not-false _ (at-if1 .if1 .left),
+      sym (at-is-good-room .is-good-room .ensures) ∙ not-false _ (at-if2 .if2 .left),
+      sym (at-is-good-room2 .is-good-room2 .ensures) ∙ not-false _ (at-if3 .if3 .left),
+      eq-eqb _ _ (at-if4 .if4 .left),
+      at-put-sizes .put-sizes .ensures,
+      at-rows .rows .ensures,
+      at-buckets .buckets .ensures,
+      at-fresh .fresh .ensures,
+    )
 
 pub coarse-sizes-spec : {M : Type 1} → statement M
 coarse-sizes-spec =

@@ -35,8 +35,12 @@ slice-read-t19 c =
     let at-count = back in
     let at-runs = at-count .before .before in
     let at-words-for = at-runs .before .before .before in
-    omega (arith, at-count .count .given, one-result _ _ _ _ _ _ _ _ _ _ _ (at-words-for .words-for .ensures) (at-runs .coarse-visible-runs .ensures)
-    (c .before .if1 .left))
+    omega (
+      arith,
+      at-count .count .given,
+      one-result _ _ _ _ _ _ _ _ _ _ _ (at-words-for .words-for .ensures) (at-runs .coarse-visible-runs .ensures)
+          (c .before .if1 .left),
+    )
 
 same-length-2 : tie.Need-same-length-2
 same-length-2 c = search needs

@@ -171,10 +171,16 @@ step-command-requires c κs =
     let at-wide2 = at-if2 .before in
     let at-if1 = at-wide2 .before in
     let at-wide = at-if1 .before in
-    let at-pre = at-wide .before .before .before .before .before .before .before .before .before .before .before .before in
-    ((at-pre .pre .1 .0, at-pre .pre .1 .1, at-pre .pre .1 .2, at-pre .pre .1 .3), (command-good (at-pre .args .render .now) (at-wide4 .wide4 .result) _ _
-    (at-read-command .read-command .ensures) (at-cmd .cmd .given .1), at-pre .pre .0 .3, at-pre .pre .0 .4,
-    omega (arith, at-wide .wide .ensures, at-wide2 .wide2 .ensures, at-if1 .if1 .left, at-if2 .if2 .left, at-if4 .if4 .left, at-pre .pre .0 .1, at-pre .pre .0 .2)))
+    let at-pre = at-wide .before .before .before .before .before .before .before .before .before .before .before .before in (
+      (at-pre .pre .1 .0, at-pre .pre .1 .1, at-pre .pre .1 .2, at-pre .pre .1 .3),
+      (
+        command-good (at-pre .args .render .now) (at-wide4 .wide4 .result) _ _
+            (at-read-command .read-command .ensures) (at-cmd .cmd .given .1),
+        at-pre .pre .0 .3,
+        at-pre .pre .0 .4,
+        omega (arith, at-wide .wide .ensures, at-wide2 .wide2 .ensures, at-if1 .if1 .left, at-if2 .if2 .left, at-if4 .if4 .left, at-pre .pre .0 .1, at-pre .pre .0 .2),
+      ),
+    )
 
 returns-7 : tie.Need-returns-7
 returns-7 c =

@@ -12,8 +12,12 @@ judge-begin-requires c κs = search needs
 answer-of-requires : tie.Need-answer-of-requires
 answer-of-requires c κs =
     let at-args = c .before .before .before .before in
-    omega (arith, c .before .judge-begin .ensures, small-begin (at-args .args .screen) (length (at-args .args .depth .now)) (length
-    (at-args .args .painting .now)))
+    omega (
+      arith,
+      c .before .judge-begin .ensures,
+      small-begin (at-args .args .screen) (length (at-args .args .depth .now)) (length
+          (at-args .args .painting .now)),
+    )
 
 returns : tie.Need-returns
 returns c =

@@ -31,8 +31,13 @@ mul-if2-2 : tie.Need-mul-if2-2
 mul-if2-2 c =
     let at-rows = c .before .before .before in
     let at-args = at-rows .before in
-    omega (arith, mul-le-mul {n₁ = at-rows .rows .result} {m₁ = 2 * at-args .args .screen .d} {n₂ = 1073741823} {m₂ = 17179869180} (omega (arith,
-    at-rows .rows .ensures)) (omega arith))
+    omega (
+      arith,
+      mul-le-mul {n₁ = at-rows .rows .result} {m₁ = 2 * at-args .args .screen .d} {n₂ = 1073741823} {m₂ = 17179869180} (omega (
+        arith,
+        at-rows .rows .ensures,
+      )) (omega arith),
+    )
 
 returns-2 : tie.Need-returns-2
 returns-2 c =

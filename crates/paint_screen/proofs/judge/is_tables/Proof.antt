@@ -22,15 +22,21 @@ returns-3 : tie.Need-returns-3
 returns-3 c =
     let at-if1 = c .before .before in
     let at-rows = at-if1 .before in
-    rw (eq-eqb _ _ (rw (at-rows .rows .ensures) at (at-if1 .if1 .left)), eq-eqb _ _ (rw (at-rows .rows .ensures) at (c .before .if2 .left)),
-    ne-eqb _ _ (c .if3 .taken))
+    rw (
+      eq-eqb _ _ (rw (at-rows .rows .ensures) at (at-if1 .if1 .left)),
+      eq-eqb _ _ (rw (at-rows .rows .ensures) at (c .before .if2 .left)),
+      ne-eqb _ _ (c .if3 .taken),
+    )
 
 returns-4 : tie.Need-returns-4
 returns-4 c =
     let at-if1 = c .before .before in
     let at-rows = at-if1 .before in
-    rw (eq-eqb _ _ (rw (at-rows .rows .ensures) at (at-if1 .if1 .left)), eq-eqb _ _ (rw (at-rows .rows .ensures) at (c .before .if2 .left)),
-    eq-eqb _ _ (c .if3 .left))
+    rw (
+      eq-eqb _ _ (rw (at-rows .rows .ensures) at (at-if1 .if1 .left)),
+      eq-eqb _ _ (rw (at-rows .rows .ensures) at (c .before .if2 .left)),
+      eq-eqb _ _ (c .if3 .left),
+    )
 
 pub is-tables-spec : {M : Type 1} → statement M
 is-tables-spec =

@@ -30,8 +30,11 @@ returns-3 c =
     let at-is-good-room = at-if2 .before in
     let at-if1 = at-is-good-room .before in
     let at-is-good-viewport = at-if1 .before in
-    rw (sym (at-is-good-viewport .is-good-viewport .ensures) ∙ not-false _ (at-if1 .if1 .left),
-    sym (at-is-good-room .is-good-room .ensures) ∙ not-false _ (at-if2 .if2 .left), sym (c .before .is-good-room2 .ensures) ∙ not-true _ (c .if3 .taken))
+    rw (
+      sym (at-is-good-viewport .is-good-viewport .ensures) ∙ not-false _ (at-if1 .if1 .left),
+      sym (at-is-good-room .is-good-room .ensures) ∙ not-false _ (at-if2 .if2 .left),
+      sym (c .before .is-good-room2 .ensures) ∙ not-true _ (c .if3 .taken),
+    )
 
 returns-4 : tie.Need-returns-4
 unfolding judged
@@ -42,9 +45,12 @@ returns-4 c =
     let at-if1 = at-is-good-room .before in
     let at-is-good-viewport = at-if1 .before in
     let at-args = at-is-good-viewport .before .before in
-    rw (sym (at-is-good-viewport .is-good-viewport .ensures) ∙ not-false _ (at-if1 .if1 .left),
-    sym (at-is-good-room .is-good-room .ensures) ∙ not-false _ (at-if2 .if2 .left),
-    sym (at-is-good-room2 .is-good-room2 .ensures) ∙ not-false _ (c .before .if3 .left), not-true (at-args .args .arenas) (c .if4 .taken))
+    rw (
+      sym (at-is-good-viewport .is-good-viewport .ensures) ∙ not-false _ (at-if1 .if1 .left),
+      sym (at-is-good-room .is-good-room .ensures) ∙ not-false _ (at-if2 .if2 .left),
+      sym (at-is-good-room2 .is-good-room2 .ensures) ∙ not-false _ (c .before .if3 .left),
+      not-true (at-args .args .arenas) (c .if4 .taken),
+    )
 
 returns-5 : tie.Need-returns-5
 unfolding judged
@@ -56,10 +62,13 @@ returns-5 c =
     let at-if1 = at-is-good-room .before in
     let at-is-good-viewport = at-if1 .before in
     let at-args = at-is-good-viewport .before .before in
-    rw (sym (at-is-good-viewport .is-good-viewport .ensures) ∙ not-false _ (at-if1 .if1 .left),
-    sym (at-is-good-room .is-good-room .ensures) ∙ not-false _ (at-if2 .if2 .left),
-    sym (at-is-good-room2 .is-good-room2 .ensures) ∙ not-false _ (at-if3 .if3 .left), not-false (at-args .args .arenas) (c .before .if4 .left),
-    not-true (at-args .args .tables) (c .if5 .taken))
+    rw (
+      sym (at-is-good-viewport .is-good-viewport .ensures) ∙ not-false _ (at-if1 .if1 .left),
+      sym (at-is-good-room .is-good-room .ensures) ∙ not-false _ (at-if2 .if2 .left),
+      sym (at-is-good-room2 .is-good-room2 .ensures) ∙ not-false _ (at-if3 .if3 .left),
+      not-false (at-args .args .arenas) (c .before .if4 .left),
+      not-true (at-args .args .tables) (c .if5 .taken),
+    )
 
 is-good-requires : tie.Need-is-good-requires
 is-good-requires c κs = search needs
@@ -76,10 +85,14 @@ returns-6 c =
     let at-if1 = at-is-good-room .before in
     let at-is-good-viewport = at-if1 .before in
     let at-args = at-is-good-viewport .before .before in
-    rw (sym (at-is-good-viewport .is-good-viewport .ensures) ∙ not-false _ (at-if1 .if1 .left),
-    sym (at-is-good-room .is-good-room .ensures) ∙ not-false _ (at-if2 .if2 .left),
-    sym (at-is-good-room2 .is-good-room2 .ensures) ∙ not-false _ (at-if3 .if3 .left), not-false (at-args .args .arenas) (at-if4 .if4 .left),
-    not-false (at-args .args .tables) (at-if5 .if5 .left), sym (c .before .is-good .ensures) ∙ not-true _ (c .if6 .taken))
+    rw (
+      sym (at-is-good-viewport .is-good-viewport .ensures) ∙ not-false _ (at-if1 .if1 .left),
+      sym (at-is-good-room .is-good-room .ensures) ∙ not-false _ (at-if2 .if2 .left),
+      sym (at-is-good-room2 .is-good-room2 .ensures) ∙ not-false _ (at-if3 .if3 .left),
+      not-false (at-args .args .arenas) (at-if4 .if4 .left),
+      not-false (at-args .args .tables) (at-if5 .if5 .left),
+      sym (c .before .is-good .ensures) ∙ not-true _ (c .if6 .taken),
+    )
 
 returns-7 : tie.Need-returns-7
 unfolding judged
@@ -93,10 +106,14 @@ returns-7 c =
     let at-if1 = at-is-good-room .before in
     let at-is-good-viewport = at-if1 .before in
     let at-args = at-is-good-viewport .before .before in
-    rw (sym (at-is-good-viewport .is-good-viewport .ensures) ∙ not-false _ (at-if1 .if1 .left),
-    sym (at-is-good-room .is-good-room .ensures) ∙ not-false _ (at-if2 .if2 .left),
-    sym (at-is-good-room2 .is-good-room2 .ensures) ∙ not-false _ (at-if3 .if3 .left), not-false (at-args .args .arenas) (at-if4 .if4 .left),
-    not-false (at-args .args .tables) (at-if5 .if5 .left), sym (c .before .is-good .ensures) ∙ not-false _ (c .if6 .left))
+    rw (
+      sym (at-is-good-viewport .is-good-viewport .ensures) ∙ not-false _ (at-if1 .if1 .left),
+      sym (at-is-good-room .is-good-room .ensures) ∙ not-false _ (at-if2 .if2 .left),
+      sym (at-is-good-room2 .is-good-room2 .ensures) ∙ not-false _ (at-if3 .if3 .left),
+      not-false (at-args .args .arenas) (at-if4 .if4 .left),
+      not-false (at-args .args .tables) (at-if5 .if5 .left),
+      sym (c .before .is-good .ensures) ∙ not-false _ (c .if6 .left),
+    )
 
 pub judge-spec : {M : Type 1} → statement M
 judge-spec =

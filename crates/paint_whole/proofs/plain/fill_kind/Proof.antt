@@ -68,8 +68,11 @@ returns-5 c =
     whole-said (summary-by (at-args .args .from) (at-args .args .to) (at-args .args .largest)) (at-args .args .depth .now) (at-args .args .id)
     (at-args .args .tag) (at-args .args .tiles) (at-args .args .alpha) (at-if1 .if1 .left) (at-if2 .if2 .left) (sym (at-is-good-index .is-good-index .ensures) ∙
     not-false _ (at-if3 .if3 .left)) (clear-whole (summary-by (at-args .args .from) (at-args .args .to) (at-args .args .largest)) (at-args .args .depth .now)
-    (at-args .args .id) (word-span (at-args .args .tiles)) (at-if1 .if1 .left) (omega (arith, at-wide .wide .ensures,
-    at-if4 .if4 .left)) (sym (c .if5 .taken) ∙ c .before .is-apart .ensures))
+    (at-args .args .id) (word-span (at-args .args .tiles)) (at-if1 .if1 .left) (omega (
+      arith,
+      at-wide .wide .ensures,
+      at-if4 .if4 .left,
+    )) (sym (c .if5 .taken) ∙ c .before .is-apart .ensures))
 
 wide-requires-2 : tie.Need-wide-requires-2
 wide-requires-2 c κs = search needs
@@ -105,12 +108,25 @@ returns-6 c =
     whole-said (summary-by (at-args .args .from) (at-args .args .to) (at-args .args .largest)) (at-args .args .depth .now) (at-args .args .id)
     (at-args .args .tag) (at-args .args .tiles) (at-args .args .alpha) (at-if1 .if1 .left) (at-if2 .if2 .left) (sym (at-is-good-index .is-good-index .ensures) ∙
     not-false _ (at-if3 .if3 .left)) (searched (summary-by (at-args .args .from) (at-args .args .to) (at-args .args .largest)) (at-args .args .depth .now)
-    (at-args .args .id) (word-span (at-args .args .tiles)) (at-if1 .if1 .left) (omega (arith, at-wide .wide .ensures,
-    at-if4 .if4 .left)) (sym (at-is-apart .is-apart .ensures) ∙ at-if5 .if5 .left) _ (met-seen (at-args .args .depth .now) (at-args .args .id)
-    (at-args .args .tiles / 65536) (at-args .args .tiles % 65536) (at-if1 .if1 .left) (rw (at-wide2 .wide2 .ensures,
-    at-wide3 .wide3 .ensures) at (one-seen (at-args .args .depth .now) (at-args .args .id) (at-wide2 .wide2 .result) (at-wide3 .wide3 .result) (omega (arith,
-    at-wide3 .wide3 .ensures, at-wide .wide .ensures, at-if4 .if4 .left)) (omega (arith, at-wide2 .wide2 .ensures, at-wide3 .wide3 .ensures,
-    at-if1 .if1 .left)) (c .if7 .taken) (c .before .if6 .taken)))))
+    (at-args .args .id) (word-span (at-args .args .tiles)) (at-if1 .if1 .left) (omega (
+      arith,
+      at-wide .wide .ensures,
+      at-if4 .if4 .left,
+    )) (sym (at-is-apart .is-apart .ensures) ∙ at-if5 .if5 .left) _ (met-seen (at-args .args .depth .now) (at-args .args .id)
+    (at-args .args .tiles / 65536) (at-args .args .tiles % 65536) (at-if1 .if1 .left) (rw (
+      at-wide2 .wide2 .ensures,
+      at-wide3 .wide3 .ensures,
+    ) at (one-seen (at-args .args .depth .now) (at-args .args .id) (at-wide2 .wide2 .result) (at-wide3 .wide3 .result) (omega (
+      arith,
+      at-wide3 .wide3 .ensures,
+      at-wide .wide .ensures,
+      at-if4 .if4 .left,
+    )) (omega (
+      arith,
+      at-wide2 .wide2 .ensures,
+      at-wide3 .wide3 .ensures,
+      at-if1 .if1 .left,
+    )) (c .if7 .taken) (c .before .if6 .taken)))))
 
 is-seen-requires : tie.Need-is-seen-requires
 is-seen-requires c κs =
@@ -118,9 +134,15 @@ is-seen-requires c κs =
     let at-wide2 = at-wide3 .before in
     let at-if4 = at-wide2 .before .before .before in
     let at-wide = at-if4 .before in
-    let at-if1 = at-wide .before .before .before .before in
-    ((omega (arith, at-wide2 .wide2 .ensures, at-wide3 .wide3 .ensures, at-if1 .if1 .left)), (omega (arith, at-wide3 .wide3 .ensures, at-wide .wide .ensures,
-    at-if4 .if4 .left)))
+    let at-if1 = at-wide .before .before .before .before in (
+      (omega (arith, at-wide2 .wide2 .ensures, at-wide3 .wide3 .ensures, at-if1 .if1 .left)),
+      (omega (
+        arith,
+        at-wide3 .wide3 .ensures,
+        at-wide .wide .ensures,
+        at-if4 .if4 .left,
+      )),
+    )
 
 returns-7 : tie.Need-returns-7
 returns-7 c =
@@ -138,10 +160,15 @@ returns-7 c =
     whole-said (summary-by (at-args .args .from) (at-args .args .to) (at-args .args .largest)) (at-args .args .depth .now) (at-args .args .id)
     (at-args .args .tag) (at-args .args .tiles) (at-args .args .alpha) (at-if1 .if1 .left) (at-if2 .if2 .left) (sym (at-is-good-index .is-good-index .ensures) ∙
     not-false _ (at-if3 .if3 .left)) (searched (summary-by (at-args .args .from) (at-args .args .to) (at-args .args .largest)) (at-args .args .depth .now)
-    (at-args .args .id) (word-span (at-args .args .tiles)) (at-if1 .if1 .left) (omega (arith, at-wide .wide .ensures,
-    at-if4 .if4 .left)) (sym (at-is-apart .is-apart .ensures) ∙ at-if5 .if5 .left) _ (met-seen (at-args .args .depth .now) (at-args .args .id)
-    (at-args .args .tiles / 65536) (at-args .args .tiles % 65536) (at-if1 .if1 .left) (rw (at-wide2 .wide2 .ensures,
-    at-wide3 .wide3 .ensures) at (c .before .is-seen .ensures (c .if8 .taken)))))
+    (at-args .args .id) (word-span (at-args .args .tiles)) (at-if1 .if1 .left) (omega (
+      arith,
+      at-wide .wide .ensures,
+      at-if4 .if4 .left,
+    )) (sym (at-is-apart .is-apart .ensures) ∙ at-if5 .if5 .left) _ (met-seen (at-args .args .depth .now) (at-args .args .id)
+    (at-args .args .tiles / 65536) (at-args .args .tiles % 65536) (at-if1 .if1 .left) (rw (
+      at-wide2 .wide2 .ensures,
+      at-wide3 .wide3 .ensures,
+    ) at (c .before .is-seen .ensures (c .if8 .taken)))))
 
 returns-8 : tie.Need-returns-8
 returns-8 c =
@@ -168,12 +195,25 @@ returns-9 c =
     hidden-said (summary-by (at-args .args .from) (at-args .args .to) (at-args .args .largest)) (at-args .args .depth .now) (at-args .args .id)
     (at-args .args .tag) (at-args .args .tiles) (at-args .args .alpha) (at-if1 .if1 .left) (at-if2 .if2 .left) (sym (at-is-good-index .is-good-index .ensures) ∙
     not-false _ (at-if3 .if3 .left)) (searched (summary-by (at-args .args .from) (at-args .args .to) (at-args .args .largest)) (at-args .args .depth .now)
-    (at-args .args .id) (word-span (at-args .args .tiles)) (at-if1 .if1 .left) (omega (arith, at-wide .wide .ensures,
-    at-if4 .if4 .left)) (sym (at-is-apart .is-apart .ensures) ∙ at-if5 .if5 .left) _ (met-hidden (at-args .args .depth .now) (at-args .args .id)
-    (at-args .args .tiles / 65536) (at-args .args .tiles % 65536) (at-if1 .if1 .left) (rw (at-wide2 .wide2 .ensures,
-    at-wide3 .wide3 .ensures) at (one-hidden (at-args .args .depth .now) (at-args .args .id) (at-wide2 .wide2 .result) (at-wide3 .wide3 .result) (omega (arith,
-    at-wide3 .wide3 .ensures, at-wide .wide .ensures, at-if4 .if4 .left)) (omega (arith, at-wide2 .wide2 .ensures, at-wide3 .wide3 .ensures,
-    at-if1 .if1 .left)) (c .if9 .taken) (c .before .if6 .left)))))
+    (at-args .args .id) (word-span (at-args .args .tiles)) (at-if1 .if1 .left) (omega (
+      arith,
+      at-wide .wide .ensures,
+      at-if4 .if4 .left,
+    )) (sym (at-is-apart .is-apart .ensures) ∙ at-if5 .if5 .left) _ (met-hidden (at-args .args .depth .now) (at-args .args .id)
+    (at-args .args .tiles / 65536) (at-args .args .tiles % 65536) (at-if1 .if1 .left) (rw (
+      at-wide2 .wide2 .ensures,
+      at-wide3 .wide3 .ensures,
+    ) at (one-hidden (at-args .args .depth .now) (at-args .args .id) (at-wide2 .wide2 .result) (at-wide3 .wide3 .result) (omega (
+      arith,
+      at-wide3 .wide3 .ensures,
+      at-wide .wide .ensures,
+      at-if4 .if4 .left,
+    )) (omega (
+      arith,
+      at-wide2 .wide2 .ensures,
+      at-wide3 .wide3 .ensures,
+      at-if1 .if1 .left,
+    )) (c .if9 .taken) (c .before .if6 .left)))))
 
 is-hidden-requires : tie.Need-is-hidden-requires
 is-hidden-requires c κs =
@@ -181,9 +221,15 @@ is-hidden-requires c κs =
     let at-wide2 = at-wide3 .before in
     let at-if4 = at-wide2 .before .before .before in
     let at-wide = at-if4 .before in
-    let at-if1 = at-wide .before .before .before .before in
-    ((omega (arith, at-wide2 .wide2 .ensures, at-wide3 .wide3 .ensures, at-if1 .if1 .left)), (omega (arith, at-wide3 .wide3 .ensures, at-wide .wide .ensures,
-    at-if4 .if4 .left)))
+    let at-if1 = at-wide .before .before .before .before in (
+      (omega (arith, at-wide2 .wide2 .ensures, at-wide3 .wide3 .ensures, at-if1 .if1 .left)),
+      (omega (
+        arith,
+        at-wide3 .wide3 .ensures,
+        at-wide .wide .ensures,
+        at-if4 .if4 .left,
+      )),
+    )
 
 returns-10 : tie.Need-returns-10
 returns-10 c =
@@ -201,10 +247,15 @@ returns-10 c =
     hidden-said (summary-by (at-args .args .from) (at-args .args .to) (at-args .args .largest)) (at-args .args .depth .now) (at-args .args .id)
     (at-args .args .tag) (at-args .args .tiles) (at-args .args .alpha) (at-if1 .if1 .left) (at-if2 .if2 .left) (sym (at-is-good-index .is-good-index .ensures) ∙
     not-false _ (at-if3 .if3 .left)) (searched (summary-by (at-args .args .from) (at-args .args .to) (at-args .args .largest)) (at-args .args .depth .now)
-    (at-args .args .id) (word-span (at-args .args .tiles)) (at-if1 .if1 .left) (omega (arith, at-wide .wide .ensures,
-    at-if4 .if4 .left)) (sym (at-is-apart .is-apart .ensures) ∙ at-if5 .if5 .left) _ (met-hidden (at-args .args .depth .now) (at-args .args .id)
-    (at-args .args .tiles / 65536) (at-args .args .tiles % 65536) (at-if1 .if1 .left) (rw (at-wide2 .wide2 .ensures,
-    at-wide3 .wide3 .ensures) at (c .before .is-hidden .ensures (c .if10 .taken)))))
+    (at-args .args .id) (word-span (at-args .args .tiles)) (at-if1 .if1 .left) (omega (
+      arith,
+      at-wide .wide .ensures,
+      at-if4 .if4 .left,
+    )) (sym (at-is-apart .is-apart .ensures) ∙ at-if5 .if5 .left) _ (met-hidden (at-args .args .depth .now) (at-args .args .id)
+    (at-args .args .tiles / 65536) (at-args .args .tiles % 65536) (at-if1 .if1 .left) (rw (
+      at-wide2 .wide2 .ensures,
+      at-wide3 .wide3 .ensures,
+    ) at (c .before .is-hidden .ensures (c .if10 .taken)))))
 
 returns-11 : tie.Need-returns-11
 returns-11 c =

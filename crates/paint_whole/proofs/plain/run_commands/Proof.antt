@@ -162,13 +162,20 @@ loop-again c =
     let at-kind-of = at-if1 .before in
     let at-loop-test = at-kind-of .before .before .before .before .before in
     let at-loop = at-loop-test .before in
-    let at-args = at-loop .before .before .before .before .before .before .before .before .before .before .before in
-    (on-whole (attrs-at (at-args .args .paint-attrs .now) (at-args .args .paints) (at-args .args .layer-attrs .now) (at-args .args .layers))
-    (at-args .args .state .now) (at-args .args .render .now) (at-args .args .fills .now) (at-args .args .depth .now) (at-args .pre .1 .0 .1) _
-    (at-loop .loop .at) (at-loop .loop .n) (at-loop .loop .level) (at-loop .loop .list) (at-loop .loop .inv .0) (omega (arith, at-loop-test .loop-test .taken,
-    at-args .pre .1 .1 .1)) _ (rw (at-loop .loop .inv .2, at-loop .loop .inv .3, at-loop .loop .inv .4) at (at-kind-of .kind-of .ensures)) (at-if2 .if2 .left)
-    (at-if1 .if1 .taken) _ (at-put-words .put-words .ensures), omega (arith, at-loop-test .loop-test .taken), at-loop .loop .inv .2, at-loop .loop .inv .3,
-    at-loop .loop .inv .4)
+    let at-args = at-loop .before .before .before .before .before .before .before .before .before .before .before in (
+      on-whole (attrs-at (at-args .args .paint-attrs .now) (at-args .args .paints) (at-args .args .layer-attrs .now) (at-args .args .layers))
+          (at-args .args .state .now) (at-args .args .render .now) (at-args .args .fills .now) (at-args .args .depth .now) (at-args .pre .1 .0 .1) _
+          (at-loop .loop .at) (at-loop .loop .n) (at-loop .loop .level) (at-loop .loop .list) (at-loop .loop .inv .0) (omega (
+            arith,
+            at-loop-test .loop-test .taken,
+            at-args .pre .1 .1 .1,
+          )) _ (rw (at-loop .loop .inv .2, at-loop .loop .inv .3, at-loop .loop .inv .4) at (at-kind-of .kind-of .ensures)) (at-if2 .if2 .left)
+          (at-if1 .if1 .taken) _ (at-put-words .put-words .ensures),
+      omega (arith, at-loop-test .loop-test .taken),
+      at-loop .loop .inv .2,
+      at-loop .loop .inv .3,
+      at-loop .loop .inv .4,
+    )
 
 add-at-2 : tie.Need-add-at-2 Inv-loop μ-loop
 add-at-2 c = omega (arith, c .before .before .before .before .before .before .before .loop-test .taken)
@@ -181,12 +188,19 @@ loop-again-2 c =
     let at-kind-of = c .before .before in
     let at-loop-test = at-kind-of .before .before .before .before .before in
     let at-loop = at-loop-test .before in
-    let at-args = at-loop .before .before .before .before .before .before .before .before .before .before .before in
-    (on-hidden (attrs-at (at-args .args .paint-attrs .now) (at-args .args .paints) (at-args .args .layer-attrs .now) (at-args .args .layers))
-    (at-args .args .state .now) (at-args .args .render .now) (at-args .args .fills .now) (at-args .args .depth .now) (at-args .pre .1 .0 .1) _
-    (at-loop .loop .at) (at-loop .loop .n) (at-loop .loop .level) (at-loop .loop .list) (at-loop .loop .inv .0) (omega (arith, at-loop-test .loop-test .taken,
-    at-args .pre .1 .1 .1)) _ (rw (at-loop .loop .inv .2, at-loop .loop .inv .3, at-loop .loop .inv .4) at (at-kind-of .kind-of .ensures)) (c .if3 .taken),
-    omega (arith, at-loop-test .loop-test .taken), at-loop .loop .inv .2, at-loop .loop .inv .3, at-loop .loop .inv .4)
+    let at-args = at-loop .before .before .before .before .before .before .before .before .before .before .before in (
+      on-hidden (attrs-at (at-args .args .paint-attrs .now) (at-args .args .paints) (at-args .args .layer-attrs .now) (at-args .args .layers))
+          (at-args .args .state .now) (at-args .args .render .now) (at-args .args .fills .now) (at-args .args .depth .now) (at-args .pre .1 .0 .1) _
+          (at-loop .loop .at) (at-loop .loop .n) (at-loop .loop .level) (at-loop .loop .list) (at-loop .loop .inv .0) (omega (
+            arith,
+            at-loop-test .loop-test .taken,
+            at-args .pre .1 .1 .1,
+          )) _ (rw (at-loop .loop .inv .2, at-loop .loop .inv .3, at-loop .loop .inv .4) at (at-kind-of .kind-of .ensures)) (c .if3 .taken),
+      omega (arith, at-loop-test .loop-test .taken),
+      at-loop .loop .inv .2,
+      at-loop .loop .inv .3,
+      at-loop .loop .inv .4,
+    )
 
 add-level : tie.Need-add-level Inv-loop μ-loop
 add-level c =
@@ -208,12 +222,19 @@ loop-again-3 c =
     let at-kind-of = c .before .before .before in
     let at-loop-test = at-kind-of .before .before .before .before .before in
     let at-loop = at-loop-test .before in
-    let at-args = at-loop .before .before .before .before .before .before .before .before .before .before .before in
-    (on-pushed (attrs-at (at-args .args .paint-attrs .now) (at-args .args .paints) (at-args .args .layer-attrs .now) (at-args .args .layers))
-    (at-args .args .state .now) (at-args .args .render .now) (at-args .args .fills .now) (at-args .args .depth .now) (at-args .pre .1 .0 .1) _
-    (at-loop .loop .at) (at-loop .loop .n) (at-loop .loop .level) (at-loop .loop .list) (at-loop .loop .inv .0) (omega (arith, at-loop-test .loop-test .taken,
-    at-args .pre .1 .1 .1)) _ (rw (at-loop .loop .inv .2, at-loop .loop .inv .3, at-loop .loop .inv .4) at (at-kind-of .kind-of .ensures)) (c .if4 .taken),
-    omega (arith, at-loop-test .loop-test .taken), at-loop .loop .inv .2, at-loop .loop .inv .3, at-loop .loop .inv .4)
+    let at-args = at-loop .before .before .before .before .before .before .before .before .before .before .before in (
+      on-pushed (attrs-at (at-args .args .paint-attrs .now) (at-args .args .paints) (at-args .args .layer-attrs .now) (at-args .args .layers))
+          (at-args .args .state .now) (at-args .args .render .now) (at-args .args .fills .now) (at-args .args .depth .now) (at-args .pre .1 .0 .1) _
+          (at-loop .loop .at) (at-loop .loop .n) (at-loop .loop .level) (at-loop .loop .list) (at-loop .loop .inv .0) (omega (
+            arith,
+            at-loop-test .loop-test .taken,
+            at-args .pre .1 .1 .1,
+          )) _ (rw (at-loop .loop .inv .2, at-loop .loop .inv .3, at-loop .loop .inv .4) at (at-kind-of .kind-of .ensures)) (c .if4 .taken),
+      omega (arith, at-loop-test .loop-test .taken),
+      at-loop .loop .inv .2,
+      at-loop .loop .inv .3,
+      at-loop .loop .inv .4,
+    )
 
 sub-level : tie.Need-sub-level Inv-loop μ-loop
 sub-level c = omega (arith, c .before .before .before .before .kind-of .ensures .popped (c .if5 .taken) .0)
@@ -233,12 +254,19 @@ loop-again-4 c =
     let at-kind-of = c .before .before .before .before in
     let at-loop-test = at-kind-of .before .before .before .before .before in
     let at-loop = at-loop-test .before in
-    let at-args = at-loop .before .before .before .before .before .before .before .before .before .before .before in
-    (on-popped (attrs-at (at-args .args .paint-attrs .now) (at-args .args .paints) (at-args .args .layer-attrs .now) (at-args .args .layers))
-    (at-args .args .state .now) (at-args .args .render .now) (at-args .args .fills .now) (at-args .args .depth .now) (at-args .pre .1 .0 .1) _
-    (at-loop .loop .at) (at-loop .loop .n) (at-loop .loop .level) (at-loop .loop .list) (at-loop .loop .inv .0) (omega (arith, at-loop-test .loop-test .taken,
-    at-args .pre .1 .1 .1)) _ (rw (at-loop .loop .inv .2, at-loop .loop .inv .3, at-loop .loop .inv .4) at (at-kind-of .kind-of .ensures)) (c .if5 .taken),
-    omega (arith, at-loop-test .loop-test .taken), at-loop .loop .inv .2, at-loop .loop .inv .3, at-loop .loop .inv .4)
+    let at-args = at-loop .before .before .before .before .before .before .before .before .before .before .before in (
+      on-popped (attrs-at (at-args .args .paint-attrs .now) (at-args .args .paints) (at-args .args .layer-attrs .now) (at-args .args .layers))
+          (at-args .args .state .now) (at-args .args .render .now) (at-args .args .fills .now) (at-args .args .depth .now) (at-args .pre .1 .0 .1) _
+          (at-loop .loop .at) (at-loop .loop .n) (at-loop .loop .level) (at-loop .loop .list) (at-loop .loop .inv .0) (omega (
+            arith,
+            at-loop-test .loop-test .taken,
+            at-args .pre .1 .1 .1,
+          )) _ (rw (at-loop .loop .inv .2, at-loop .loop .inv .3, at-loop .loop .inv .4) at (at-kind-of .kind-of .ensures)) (c .if5 .taken),
+      omega (arith, at-loop-test .loop-test .taken),
+      at-loop .loop .inv .2,
+      at-loop .loop .inv .3,
+      at-loop .loop .inv .4,
+    )
 
 same-length-2 : tie.Need-same-length-2 Inv-loop μ-loop
 same-length-2 c =

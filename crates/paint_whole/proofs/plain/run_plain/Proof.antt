@@ -75,7 +75,7 @@ none-done-requires-4 c κs = search needs
 returns-4 : tie.Need-returns-4
 returns-4 c =
     let at-args = c .before .before .before .before .before .before .before .before .before .before .before .before .before .before .before .before
-        .before .before in
+    .before .before in
     none-gone (own-step (attrs-at (at-args .args .paint-attrs .now) (at-args .args .paints) (at-args .args .layer-attrs .now) (at-args .args .layers))
     (at-args .args .state .now) (at-args .args .render .now) (at-args .args .fills .now)) (at-args .args .depth .now) (at-args .args .painting .now)
     (at-args .args .list .now) (at-args .args .pieces) (at-args .args .limit) _ _ (at-args .pre .1 .1 .0) (c .none-done4 .ensures)
@@ -89,7 +89,7 @@ none-done-requires-5 c κs = search needs
 returns-5 : tie.Need-returns-5
 returns-5 c =
     let at-args = c .before .before .before .before .before .before .before .before .before .before .before .before .before .before .before .before
-        .before .before .before .before in
+    .before .before .before .before in
     none-gone (own-step (attrs-at (at-args .args .paint-attrs .now) (at-args .args .paints) (at-args .args .layer-attrs .now) (at-args .args .layers))
     (at-args .args .state .now) (at-args .args .render .now) (at-args .args .fills .now)) (at-args .args .depth .now) (at-args .args .painting .now)
     (at-args .args .list .now) (at-args .args .pieces) (at-args .args .limit) _ _ (at-args .pre .1 .1 .0) (c .none-done5 .ensures)
@@ -103,7 +103,7 @@ none-done-requires-6 c κs = search needs
 returns-6 : tie.Need-returns-6
 returns-6 c =
     let at-args = c .before .before .before .before .before .before .before .before .before .before .before .before .before .before .before .before
-        .before .before .before .before .before .before in
+    .before .before .before .before .before .before in
     none-gone (own-step (attrs-at (at-args .args .paint-attrs .now) (at-args .args .paints) (at-args .args .layer-attrs .now) (at-args .args .layers))
     (at-args .args .state .now) (at-args .args .render .now) (at-args .args .fills .now)) (at-args .args .depth .now) (at-args .args .painting .now)
     (at-args .args .list .now) (at-args .args .pieces) (at-args .args .limit) _ _ (at-args .pre .1 .1 .0) (c .none-done6 .ensures)
@@ -135,12 +135,30 @@ run-commands-requires c κs =
     let at-if3 = at-wide2 .before in
     let at-wide = at-if3 .before in
     let at-if2 = at-wide .before in
-    let at-pre = at-if2 .before .before .before .before .before .before .before .before .before .before .before .before .before in
-    ((at-pre .pre .1 .0 .0, at-pre .pre .1 .0 .1, at-pre .pre .1 .0 .2, at-pre .pre .1 .0 .3, at-pre .pre .0 .3), ((at-pre .pre .0 .0,
-    record { renders = omega (arith, at-wide .wide .ensures, at-if3 .if3 .left); depths = omega (arith, at-wide2 .wide2 .ensures,
-    at-if4 .if4 .left); summary = sym (at-is-good-summary .is-good-summary .ensures) ∙ not-false _ (at-if6 .if6 .left) }, at-pre .pre .0 .1), (omega arith,
-    omega (arith, c .before .least .ensures .0, at-wide4 .wide4 .ensures, at-wide3 .wide3 .ensures, at-if2 .if2 .left), at-if5 .if5 .left,
-    at-pre .pre .1 .1 .0)))
+    let at-pre = at-if2 .before .before .before .before .before .before .before .before .before .before .before .before .before in (
+      (at-pre .pre .1 .0 .0, at-pre .pre .1 .0 .1, at-pre .pre .1 .0 .2, at-pre .pre .1 .0 .3, at-pre .pre .0 .3),
+      (
+        (
+          at-pre .pre .0 .0,
+          record {
+            renders = omega (arith, at-wide .wide .ensures, at-if3 .if3 .left);
+            depths = omega (
+              arith,
+              at-wide2 .wide2 .ensures,
+              at-if4 .if4 .left,
+            );
+            summary = sym (at-is-good-summary .is-good-summary .ensures) ∙ not-false _ (at-if6 .if6 .left);
+          },
+          at-pre .pre .0 .1,
+        ),
+        (
+          omega arith,
+          omega (arith, c .before .least .ensures .0, at-wide4 .wide4 .ensures, at-wide3 .wide3 .ensures, at-if2 .if2 .left),
+          at-if5 .if5 .left,
+          at-pre .pre .1 .1 .0,
+        ),
+      ),
+    )
 
 sub-steps : tie.Need-sub-steps
 sub-steps c = search needs
@@ -158,9 +176,23 @@ cast-painting c =
     let at-if2 = at-wide .before in
     let at-if1 = at-if2 .before .before in
     let at-pre = at-if1 .before .before .before .before .before .before .before .before .before .before .before in
-    omega (arith, at-run-commands .run-commands .ensures .1, at-least .least .ensures .0, at-least .least .ensures .1, at-pre .pre .1 .1 .1,
-    at-wide4 .wide4 .ensures, at-wide3 .wide3 .ensures, at-if2 .if2 .left, at-if1 .if1 .left, at-wide .wide .ensures, at-wide2 .wide2 .ensures,
-    at-if3 .if3 .left, at-if4 .if4 .left, at-pre .pre .0 .1, at-pre .pre .0 .2)
+    omega (
+      arith,
+      at-run-commands .run-commands .ensures .1,
+      at-least .least .ensures .0,
+      at-least .least .ensures .1,
+      at-pre .pre .1 .1 .1,
+      at-wide4 .wide4 .ensures,
+      at-wide3 .wide3 .ensures,
+      at-if2 .if2 .left,
+      at-if1 .if1 .left,
+      at-wide .wide .ensures,
+      at-wide2 .wide2 .ensures,
+      at-if3 .if3 .left,
+      at-if4 .if4 .left,
+      at-pre .pre .0 .1,
+      at-pre .pre .0 .2,
+    )
 
 add-painting : tie.Need-add-painting
 add-painting c =
@@ -175,20 +207,34 @@ add-painting c =
     let at-if2 = at-wide .before in
     let at-if1 = at-if2 .before .before in
     let at-pre = at-if1 .before .before .before .before .before .before .before .before .before .before .before in
-    omega (arith, at-run-commands .run-commands .ensures .1, at-least .least .ensures .0, at-least .least .ensures .1, at-pre .pre .1 .1 .1,
-    at-wide4 .wide4 .ensures, at-wide3 .wide3 .ensures, at-if2 .if2 .left, at-if1 .if1 .left, at-wide .wide .ensures, at-wide2 .wide2 .ensures,
-    at-if3 .if3 .left, at-if4 .if4 .left, at-pre .pre .0 .1, at-pre .pre .0 .2)
+    omega (
+      arith,
+      at-run-commands .run-commands .ensures .1,
+      at-least .least .ensures .0,
+      at-least .least .ensures .1,
+      at-pre .pre .1 .1 .1,
+      at-wide4 .wide4 .ensures,
+      at-wide3 .wide3 .ensures,
+      at-if2 .if2 .left,
+      at-if1 .if1 .left,
+      at-wide .wide .ensures,
+      at-wide2 .wide2 .ensures,
+      at-if3 .if3 .left,
+      at-if4 .if4 .left,
+      at-pre .pre .0 .1,
+      at-pre .pre .0 .2,
+    )
 
 slice-write-painting : tie.Need-slice-write-painting
 slice-write-painting c =
     let at-pre = c .before .before .before .before .before .before .before .before .before .before .before .before .before .before .before .before
-        .before .before .before .before .before .before .before .before .before .before .before .before .before in
+    .before .before .before .before .before .before .before .before .before .before .before .before .before in
     omega (arith, at-pre .pre .0 .4)
 
 slice-write-painting-2 : tie.Need-slice-write-painting-2
 slice-write-painting-2 c =
     let at-pre = c .before .before .before .before .before .before .before .before .before .before .before .before .before .before .before .before
-        .before .before .before .before .before .before .before .before .before .before .before .before .before in
+    .before .before .before .before .before .before .before .before .before .before .before .before .before in
     simp length-set (omega (arith, at-pre .pre .0 .4))
 
 same-length : tie.Need-same-length
@@ -209,14 +255,32 @@ returns-7 c =
     let at-wide = at-if3 .before in
     let at-if2 = at-wide .before in
     let at-if1 = at-if2 .before .before in
-    let at-args = at-if1 .before .before .before .before .before .before .before .before .before .before .before in
-    (run-gone (own-step (attrs-at (at-args .args .paint-attrs .now) (at-args .args .paints) (at-args .args .layer-attrs .now) (at-args .args .layers))
-    (at-args .args .state .now) (at-args .args .render .now) (at-args .args .fills .now)) (at-args .args .depth .now) (word (at-args .args .state .now) 1)
-    (at-args .args .painting .now) (at-args .pre .0 .4) (at-if1 .if1 .left) _ (at-args .args .pieces) (at-wide3 .wide3 .ensures) (at-args .args .list .now) _
-    (at-run-commands .run-commands .ensures .0), (omega (arith, at-run-commands .run-commands .ensures .1, at-least .least .ensures .0,
-    at-least .least .ensures .1, at-args .pre .1 .1 .1, at-wide4 .wide4 .ensures, at-wide3 .wide3 .ensures, at-if2 .if2 .left, at-if1 .if1 .left,
-    at-wide .wide .ensures, at-wide2 .wide2 .ensures, at-if3 .if3 .left, at-if4 .if4 .left, at-args .pre .0 .1, at-args .pre .0 .2),
-    rw (at-run-commands .run-commands .ensures .0 .long) at (at-run-commands .run-commands .ensures .0 .few)))
+    let at-args = at-if1 .before .before .before .before .before .before .before .before .before .before .before in (
+      run-gone (own-step (attrs-at (at-args .args .paint-attrs .now) (at-args .args .paints) (at-args .args .layer-attrs .now) (at-args .args .layers))
+          (at-args .args .state .now) (at-args .args .render .now) (at-args .args .fills .now)) (at-args .args .depth .now) (word (at-args .args .state .now) 1)
+          (at-args .args .painting .now) (at-args .pre .0 .4) (at-if1 .if1 .left) _ (at-args .args .pieces) (at-wide3 .wide3 .ensures) (at-args .args .list .now) _
+          (at-run-commands .run-commands .ensures .0),
+      (
+        omega (
+          arith,
+          at-run-commands .run-commands .ensures .1,
+          at-least .least .ensures .0,
+          at-least .least .ensures .1,
+          at-args .pre .1 .1 .1,
+          at-wide4 .wide4 .ensures,
+          at-wide3 .wide3 .ensures,
+          at-if2 .if2 .left,
+          at-if1 .if1 .left,
+          at-wide .wide .ensures,
+          at-wide2 .wide2 .ensures,
+          at-if3 .if3 .left,
+          at-if4 .if4 .left,
+          at-args .pre .0 .1,
+          at-args .pre .0 .2,
+        ),
+        rw (at-run-commands .run-commands .ensures .0 .long) at (at-run-commands .run-commands .ensures .0 .few),
+      ),
+    )
 
 pub run-plain-spec : {M : Type 1} → statement M
 run-plain-spec =

@@ -32,9 +32,10 @@ sub-run-plain c = omega (arith, c .before .before .before .loop-test .taken)
 run-plain-requires : tie.Need-run-plain-requires Inv-loop μ-loop
 run-plain-requires c κs =
     let at-loop = c .before .before .before .before in
-    let at-pre = at-loop .before .before .before .before .before .before .before .before .before in
-    ((at-pre .pre .0 .0, at-pre .pre .0 .1, at-pre .pre .0 .2, rw (at-loop .loop .inv .2) (at-pre .pre .0 .3), at-loop .loop .inv .3 ∙ at-pre .pre .0 .4),
-    (at-pre .pre .1, (rw (at-loop .loop .inv .4) (at-loop .loop .inv .1), omega arith)))
+    let at-pre = at-loop .before .before .before .before .before .before .before .before .before in (
+      (at-pre .pre .0 .0, at-pre .pre .0 .1, at-pre .pre .0 .2, rw (at-loop .loop .inv .2) (at-pre .pre .0 .3), at-loop .loop .inv .3 ∙ at-pre .pre .0 .4),
+      (at-pre .pre .1, (rw (at-loop .loop .inv .4) (at-loop .loop .inv .1), omega arith)),
+    )
 
 add-k : tie.Need-add-k Inv-loop μ-loop
 add-k c =
@@ -46,10 +47,19 @@ step-on-requires : tie.Need-step-on-requires Inv-loop μ-loop
 step-on-requires c κs =
     let at-run-plain = c .before .before .before .before .before .before .before .before in
     let at-loop = at-run-plain .before .before .before .before .before in
-    let at-pre = at-loop .before .before .before .before .before .before .before .before .before in
-    ((at-pre .pre .0 .0, at-pre .pre .0 .1, at-pre .pre .0 .2, rw (at-loop .loop .inv .2) (at-pre .pre .0 .3),
-    at-run-plain .run-plain .kept .1 .1 .1 .1 .0 ∙ at-loop .loop .inv .3 ∙ at-pre .pre .0 .4), (at-pre .pre .1,
-    rw (at-run-plain .run-plain .kept .1 .1 .1 .1 .1 .1 .1 .1 .1 .0) (at-run-plain .run-plain .ensures .1 .1)))
+    let at-pre = at-loop .before .before .before .before .before .before .before .before .before in (
+      (
+        at-pre .pre .0 .0,
+        at-pre .pre .0 .1,
+        at-pre .pre .0 .2,
+        rw (at-loop .loop .inv .2) (at-pre .pre .0 .3),
+        at-run-plain .run-plain .kept .1 .1 .1 .1 .0 ∙ at-loop .loop .inv .3 ∙ at-pre .pre .0 .4,
+      ),
+      (
+        at-pre .pre .1,
+        rw (at-run-plain .run-plain .kept .1 .1 .1 .1 .1 .1 .1 .1 .1 .0) (at-run-plain .run-plain .ensures .1 .1),
+      ),
+    )
 
 same-length : tie.Need-same-length Inv-loop μ-loop
 same-length c =
@@ -78,9 +88,15 @@ returns c =
     let at-run-plain = at-step-on .before .before .before .before .before .before .before .before .before in
     let at-loop-test = at-run-plain .before .before .before .before in
     let at-loop = at-loop-test .before in
-    rest-refused _ (rest-far _ (at-loop .loop .inv .0) (omega (arith, at-run-plain .run-plain .ensures .1 .0,
-    at-loop-test .loop-test .taken)) (at-run-plain .run-plain .ensures .0)) (omega (arith, at-run-plain .run-plain .ensures .1 .0,
-    at-loop-test .loop-test .taken)) _ _ _ _ (at-step-on .step-on .ensures .0) (c .before .if1 .taken) (c .if2 .taken)
+    rest-refused _ (rest-far _ (at-loop .loop .inv .0) (omega (
+      arith,
+      at-run-plain .run-plain .ensures .1 .0,
+      at-loop-test .loop-test .taken,
+    )) (at-run-plain .run-plain .ensures .0)) (omega (
+      arith,
+      at-run-plain .run-plain .ensures .1 .0,
+      at-loop-test .loop-test .taken,
+    )) _ _ _ _ (at-step-on .step-on .ensures .0) (c .before .if1 .taken) (c .if2 .taken)
 
 same-length-4 : tie.Need-same-length-4 Inv-loop μ-loop
 same-length-4 c =
@@ -109,9 +125,15 @@ returns-2 c =
     let at-run-plain = at-step-on .before .before .before .before .before .before .before .before .before in
     let at-loop-test = at-run-plain .before .before .before .before in
     let at-loop = at-loop-test .before in
-    rest-stopped _ (rest-far _ (at-loop .loop .inv .0) (omega (arith, at-run-plain .run-plain .ensures .1 .0,
-    at-loop-test .loop-test .taken)) (at-run-plain .run-plain .ensures .0)) (omega (arith, at-run-plain .run-plain .ensures .1 .0,
-    at-loop-test .loop-test .taken)) _ _ _ _ (at-step-on .step-on .ensures .0) (c .before .if1 .taken) (c .if2 .left) _ refl
+    rest-stopped _ (rest-far _ (at-loop .loop .inv .0) (omega (
+      arith,
+      at-run-plain .run-plain .ensures .1 .0,
+      at-loop-test .loop-test .taken,
+    )) (at-run-plain .run-plain .ensures .0)) (omega (
+      arith,
+      at-run-plain .run-plain .ensures .1 .0,
+      at-loop-test .loop-test .taken,
+    )) _ _ _ _ (at-step-on .step-on .ensures .0) (c .before .if1 .taken) (c .if2 .left) _ refl
 
 same-length-7 : tie.Need-same-length-7 Inv-loop μ-loop
 same-length-7 c =
@@ -140,21 +162,27 @@ returns-3 c =
     let at-run-plain = at-step-on .before .before .before .before .before .before .before .before .before in
     let at-loop-test = at-run-plain .before .before .before .before in
     let at-loop = at-loop-test .before in
-    rest-finished _ (rest-far _ (at-loop .loop .inv .0) (omega (arith, at-run-plain .run-plain .ensures .1 .0,
-    at-loop-test .loop-test .taken)) (at-run-plain .run-plain .ensures .0)) (omega (arith, at-run-plain .run-plain .ensures .1 .0,
-    at-loop-test .loop-test .taken)) _ _ _ _ (at-step-on .step-on .ensures .0) (c .before .if1 .left) (c .if3 .taken)
+    rest-finished _ (rest-far _ (at-loop .loop .inv .0) (omega (
+      arith,
+      at-run-plain .run-plain .ensures .1 .0,
+      at-loop-test .loop-test .taken,
+    )) (at-run-plain .run-plain .ensures .0)) (omega (
+      arith,
+      at-run-plain .run-plain .ensures .1 .0,
+      at-loop-test .loop-test .taken,
+    )) _ _ _ _ (at-step-on .step-on .ensures .0) (c .before .if1 .left) (c .if3 .taken)
 
 add-steps : tie.Need-add-steps Inv-loop μ-loop
 add-steps c =
     let at-run-plain = c .before .before .before .before .before .before .before .before .before .before .before .before .before .before .before .before
-        .before .before in
+    .before .before in
     let at-loop-test = at-run-plain .before .before .before .before in
     omega (arith, at-run-plain .run-plain .ensures .1 .0, at-loop-test .loop-test .taken)
 
 loop-less : tie.Need-loop-less Inv-loop μ-loop
 loop-less c =
     let at-run-plain = c .before .before .before .before .before .before .before .before .before .before .before .before .before .before .before .before
-        .before .before in
+    .before .before in
     let at-loop-test = at-run-plain .before .before .before .before in
     omega (arith, at-run-plain .run-plain .ensures .1 .0, at-loop-test .loop-test .taken)
 
@@ -163,14 +191,23 @@ loop-again c =
     let at-step-on = c .before .before .before .before .before .before .before .before .before in
     let at-run-plain = at-step-on .before .before .before .before .before .before .before .before .before in
     let at-loop-test = at-run-plain .before .before .before .before in
-    let at-loop = at-loop-test .before in
-    (rest-on _ (rest-far _ (at-loop .loop .inv .0) (omega (arith, at-run-plain .run-plain .ensures .1 .0,
-    at-loop-test .loop-test .taken)) (at-run-plain .run-plain .ensures .0)) (omega (arith, at-run-plain .run-plain .ensures .1 .0,
-    at-loop-test .loop-test .taken)) _ _ _ _ (at-step-on .step-on .ensures .0) (c .before .if1 .left) (c .if3 .left),
-    (rw (at-run-plain .run-plain .kept .1 .1 .1 .1 .1 .1 .1 .1 .1 .0 ∙ at-loop .loop .inv .4) at (at-step-on .step-on .ensures .1)),
-    at-step-on .step-on .kept .1 .1 .1 .0 ∙ at-loop .loop .inv .2, at-step-on .step-on .kept .1 .1 .1 .1 .0 ∙ at-run-plain .run-plain .kept .1 .1 .1 .1 .0 ∙
-    at-loop .loop .inv .3, at-step-on .step-on .kept .1 .1 .1 .1 .1 .1 .1 .1 .1 .0 ∙ at-run-plain .run-plain .kept .1 .1 .1 .1 .1 .1 .1 .1 .1 .0 ∙
-    at-loop .loop .inv .4)
+    let at-loop = at-loop-test .before in (
+      rest-on _ (rest-far _ (at-loop .loop .inv .0) (omega (
+        arith,
+        at-run-plain .run-plain .ensures .1 .0,
+        at-loop-test .loop-test .taken,
+      )) (at-run-plain .run-plain .ensures .0)) (omega (
+        arith,
+        at-run-plain .run-plain .ensures .1 .0,
+        at-loop-test .loop-test .taken,
+      )) _ _ _ _ (at-step-on .step-on .ensures .0) (c .before .if1 .left) (c .if3 .left),
+      (rw (at-run-plain .run-plain .kept .1 .1 .1 .1 .1 .1 .1 .1 .1 .0 ∙ at-loop .loop .inv .4) at (at-step-on .step-on .ensures .1)),
+      at-step-on .step-on .kept .1 .1 .1 .0 ∙ at-loop .loop .inv .2,
+      at-step-on .step-on .kept .1 .1 .1 .1 .0 ∙ at-run-plain .run-plain .kept .1 .1 .1 .1 .0 ∙
+          at-loop .loop .inv .3,
+      at-step-on .step-on .kept .1 .1 .1 .1 .1 .1 .1 .1 .1 .0 ∙ at-run-plain .run-plain .kept .1 .1 .1 .1 .1 .1 .1 .1 .1 .0 ∙
+          at-loop .loop .inv .4,
+    )
 
 same-length-10 : tie.Need-same-length-10 Inv-loop μ-loop
 same-length-10 c = c .before .loop .inv .2

@@ -30,10 +30,16 @@ add-t18 : tie.Need-add-t18
 add-t18 c =
     let at-step-row = c .before .before .before .before .before .before .before in
     let at-args = at-step-row .before .before .before .before .before .before .before .before .before .before .before .before in
-    record { fits = omega (arith, one-few (attrs-at (at-args .args .paint-attrs .now) (at-args .args .paints) (at-args .args .layer-attrs .now)
-    (at-args .args .layers)) (at-args .args .state .now) (at-args .args .render .now) (at-args .args .fills .now) (at-args .args .depth .now)
-    (at-args .args .painting .now) (at-args .args .list .now) (at-args .args .pieces) (at-args .pre .1 .1) (at-step-row .step-row .result) _ _ _
-    (at-step-row .step-row .ensures), at-args .good .1 .1 .1 .1 .1 .1 .1 .1 .1 .0 .0) }
+    record {
+      fits = omega (
+        arith,
+        one-few (attrs-at (at-args .args .paint-attrs .now) (at-args .args .paints) (at-args .args .layer-attrs .now)
+            (at-args .args .layers)) (at-args .args .state .now) (at-args .args .render .now) (at-args .args .fills .now) (at-args .args .depth .now)
+            (at-args .args .painting .now) (at-args .args .list .now) (at-args .args .pieces) (at-args .pre .1 .1) (at-step-row .step-row .result) _ _ _
+            (at-step-row .step-row .ensures),
+        at-args .good .1 .1 .1 .1 .1 .1 .1 .1 .1 .0 .0,
+      );
+    }
 
 same-length : tie.Need-same-length
 same-length c = search needs
@@ -47,13 +53,14 @@ same-length-3 c = search needs
 returns : tie.Need-returns
 returns c =
     let at-step-row = c .before .before .before .before .before .before .before in
-    let at-args = at-step-row .before .before .before .before .before .before .before .before .before .before .before .before in
-    (one-done (attrs-at (at-args .args .paint-attrs .now) (at-args .args .paints) (at-args .args .layer-attrs .now) (at-args .args .layers))
-    (at-args .args .state .now) (at-args .args .render .now) (at-args .args .fills .now) (at-args .args .depth .now) (at-args .args .painting .now)
-    (at-args .args .list .now) (at-args .args .pieces) (at-args .pre .1 .1) (at-step-row .step-row .result) _ _ _ (at-step-row .step-row .ensures),
-    one-few (attrs-at (at-args .args .paint-attrs .now) (at-args .args .paints) (at-args .args .layer-attrs .now) (at-args .args .layers))
-    (at-args .args .state .now) (at-args .args .render .now) (at-args .args .fills .now) (at-args .args .depth .now) (at-args .args .painting .now)
-    (at-args .args .list .now) (at-args .args .pieces) (at-args .pre .1 .1) (at-step-row .step-row .result) _ _ _ (at-step-row .step-row .ensures))
+    let at-args = at-step-row .before .before .before .before .before .before .before .before .before .before .before .before in (
+      one-done (attrs-at (at-args .args .paint-attrs .now) (at-args .args .paints) (at-args .args .layer-attrs .now) (at-args .args .layers))
+          (at-args .args .state .now) (at-args .args .render .now) (at-args .args .fills .now) (at-args .args .depth .now) (at-args .args .painting .now)
+          (at-args .args .list .now) (at-args .args .pieces) (at-args .pre .1 .1) (at-step-row .step-row .result) _ _ _ (at-step-row .step-row .ensures),
+      one-few (attrs-at (at-args .args .paint-attrs .now) (at-args .args .paints) (at-args .args .layer-attrs .now) (at-args .args .layers))
+          (at-args .args .state .now) (at-args .args .render .now) (at-args .args .fills .now) (at-args .args .depth .now) (at-args .args .painting .now)
+          (at-args .args .list .now) (at-args .args .pieces) (at-args .pre .1 .1) (at-step-row .step-row .result) _ _ _ (at-step-row .step-row .ensures),
+    )
 
 pub step-on-spec : {M : Type 1} → statement M
 step-on-spec =

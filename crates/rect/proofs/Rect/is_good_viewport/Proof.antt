@@ -28,8 +28,11 @@ returns-3 c =
     let at-width = c .before .before in
     let at-if1 = at-width .before in
     let at-is-good = at-if1 .before in
-    rw (sym (at-is-good .is-good .ensures) ∙ not-false _ (at-if1 .if1 .left), le-leb _ _ (rw (at-width .width .ensures) at (c .before .if2 .left)),
-    c .height .ensures)
+    rw (
+      sym (at-is-good .is-good .ensures) ∙ not-false _ (at-if1 .if1 .left),
+      le-leb _ _ (rw (at-width .width .ensures) at (c .before .if2 .left)),
+      c .height .ensures,
+    )
 
 pub is-good-viewport-spec : {M : Type 1} → statement M
 is-good-viewport-spec =

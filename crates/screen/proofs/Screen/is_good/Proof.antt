@@ -31,8 +31,13 @@ returns-5 c =
     let at-if3 = at-if4 .before .before in
     let at-if2 = at-if3 .before .before in
     let at-if1 = at-if2 .before .before in
-    rw (le-leb _ _ (at-if1 .if1 .left), le-leb _ _ (at-if2 .if2 .left), le-leb _ _ (at-if3 .if3 .left), le-leb _ _ (at-if4 .if4 .left),
-    lt-leb _ _ (c .if5 .taken))
+    rw (
+      le-leb _ _ (at-if1 .if1 .left),
+      le-leb _ _ (at-if2 .if2 .left),
+      le-leb _ _ (at-if3 .if3 .left),
+      le-leb _ _ (at-if4 .if4 .left),
+      lt-leb _ _ (c .if5 .taken),
+    )
 
 returns-6 : tie.Need-returns-6
 unfolding good-screen
@@ -42,8 +47,14 @@ returns-6 c =
     let at-if3 = at-if4 .before .before in
     let at-if2 = at-if3 .before .before in
     let at-if1 = at-if2 .before .before in
-    rw (le-leb _ _ (at-if1 .if1 .left), le-leb _ _ (at-if2 .if2 .left), le-leb _ _ (at-if3 .if3 .left), le-leb _ _ (at-if4 .if4 .left),
-    le-leb _ _ (at-if5 .if5 .left), lt-leb _ _ (c .if6 .taken))
+    rw (
+      le-leb _ _ (at-if1 .if1 .left),
+      le-leb _ _ (at-if2 .if2 .left),
+      le-leb _ _ (at-if3 .if3 .left),
+      le-leb _ _ (at-if4 .if4 .left),
+      le-leb _ _ (at-if5 .if5 .left),
+      lt-leb _ _ (c .if6 .taken),
+    )
 
 is-good-clip-requires : tie.Need-is-good-clip-requires
 is-good-clip-requires c κs = search needs
@@ -56,8 +67,14 @@ returns-7 c =
     let at-if3 = at-if4 .before .before in
     let at-if2 = at-if3 .before .before in
     let at-if1 = at-if2 .before .before in
-    rw (le-leb _ _ (at-if1 .if1 .left), le-leb _ _ (at-if2 .if2 .left), le-leb _ _ (at-if3 .if3 .left), le-leb _ _ (at-if4 .if4 .left),
-    le-leb _ _ (at-if5 .if5 .left), le-leb _ _ (c .before .if6 .left)) (c .is-good-clip .ensures)
+    rw (
+      le-leb _ _ (at-if1 .if1 .left),
+      le-leb _ _ (at-if2 .if2 .left),
+      le-leb _ _ (at-if3 .if3 .left),
+      le-leb _ _ (at-if4 .if4 .left),
+      le-leb _ _ (at-if5 .if5 .left),
+      le-leb _ _ (c .before .if6 .left),
+    ) (c .is-good-clip .ensures)
 
 pub is-good-spec : {M : Type 1} → statement M
 is-good-spec =

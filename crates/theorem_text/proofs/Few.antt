@@ -49,6 +49,7 @@ module _ (p : ℕ → Bool) where
     where
       rs : List Span
       rs = bucket-runs p (suc (suc i)) bs
+
       go : (t u : Bool) → 2 * length (cond u (join-run (suc i) rs) rs) ≤ suc (suc (length bs)) → 2 * length rs ≤ suc (length bs)
           → 2 * length (cond t (join-run i (cond u (join-run (suc i) rs) rs)) (cond u (join-run (suc i) rs) rs)) ≤ suc (suc (suc (length bs)))
       go false u h g = omega (arith, h)

@@ -17,7 +17,7 @@ use Rattle.rules.specs.Steps.{Screen, reset, call}
 use Rattle.rules.specs.Recording.{Recording, shape, sections, recording, box-at}
 use Rattle.rules.specs.Walk.{Place, Arenas, needed, good-arenas, frame-of, judge-records, walk-all, play-records, play}
 use Rattle.rules.specs.Lines as rules
-use Rattle.rules.specs.Lines.{refused, answer-lines, rowlist-place, rowlist-words, words-of, rowlist, line-bytes}
+use Rattle.rules.specs.Lines.{refused, answer-lines, rowlist-place, rowlist-screen, rowlist-words, words-of, rowlist, line-bytes}
 use Rattle.rules.proofs.All.{never}
 use Rattle.row.specs.Words.{words}
 use Rattle.screen.specs.Screens.{frame, rect-of}
@@ -41,7 +41,8 @@ use Rattle.file_form.proofs.Laid.{good-form}
 use Rattle.file_form.proofs.Reading.{viewport-is}
 use Rattle.file_judge.specs.Judging.{box-from}
 use Rattle.text_screen.specs.Listed.{written, text-of}
-use Rattle.text_file.specs.Files.{Showed, nothing, refusing, shown-as, showing, answered, recording-text, viewport-of, size, sized-if, sized, size-of, cut-to, front-text, text-in, words-text, Roomy, is-roomy, refused-as-is, bytes-text}
+use Rattle.text_file.specs.declared.Size.{Size}
+use Rattle.text_file.specs.Files.{Showed, nothing, refusing, shown-as, showing, FileOut, file-out, answered, recording-text, viewport-of, size, sized-if, sized, size-of, cut-to, over, in-front, front-text, text-in, words-text, Roomy, is-roomy, refused-as-is, bytes-text}
 use Rattle.text_file.proofs.Texts.{small}
 use Rattle.text_file.proofs.Bytes.{enough}
 use Rattle.refine_text.proofs.Lengths.{line-few, lines-few, rows-few}
@@ -61,12 +62,33 @@ record Done-with (a : Answer (Screen Row)) (w : Answer ScreenLent) (v : Box) : T
   pub refines : Refines (a .value) (w .value)
   pub kept : Kept (record { viewport = v; c = 64; d = 64 }) (a .value)
 
+-- words that hold the rules' screen of an accepted file: they stand first in the tables
+pub record Left (s : Screen Row) (t : Tables) (o : FileOut) : Type 0 where
+  pub viewport : Box
+  pub few : rows-of viewport ≤ 32
+  pub kept : Kept (record { viewport = viewport; c = 64; d = 64 }) s
+  pub words : Lent
+  pub refines : Refines s words
+  pub screen : o .showed .text .screen ≡ words .screen
+  pub tables : o .tables ≡ over (size 0 (rows-of viewport) (buckets-of 32 viewport)) t (words .tables)
+
+-- what a file's call leaves beside the rules' answer
+pub record Leaves (a : Answer (Screen Row)) (t : Tables) (o : FileOut) : Type 0 where
+  pub number : o .showed .text .number ≡ a .number
+  pub left : a .number ≡ 0 → Left (a .value) t o
+
+abbrev told : Showed → ℕ × declared.Screen
+told x = (x .text .number, x .text .screen)
+
 -- what a screen in a file's frame prints has at most 264,256 bytes
 screen-few : (v : Box) (s : Screen Row) → rows-of v ≤ 32 → Kept (record { viewport = v; c = 64; d = 64 }) s → length (text-of (rules.screen-lines 32 s)) ≤ 264256
 screen-few v s few h =
     let f : (j : ℕ) → Fitting 64 64 (getD (s .rows) j fresh-row) = λ j. rw (h .frame) at (h .sound .rows j) in
     let n : length (s .rows) ≤ 32 = omega (arith, few, rw (h .frame) at (h .sound .count)) in
     omega (arith, lines-few (rules.screen-lines 32 s), rows-few 0 (s .rows) f, n)
+
+refused-few : (n : ℕ) → length (text-of (refused n ∷ [])) ≤ 264256
+refused-few n = omega (arith, lines-few (refused n ∷ []))
 
 module _ (bs : List ℕ) (room : 264256 ≤ length bs) where
   -- a text that fits
@@ -83,6 +105,43 @@ module _ (bs : List ℕ) (room : 264256 ≤ length bs) where
   unfolding showing
   done-shows a w v few h =
       rw (listed-held (h .refines) (h .kept .fair) bs) (fits (text-of (rules.screen-lines 32 (a .value))) (screen-few v (a .value) few (h .kept)) (w .value .screen))
+
+  fits-told : (ts : List ℕ) → length ts ≤ 264256 → (s : declared.Screen) → told (shown-as s (written ts bs)) ≡ (0, s)
+  unfolding written
+  fits-told ts h s = rw (le-ltb (length bs) (length ts) (omega (arith, h, room)))
+
+  done-told : (a : Answer (Screen Row)) (w : Answer ScreenLent) (v : Box) → rows-of v ≤ 32 → Done-with a w v
+      → told (showing (w .value .screen) (row-words (w .value)) bs) ≡ (0, w .value .screen)
+  unfolding showing
+  done-told a w v few h =
+      rw (listed-held (h .refines) (h .kept .fair) bs) (fits-told (text-of (rules.screen-lines 32 (a .value))) (screen-few v (a .value) few (h .kept)) (w .value .screen))
+
+  refusing-number : (n : ℕ) (s : declared.Screen) → refusing n s bs .text .number ≡ n
+  unfolding refusing
+  refusing-number n s = refl
+
+  answer-leaves : (a : Answer (Screen Row)) (w : Answer ScreenLent) (v : Box) (t : Tables) → rows-of v ≤ 32 → w .number ≡ a .number → (a .number ≡ 0 → Done-with a w v)
+      → Leaves a t (in-front (size 0 (rows-of v) (buckets-of 32 v)) t (answered w bs))
+  answer-leaves a w v t few e h = rw e (go (eqb (a .number) Done) refl)
+    where
+      z : Size
+      z = size 0 (rows-of v) (buckets-of 32 v)
+
+      x : Bool → Showed
+      x b = cond b (showing (w .value .screen) (row-words (w .value)) bs) (refusing (a .number) (w .value .screen) bs)
+
+      go : (b : Bool) → eqb (a .number) Done ≡ b → Leaves a t (in-front z t (file-out (x b) (w .value .tables)))
+      go true q =
+          let done = h (eqb-true _ _ q) in
+          let p = done-told a w v few done in
+          record {
+            number = ap (λ (y : ℕ × declared.Screen). y .0) p ∙ sym (eqb-true _ _ q);
+            left = λ i. record { viewport = v; few = few; kept = done .kept; words = w .value; refines = done .refines; screen = ap (λ (y : ℕ × declared.Screen). y .1) p; tables = refl };
+          }
+      go false q = record { number = refusing-number (a .number) (w .value .screen); left = λ i. never (sym (eq-eqb _ _ i) ∙ q) }
+
+  refused-leaves : (a : Answer (Screen Row)) (t : Tables) (n : ℕ) → a .number ≡ n → eqb n Done ≡ false → Leaves a t (refused-as-is n t bs)
+  refused-leaves a t n e q = record { number = refusing-number n nothing ∙ sym e; left = λ i. never (sym (eq-eqb n 0 (sym e ∙ i)) ∙ q) }
 
   answer-shows : (a : Answer (Screen Row)) (w : Answer ScreenLent) (v : Box) → rows-of v ≤ 32 → w .number ≡ a .number → (a .number ≡ 0 → Done-with a w v)
       → shows (answered w bs .showed) ≡ text-first (text-of (answer-lines 32 a)) bs
@@ -274,9 +333,25 @@ module _ (ws : List ℕ) (t : Tables) (enough-room : is-roomy t ≡ true) (fixed
           go (unaltered q x y) = never (sym (eq-eqb _ _ z) ∙ q)
           go (made x) = record { refines = x; kept = play-kept (rowlist-place ws) old r first start-kept z }
 
+      left-there : Leaves theirs t (in-front (size 0 (rows-of v) (buckets-of 32 v)) t (recording-text ws cut bs))
+      unfolding recording-text
+      left-there = answer-leaves bs room theirs (recorded ws 64 64 given) v t few (plays .number) done-with
+
       shown-there : shows (recording-text ws cut bs .showed) ≡ text-first (text-of (answer-lines 32 theirs)) bs
       unfolding recording-text
       shown-there = answer-shows bs room theirs (recorded ws 64 64 given) v few (plays .number) done-with
+
+    refused-number : (good-viewport v && leb (rows-of v) 32) ≡ false → play-records (Screen Row) (call Row row-ops 32) (reset fresh-row) 32 (rowlist-place ws) old r .number ≡ 2
+    unfolding judge-records
+    refused-number h = refused-view (rowlist-place ws) old r (rw (not-shown (good-viewport v) (rows-of v) h))
+
+    by-size-leaves : (x : Bool) → (good-viewport v && leb (rows-of v) 32) ≡ x
+        → Leaves (play-records (Screen Row) (call Row row-ops 32) (reset fresh-row) 32 (rowlist-place ws) old r) t (text-in (sized-if x v) ws t bs)
+    by-size-leaves false h = refused-leaves bs room (play-records (Screen Row) (call Row row-ops 32) (reset fresh-row) 32 (rowlist-place ws) old r) t 2 (refused-number h) refl
+    by-size-leaves true h =
+        rw enough-room
+        (unfold front-text in
+        left-there (and-left (good-viewport v) (leb (rows-of v) 32) h) (leb-true _ _ (and-right (good-viewport v) (leb (rows-of v) 32) h)))
 
     by-size : (x : Bool) → (good-viewport v && leb (rows-of v) 32) ≡ x
         → shows (text-in (sized-if x v) ws t bs .showed) ≡ text-first (text-of (answer-lines 32 (play-records (Screen Row) (call Row row-ops 32) (reset fresh-row) 32 (rowlist-place ws) old r))) bs
@@ -301,6 +376,32 @@ module _ (ws : List ℕ) (t : Tables) (enough-room : is-roomy t ≡ true) (fixed
       go none e = refusing-shows bs room 3 nothing
       go (some ss) e = rw (view ss e) (by-size ss e _ refl)
 
+  -- .. and what is left beside it is the rules' screen, where it is not refused.
+  pub words-leave : Leaves (rowlist-screen ws) t (words-text ws t bs)
+  unfolding words-text size-of form-of play
+  words-leave = go (sections shape ws) refl
+    where
+      go : (o : Option (List (List (List ℕ)))) → sections shape ws ≡ o
+          → Leaves
+          (elim o [
+            | none ↦ answer BadForm old
+            | some qs ↦ play-records (Screen Row) (call Row row-ops 32) (reset fresh-row) 32 (rowlist-place ws) old (recording qs)
+          ])
+          t
+          (text-in (sized (formed o (layout ws)) (viewport-of ws)) ws t bs)
+      go none e = refused-leaves bs room (answer BadForm old) t 3 refl refl
+      go (some ss) e = rw (view ss e) (by-size-leaves ss e _ refl)
+
+  -- .. of at most 264,256 bytes
+  words-few : length (text-of (rowlist-words ws)) ≤ 264256
+  unfolding rowlist-words
+  words-few = go (eqb (rowlist-screen ws .number) Done) refl
+    where
+      go : (b : Bool) → eqb (rowlist-screen ws .number) Done ≡ b
+          → length (text-of (cond b (rules.screen-lines 32 (rowlist-screen ws .value)) (refused (rowlist-screen ws .number) ∷ []))) ≤ 264256
+      go true e = let l = words-leave .left (eqb-true _ _ e) in screen-few (l .viewport) (rowlist-screen ws .value) (l .few) (l .kept)
+      go false e = refused-few (rowlist-screen ws .number)
+
 -- `rowlist`: a file's bytes, with tables and room lent as the program has them. What `file_text` writes is the text of the rules' `rowlist` of the bytes.
 module _ (fs : List ℕ) (t : Tables) (roomy : is-roomy t ≡ true) (fixed : good-fixed (lengths t) ≡ true) (bs : List ℕ) (room : 264256 ≤ length bs) where
   pub file-printed : shows (bytes-text fs t bs .showed) ≡ text-first (text-of (rowlist fs)) bs
@@ -319,3 +420,19 @@ module _ (fs : List ℕ) (t : Tables) (roomy : is-roomy t ≡ true) (fixed : goo
       go false y p q = rw (lt-ltb 65536 (length fs) (leb-false _ _ p)) (refusing-shows bs room 3 nothing)
       go true false p q = rw (le-ltb 65536 (length fs) (leb-true _ _ p), rules-words fs, q) (refusing-shows bs room 3 nothing)
       go true true p q = rw (le-ltb 65536 (length fs) (leb-true _ _ p), rules-words fs, q) (words-printed (words-in fs) t roomy fixed bs room)
+
+  pub file-few : length (text-of (rowlist fs)) ≤ 264256
+  unfolding rowlist
+  file-few = go (ltb 65536 (length fs)) (eqb (length fs % 4) 0) refl
+    where
+      go : (x y : Bool) → eqb (length fs % 4) 0 ≡ y
+          → length
+          (text-of
+          (elim x [
+            | true ↦ refused BadForm ∷ []
+            | false ↦ elim (words-of fs) [ none ↦ refused BadForm ∷ [] | some vs ↦ rowlist-words vs ]
+          ]))
+          ≤ 264256
+      go true y q = refused-few BadForm
+      go false false q = rw (rules-words fs, q) (refused-few BadForm)
+      go false true q = rw (rules-words fs, q) (words-few (words-in fs) t roomy fixed bs room)

@@ -15,10 +15,10 @@ use Rattle.refine_steps.specs.Sound.{Fitting}
 use Rattle.text_screen.specs.Listed.{text-of}
 
 -- one text after the other
-plus : {a b : ℕ} (xs ys : List ℕ) → length xs ≤ a → length ys ≤ b → length (xs ++ ys) ≤ a + b
+pub plus : {a b : ℕ} (xs ys : List ℕ) → length xs ≤ a → length ys ≤ b → length (xs ++ ys) ≤ a + b
 plus xs ys h g = rw (length-append xs ys) (omega (arith, h, g))
 
-digits-few : (k n : ℕ) → length (digits k n) ≤ k
+pub digits-few : (k n : ℕ) → length (digits k n) ≤ k
 digits-few zero n = omega arith
 digits-few (suc k) n = go (ltb n 10) (digits-few k (n / 10))
   where

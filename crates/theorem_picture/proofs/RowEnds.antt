@@ -36,11 +36,11 @@ use Rattle.theorem_picture.proofs.Reached.{reached}
 use Rattle.theorem_picture.proofs.Rows.{step, at, next, Holds, one-words, one-holds}
 
 -- the pieces of the next n steps of row r
-abbrev left-of : ℕ → Canvas → ℕ → List Piece
+abbrev pub left-of : ℕ → Canvas → ℕ → List Piece
 left-of n k r = paint-steps 32 (k .screen .state .attrs) n (getD (k .screen .rows) r fresh-row) (painter-of 32 k r)
 
 -- a step with room for its pieces is done
-room-done : (k : Canvas) (r m : ℕ) → r < length (k .screen .rows) → paints-on k ≡ true → length (next-step 32 k r .pieces) ≤ m → paint-call 32 r m k .number ≡ Done
+pub room-done : (k : Canvas) (r m : ℕ) → r < length (k .screen .rows) → paints-on k ≡ true → length (next-step 32 k r .pieces) ≤ m → paint-call 32 r m k .number ≡ Done
 unfolding paint-call
 room-done k r m h b e = rw (lt-leb (length (k .screen .rows)) r h, b, le-ltb m (length (next-step 32 k r .pieces)) e)
 
@@ -153,7 +153,7 @@ module _ (r : ℕ) (l : ScreenLent) where
       (ends f n (j + 1) (one-more (step r l) g) _ (on g k z) (rw (p, s) (omega arith)) (omega arith) (rw (p, s) (omega (arith, rw (given g k z first) at v)))))
 
 -- the call at the words of a canvas
-row-ended : (k : Canvas) → WholeCanvas k → paints-on k ≡ true → (r : ℕ) → r < length (k .screen .rows) → (list : List ℕ)
+pub row-ended : (k : Canvas) → WholeCanvas k → paints-on k ≡ true → (r : ℕ) → r < length (k .screen .rows) → (list : List ℕ)
     → 6 * length (left-of (work k r) k r) ≤ length list → row-out r list (canvas-words k) .answer .finished ≡ true
 unfolding row-out row-painted
 row-ended k w b r h list room =

@@ -78,7 +78,7 @@ bits-back o h = go (ne (ofBits binary32 o) (ofBits binary32 o)) refl
 abbrev no-paint : PaintAttr
 no-paint = record { paint = 0; blend = default-blend; mask = 0; id = 0; thread = 0; origin-x = 0; origin-y = 0 }
 
-abbrev no-layer : LayerAttr
+abbrev pub no-layer : LayerAttr
 no-layer = record { blend = default-blend; opacity = 0; mask = 0; id = 0; thread = 0 }
 
 abbrev no-filter : FilterPaint

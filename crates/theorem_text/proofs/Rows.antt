@@ -16,7 +16,7 @@ use Rattle.rules.specs.Plans.{Frame, Step}
 use Rattle.rules.specs.Steps.{Screen}
 use Rattle.rules.specs.Rows.{Row, fresh-row}
 use Rattle.rules.specs.Painting.{Piece, Painted, begin, paint-steps, paint-row}
-use Rattle.rules.specs.Calls.{Canvas, painter-of, begin-call, paint-call}
+use Rattle.rules.specs.Calls.{Canvas, paints-on, painter-of, begin-call, paint-call}
 use Rattle.text_details.specs.Details.{Detail, painted, piece-line, painted-row}
 use Rattle.screen.specs.Tables.{ScreenLent}
 use Rattle.paint_command.specs.Painting as paint
@@ -31,7 +31,7 @@ use Rattle.refine_paint.specs.Canvases.{WholeCanvas}
 use Rattle.rules_picture.specs.Turns.{Gave, from, steps-of, said-finished, turns, has-finished}
 use Rattle.refine_paint.proofs.Whole.{begin-whole}
 use Rattle.rules_picture.proofs.Cases.{and-left, and-right}
-use Rattle.rules_picture.proofs.Turns.{all-given, by-turns, said-so, next-at, turns-screen, call-other, begun-is, begun-painter}
+use Rattle.rules_picture.proofs.Turns.{all-given, by-turns, said-so, next-at, turns-screen, turns-paints, call-other, begun-is, begun-paints, begun-painter}
 use Rattle.rules_picture.proofs.Picture.{built-on}
 use Rattle.theorem_picture.specs.Reached.{Reached, begin-at}
 use Rattle.theorem_picture.specs.Standing.{canvas-words}
@@ -73,7 +73,7 @@ last-piece (suc n) ws =
     let e : 6 + 6 * n ≡ 6 * suc n = omega arith in
     ap (λ (ps : List Piece). piece-in ws ∷ ps) (last-piece n (drop 6 ws)) ∙ rw (drop-drop (6 * n) 6 ws, e)
 
-many : (n : ℕ) (ws : List ℕ) → length (pieces-in n ws) ≡ n
+pub many : (n : ℕ) (ws : List ℕ) → length (pieces-in n ws) ≡ n
 unfolding pieces-in
 many zero ws = refl
 many (suc n) ws = ap suc (many n (drop 6 ws))
@@ -141,6 +141,7 @@ pub record Waits (s : Screen Row) (r : ℕ) (m : ScreenLent) : Type 0 where
   pub canvas : Canvas
   pub whole : WholeCanvas canvas
   pub screen : canvas .screen ≡ s
+  pub goes-on : paints-on canvas ≡ true
   pub there : r < length (canvas .screen .rows)
   pub fresh : painter-of 32 canvas r ≡ begin (buckets-of 32 (canvas .screen .state .frame .viewport))
   pub same : m ≡ canvas-words canvas
@@ -169,6 +170,7 @@ begin-waits {f} {xs} {l} h e r there =
       canvas = begin-call 32 k .value;
       whole = begin-whole k (s .whole);
       screen = p;
+      goes-on = begun-paints 32 k d;
       there = rw p row;
       fresh = begun-painter 32 k r d row ∙ rw p;
       same = ap (λ (a : Answer ScreenLent). a .value) words;
@@ -185,6 +187,7 @@ row-waits {s} {r} {m} h i list d =
       canvas = turns 32 ts k .canvas;
       whole = turns-whole ts k (h .whole);
       screen = p ∙ h .screen;
+      goes-on = turns-paints 32 ts k ∙ h .goes-on;
       there = rw p (h .there);
       fresh = others i r d (z .turns) (z .own) k ∙ h .fresh ∙ rw p;
       same = sym (z .words) ∙ ap (turned (z .turns)) (h .same) ∙ turned-words (z .turns) k (h .whole);

@@ -13,7 +13,7 @@ use Rattle.rules.specs.Rows.{Row, fresh-row}
 use Rattle.rules.specs.Plans.{Frame}
 use Rattle.rules.specs.Steps.{Screen}
 use Rattle.rules.proofs.All.{neither, all-at}
-use Rattle.screen.specs.Tables.{Lent}
+use Rattle.screen.specs.Tables.{ScreenLent}
 use Rattle.screen.proofs.Laws.{few-buckets}
 use Rattle.paint_command.specs.Painting as paint
 use Rattle.paint_screen.specs.Stepping.{attributes}
@@ -38,10 +38,10 @@ use Rattle.text_dump.specs.Dumped.{Part, rows-dumped, details-dumped}
 use Rattle.text_dump.proofs.First.{Says, after-says, room-left, first-dropped}
 
 -- the words of a row's call
-abbrev pub at-words : Lent → List ℕ → paint.Lent
+abbrev pub at-words : ScreenLent → List ℕ → paint.RowLent
 at-words m list = paint.lent (m .tables .rows) (m .tables .render) (m .tables .fills) (m .tables .depth) (m .tables .painting) list
 
-abbrev pub attrs-of : Lent → dumped.Tables
+abbrev pub attrs-of : ScreenLent → dumped.AttrTables
 attrs-of m = tables (m .tables .paint-attrs) (m .tables .layer-attrs) (m .tables .opacities) (m .tables .filter-paints)
 
 module _ (s : Screen Row) (fit : (i : ℕ) → Fitting 64 64 (getD (s .rows) i fresh-row)) (narrow : buckets-of 32 (s .state .frame .viewport) ≤ 32) where
@@ -53,7 +53,7 @@ module _ (s : Screen Row) (fit : (i : ℕ) → Fitting 64 64 (getD (s .rows) i f
   unfolding painted-lines
   rest-none = rw (drop-length (s .rows))
 
-  rows-are : (k r : ℕ) → r + k ≡ length (s .rows) → (m : Lent) → ((j : ℕ) → r ≤ j → j < length (s .rows) → Waits s j m) → (list : List ℕ) → 12288 ≤ length list
+  rows-are : (k r : ℕ) → r + k ≡ length (s .rows) → (m : ScreenLent) → ((j : ℕ) → r ≤ j → j < length (s .rows) → Waits s j m) → (list : List ℕ) → 12288 ≤ length list
       → (bs : List ℕ) → length (rest r) ≤ length bs
       → Says (rest r) bs (rows-dumped k r (m .screen) (attributes (m .tables .paint-attrs) (m .tables .layer-attrs)) (at-words m list) bs)
   unfolding rows-dumped
@@ -77,7 +77,7 @@ module _ (s : Screen Row) (fit : (i : ℕ) → Fitting 64 64 (getD (s .rows) i f
 
 -- a screen of an accepted file, at its words
 module _ (f : Frame) (s : Screen Row) (kept : Kept f s) (c : f .c ≡ 64) (d : f .d ≡ 64) (few-rows : rows-of (f .viewport) ≤ 32) (over : Ended s) (b : Bool) (de pa : List ℕ) where
-  abbrev m : Lent
+  abbrev m : ScreenLent
   m = lent-of s b de pa
 
   fit : (i : ℕ) → Fitting 64 64 (getD (s .rows) i fresh-row)

@@ -20,7 +20,7 @@ use Rattle.rules.specs.Lines as rules
 use Rattle.rules.proofs.All.{never}
 use Rattle.rect.specs.Rects.{box-of}
 use Rattle.screen.specs.declared.Screen as declared
-use Rattle.screen.specs.Tables.{Tables, Lent}
+use Rattle.screen.specs.Tables.{Tables, ScreenLent}
 use Rattle.screen.proofs.Laws.{few-buckets}
 use Rattle.file_form.specs.Words.{words-in}
 use Rattle.file_form.proofs.Bytes.{rules-words}
@@ -63,13 +63,13 @@ module _ (s : Screen Row) (t u : Tables) (ht : Long t) (hu : Long u) (x : declar
   abbrev b : ℕ
   b = buckets-of 32 v
 
-  abbrev w : Lent
+  abbrev w : ScreenLent
   w = l .words
 
   abbrev h : Holds s w
   h = l .refines .holds
 
-  abbrev m : Lent
+  abbrev m : ScreenLent
   m = lent-of s (h .begun) (h .depth) (h .painting)
 
   ue : u ≡ over (size 0 n b) t (w .tables)
@@ -86,7 +86,7 @@ module _ (s : Screen Row) (t u : Tables) (ht : Long t) (hu : Long u) (x : declar
   view-there = refl
 
   screen-there : x ≡ m .screen
-  screen-there = ex ∙ l .screen ∙ ap (λ (q : Lent). q .screen) (h .same)
+  screen-there = ex ∙ l .screen ∙ ap (λ (q : ScreenLent). q .screen) (h .same)
 
   pub view : box-of (x .viewport) ≡ v
   view = ap (λ (q : declared.Screen). box-of (q .viewport)) screen-there ∙ view-there ∙ own-view
@@ -108,19 +108,19 @@ module _ (s : Screen Row) (t u : Tables) (ht : Long t) (hu : Long u) (x : declar
       }
 
   rows-back : take (n * 54) (u .rows) ≡ m .tables .rows
-  rows-back = cut-back (w .tables .rows) (t .rows) (u .rows) (n * 54) 1728 (ap (λ (q : Tables). q .rows) ue) (omega (arith, l .few)) (ht .rows) (hu .rows) ∙ ap (λ (q : Lent). q .tables .rows) (h .same)
+  rows-back = cut-back (w .tables .rows) (t .rows) (u .rows) (n * 54) 1728 (ap (λ (q : Tables). q .rows) ue) (omega (arith, l .few)) (ht .rows) (hu .rows) ∙ ap (λ (q : ScreenLent). q .tables .rows) (h .same)
 
   render-back : take (n * 256) (u .render) ≡ m .tables .render
-  render-back = cut-back (w .tables .render) (t .render) (u .render) (n * 256) 8192 (ap (λ (q : Tables). q .render) ue) (omega (arith, l .few)) (ht .render) (hu .render) ∙ ap (λ (q : Lent). q .tables .render) (h .same)
+  render-back = cut-back (w .tables .render) (t .render) (u .render) (n * 256) 8192 (ap (λ (q : Tables). q .render) ue) (omega (arith, l .few)) (ht .render) (hu .render) ∙ ap (λ (q : ScreenLent). q .tables .render) (h .same)
 
   fills-back : take (n * 128) (u .fills) ≡ m .tables .fills
-  fills-back = cut-back (w .tables .fills) (t .fills) (u .fills) (n * 128) 4096 (ap (λ (q : Tables). q .fills) ue) (omega (arith, l .few)) (ht .fills) (hu .fills) ∙ ap (λ (q : Lent). q .tables .fills) (h .same)
+  fills-back = cut-back (w .tables .fills) (t .fills) (u .fills) (n * 128) 4096 (ap (λ (q : Tables). q .fills) ue) (omega (arith, l .few)) (ht .fills) (hu .fills) ∙ ap (λ (q : ScreenLent). q .tables .fills) (h .same)
 
   depth-back : take (n * b) (u .depth) ≡ m .tables .depth
-  depth-back = cut-back (w .tables .depth) (t .depth) (u .depth) (n * b) 1024 (ap (λ (q : Tables). q .depth) ue) few-words (ht .depth) (hu .depth) ∙ ap (λ (q : Lent). q .tables .depth) (h .same)
+  depth-back = cut-back (w .tables .depth) (t .depth) (u .depth) (n * b) 1024 (ap (λ (q : Tables). q .depth) ue) few-words (ht .depth) (hu .depth) ∙ ap (λ (q : ScreenLent). q .tables .depth) (h .same)
 
   painting-back : take (n * 2) (u .painting) ≡ m .tables .painting
-  painting-back = cut-back (w .tables .painting) (t .painting) (u .painting) (n * 2) 64 (ap (λ (q : Tables). q .painting) ue) (omega (arith, l .few)) (ht .painting) (hu .painting) ∙ ap (λ (q : Lent). q .tables .painting) (h .same)
+  painting-back = cut-back (w .tables .painting) (t .painting) (u .painting) (n * 2) 64 (ap (λ (q : Tables). q .painting) ue) (omega (arith, l .few)) (ht .painting) (hu .painting) ∙ ap (λ (q : ScreenLent). q .tables .painting) (h .same)
 
   -- the words of painting have the lengths that the screen asks for
   depth-there : m .tables .depth ≡ h .depth
@@ -133,20 +133,20 @@ module _ (s : Screen Row) (t u : Tables) (ht : Long t) (hu : Long u) (x : declar
 
   depth-long : length (h .depth) ≡ rows-of (s .state .frame .viewport) * buckets-of 32 (s .state .frame .viewport)
   depth-long =
-      sym (ap (λ (q : Lent). length (q .tables .depth)) (h .same) ∙ ap (λ (q : List ℕ). length q) depth-there)
+      sym (ap (λ (q : ScreenLent). length (q .tables .depth)) (h .same) ∙ ap (λ (q : List ℕ). length q) depth-there)
       ∙ cut-long (w .tables .depth) (t .depth) (u .depth) (n * b) 1024 (ap (λ (q : Tables). q .depth) ue) few-words (ht .depth) (hu .depth)
       ∙ sym (ap (λ (q : Box). rows-of q * buckets-of 32 q) own-view)
 
   painting-long : length (h .painting) ≡ rows-of (s .state .frame .viewport) * 2
   painting-long =
-      sym (ap (λ (q : Lent). length (q .tables .painting)) (h .same) ∙ ap (λ (q : List ℕ). length q) painting-there)
+      sym (ap (λ (q : ScreenLent). length (q .tables .painting)) (h .same) ∙ ap (λ (q : List ℕ). length q) painting-there)
       ∙ cut-long (w .tables .painting) (t .painting) (u .painting) (n * 2) 64 (ap (λ (q : Tables). q .painting) ue) (omega (arith, l .few)) (ht .painting) (hu .painting)
       ∙ sym (ap (λ (q : Box). rows-of q * 2) own-view)
 
-  abbrev given : List ℕ → paint.Lent
+  abbrev given : List ℕ → paint.RowLent
   given list = paint.lent (u .rows) (u .render) (u .fills) (u .depth) (u .painting) list
 
-  abbrev attrs : dumped.Tables
+  abbrev attrs : dumped.AttrTables
   attrs = dumped.tables (u .paint-attrs) (u .layer-attrs) (u .opacities) (u .filter-paints)
 
   same-attrs : attrs ≡ attrs-of m
@@ -163,10 +163,10 @@ module _ (s : Screen Row) (t u : Tables) (ht : Long t) (hu : Long u) (x : declar
     details : Says (details-text (detail-lines 32 s)) bs (details-dumped (m .screen) (length (s .rows)) (attrs-of m) (at-words m list) bs)
     details =
         details-are (record { viewport = v; c = 64; d = 64 }) s (l .kept) refl refl (l .few) ended (h .begun) (h .depth) (h .painting)
-        (sym (ap (λ (q : dumped.Tables). length (q .paints)) same-attrs) ∙ sym (hu .paint-attrs))
-        (sym (ap (λ (q : dumped.Tables). length (q .layers)) same-attrs) ∙ sym (hu .layer-attrs))
-        (sym (ap (λ (q : dumped.Tables). length (q .opacities)) same-attrs) ∙ sym (hu .opacities))
-        (sym (ap (λ (q : dumped.Tables). length (q .filters)) same-attrs) ∙ sym (hu .filter-paints))
+        (sym (ap (λ (q : dumped.AttrTables). length (q .paints)) same-attrs) ∙ sym (hu .paint-attrs))
+        (sym (ap (λ (q : dumped.AttrTables). length (q .layers)) same-attrs) ∙ sym (hu .layer-attrs))
+        (sym (ap (λ (q : dumped.AttrTables). length (q .opacities)) same-attrs) ∙ sym (hu .opacities))
+        (sym (ap (λ (q : dumped.AttrTables). length (q .filters)) same-attrs) ∙ sym (hu .filter-paints))
         depth-long painting-long list long bs room
 
     pub screen-says : Says (details-text (detail-lines 32 s)) bs (screen-dumped x attrs (given list) bs)

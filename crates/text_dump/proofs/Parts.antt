@@ -15,7 +15,7 @@ use Rattle.rules.specs.Answers.{answer, Done}
 use Rattle.rules.specs.Boxes.{rows-of, buckets-of}
 use Rattle.rect.specs.Rects.{box-of}
 use Rattle.screen.specs.declared.Screen.{Screen}
-use Rattle.paint_command.specs.Painting.{Lent, lent, Out}
+use Rattle.paint_command.specs.Painting.{RowLent, lent, StepOut}
 use Rattle.paint_screen.specs.Beginning.{canvas, beginning}
 use Rattle.paint_screen.specs.Stepping.{Attributes, attributes}
 use Rattle.paint_whole.specs.Running.{row-painted}
@@ -24,7 +24,7 @@ use Rattle.text_screen.specs.Listed as list
 use Rattle.text_screen.specs.Listed.{listing, written, begun-with}
 use Rattle.text_details.specs.Bytes.{details-text}
 use Rattle.text_row.specs.Pieces.{row-lines}
-use Rattle.text_row.specs.Dumped.{Tables, RowOut, row-out, pieces-written, stopped, row-stopped, with-text, row-dumped, good-tables, attrs-text, attrs-dumped}
+use Rattle.text_row.specs.Dumped.{AttrTables, RowOut, row-out, pieces-written, stopped, row-stopped, with-text, row-dumped, good-tables, attrs-text, attrs-dumped}
 use Rattle.text_dump.specs.Dumped.{Part, part, after, rows-dumped, details-dumped, in-front, screen-dumped}
 
 -- a text is no longer than the bytes that it was put into
@@ -44,17 +44,17 @@ pieces-few r ws n bs = go (ltb 65536 n)
     go true = omega arith
     go false = written-few (details-text (row-lines r ws n)) bs
 
-pub row-few : (s : Screen) (r : ℕ) (a : Attributes) (l : Lent) (bs : List ℕ) → row-dumped s r a l bs .answer .bytes ≤ length bs
+pub row-few : (s : Screen) (r : ℕ) (a : Attributes) (l : RowLent) (bs : List ℕ) → row-dumped s r a l bs .answer .bytes ≤ length bs
 unfolding row-dumped stopped
 row-few s r a l bs = let e = row-painted s r a l in go e (eqb (e .answer .number) Done) (e .answer .finished)
   where
-    go : (e : Out) (x y : Bool)
+    go : (e : StepOut) (x y : Bool)
         → cond x (cond y (with-text e (pieces-written r (e .list) (e .answer .pieces) bs)) (row-stopped s r a l e bs)) (with-text e (list.left (listing (e .answer .number) 0) bs)) .answer .bytes ≤ length bs
     go e true true = pieces-few r (e .list) (e .answer .pieces) bs
     go e true false = omega arith
     go e false y = omega arith
 
-pub attrs-few : (s : Screen) (t : Tables) (bs : List ℕ) → attrs-dumped s t bs .answer .bytes ≤ length bs
+pub attrs-few : (s : Screen) (t : AttrTables) (bs : List ℕ) → attrs-dumped s t bs .answer .bytes ≤ length bs
 unfolding attrs-dumped
 attrs-few s t bs = go (good-tables s t)
   where
@@ -70,7 +70,7 @@ pub put-all : (k : ℕ) (cs ds : List ℕ) → putMid k (length cs - k) cs ds �
 put-all k cs ds = rw (← length-drop k cs, drop-length (drop k cs), append-nil ds)
 
 -- the rows from r to n: none are left, or one and then the others
-module _ (s : Screen) (n r : ℕ) (a : Attributes) (l : Lent) (bs : List ℕ) where
+module _ (s : Screen) (n r : ℕ) (a : Attributes) (l : RowLent) (bs : List ℕ) where
   pub rows-none : n ≤ r → part 0 (l .depth) (l .painting) (l .list) bs ≡ rows-dumped (n - r) r s a l bs
   unfolding rows-dumped
   rows-none h = let e : n - r ≡ 0 = omega arith in rw e
@@ -89,7 +89,7 @@ module _ (s : Screen) (n r : ℕ) (a : Attributes) (l : Lent) (bs : List ℕ) wh
         rw (z, put-all (q .bytes) cs ds) (ap (after (q .bytes) cs) i ∙ rw (j, ← e))
 
 -- the attributes, then the rows
-module _ (s : Screen) (n : ℕ) (t : Tables) (l : Lent) (bs : List ℕ) {q : Listing} {cs : List ℕ} (e : list.left q cs ≡ attrs-dumped s t bs) where
+module _ (s : Screen) (n : ℕ) (t : AttrTables) (l : RowLent) (bs : List ℕ) {q : Listing} {cs : List ℕ} (e : list.left q cs ≡ attrs-dumped s t bs) where
   pub heads-few : q .bytes ≤ length bs
   heads-few = rw (← e) at (attrs-few s t bs)
 
@@ -106,7 +106,7 @@ module _ (s : Screen) (n : ℕ) (t : Tables) (l : Lent) (bs : List ℕ) {q : Lis
 pub small : (n b : ℕ) → n ≤ 32 → b ≤ 32 → n * b ≤ 1024
 small n b h g = mul-le-mul {n₂ = 32} {m₂ = 32} h g
 
-pub screen-more : (s : Screen) (t : Tables) (l : Lent) (bs : List ℕ) {n b : ℕ} → n ≡ rows-of (box-of (s .viewport)) → b ≡ buckets-of 32 (box-of (s .viewport)) → {k : ℕ} {d p ls cs : List ℕ}
+pub screen-more : (s : Screen) (t : AttrTables) (l : RowLent) (bs : List ℕ) {n b : ℕ} → n ≡ rows-of (box-of (s .viewport)) → b ≡ buckets-of 32 (box-of (s .viewport)) → {k : ℕ} {d p ls cs : List ℕ}
     → part k d p ls cs ≡ details-dumped s n t (lent (take (n * 54) (l .state)) (take (n * 256) (l .render)) (take (n * 128) (l .fills)) (take (n * b) (l .depth)) (take (n * 2) (l .painting)) (l .list)) bs
     → part k (d ++ drop (n * b) (l .depth)) (p ++ drop (n * 2) (l .painting)) ls cs ≡ screen-dumped s t l bs
 unfolding screen-dumped

@@ -2,6 +2,9 @@
 // have seen to it.
 use paint_screen::begin::begin_painting;
 use screen::Screen;
+use sizes::PROGRAM_DEPTHS;
+use sizes::PROGRAM_RENDERS;
+use sizes::ROW;
 use text::put_byte;
 use text::put_text;
 use text_file::file_text;
@@ -187,9 +190,9 @@ fn screen_text(
     details_text(
         screen,
         n as u32,
-        &rows[..n * 54],
-        &render[..n * 256],
-        &fills[..n * 128],
+        &rows[..n * ROW],
+        &render[..n * PROGRAM_RENDERS],
+        &fills[..n * PROGRAM_DEPTHS],
         &mut depth[..n * b],
         &mut painting[..n * 2],
         opacities,

@@ -14,13 +14,13 @@ use Rattle.rules.specs.Steps.{Screen}
 use Rattle.rules.specs.Painting.{Painter, begin}
 use Rattle.rules.specs.Calls.{Canvas, blank, begin-call}
 use Rattle.rules.proofs.All.{all-replicate, never}
-use Rattle.screen.specs.Tables.{zeros, Lent}
+use Rattle.screen.specs.Tables.{zeros, ScreenLent}
 use Rattle.paint_screen.specs.Judging.{begin-number}
 use Rattle.paint_screen.specs.Beginning.{beginning}
 use Rattle.refine_steps.specs.Sound.{Sound}
 use Rattle.refine_steps.specs.Lent.{lent-of}
 use Rattle.refine_paint.specs.Fair.{FairRows}
-use Rattle.refine_paint.specs.Canvases.{depth-of, painting-of, Whole}
+use Rattle.refine_paint.specs.Canvases.{depth-of, painting-of, WholeCanvas}
 use Rattle.refine_paint.proofs.Begin.{judged-0, blank-depth, blank-painting}
 use Rattle.refine_paint.proofs.Whole.{begin-whole}
 use Rattle.rules_picture.proofs.Turns.{begun-is, begun-paints, begun-painter}
@@ -42,7 +42,7 @@ module _ (s : Screen Row) (sound : Sound s) (fair : FairRows s) (closed : s .sta
   abbrev on : Canvas
   on = record { screen = s; begun = true; painters = blank 32 s }
 
-  whole : Whole k
+  whole : WholeCanvas k
   whole =
       record {
         sound = sound;
@@ -69,7 +69,7 @@ module _ (s : Screen Row) (sound : Sound s) (fair : FairRows s) (closed : s .sta
 
     -- begin is accepted, ..
     pub begin-accepted : begin-at (lent-of s b de pa) .number ≡ Done
-    begin-accepted = ap (λ (a : Answer Lent). a .number) begun-words
+    begin-accepted = ap (λ (a : Answer ScreenLent). a .number) begun-words
 
     -- .. and leaves words at which each row waits
     pub all-wait : (r : ℕ) → r < length (s .rows) → Waits s r (begin-at (lent-of s b de pa) .value)
@@ -82,5 +82,5 @@ module _ (s : Screen Row) (sound : Sound s) (fair : FairRows s) (closed : s .sta
           goes-on = begun-paints 32 k done;
           there = rw c h;
           fresh = begun-painter 32 k r done h ∙ rw c;
-          same = ap (λ (a : Answer Lent). a .value) begun-words ∙ on-words ∙ ap canvas-words (sym c);
+          same = ap (λ (a : Answer ScreenLent). a .value) begun-words ∙ on-words ∙ ap canvas-words (sym c);
         }

@@ -19,9 +19,9 @@ use Rattle.rules.specs.Painting as rules
 use Rattle.rules.specs.Painting.{Piece, Painter, begin, paint-row}
 use Rattle.rules.specs.Calls.{Canvas, painter-of}
 use Rattle.screen.specs.declared.Screen as declared
-use Rattle.screen.specs.Tables.{Lent}
+use Rattle.screen.specs.Tables.{ScreenLent}
 use Rattle.paint_command.specs.Painting as paint
-use Rattle.paint_command.specs.Painting.{Out, out, refused, left, settled, painted-row}
+use Rattle.paint_command.specs.Painting.{StepOut, out, refused, left, settled, painted-row}
 use Rattle.paint_command.proofs.Spreading.{length-pieces}
 use Rattle.paint_screen.specs.Stepping.{Attributes, attributes, number, row-step, stepped}
 use Rattle.paint_whole.specs.Running.{goes-on, ended, one-more, run, most, standing, row-painted}
@@ -54,7 +54,7 @@ settled-long (some o) d p l = go (ltb (length l / 6) (length (o .pieces))) refl
     go true e = refl
     go false e = rw (length-append, length-drop, length-pieces (o .pieces)) (omega (arith, ltb-false (length l / 6) (length (o .pieces)) e))
 
-step-long : (s : declared.Screen) (r : ℕ) (a : Attributes) (l : paint.Lent) → length (stepped s r a l .list) ≡ length (l .list)
+step-long : (s : declared.Screen) (r : ℕ) (a : Attributes) (l : paint.RowLent) → length (stepped s r a l .list) ≡ length (l .list)
 unfolding stepped row-step painted-row
 step-long s r a l = go (eqb (number s r a l) Done)
   where
@@ -62,14 +62,14 @@ step-long s r a l = go (eqb (number s r a l) Done)
     go true = settled-long _ _ _ _
     go false = refl
 
-module _ (i : ℕ) (l : Lent) where
-  one-long : (g : Out) → Holds i l g → length (one-more (step i l) g .list) ≡ length (g .list)
+module _ (i : ℕ) (l : ScreenLent) where
+  one-long : (g : StepOut) → Holds i l g → length (one-more (step i l) g .list) ≡ length (g .list)
   unfolding one-more
   one-long g h =
       let o = step-long (l .screen) i (attributes (l .tables .paint-attrs) (l .tables .layer-attrs)) (paint.lent (l .tables .rows) (l .tables .render) (l .tables .fills) (g .depth) (g .painting) (next i l g .list)) in
       rw (length-append, length-take-le (6 * g .answer .pieces) (g .list) h, o, length-drop) (omega arith)
 
-  run-long : (f k : ℕ) (g : Out) → Holds i l g → length (run (step i l) f k g .list) ≡ length (g .list)
+  run-long : (f k : ℕ) (g : StepOut) → Holds i l g → length (run (step i l) f k g .list) ≡ length (g .list)
   unfolding run
   run-long zero k g h = refl
   run-long (suc f) k g h = go (goes-on (one-more (step i l) g .answer)) (run-long f (k + 1) (one-more (step i l) g) (one-holds i l g h)) (one-long g h)
@@ -85,12 +85,12 @@ module _ (i : ℕ) (l : Lent) where
   row-long list = run-long most 0 (standing (l .tables .depth) (l .tables .painting) list) (omega arith)
 
 -- The call on a row that waits says finished, is not refused, and lists at most 2,048 pieces.
-pub record Whole (o : Out) : Type 0 where
+pub record Whole (o : StepOut) : Type 0 where
   pub number : o .answer .number ≡ 0
   pub finished : o .answer .finished ≡ true
   pub pieces : o .answer .pieces ≤ 2048
 
-module _ {s : Screen Row} {r : ℕ} {m : Lent} (h : Waits s r m) (few : length (getD (s .rows) r fresh-row .fills) + length (getD (s .rows) r fresh-row .commands) ≤ 128)
+module _ {s : Screen Row} {r : ℕ} {m : ScreenLent} (h : Waits s r m) (few : length (getD (s .rows) r fresh-row .fills) + length (getD (s .rows) r fresh-row .commands) ≤ 128)
     (narrow : buckets-of 32 (s .state .frame .viewport) ≤ 32) (list : List ℕ) (long : 12288 ≤ length list) where
   abbrev k : Canvas
   k = h .canvas
@@ -108,7 +108,7 @@ module _ {s : Screen Row} {r : ℕ} {m : Lent} (h : Waits s r m) (few : length (
 
   started-there : row-out r list (canvas-words k) .answer .number ≡ 0
   started-there =
-      row-number r (canvas-words k) list ∙ ap (λ (o : Out). o .answer .number) (paint-gives k (h .whole) r list)
+      row-number r (canvas-words k) list ∙ ap (λ (o : StepOut). o .answer .number) (paint-gives k (h .whole) r list)
       ∙ room-done k r (length list / 6) (h .there) (h .goes-on) (omega (arith, step-few (k .screen .state .attrs) (getD (k .screen .rows) r fresh-row) (painter-of 32 k r) wide .pieces, long))
 
   few-there : row-out r list (canvas-words k) .answer .pieces ≤ 2048

@@ -31,9 +31,11 @@ rows-text-returns : (t : ℕ) → rows-text-lts.Need-returns (
   rows-text.Post,
 ) (rows-text-at t) rows-text.Post
 rows-text-returns t c =
-    let entry = c .before .before .before .before .before .before .before .before .before .before in (
-      rows-none (entry .args .screen) (entry .args .n) (entry .args .r) (attributes (entry .args .paint-attrs .now) (entry .args .layer-attrs .now))
-          (lent (entry .args .rows .now) (entry .args .render .now) (entry .args .fills .now) (entry .args .depth .now) (entry .args .painting .now) (entry .args .list .now)) (entry .args .out .now) (c .if1 .taken),
+    let back = c .before .before .before .before .before .before .before .before .before .before in
+    let entry = back in (
+      rows-none (entry .args .screen) (entry .args .n) (entry .args .r) (attributes (entry .args .paint-attrs .now) (entry .args .layer-attrs .now)) (lent
+          (entry .args .rows .now) (entry .args .render .now) (entry .args .fills .now) (entry .args .depth .now) (entry .args .painting .now)
+          (entry .args .list .now)) (entry .args .out .now) (c .if1 .taken),
       omega arith,
     )
 

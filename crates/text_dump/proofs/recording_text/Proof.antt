@@ -37,60 +37,100 @@ piece-words-requires : tie.Need-piece-words-requires
 piece-words-requires c κs = tt
 
 slice-aggregate-tables-text : tie.Need-slice-aggregate-tables-text
-slice-aggregate-tables-text c = c .before .before .before .before .before .before .before .before .before .before .before .render-words .ensures
+slice-aggregate-tables-text c =
+    let at-render-words = c .before .before .before .before .before .before .before .before .before .before .before in
+    at-render-words .render-words .ensures
 
 slice-aggregate-tables-text-2 : tie.Need-slice-aggregate-tables-text-2
-slice-aggregate-tables-text-2 c = c .before .before .before .before .before .before .before .before .before .before .before .fill-words .ensures
+slice-aggregate-tables-text-2 c =
+    let at-fill-words = c .before .before .before .before .before .before .before .before .before .before .before in
+    at-fill-words .fill-words .ensures
 
 slice-aggregate-tables-text-3 : tie.Need-slice-aggregate-tables-text-3
-slice-aggregate-tables-text-3 c = c .before .before .before .before .before .before .before .before .before .before .before .depth-words .ensures
+slice-aggregate-tables-text-3 c =
+    let at-depth-words = c .before .before .before .before .before .before .before .before .before .before .before in
+    at-depth-words .depth-words .ensures
 
 slice-aggregate-tables-text-4 : tie.Need-slice-aggregate-tables-text-4
-slice-aggregate-tables-text-4 c = c .before .before .before .before .before .before .before .before .before .before .before .row-words .ensures
+slice-aggregate-tables-text-4 c =
+    let at-row-words = c .before .before .before .before .before .before .before .before .before .before .before in
+    at-row-words .row-words .ensures
 
 slice-aggregate-tables-text-5 : tie.Need-slice-aggregate-tables-text-5
-slice-aggregate-tables-text-5 c = c .before .before .before .before .before .before .before .before .before .before .before .painting-words .ensures
+slice-aggregate-tables-text-5 c =
+    let at-painting-words = c .before .before .before .before .before .before .before .before .before .before .before in
+    at-painting-words .painting-words .ensures
 
 slice-aggregate-tables-text-6 : tie.Need-slice-aggregate-tables-text-6
-slice-aggregate-tables-text-6 c = c .before .before .before .before .before .before .before .before .before .before .before .layer-words .ensures
+slice-aggregate-tables-text-6 c =
+    let at-layer-words = c .before .before .before .before .before .before .before .before .before .before .before in
+    at-layer-words .layer-words .ensures
 
 slice-aggregate-tables-text-7 : tie.Need-slice-aggregate-tables-text-7
-slice-aggregate-tables-text-7 c = c .before .before .before .before .before .before .before .before .before .before .before .opacity-words .ensures
+slice-aggregate-tables-text-7 c =
+    let at-opacity-words = c .before .before .before .before .before .before .before .before .before .before .before in
+    at-opacity-words .opacity-words .ensures
 
 slice-aggregate-tables-text-8 : tie.Need-slice-aggregate-tables-text-8
-slice-aggregate-tables-text-8 c = c .before .before .before .before .before .before .before .before .before .before .before .render-words2 .ensures
+slice-aggregate-tables-text-8 c =
+    let at-render-words2 = c .before .before .before .before .before .before .before .before .before .before .before in
+    at-render-words2 .render-words2 .ensures
 
 slice-aggregate-tables-text-9 : tie.Need-slice-aggregate-tables-text-9
-slice-aggregate-tables-text-9 c = c .before .before .before .before .before .before .before .before .before .before .before .layer-attr-words .ensures
+slice-aggregate-tables-text-9 c =
+    let at-layer-attr-words = c .before .before .before .before .before .before .before .before .before .before .before in
+    at-layer-attr-words .layer-attr-words .ensures
 
 slice-aggregate-tables-text-10 : tie.Need-slice-aggregate-tables-text-10
-slice-aggregate-tables-text-10 c = c .before .before .before .before .before .before .before .before .before .before .before .filter-words .ensures
+slice-aggregate-tables-text-10 c =
+    let at-filter-words = c .before .before .before .before .before .before .before .before .before .before .before in
+    at-filter-words .filter-words .ensures
 
 slice-aggregate-tables-text-11 : tie.Need-slice-aggregate-tables-text-11
-slice-aggregate-tables-text-11 c = c .before .before .before .before .before .before .before .before .before .before .before .piece-words .ensures
+slice-aggregate-tables-text-11 c =
+    let at-piece-words = c .before .before .before .before .before .before .before .before .before .before .before in
+    at-piece-words .piece-words .ensures
 
 tables-text-requires : tie.Need-tables-text-requires
 tables-text-requires c κs =
+    let at-piece-words = c .before .before .before .before .before .before .before .before .before .before .before .before in
+    let at-filter-words = at-piece-words .before in
+    let at-layer-attr-words = at-filter-words .before in
+    let at-render-words2 = at-layer-attr-words .before in
+    let at-opacity-words = at-render-words2 .before in
+    let at-layer-words = at-opacity-words .before in
+    let at-painting-words = at-layer-words .before in
+    let at-row-words = at-painting-words .before in
+    let at-depth-words = at-row-words .before in
+    let at-fill-words = at-depth-words .before in
+    let at-render-words = at-fill-words .before in
+    let at-pre = at-render-words .before .before .before in
     record {
-      render = c .before .before .before .before .before .before .before .before .before .before .before .before .before .before .before .before .before .before .before .before .before .before .render-words .ensures;
-      fills = c .before .before .before .before .before .before .before .before .before .before .before .before .before .before .before .before .before .before .before .before .before .fill-words .ensures;
-      depth = c .before .before .before .before .before .before .before .before .before .before .before .before .before .before .before .before .before .before .before .before .depth-words .ensures;
-      rows = c .before .before .before .before .before .before .before .before .before .before .before .before .before .before .before .before .before .before .before .row-words .ensures;
-      painting = c .before .before .before .before .before .before .before .before .before .before .before .before .before .before .before .before .before .before .painting-words .ensures;
-      layers = c .before .before .before .before .before .before .before .before .before .before .before .before .before .before .before .before .before .layer-words .ensures;
-      opacities = c .before .before .before .before .before .before .before .before .before .before .before .before .before .before .before .before .opacity-words .ensures;
-      paint-attrs = c .before .before .before .before .before .before .before .before .before .before .before .before .before .before .before .render-words2 .ensures;
-      layer-attrs = c .before .before .before .before .before .before .before .before .before .before .before .before .before .before .layer-attr-words .ensures;
-      filter-paints = c .before .before .before .before .before .before .before .before .before .before .before .before .before .filter-words .ensures;
-      pieces = c .before .before .before .before .before .before .before .before .before .before .before .before .piece-words .ensures;
-      room = c .before .before .before .before .before .before .before .before .before .before .before .before .before .before .before .before .before .before .before .before .before .before .before .before .before .pre;
+      render = at-render-words .render-words .ensures;
+      fills = at-fill-words .fill-words .ensures;
+      depth = at-depth-words .depth-words .ensures;
+      rows =
+          at-row-words .row-words .ensures;
+      painting = at-painting-words .painting-words .ensures;
+      layers = at-layer-words .layer-words .ensures;
+      opacities =
+          at-opacity-words .opacity-words .ensures;
+      paint-attrs = at-render-words2 .render-words2 .ensures;
+      layer-attrs =
+          at-layer-attr-words .layer-attr-words .ensures;
+      filter-paints = at-filter-words .filter-words .ensures;
+      pieces = at-piece-words .piece-words .ensures;
+      room
+          = at-pre .pre;
     }
 
 same-length : tie.Need-same-length
 same-length c = omega (arith, c .before .out .given)
 
 returns : tie.Need-returns
-returns c = c .before .before .before .before .before .before .before .before .before .before .before .before .before .tables-text .ensures
+returns c =
+    let at-tables-text = c .before .before .before .before .before .before .before .before .before .before .before .before .before in
+    at-tables-text .tables-text .ensures
 
 pub recording-text-spec : {M : Type 1} → statement M
 recording-text-spec =

@@ -12,28 +12,47 @@ file-text-requires : tie.Need-file-text-requires
 file-text-requires c κs = tt
 
 same-length : tie.Need-same-length
-same-length c = omega (arith, c .before .before .before .before .before .before .before .before .before .before .before .before .before .before .before .before .before .before .before .before .before .before .render .given)
+same-length c =
+    let at-render = c .before .before .before .before .before .before .before .before .before .before .before .before .before .before .before .before
+    .before .before .before .before .before .before in
+    omega (arith, at-render .render .given)
 
 same-length-2 : tie.Need-same-length-2
-same-length-2 c = omega (arith, c .before .before .before .before .before .before .before .before .before .before .before .before .before .before .before .before .before .before .before .before .fills .given)
+same-length-2 c =
+    let at-fills = c .before .before .before .before .before .before .before .before .before .before .before .before .before .before .before .before
+    .before .before .before .before in
+    omega (arith, at-fills .fills .given)
 
 same-length-3 : tie.Need-same-length-3
-same-length-3 c = omega (arith, c .before .before .before .before .before .before .before .before .before .before .before .before .before .before .before .before .before .before .depth .given)
+same-length-3 c =
+    let at-depth = c .before .before .before .before .before .before .before .before .before .before .before .before .before .before .before .before
+    .before .before in
+    omega (arith, at-depth .depth .given)
 
 same-length-4 : tie.Need-same-length-4
-same-length-4 c = omega (arith, c .before .before .before .before .before .before .before .before .before .before .before .before .before .before .before .before .rows .given)
+same-length-4 c =
+    let at-rows = c .before .before .before .before .before .before .before .before .before .before .before .before .before .before .before .before in
+    omega (arith, at-rows .rows .given)
 
 same-length-5 : tie.Need-same-length-5
-same-length-5 c = omega (arith, c .before .before .before .before .before .before .before .before .before .before .before .before .before .before .painting .given)
+same-length-5 c =
+    let at-painting = c .before .before .before .before .before .before .before .before .before .before .before .before .before .before in
+    omega (arith, at-painting .painting .given)
 
 same-length-6 : tie.Need-same-length-6
-same-length-6 c = omega (arith, c .before .before .before .before .before .before .before .before .before .before .before .before .layers .given)
+same-length-6 c =
+    let at-layers = c .before .before .before .before .before .before .before .before .before .before .before .before in
+    omega (arith, at-layers .layers .given)
 
 same-length-7 : tie.Need-same-length-7
-same-length-7 c = omega (arith, c .before .before .before .before .before .before .before .before .before .before .opacities .given)
+same-length-7 c =
+    let at-opacities = c .before .before .before .before .before .before .before .before .before .before in
+    omega (arith, at-opacities .opacities .given)
 
 same-length-8 : tie.Need-same-length-8
-same-length-8 c = omega (arith, c .before .before .before .before .before .before .before .before .paint-attrs .given)
+same-length-8 c =
+    let at-paint-attrs = c .before .before .before .before .before .before .before .before in
+    omega (arith, at-paint-attrs .paint-attrs .given)
 
 same-length-9 : tie.Need-same-length-9
 same-length-9 c = omega (arith, c .before .before .before .before .before .before .layer-attrs .given)
@@ -111,40 +130,78 @@ add-result c =
     record { fits = omega (arith, lines-few (a .file .now) byte t h (a .out .now) (p .room) (at-file .file-text .ensures), p .room, c .before .before .before .before .before .before .before .before .before .before .before .before .before .before .before .before .before .before .before .before .before .before .before .before .out .given, entry .good .1 .1 .1 .1 .1 .1 .1 .1 .1 .1 .1 .1 .0, simp (length-take, length-drop) at (at-screen .screen-text .ensures .1)) }
 
 same-length-12 : tie.Need-same-length-12
-same-length-12 c = omega (arith, c .before .before .before .before .before .before .before .before .before .before .before .before .before .before .before .before .before .before .before .before .before .before .before .before .before .before .before .before .before .before .before .before .before .before .before .before .before .before .before .before .before .before .before .render .given)
+same-length-12 c =
+    let at-render = c .before .before .before .before .before .before .before .before .before .before .before .before .before .before .before .before
+    .before .before .before .before .before .before .before .before .before .before .before .before .before .before .before .before .before .before
+    .before .before .before .before .before .before .before .before .before in
+    omega (arith, at-render .render .given)
 
 same-length-13 : tie.Need-same-length-13
-same-length-13 c = omega (arith, c .before .before .before .before .before .before .before .before .before .before .before .before .before .before .before .before .before .before .before .before .before .before .before .before .before .before .before .before .before .before .before .before .before .before .before .before .before .before .before .before .before .fills .given)
+same-length-13 c =
+    let at-fills = c .before .before .before .before .before .before .before .before .before .before .before .before .before .before .before .before
+    .before .before .before .before .before .before .before .before .before .before .before .before .before .before .before .before .before .before
+    .before .before .before .before .before .before .before in
+    omega (arith, at-fills .fills .given)
 
 same-length-14 : tie.Need-same-length-14
-same-length-14 c = omega (arith, c .before .before .before .before .before .before .before .depth2 .given, c .before .before .before .before .before .before .before .before .before .before .before .before .before .before .before .before .before .before .before .before .before .before .before .before .before .before .before .before .before .before .before .before .before .before .before .before .before .before .before .depth .given)
+same-length-14 c =
+    let at-depth2 = c .before .before .before .before .before .before .before in
+    let at-depth = at-depth2 .before .before .before .before .before .before .before .before .before .before .before .before .before .before .before
+    .before .before .before .before .before .before .before .before .before .before .before .before .before .before .before .before .before in
+    omega (arith, at-depth2 .depth2 .given, at-depth .depth .given)
 
 same-length-15 : tie.Need-same-length-15
-same-length-15 c = omega (arith, c .before .before .before .before .before .before .before .before .before .before .before .before .before .before .before .before .before .before .before .before .before .before .before .before .before .before .before .before .before .before .before .before .before .before .before .before .before .rows .given)
+same-length-15 c =
+    let at-rows = c .before .before .before .before .before .before .before .before .before .before .before .before .before .before .before .before
+    .before .before .before .before .before .before .before .before .before .before .before .before .before .before .before .before .before .before
+    .before .before .before in
+    omega (arith, at-rows .rows .given)
 
 same-length-16 : tie.Need-same-length-16
-same-length-16 c = omega (arith, c .before .before .before .before .before .painting2 .given, c .before .before .before .before .before .before .before .before .before .before .before .before .before .before .before .before .before .before .before .before .before .before .before .before .before .before .before .before .before .before .before .before .before .before .before .painting .given)
+same-length-16 c =
+    let at-painting2 = c .before .before .before .before .before in
+    let at-painting = at-painting2 .before .before .before .before .before .before .before .before .before .before .before .before .before .before
+    .before .before .before .before .before .before .before .before .before .before .before .before .before .before .before .before in
+    omega (arith, at-painting2 .painting2 .given, at-painting .painting .given)
 
 same-length-17 : tie.Need-same-length-17
-same-length-17 c = omega (arith, c .before .before .before .before .before .before .before .before .before .before .before .before .before .before .before .before .before .before .before .before .before .before .before .before .before .before .before .before .before .before .before .before .before .layers .given)
+same-length-17 c =
+    let at-layers = c .before .before .before .before .before .before .before .before .before .before .before .before .before .before .before .before
+    .before .before .before .before .before .before .before .before .before .before .before .before .before .before .before .before .before in
+    omega (arith, at-layers .layers .given)
 
 same-length-18 : tie.Need-same-length-18
-same-length-18 c = omega (arith, c .before .before .before .before .before .before .before .before .before .before .before .before .before .before .before .before .before .before .before .before .before .before .before .before .before .before .before .before .before .before .before .opacities .given)
+same-length-18 c =
+    let at-opacities = c .before .before .before .before .before .before .before .before .before .before .before .before .before .before .before .before
+    .before .before .before .before .before .before .before .before .before .before .before .before .before .before .before in
+    omega (arith, at-opacities .opacities .given)
 
 same-length-19 : tie.Need-same-length-19
-same-length-19 c = omega (arith, c .before .before .before .before .before .before .before .before .before .before .before .before .before .before .before .before .before .before .before .before .before .before .before .before .before .before .before .before .before .paint-attrs .given)
+same-length-19 c =
+    let at-paint-attrs = c .before .before .before .before .before .before .before .before .before .before .before .before .before .before .before
+    .before .before .before .before .before .before .before .before .before .before .before .before .before .before in
+    omega (arith, at-paint-attrs .paint-attrs .given)
 
 same-length-20 : tie.Need-same-length-20
-same-length-20 c = omega (arith, c .before .before .before .before .before .before .before .before .before .before .before .before .before .before .before .before .before .before .before .before .before .before .before .before .before .before .before .layer-attrs .given)
+same-length-20 c =
+    let at-layer-attrs = c .before .before .before .before .before .before .before .before .before .before .before .before .before .before .before
+    .before .before .before .before .before .before .before .before .before .before .before .before in
+    omega (arith, at-layer-attrs .layer-attrs .given)
 
 same-length-21 : tie.Need-same-length-21
-same-length-21 c = omega (arith, c .before .before .before .before .before .before .before .before .before .before .before .before .before .before .before .before .before .before .before .before .before .before .before .before .before .filter-paints .given)
+same-length-21 c =
+    let at-filter-paints = c .before .before .before .before .before .before .before .before .before .before .before .before .before .before .before
+    .before .before .before .before .before .before .before .before .before .before in
+    omega (arith, at-filter-paints .filter-paints .given)
 
 same-length-22 : tie.Need-same-length-22
 same-length-22 c = omega (arith, c .before .before .before .list .given)
 
 same-length-23 : tie.Need-same-length-23
-same-length-23 c = omega (arith, c .before .out2 .given, c .before .before .before .before .before .before .before .before .before .before .before .before .before .before .before .before .before .before .before .before .before .before .before .before .out .given)
+same-length-23 c =
+    let at-out = c .before .before .before .before .before .before .before .before .before .before .before .before .before .before .before .before
+    .before .before .before .before .before .before .before .before in
+    omega (arith, c .before .out2 .given, at-out .out .given)
 
 returns-2 : tie.Need-returns-2
 returns-2 c =

@@ -131,7 +131,12 @@ put-digits-returns-3 : (t : ℕ) → put-digits-lts.Need-returns-3 (
   put-digits-below t,
   put-digits.Post,
 ) (put-digits-at t) put-digits.Post
-put-digits-returns-3 t c = more-digits _ _ (c .before .before .before .before .before .before .before .before .before .before .if1 .left) _ (c .before .before .before .digit2 .ensures) (c .before .before .before .before .before .before .before .before .before .if2 .left) (c .before .before .before .before .before .before .before .put-digits .ensures) (c .before .before .put-byte2 .ensures)
+put-digits-returns-3 t c =
+    let at-byte = c .before .before in
+    let at-digit = at-byte .before in
+    let at-put = at-digit .before .before .before .before in
+    let at-if2 = at-put .before .before in
+    more-digits _ _ (at-if2 .before .if1 .left) _ (at-digit .digit2 .ensures) (at-if2 .if2 .left) (at-put .put-digits .ensures) (at-byte .put-byte2 .ensures)
 
 pub +put-digits-spec : {M : Type 1} → statement M
 +put-digits-spec = close μ-put-digits λ t. put-digits-lts.spec (

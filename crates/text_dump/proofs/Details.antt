@@ -67,7 +67,9 @@ module _ (s : Screen Row) (fit : (i : ℕ) → Fitting 64 64 (getD (s .rows) i f
       let f = fit r in
       let few : length (getD (s .rows) r fresh-row .fills) + length (getD (s .rows) r fresh-row .commands) ≤ 128 = omega (arith, f .fills, f .commands) in
       let t = theirs-text w few narrow list long in
-      let parts : rest r ≡ t ++ rest (suc r) = ap (λ (rs : List Row). details-text (painted-lines 32 (s .state .attrs) (buckets-of 32 (s .state .frame .viewport)) r rs)) (drop-cons (s .rows) r fresh-row there) ∙ rows-parts 32 (s .state .attrs) (buckets-of 32 (s .state .frame .viewport)) r (getD (s .rows) r fresh-row) (drop (suc r) (s .rows)) in
+      let parts : rest r ≡ t ++ rest (suc r) =
+      ap (λ (rs : List Row). details-text (painted-lines 32 (s .state .attrs) (buckets-of 32 (s .state .frame .viewport)) r rs)) (drop-cons (s .rows) r fresh-row there)
+      ∙ rows-parts 32 (s .state .attrs) (buckets-of 32 (s .state .frame .viewport)) r (getD (s .rows) r fresh-row) (drop (suc r) (s .rows)) in
       let fits : length (t ++ rest (suc r)) ≤ length bs = rw parts at room in
       let own : length t ≤ length bs = omega (arith, fits, length-append t (rest (suc r))) in
       let long-on : 12288 ≤ length (row-out r list m .list) = rw (row-long r m list) long in

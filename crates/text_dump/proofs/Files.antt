@@ -39,7 +39,7 @@ use Rattle.theorem_text.proofs.Played.{Ended, play-ended}
 use Rattle.text_programs.proofs.Laws.{Long, roomy, fixed, rowlist-shown}
 use Rattle.text_programs.specs.Programs.{rowlist-text, first}
 use Rattle.text_dump.specs.Rowdump.{recording-line, rowdump-lines, file-lines-text, rowdump-text, Printed}
-use Rattle.text_dump.specs.Dumped.{Part, part, details-dumped, words-before, screen-dumped, Wide}
+use Rattle.text_dump.specs.Dumped.{Part, part, details-dumped, words-before, screen-dumped, Wide, Sized}
 use Rattle.text_dump.proofs.Parts.{mid-all, put-all}
 use Rattle.text_dump.proofs.First.{Says, first-dropped, first-long, first-two}
 use Rattle.text_dump.proofs.Details.{at-words, attrs-of, details-are}
@@ -259,6 +259,22 @@ module _ (fs : List ℕ) (byte : (i : ℕ) → getD fs i 0 < 256) (t : Tables) (
             left = leaves .left done;
             ended = play-ended (rowlist-place (words-in fs)) (reset fresh-row rules.nothing) (words-in fs) (words-small fs byte) done;
           }
+
+-- the lengths that are asked of the tables
+pub long-of : (t : Tables) (list out : List ℕ) → Sized t list out → Long t
+long-of t list out p =
+    record {
+      render = p .render;
+      fills = p .fills;
+      depth = p .depth;
+      rows = p .rows;
+      painting = p .painting;
+      layers = p .layers;
+      opacities = p .opacities;
+      paint-attrs = p .paint-attrs;
+      layer-attrs = p .layer-attrs;
+      filter-paints = p .filter-paints;
+    }
 
 -- The whole text of a file, where its call is refused, and where the details stand after its lines.
 module _ (fs : List ℕ) (byte : (i : ℕ) → getD fs i 0 < 256) (t : Tables) (h : Long t) (bs : List ℕ) (room : 4682080 ≤ length bs) {x : FileText} {cs : List ℕ} {u : Tables}

@@ -134,7 +134,8 @@ fn details_text(
     out: &mut [u8],
 ) -> usize
     ensures { λ r. ⌜ part r (now (depth .exit)) (now (painting .exit)) (now (list .exit)) (now (out .exit))
-        ≡ details-dumped screen n (tables (now («paint_attrs» .entry)) (now («layer_attrs» .entry)) (now (opacities .entry)) (now («filter_paints» .entry))) (lent (now (rows .entry)) (now (render .entry)) (now (fills .entry)) (now (depth .entry)) (now (painting .entry)) (now (list .entry))) (now (out .entry)) ⌝ }
+        ≡ details-dumped screen n (tables (now («paint_attrs» .entry)) (now («layer_attrs» .entry)) (now (opacities .entry)) (now («filter_paints» .entry)))
+        (lent (now (rows .entry)) (now (render .entry)) (now (fills .entry)) (now (depth .entry)) (now (painting .entry)) (now (list .entry))) (now (out .entry)) ⌝ }
     ensures { λ r. ⌜ r ≤ length (now (out .entry)) ⌝ }
 {
     let text = attrs_text(
@@ -182,7 +183,8 @@ fn screen_text(
 ) -> usize
     requires { ⌜ Wide screen (now rows) (now render) (now fills) (now depth) (now painting) ⌝ }
     ensures { λ r. ⌜ part r (now (depth .exit)) (now (painting .exit)) (now (list .exit)) (now (out .exit))
-        ≡ screen-dumped screen (tables (now («paint_attrs» .entry)) (now («layer_attrs» .entry)) (now (opacities .entry)) (now («filter_paints» .entry))) (lent (now (rows .entry)) (now (render .entry)) (now (fills .entry)) (now (depth .entry)) (now (painting .entry)) (now (list .entry))) (now (out .entry)) ⌝ }
+        ≡ screen-dumped screen (tables (now («paint_attrs» .entry)) (now («layer_attrs» .entry)) (now (opacities .entry)) (now («filter_paints» .entry)))
+        (lent (now (rows .entry)) (now (render .entry)) (now (fills .entry)) (now (depth .entry)) (now (painting .entry)) (now (list .entry))) (now (out .entry)) ⌝ }
     ensures { λ r. ⌜ r ≤ length (now (out .entry)) ⌝ }
 {
     let n = screen.rows();

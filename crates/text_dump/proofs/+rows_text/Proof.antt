@@ -162,7 +162,8 @@ rows-text-returns-2 t c =
     let few = one-few (entry .args .screen) (entry .args .n) (entry .args .r) (attributes (entry .args .paint-attrs .now) (entry .args .layer-attrs .now))
     (lent (entry .args .rows .now) (entry .args .render .now) (entry .args .fills .now) (entry .args .depth .now) (entry .args .painting .now) (entry .args .list .now)) (entry .args .out .now) (at-row .row-text .ensures) in (
       rows-more (entry .args .screen) (entry .args .n) (entry .args .r) (attributes (entry .args .paint-attrs .now) (entry .args .layer-attrs .now))
-          (lent (entry .args .rows .now) (entry .args .render .now) (entry .args .fills .now) (entry .args .depth .now) (entry .args .painting .now) (entry .args .list .now)) (entry .args .out .now) (at-row .row-text .ensures) (at-row .before .before .before .before .before .if1 .left) (at-rows .rows-text .ensures .0) (omega arith),
+          (lent (entry .args .rows .now) (entry .args .render .now) (entry .args .fills .now) (entry .args .depth .now) (entry .args .painting .now) (entry .args .list .now)) (entry .args .out .now)
+          (at-row .row-text .ensures) (at-row .before .before .before .before .before .if1 .left) (at-rows .rows-text .ensures .0) (omega arith),
       omega (arith, few, at-out .out .given, entry .good .1 .1 .1 .1 .1 .1 .1 .1 .1 .1 .1 .0, simp (length-take, length-drop) at (at-rows .rows-text .ensures .1)),
     )
 

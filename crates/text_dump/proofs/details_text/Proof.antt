@@ -73,7 +73,8 @@ returns c =
     let few = heads-few (entry .args .screen) (entry .args .n) (tables (entry .args .paint-attrs .now) (entry .args .layer-attrs .now) (entry .args .opacities .now) (entry .args .filter-paints .now))
     (lent (entry .args .rows .now) (entry .args .render .now) (entry .args .fills .now) (entry .args .depth .now) (entry .args .painting .now) (entry .args .list .now)) (entry .args .out .now) (at-attrs .attrs-text .ensures) in (
       details-more (entry .args .screen) (entry .args .n) (tables (entry .args .paint-attrs .now) (entry .args .layer-attrs .now) (entry .args .opacities .now) (entry .args .filter-paints .now))
-          (lent (entry .args .rows .now) (entry .args .render .now) (entry .args .fills .now) (entry .args .depth .now) (entry .args .painting .now) (entry .args .list .now)) (entry .args .out .now) (at-attrs .attrs-text .ensures) (at-begin .begin-painting .ensures) (at-rows .rows-text .ensures .0) (omega (arith, at-out .out .given)),
+          (lent (entry .args .rows .now) (entry .args .render .now) (entry .args .fills .now) (entry .args .depth .now) (entry .args .painting .now) (entry .args .list .now)) (entry .args .out .now)
+          (at-attrs .attrs-text .ensures) (at-begin .begin-painting .ensures) (at-rows .rows-text .ensures .0) (omega (arith, at-out .out .given)),
       omega (arith, few, at-out .out .given, entry .good .1 .1 .1 .1 .1 .1 .1 .1 .1 .1 .1 .1 .0, simp (length-take, length-drop) at (at-rows .rows-text .ensures .1)),
     )
 

@@ -71,7 +71,12 @@ put-digits-returns-2 : (t : ℕ) → put-digits-lts.Need-returns-2 (
   put-digits-below t,
   put-digits.Post,
 ) (put-digits-at t) put-digits.Post
-put-digits-returns-2 t c = one-digit _ _ (c .before .before .before .before .before .before .if1 .left) _ (c .before .before .before .digit .ensures) (c .before .before .before .before .before .if2 .taken) (c .before .before .put-byte .ensures)
+put-digits-returns-2 t c =
+    let at-put-byte = c .before .before in
+    let at-digit = at-put-byte .before in
+    let at-if2 = at-digit .before .before in
+    let at-if1 = at-if2 .before in
+    one-digit _ _ (at-if1 .if1 .left) _ (at-digit .digit .ensures) (at-if2 .if2 .taken) (at-put-byte .put-byte .ensures)
 
 put-digits-sub-put-digits : (t : ℕ) → put-digits-lts.Need-sub-put-digits (
   digit-reads.Asked,

@@ -690,11 +690,7 @@ walk-nodes-add-at t c =
     )
 
 walk-nodes-mul-wide : (t : ℕ) → walk-nodes-lts.Need-mul-wide (nodes-claims t) (walk-nodes-at t) walk-nodes.Post walk-nodes-Inv-loop walk-nodes-μ-loop
-walk-nodes-mul-wide t c =
-    let at-loop = c .before .before in
-    let back = at-loop .before .before .before .before .before .before .before .before .before .before in
-    let s = back in
-    omega (arith, node-room (s .args .l) (s .args .w .now) (s .pre .1 .0) (at-loop .loop .i) (omega (arith, c .before .loop-test .taken, s .pre .1 .1 .1)))
+walk-nodes-mul-wide t c = let s = c .before .before .before .before .before .before .before .before .before .before .before .before in omega (arith, node-room (s .args .l) (s .args .w .now) (s .pre .1 .0) (c .before .before .loop .i) (omega (arith, c .before .loop-test .taken, s .pre .1 .1 .1)))
 
 walk-nodes-shared-slice-read-wide : (t : ℕ) → walk-nodes-lts.Need-shared-slice-read-wide (nodes-claims t) (walk-nodes-at t) walk-nodes.Post walk-nodes-Inv-loop walk-nodes-μ-loop
 walk-nodes-shared-slice-read-wide t c =

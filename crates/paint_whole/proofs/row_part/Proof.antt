@@ -24,19 +24,13 @@ mul-d : tie.Need-mul-d
 mul-d c = search needs
 
 mul-x : tie.Need-mul-x
-mul-x c =
-    let at-pre = c .before .before .before .before .before .before .before .before .before .before .before in
-    omega (arith, at-pre .pre .state .near)
+mul-x c = omega (arith, c .before .before .before .before .before .before .before .before .before .before .before .pre .state .near)
 
 mul-y : tie.Need-mul-y
-mul-y c =
-    let at-pre = c .before .before .before .before .before .before .before .before .before .before .before in
-    omega (arith, at-pre .pre .render .near)
+mul-y c = omega (arith, c .before .before .before .before .before .before .before .before .before .before .before .pre .render .near)
 
 mul-z : tie.Need-mul-z
-mul-z c =
-    let at-pre = c .before .before .before .before .before .before .before .before .before .before .before in
-    omega (arith, at-pre .pre .fills .near)
+mul-z c = omega (arith, c .before .before .before .before .before .before .before .before .before .before .before .pre .fills .near)
 
 mul-u : tie.Need-mul-u
 mul-u c =
@@ -46,19 +40,13 @@ mul-u c =
     omega (arith, w .near)
 
 mul-v : tie.Need-mul-v
-mul-v c =
-    let at-pre = c .before .before .before .before .before .before .before .before .before .before .before in
-    omega (arith, at-pre .pre .painting .near)
+mul-v c = omega (arith, c .before .before .before .before .before .before .before .before .before .before .before .pre .painting .near)
 
 add-run-row : tie.Need-add-run-row
-add-run-row c =
-    let at-pre = c .before .before .before .before .before .before .before .before .before .before .before in
-    omega (arith, at-pre .pre .state .near)
+add-run-row c = omega (arith, c .before .before .before .before .before .before .before .before .before .before .before .pre .state .near)
 
 mul-run-row : tie.Need-mul-run-row
-mul-run-row c =
-    let at-pre = c .before .before .before .before .before .before .before .before .before .before .before in
-    omega (arith, at-pre .pre .state .near)
+mul-run-row c = omega (arith, c .before .before .before .before .before .before .before .before .before .before .before .pre .state .near)
 
 sub-run-row : tie.Need-sub-run-row
 sub-run-row c = search needs
@@ -67,19 +55,13 @@ part-run-row-start : tie.Need-part-run-row-start
 part-run-row-start c = search needs
 
 part-run-row-end : tie.Need-part-run-row-end
-part-run-row-end c =
-    let at-pre = c .before .before .before .before .before .before .before .before .before .before .before in
-    omega (arith, at-pre .pre .state .ends)
+part-run-row-end c = omega (arith, c .before .before .before .before .before .before .before .before .before .before .before .pre .state .ends)
 
 add-run-row-2 : tie.Need-add-run-row-2
-add-run-row-2 c =
-    let at-pre = c .before .before .before .before .before .before .before .before .before .before .before .before in
-    omega (arith, at-pre .pre .render .near, at-pre .pre .c)
+add-run-row-2 c = omega (arith, c .before .before .before .before .before .before .before .before .before .before .before .before .pre .render .near, c .before .before .before .before .before .before .before .before .before .before .before .before .pre .c)
 
 mul-run-row-2 : tie.Need-mul-run-row-2
-mul-run-row-2 c =
-    let at-pre = c .before .before .before .before .before .before .before .before .before .before .before .before in
-    omega (arith, at-pre .pre .render .near)
+mul-run-row-2 c = omega (arith, c .before .before .before .before .before .before .before .before .before .before .before .before .pre .render .near)
 
 sub-run-row-2 : tie.Need-sub-run-row-2
 sub-run-row-2 c = search needs
@@ -88,19 +70,13 @@ part-run-row-start-2 : tie.Need-part-run-row-start-2
 part-run-row-start-2 c = search needs
 
 part-run-row-end-2 : tie.Need-part-run-row-end-2
-part-run-row-end-2 c =
-    let at-pre = c .before .before .before .before .before .before .before .before .before .before .before .before in
-    omega (arith, at-pre .pre .render .ends)
+part-run-row-end-2 c = omega (arith, c .before .before .before .before .before .before .before .before .before .before .before .before .pre .render .ends)
 
 add-run-row-3 : tie.Need-add-run-row-3
-add-run-row-3 c =
-    let at-pre = c .before .before .before .before .before .before .before .before .before .before .before .before .before in
-    omega (arith, at-pre .pre .fills .near, at-pre .pre .d)
+add-run-row-3 c = omega (arith, c .before .before .before .before .before .before .before .before .before .before .before .before .before .pre .fills .near, c .before .before .before .before .before .before .before .before .before .before .before .before .before .pre .d)
 
 mul-run-row-3 : tie.Need-mul-run-row-3
-mul-run-row-3 c =
-    let at-pre = c .before .before .before .before .before .before .before .before .before .before .before .before .before in
-    omega (arith, at-pre .pre .fills .near)
+mul-run-row-3 c = omega (arith, c .before .before .before .before .before .before .before .before .before .before .before .before .before .pre .fills .near)
 
 sub-run-row-3 : tie.Need-sub-run-row-3
 sub-run-row-3 c = search needs
@@ -109,9 +85,7 @@ part-run-row-start-3 : tie.Need-part-run-row-start-3
 part-run-row-start-3 c = search needs
 
 part-run-row-end-3 : tie.Need-part-run-row-end-3
-part-run-row-end-3 c =
-    let at-pre = c .before .before .before .before .before .before .before .before .before .before .before .before .before in
-    omega (arith, at-pre .pre .fills .ends)
+part-run-row-end-3 c = omega (arith, c .before .before .before .before .before .before .before .before .before .before .before .before .before .pre .fills .ends)
 
 add-run-row-4 : tie.Need-add-run-row-4
 add-run-row-4 c =
@@ -141,14 +115,10 @@ part-run-row-end-4 c =
     omega (arith, w .ends)
 
 add-run-row-5 : tie.Need-add-run-row-5
-add-run-row-5 c =
-    let at-pre = c .before .before .before .before .before .before .before .before .before .before .before .before .before .before .before in
-    omega (arith, at-pre .pre .painting .near)
+add-run-row-5 c = omega (arith, c .before .before .before .before .before .before .before .before .before .before .before .before .before .before .before .pre .painting .near)
 
 mul-run-row-5 : tie.Need-mul-run-row-5
-mul-run-row-5 c =
-    let at-pre = c .before .before .before .before .before .before .before .before .before .before .before .before .before .before .before in
-    omega (arith, at-pre .pre .painting .near)
+mul-run-row-5 c = omega (arith, c .before .before .before .before .before .before .before .before .before .before .before .before .before .before .before .pre .painting .near)
 
 sub-run-row-5 : tie.Need-sub-run-row-5
 sub-run-row-5 c = search needs
@@ -157,9 +127,7 @@ part-run-row-start-5 : tie.Need-part-run-row-start-5
 part-run-row-start-5 c = search needs
 
 part-run-row-end-5 : tie.Need-part-run-row-end-5
-part-run-row-end-5 c =
-    let at-pre = c .before .before .before .before .before .before .before .before .before .before .before .before .before .before .before in
-    omega (arith, at-pre .pre .painting .ends)
+part-run-row-end-5 c = omega (arith, c .before .before .before .before .before .before .before .before .before .before .before .before .before .before .before .pre .painting .ends)
 
 run-row-requires : tie.Need-run-row-requires
 run-row-requires c κs =

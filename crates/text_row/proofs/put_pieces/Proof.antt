@@ -42,12 +42,7 @@ same-length : tie.Need-same-length Inv-loop μ-loop
 same-length c = omega arith
 
 returns : tie.Need-returns Inv-loop μ-loop
-returns c =
-    let at-loop = c .before in
-    let at-put-painted = at-loop .before .before .before in
-    let at-args = at-put-painted .before .before .before .before in
-    row-written ((at-args .args) .list .now) _ _ ((at-put-painted .put-painted) .ensures) (places-all detail-bytes _ (λ (k : ℕ). 64 * k) _ _ (omega arith)
-    ((at-loop .loop) .inv .0) ((at-loop .loop) .inv .1))
+returns c = row-written ((c .before .before .before .before .before .before .before .before .args) .list .now) _ _ ((c .before .before .before .before .put-painted) .ensures) (places-all detail-bytes _ (λ (k : ℕ). 64 * k) _ _ (omega arith) ((c .before .loop) .inv .0) ((c .before .loop) .inv .1))
 
 pub put-pieces-spec : {M : Type 1} → statement M
 put-pieces-spec =

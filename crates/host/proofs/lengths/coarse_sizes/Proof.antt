@@ -66,31 +66,13 @@ mul-render : tie.Need-mul-render
 mul-render c = search needs
 
 mul-render-2 : tie.Need-mul-render-2
-mul-render-2 c =
-    let at-rows = c .before in
-    let at-args = at-rows .before .before .before .before .before .before .before .before .before .before in
-    omega (
-      arith,
-      mul-le-mul {n₁ = at-rows .rows .result} {m₁ = 4 * at-args .args .c} {n₂ = 1073741823} {m₂ = 17179869180} (omega (
-        arith,
-        at-rows .rows .ensures,
-      )) (omega arith),
-    )
+mul-render-2 c = omega (arith, mul-le-mul {n₁ = c .before .rows .result} {m₁ = 4 * c .before .before .before .before .before .before .before .before .before .before .before .args .c} {n₂ = 1073741823} {m₂ = 17179869180} (omega (arith, c .before .rows .ensures)) (omega arith))
 
 mul-fills : tie.Need-mul-fills
 mul-fills c = search needs
 
 mul-fills-2 : tie.Need-mul-fills-2
-mul-fills-2 c =
-    let at-rows = c .before in
-    let at-args = at-rows .before .before .before .before .before .before .before .before .before .before in
-    omega (
-      arith,
-      mul-le-mul {n₁ = at-rows .rows .result} {m₁ = 2 * at-args .args .d} {n₂ = 1073741823} {m₂ = 17179869180} (omega (
-        arith,
-        at-rows .rows .ensures,
-      )) (omega arith),
-    )
+mul-fills-2 c = omega (arith, mul-le-mul {n₁ = c .before .rows .result} {m₁ = 2 * c .before .before .before .before .before .before .before .before .before .before .before .args .d} {n₂ = 1073741823} {m₂ = 17179869180} (omega (arith, c .before .rows .ensures)) (omega arith))
 
 mul-put-sizes : tie.Need-mul-put-sizes
 mul-put-sizes c = omega (arith, mul-le-mul {n₁ = c .before .before .rows .result} {m₁ = c .before .buckets .result} {n₂ = 1073741823} {m₂ = 1073741823} (omega (arith, c .before .before .rows .ensures)) (omega (arith, c .before .buckets .ensures)))

@@ -24,19 +24,13 @@ abbrev μ-loop : tie.MeasureT-loop
     stop - at
 
 shared-slice-read-from : tie.Need-shared-slice-read-from Inv-loop μ-loop
-shared-slice-read-from c =
-    let at-pre = c .before .before .before .before .before .before .before .before in
-    omega (arith, at-pre .pre .1 .0 .0)
+shared-slice-read-from c = omega (arith, c .before .before .before .before .before .before .before .before .pre .1 .0 .0)
 
 shared-slice-read-to : tie.Need-shared-slice-read-to Inv-loop μ-loop
-shared-slice-read-to c =
-    let at-pre = c .before .before .before .before .before .before .before .before .before in
-    omega (arith, at-pre .pre .1 .0 .0)
+shared-slice-read-to c = omega (arith, c .before .before .before .before .before .before .before .before .before .pre .1 .0 .0)
 
 shared-slice-read-largest : tie.Need-shared-slice-read-largest Inv-loop μ-loop
-shared-slice-read-largest c =
-    let at-pre = c .before .before .before .before .before .before .before .before .before .before in
-    omega (arith, at-pre .pre .1 .0 .0)
+shared-slice-read-largest c = omega (arith, c .before .before .before .before .before .before .before .before .before .before .pre .1 .0 .0)
 
 loop-holds : tie.Need-loop-holds Inv-loop μ-loop
 loop-holds c =
@@ -116,14 +110,10 @@ kind-of-requires c κs =
     at-pre .pre .0
 
 mul-if2 : tie.Need-mul-if2 Inv-loop μ-loop
-mul-if2 c =
-    let at-loop = c .before .before .before .before .before .before .before in
-    omega (arith, at-loop .loop .inv .0 .few, at-loop .loop .inv .0 .long)
+mul-if2 c = omega (arith, c .before .before .before .before .before .before .before .loop .inv .0 .few, c .before .before .before .before .before .before .before .loop .inv .0 .long)
 
 add-if2 : tie.Need-add-if2 Inv-loop μ-loop
-add-if2 c =
-    let at-loop = c .before .before .before .before .before .before .before in
-    omega (arith, at-loop .loop .inv .0 .few, at-loop .loop .inv .0 .long)
+add-if2 c = omega (arith, c .before .before .before .before .before .before .before .loop .inv .0 .few, c .before .before .before .before .before .before .before .loop .inv .0 .long)
 
 same-length : tie.Need-same-length Inv-loop μ-loop
 same-length c =
@@ -145,14 +135,10 @@ add-n c =
     omega (arith, at-loop .loop .inv .0 .few, at-loop .loop .inv .0 .long, at-good .good .1 .1 .1 .1 .1 .1 .1 .1 .0 .0)
 
 add-at : tie.Need-add-at Inv-loop μ-loop
-add-at c =
-    let at-loop-test = c .before .before .before .before .before .before .before .before .before .before .before in
-    omega (arith, at-loop-test .loop-test .taken)
+add-at c = omega (arith, c .before .before .before .before .before .before .before .before .before .before .before .loop-test .taken)
 
 loop-less : tie.Need-loop-less Inv-loop μ-loop
-loop-less c =
-    let at-loop-test = c .before .before .before .before .before .before .before .before .before .before .before in
-    omega (arith, at-loop-test .loop-test .taken)
+loop-less c = omega (arith, c .before .before .before .before .before .before .before .before .before .before .before .loop-test .taken)
 
 loop-again : tie.Need-loop-again Inv-loop μ-loop
 loop-again c =
@@ -203,19 +189,13 @@ loop-again-2 c =
     )
 
 add-level : tie.Need-add-level Inv-loop μ-loop
-add-level c =
-    let at-loop = c .before .before .before .before .before .before .before .before .before in
-    omega (arith, at-loop .loop .inv .0 .shallow)
+add-level c = omega (arith, c .before .before .before .before .before .before .before .before .before .loop .inv .0 .shallow)
 
 add-at-3 : tie.Need-add-at-3 Inv-loop μ-loop
-add-at-3 c =
-    let at-loop-test = c .before .before .before .before .before .before .before .before in
-    omega (arith, at-loop-test .loop-test .taken)
+add-at-3 c = omega (arith, c .before .before .before .before .before .before .before .before .loop-test .taken)
 
 loop-less-3 : tie.Need-loop-less-3 Inv-loop μ-loop
-loop-less-3 c =
-    let at-loop-test = c .before .before .before .before .before .before .before .before in
-    omega (arith, at-loop-test .loop-test .taken)
+loop-less-3 c = omega (arith, c .before .before .before .before .before .before .before .before .loop-test .taken)
 
 loop-again-3 : tie.Need-loop-again-3 Inv-loop μ-loop
 loop-again-3 c =
@@ -240,14 +220,10 @@ sub-level : tie.Need-sub-level Inv-loop μ-loop
 sub-level c = omega (arith, c .before .before .before .before .kind-of .ensures .popped (c .if5 .taken) .0)
 
 add-at-4 : tie.Need-add-at-4 Inv-loop μ-loop
-add-at-4 c =
-    let at-loop-test = c .before .before .before .before .before .before .before .before .before in
-    omega (arith, at-loop-test .loop-test .taken)
+add-at-4 c = omega (arith, c .before .before .before .before .before .before .before .before .before .loop-test .taken)
 
 loop-less-4 : tie.Need-loop-less-4 Inv-loop μ-loop
-loop-less-4 c =
-    let at-loop-test = c .before .before .before .before .before .before .before .before .before in
-    omega (arith, at-loop-test .loop-test .taken)
+loop-less-4 c = omega (arith, c .before .before .before .before .before .before .before .before .before .loop-test .taken)
 
 loop-again-4 : tie.Need-loop-again-4 Inv-loop μ-loop
 loop-again-4 c =

@@ -226,10 +226,7 @@ add-painting c =
     )
 
 slice-write-painting : tie.Need-slice-write-painting
-slice-write-painting c =
-    let at-pre = c .before .before .before .before .before .before .before .before .before .before .before .before .before .before .before .before
-    .before .before .before .before .before .before .before .before .before .before .before .before .before in
-    omega (arith, at-pre .pre .0 .4)
+slice-write-painting c = omega (arith, c .before .before .before .before .before .before .before .before .before .before .before .before .before .before .before .before .before .before .before .before .before .before .before .before .before .before .before .before .before .pre .0 .4)
 
 slice-write-painting-2 : tie.Need-slice-write-painting-2
 slice-write-painting-2 c =

@@ -38,10 +38,7 @@ run-plain-requires c κs =
     )
 
 add-k : tie.Need-add-k Inv-loop μ-loop
-add-k c =
-    let at-run-plain = c .before .before .before .before .before in
-    let at-loop-test = at-run-plain .before .before .before .before in
-    omega (arith, at-run-plain .run-plain .ensures .1 .0, at-loop-test .loop-test .taken)
+add-k c = omega (arith, c .before .before .before .before .before .run-plain .ensures .1 .0, c .before .before .before .before .before .before .before .before .before .loop-test .taken)
 
 step-on-requires : tie.Need-step-on-requires Inv-loop μ-loop
 step-on-requires c κs =

@@ -27,10 +27,7 @@ loop-holds : tie.Need-loop-holds Inv-loop μ-loop
 loop-holds c = (c .before .before .before .before .before .pre .1 .0, (refl, (refl, (refl, (refl, record { same = λ t. refl })))))
 
 fill-draw-requires : tie.Need-fill-draw-requires Inv-loop μ-loop
-fill-draw-requires c κs =
-    let back = c .before .before .before .before .before .before .before .before .before .before .before in
-    let s = back in
-    (s .pre .0, omega (arith, s .pre .1 .1))
+fill-draw-requires c κs = let s = c .before .before .before .before .before .before .before .before .before .before .before in (s .pre .0, omega (arith, s .pre .1 .1))
 
 number-requires : tie.Need-number-requires Inv-loop μ-loop
 number-requires c κs = search needs
@@ -70,39 +67,13 @@ returns c =
     c .if1 .taken (c .before .number .ensures ∙ z))
 
 add-i : tie.Need-add-i Inv-loop μ-loop
-add-i c =
-    let at-loop-test = c .before .before .before .before .before .before .before .before .before .before .before .before .before .before .before .before in
-    let back = at-loop-test .before .before .before .before .before .before .before in
-    let s = back in
-    omega (arith, at-loop-test .loop-test .taken, s .pre .1 .1, s .pre .0 .draws .few)
+add-i c = let s = c .before .before .before .before .before .before .before .before .before .before .before .before .before .before .before .before .before .before .before .before .before .before .before in omega (arith, c .before .before .before .before .before .before .before .before .before .before .before .before .before .before .before .before .loop-test .taken, s .pre .1 .1, s .pre .0 .draws .few)
 
 loop-less : tie.Need-loop-less Inv-loop μ-loop
 loop-less c = omega arith
 
 loop-again : tie.Need-loop-again Inv-loop μ-loop
-loop-again c =
-    let at-number = c .before .before in
-    let at-fill-draw = at-number .before .before .before .before .before .before .before .before .before in
-    let at-loop-test = at-fill-draw .before .before .before .before .before in
-    let at-loop = at-loop-test .before in
-    let back = at-loop .before .before .before .before .before .before in
-    let s = back in (
-      omega (arith, at-loop-test .loop-test .taken),
-      (
-        at-fill-draw .fill-draw .kept .1 .1 .1 .1 .0 ∙ at-loop .loop .inv .1 .0,
-        (
-          at-fill-draw .fill-draw .kept .1 .1 .1 .1 .1 .0 ∙ at-loop .loop .inv .1 .1 .0,
-          (
-            at-fill-draw .fill-draw .kept .1 .1 .1 .1 .1 .1 .0 ∙ at-loop .loop .inv .1 .1 .1 .0,
-            (
-              at-fill-draw .fill-draw .kept .1 .1 .1 .1 .1 .1 .1 .0 ∙ at-loop .loop .inv .1 .1 .1 .1 .0,
-              draw-turned (at-loop .loop .inv .1 .1 .1 .1 .1) (s .pre .0) (at-loop-test .loop-test .taken) (s .pre .1 .1) _ _ (at-fill-draw .fill-draw .ensures) (sym
-                  (at-number .number .ensures) ∙ c .before .if1 .left),
-            ),
-          ),
-        ),
-      ),
-    )
+loop-again c = let s = c .before .before .before .before .before .before .before .before .before .before .before .before .before .before .before .before .before .before .before .before .before .before .before in (omega (arith, c .before .before .before .before .before .before .before .before .before .before .before .before .before .before .before .before .loop-test .taken), (c .before .before .before .before .before .before .before .before .before .before .before .fill-draw .kept .1 .1 .1 .1 .0 ∙ c .before .before .before .before .before .before .before .before .before .before .before .before .before .before .before .before .before .loop .inv .1 .0, (c .before .before .before .before .before .before .before .before .before .before .before .fill-draw .kept .1 .1 .1 .1 .1 .0 ∙ c .before .before .before .before .before .before .before .before .before .before .before .before .before .before .before .before .before .loop .inv .1 .1 .0, (c .before .before .before .before .before .before .before .before .before .before .before .fill-draw .kept .1 .1 .1 .1 .1 .1 .0 ∙ c .before .before .before .before .before .before .before .before .before .before .before .before .before .before .before .before .before .loop .inv .1 .1 .1 .0, (c .before .before .before .before .before .before .before .before .before .before .before .fill-draw .kept .1 .1 .1 .1 .1 .1 .1 .0 ∙ c .before .before .before .before .before .before .before .before .before .before .before .before .before .before .before .before .before .loop .inv .1 .1 .1 .1 .0, draw-turned (c .before .before .before .before .before .before .before .before .before .before .before .before .before .before .before .before .before .loop .inv .1 .1 .1 .1 .1) (s .pre .0) (c .before .before .before .before .before .before .before .before .before .before .before .before .before .before .before .before .loop-test .taken) (s .pre .1 .1) _ _ (c .before .before .before .before .before .before .before .before .before .before .before .fill-draw .ensures) (sym (c .before .before .number .ensures) ∙ c .before .if1 .left))))))
 
 same-length-5 : tie.Need-same-length-5 Inv-loop μ-loop
 same-length-5 c = c .before .loop .inv .1 .0

@@ -16,8 +16,7 @@ slice-relend-prefix-recording-text c = search needs
 
 slice-aggregate-recording-text : tie.Need-slice-aggregate-recording-text
 slice-aggregate-recording-text c =
-    let back = c .before .before .before .before .before .before .before .before .before .before .before .before in
-    let entry = back in
+    let entry = c .before .before .before .before .before .before .before .before .before .before .before .before in
     sym (length-take-le _ _ (omega (arith, entry .pre .1, entry .pre .0 .render)))
 
 mul-recording-text-2 : tie.Need-mul-recording-text-2
@@ -28,26 +27,22 @@ slice-relend-prefix-recording-text-2 c = search needs
 
 slice-aggregate-recording-text-2 : tie.Need-slice-aggregate-recording-text-2
 slice-aggregate-recording-text-2 c =
-    let back = c .before .before .before .before .before .before .before .before .before .before .before .before .before in
-    let entry = back in
+    let entry = c .before .before .before .before .before .before .before .before .before .before .before .before .before in
     sym (length-take-le _ _ (omega (arith, entry .pre .1, entry .pre .0 .fills)))
 
 mul-recording-text-3 : tie.Need-mul-recording-text-3
 mul-recording-text-3 c =
-    let back = c .before .before .before .before .before .before .before .before .before .before .before .before .before in
-    let entry = back in
+    let entry = c .before .before .before .before .before .before .before .before .before .before .before .before .before in
     record { fits = omega (arith, small _ _ (entry .pre .1) (entry .pre .2)) }
 
 slice-relend-prefix-recording-text-3 : tie.Need-slice-relend-prefix-recording-text-3
 slice-relend-prefix-recording-text-3 c =
-    let back = c .before .before .before .before .before .before .before .before .before .before .before .before .before in
-    let entry = back in
+    let entry = c .before .before .before .before .before .before .before .before .before .before .before .before .before in
     omega (arith, small _ _ (entry .pre .1) (entry .pre .2), entry .pre .0 .depth)
 
 slice-aggregate-recording-text-3 : tie.Need-slice-aggregate-recording-text-3
 slice-aggregate-recording-text-3 c =
-    let back = c .before .before .before .before .before .before .before .before .before .before .before .before .before .before in
-    let entry = back in
+    let entry = c .before .before .before .before .before .before .before .before .before .before .before .before .before .before in
     sym (length-take-le _ _ (omega (arith, entry .pre .1, entry .pre .0 .depth, small _ _ (entry .pre .1) (entry .pre .2))))
 
 mul-recording-text-4 : tie.Need-mul-recording-text-4
@@ -58,8 +53,7 @@ slice-relend-prefix-recording-text-4 c = search needs
 
 slice-aggregate-recording-text-4 : tie.Need-slice-aggregate-recording-text-4
 slice-aggregate-recording-text-4 c =
-    let back = c .before .before .before .before .before .before .before .before .before .before .before .before .before .before .before in
-    let entry = back in
+    let entry = c .before .before .before .before .before .before .before .before .before .before .before .before .before .before .before in
     sym (length-take-le _ _ (omega (arith, entry .pre .1, entry .pre .0 .rows)))
 
 mul-recording-text-5 : tie.Need-mul-recording-text-5
@@ -70,8 +64,7 @@ slice-relend-prefix-recording-text-5 c = search needs
 
 slice-aggregate-recording-text-5 : tie.Need-slice-aggregate-recording-text-5
 slice-aggregate-recording-text-5 c =
-    let back = c .before .before .before .before .before .before .before .before .before .before .before .before .before .before .before .before in
-    let entry = back in
+    let entry = c .before .before .before .before .before .before .before .before .before .before .before .before .before .before .before .before in
     sym (length-take-le _ _ (omega (arith, entry .pre .1, entry .pre .0 .painting)))
 
 recording-text-requires : tie.Need-recording-text-requires

@@ -33,28 +33,10 @@ is-good-viewport-requires : tie.Need-is-good-viewport-requires
 is-good-viewport-requires c κs = search needs
 
 returns-2 : tie.Need-returns-2
-returns-2 c =
-    let at-box-at = c .before .before .before .before in
-    let at-enum-told = at-box-at .before in
-    let at-read-form = at-enum-told .before .before in (
-      bad-viewport _ (sym ((at-enum-told .enum-told) .given .1) ∙ (at-read-form .read-form) .ensures) ((at-box-at .box-at) .ensures) (sym
-          ((c .before .is-good-viewport) .ensures) ∙ not-true _ ((c .if1) .taken)),
-      (omega arith, omega arith),
-    )
+returns-2 c = (bad-viewport _ (sym ((c .before .before .before .before .before .enum-told) .given .1) ∙ (c .before .before .before .before .before .before .before .read-form) .ensures) ((c .before .before .before .before .box-at) .ensures) (sym ((c .before .is-good-viewport) .ensures) ∙ not-true _ ((c .if1) .taken)), (omega arith, omega arith))
 
 returns-3 : tie.Need-returns-3
-returns-3 c =
-    let at-is-good-viewport = c .before .before in
-    let at-rows = at-is-good-viewport .before in
-    let at-fresh = at-rows .before in
-    let at-box-at = at-fresh .before in
-    let at-enum-told = at-box-at .before in
-    let at-read-form = at-enum-told .before .before in (
-      many-rows _ (sym ((at-enum-told .enum-told) .given .1) ∙ (at-read-form .read-form) .ensures) ((at-box-at .box-at) .ensures) (sym
-          ((at-is-good-viewport .is-good-viewport) .ensures) ∙ not-false _ ((c .before .if1) .left)) (rw ((at-fresh .fresh) .ensures) at ((at-rows .rows) .ensures))
-          ((c .if2) .taken),
-      (omega arith, omega arith),
-    )
+returns-3 c = (many-rows _ (sym ((c .before .before .before .before .before .before .enum-told) .given .1) ∙ (c .before .before .before .before .before .before .before .before .read-form) .ensures) ((c .before .before .before .before .before .box-at) .ensures) (sym ((c .before .before .is-good-viewport) .ensures) ∙ not-false _ ((c .before .if1) .left)) (rw ((c .before .before .before .before .fresh) .ensures) at ((c .before .before .before .rows) .ensures)) ((c .if2) .taken), (omega arith, omega arith))
 
 buckets-requires : tie.Need-buckets-requires
 buckets-requires c κs = search needs

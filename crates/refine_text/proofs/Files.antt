@@ -67,7 +67,7 @@ pub record Left (s : Screen Row) (t : Tables) (o : FileOut) : Type 0 where
   pub viewport : Box
   pub few : rows-of viewport ≤ 32
   pub kept : Kept (record { viewport = viewport; c = 64; d = 64 }) s
-  pub words : Lent
+  pub words : ScreenLent
   pub refines : Refines s words
   pub screen : o .showed .text .screen ≡ words .screen
   pub tables : o .tables ≡ over (size 0 (rows-of viewport) (buckets-of 32 viewport)) t (words .tables)

@@ -191,6 +191,14 @@ uint32_t coarse_visible_runs(const uint32_t *state, size_t state_len, size_t row
                              const uint32_t *depth, size_t depth_len, uint32_t first, uint32_t end, uint32_t id,
                              uint32_t *list, size_t list_len, size_t *count, size_t count_len);
 
+/* A run as a struct: from a first tile to an end, which is not among them. */
+typedef struct { uint32_t first, end; } coarse_span;
+
+/* The runs of coarse_visible_runs, with its answers, in a list of list_len spans; the spans after them stay. count_len is 1. */
+uint32_t coarse_visible_spans(const uint32_t *state, size_t state_len, size_t row,
+                              const uint32_t *depth, size_t depth_len, uint32_t first, uint32_t end, uint32_t id,
+                              coarse_span *list, size_t list_len, size_t *count, size_t count_len);
+
 /* Lists the unset runs of the buckets first to end, and stores the id there. Done, it ends painting. count_len is 1. */
 uint32_t coarse_unset_runs_and_write(uint32_t *state, size_t state_len, size_t row,
                                      uint32_t *depth, size_t depth_len, uint32_t first, uint32_t end, uint32_t id,

@@ -38,7 +38,7 @@ typedef struct { coarse_rect dest; uint32_t source_x, source_y; } coarse_placeme
 /* tag: 1 paint solid, 2 paint alpha, 3 layer solid, 4 layer alpha. */
 typedef struct { uint32_t tag, attribute, first, end, alpha, nesting; } coarse_piece;
 
-typedef struct { uint32_t first, end; } coarse_run;
+typedef coarse_span coarse_run;
 
 typedef struct { uint32_t paint; coarse_blend blend; uint32_t mask, draw_id, thread, origin_x, origin_y; } coarse_paint_attrs;
 typedef struct { coarse_blend blend; float opacity; uint32_t mask, draw_id, thread; } coarse_layer_attrs;
@@ -282,6 +282,12 @@ static inline uint32_t coarse_bucketer_visible_runs(coarse_bucketer *b, size_t r
                                      b->run_room * COARSE_RUN, count, 1);
     *runs = b->runs;
     return answer;
+}
+
+/* The same runs at the start of a list of the caller's own, which has room for so many; the others stay. */
+static inline uint32_t coarse_bucketer_visible_spans(const coarse_bucketer *b, size_t row, uint32_t first, uint32_t end, uint32_t id,
+                                                     coarse_span *list, size_t room, size_t *count) {
+    return coarse_visible_spans(b->state, COARSE_STATE, row, b->depth, b->sizes[2], first, end, id, list, room, count, 1);
 }
 
 /* The unset runs of the buckets first to end; the id is stored there, and painting ends. */

@@ -23,7 +23,7 @@ static void null_pointers(void) {
     uint32_t *layer_attrs = calloc(COARSE_LAYER_ATTRS, 4);
     float *opacities = calloc(COARSE_OPACITIES, 4);
     int32_t *filter_paints = calloc(COARSE_FILTER_PAINTS, 4);
-    size_t count[1] = {7};
+    size_t count[2] = {7, 7};
     expect("reset to no rows", COARSE_DONE,
            coarse_reset(state, COARSE_STATE, 0, 0, 128, 0, 1, 1, NULL, 0, NULL, 0, NULL, 0, NULL, 0, NULL, 0, layers, COARSE_LAYERS,
                         opacities, COARSE_OPACITIES, paint_attrs, COARSE_PAINT_ATTRS, layer_attrs, COARSE_LAYER_ATTRS,
@@ -37,12 +37,54 @@ static void null_pointers(void) {
     expect("painting no rows", COARSE_DONE, coarse_begin_painting(state, COARSE_STATE, NULL, 0, NULL, 0));
     expect("a run of no row", COARSE_BAD_RUN, coarse_unset_runs(state, COARSE_STATE, 0, NULL, 0, 0, 4, NULL, 0, count, 1));
     expect("its count stays", 7, (uint32_t)count[0]);
+    expect("spans of no row", COARSE_BAD_RUN, coarse_visible_spans(state, COARSE_STATE, 0, NULL, 0, 0, 4, 1, NULL, 0, count, 1));
+    expect("spans, a count of two words", COARSE_BAD_RECORD,
+           coarse_visible_spans(state, COARSE_STATE, 0, NULL, 0, 0, 4, 1, NULL, 0, count, 2));
+    expect("their count stays", 7, (uint32_t)count[0]);
     expect("no state", COARSE_BAD_RECORD, coarse_begin_painting(NULL, 0, NULL, 0, NULL, 0));
     expect("a recording of no words", COARSE_BAD_FORM,
            coarse_bucket_recording(state, COARSE_STATE, NULL, 0, 1, 1, NULL, 0, NULL, 0, NULL, 0, NULL, 0, NULL, 0, layers,
                                    COARSE_LAYERS, opacities, COARSE_OPACITIES, paint_attrs, COARSE_PAINT_ATTRS, layer_attrs,
                                    COARSE_LAYER_ATTRS, filter_paints, COARSE_FILTER_PAINTS));
     free(layers), free(paint_attrs), free(layer_attrs), free(opacities), free(filter_paints);
+}
+
+/* Runs of a row as spans in a list of the host's own: those of coarse_visible_runs, and its answers. */
+static void lent_spans(void) {
+    coarse_bucketer b;
+    coarse_rect viewport = {0, 0, 4096, 4};
+    coarse_span list[20];
+    const coarse_run *runs;
+    size_t count = 0, n = 0, i;
+    expect("a row of 32 buckets", COARSE_DONE, coarse_bucketer_new(&b, viewport, 8, 8));
+    for (i = 1; i < 32; i += 2)
+        expect("every second is set", COARSE_DONE,
+               coarse_bucketer_unset_runs_and_write(&b, 0, (uint32_t)i, (uint32_t)i + 1, 7, &runs, &count));
+    for (i = 0; i < 20; i++)
+        list[i].first = 500, list[i].end = 600;
+    count = 9;
+    expect("15 spans for 16 runs", COARSE_NO_ROOM, coarse_bucketer_visible_spans(&b, 0, 10, 1024, 6, list, 15, &count));
+    expect("out of order", COARSE_BAD_RUN, coarse_bucketer_visible_spans(&b, 0, 11, 10, 6, list, 20, &count));
+    expect("no row 1", COARSE_BAD_RUN, coarse_bucketer_visible_spans(&b, 1, 10, 1024, 6, list, 20, &count));
+    expect("a short arena before a bad range", COARSE_BAD_ARENA,
+           coarse_visible_spans(b.state, COARSE_STATE, 0, b.depth, 31, 11, 10, 6, list, 20, &count, 1));
+    expect("refused, the count stays", 9, (uint32_t)count);
+    for (i = 0; i < 20; i++)
+        expect("refused, the list stays", 500, list[i].first);
+    expect("16 spans for 16 runs", COARSE_DONE, coarse_bucketer_visible_spans(&b, 0, 10, 1024, 6, list, 16, &count));
+    expect("all of them", 16, (uint32_t)count);
+    expect("as runs", COARSE_DONE, coarse_bucketer_visible_runs(&b, 0, 10, 1024, 6, &runs, &n));
+    expect("as many", 16, (uint32_t)n);
+    for (i = 0; i < 16; i++) {
+        expect("the same first tile", runs[i].first, list[i].first);
+        expect("the same end", runs[i].end, list[i].end);
+    }
+    expect("the first is cut", 10, list[0].first);
+    expect("the last", 960, list[15].first);
+    expect("the spans after them stay", 500, list[16].first);
+    expect("no tiles, no list", COARSE_DONE, coarse_bucketer_visible_spans(&b, 0, 5, 5, 7, NULL, 0, &count));
+    expect("no runs", 0, (uint32_t)count);
+    coarse_bucketer_free(&b);
 }
 
 static void owned_tables(void) {
@@ -111,5 +153,6 @@ static void owned_tables(void) {
 int main(void) {
     null_pointers();
     owned_tables();
+    lent_spans();
     return wrong;
 }

@@ -782,6 +782,36 @@ impl CommandBucketer {
         Ok(self.runs.get(..count[0]).unwrap_or_default())
     }
 
+    /// The runs of `visible_runs` at the start of a list of the caller's own, and how many there are; the others stay.
+    pub fn visible_spans(
+        &self,
+        row: usize,
+        first: u32,
+        end: u32,
+        draw_id: u32,
+        list: &mut [Run],
+    ) -> Result<usize, Answer> {
+        let depth = &self.tables.depth;
+        let mut count = [0];
+        Answer::check(unsafe {
+            sys::coarse_visible_spans(
+                self.state.as_ptr(),
+                STATE,
+                row,
+                depth.as_ptr(),
+                depth.len(),
+                first,
+                end,
+                draw_id,
+                list.as_mut_ptr(),
+                list.len(),
+                count.as_mut_ptr(),
+                count.len(),
+            )
+        })?;
+        Ok(count[0])
+    }
+
     /// The unset runs of the buckets first to end; the id is stored there, and painting ends.
     pub fn unset_runs_and_write(
         &mut self,

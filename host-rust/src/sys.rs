@@ -1,5 +1,7 @@
 //! The calls of `include/coarse.h`. A slice crosses as a pointer and a length.
 
+use crate::Run;
+
 /// A call that paints a row: `coarse_paint_step`, `coarse_paint_row`.
 pub type Paint = unsafe extern "C" fn(
     *const u32,
@@ -271,6 +273,21 @@ extern "C" {
         end: u32,
         id: u32,
         list: *mut u32,
+        list_len: usize,
+        count: *mut usize,
+        count_len: usize,
+    ) -> u32;
+
+    pub fn coarse_visible_spans(
+        state: *const u32,
+        state_len: usize,
+        row: usize,
+        depth: *const u32,
+        depth_len: usize,
+        first: u32,
+        end: u32,
+        id: u32,
+        list: *mut Run,
         list_len: usize,
         count: *mut usize,
         count_len: usize,

@@ -345,6 +345,39 @@ fn runs_and_skips() {
     assert_eq!(bucketer.can_skip(9, 0, 32, 1), Err(Answer::BadRun));
 }
 
+#[test]
+fn spans_in_a_lent_list() {
+    let mut bucketer = CommandBucketer::from_wh(512, 8, 8, 8).unwrap();
+    bucketer.unset_runs_and_write(0, 1, 2, 7).unwrap();
+    let other = Run { first: 1, end: 0 };
+    let mut list = [other; 3];
+    assert_eq!(
+        bucketer.visible_spans(0, 10, 100, 6, &mut list[..1]),
+        Err(Answer::NoRoom)
+    );
+    assert_eq!(
+        bucketer.visible_spans(0, 100, 10, 6, &mut list),
+        Err(Answer::BadRun)
+    );
+    assert_eq!(
+        bucketer.visible_spans(2, 10, 100, 6, &mut list),
+        Err(Answer::BadRun)
+    );
+    assert_eq!(list, [other; 3]);
+    for id in [0, 6, 7] {
+        for row in [0, 1] {
+            list = [other; 3];
+            let count = bucketer.visible_spans(row, 10, 100, id, &mut list).unwrap();
+            assert_eq!(
+                &list[..count],
+                bucketer.visible_runs(row, 10, 100, id).unwrap()
+            );
+            assert!(list[count..].iter().all(|run| *run == other));
+        }
+    }
+    assert_eq!(bucketer.visible_spans(0, 5, 5, 7, &mut []), Ok(0));
+}
+
 /// Fills in and around two layers, one in the other, over rows 0 and 1 of 128 tiles.
 fn nested() -> CommandBucketer {
     let mut bucketer = CommandBucketer::from_wh(512, 8, 64, 64).unwrap();

@@ -4,6 +4,7 @@ use Prim.Native.Nat.{ℕ, _+_, _*_}
 use lib.ListN.{length, take, drop, set}
 use lib.IntN.{ℤ, pos}
 use lib.Ieee.{Float}
+use Rattle.sizes.specs.Sizes.{most-layers}
 use Rattle.cmd.specs.declared.attrs.PaintFillAttrs.{PaintFillAttrs}
 use Rattle.cmd.specs.declared.attrs.LayerFillAttrs.{LayerFillAttrs}
 use Rattle.cmd.specs.declared.attrs.FilterPaint.{FilterPaint}
@@ -32,7 +33,7 @@ abbrev pub layer-tables : List ℕ → List Float → LayerTables
 layer-tables xs os = record { words = xs; opacities = os }
 
 abbrev pub put-layer : LayerTables → ℕ → LayerFillAttrs → LayerTables
-put-layer t i a = layer-tables (words-at (t .words) (6 * i) (layer-words a)) (set (t .opacities) (16 + i) (a .opacity))
+put-layer t i a = layer-tables (words-at (t .words) (6 * i) (layer-words a)) (set (t .opacities) (most-layers + i) (a .opacity))
 
 -- flag 0, pixmap, shift
 abbrev pub filter-words : FilterPaint → List ℤ

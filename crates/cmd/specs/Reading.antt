@@ -4,6 +4,7 @@ use mathlib.Core.Bool.{Bool, true, false, _&&_, cond}
 use mathlib.Core.List.{List, [], _∷_}
 use mathlib.Core.Option.{Option, none, some}
 use lib.Dec.{leb, ltb, eqb}
+use Rattle.sizes.specs.Sizes.{tile-end, tile-alphas}
 use Rattle.rules.specs.Spans.{Span, span}
 use Rattle.rules.specs.Commands.{Command, paint-fill, layer-fill, push-buf, pop-buf, DepthFill}
 
@@ -16,7 +17,7 @@ good-span-word limit s = leb (s / 65536) (s % 65536) && leb (s % 65536) limit
 
 -- an alpha index that can be moved over the whole span
 abbrev pub good-alpha : ℕ → ℕ → Bool
-good-alpha a s = ltb (a + 16 * (s % 65536 - s / 65536)) 4294967296
+good-alpha a s = ltb (a + tile-alphas * (s % 65536 - s / 65536)) 4294967296
 
 abbrev pub only-if : {A : Type 0} → Bool → A → Option A
 only-if true x = some x
@@ -31,8 +32,8 @@ by-tag t (c ∷ cs) = cond (eqb t (c .0)) (c .1) (by-tag t cs)
 unfoldable pub command-of : ℕ → ℕ → ℕ → ℕ → Option Command
 command-of t s a i =
     let tiles = word-span s in
-    let solid = good-span-word 8192 s && eqb a 0 in
-    let alpha = good-span-word 8192 s && good-alpha a s in
+    let solid = good-span-word tile-end s && eqb a 0 in
+    let alpha = good-span-word tile-end s && good-alpha a s in
     let bare = eqb s 0 && eqb a 0 && eqb i 0 in
     by-tag t
     ((1, only-if solid (paint-fill tiles none i))

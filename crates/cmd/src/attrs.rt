@@ -1,8 +1,12 @@
 // Attributes of fills, and the tables that hold them. Each table has a fixed number of words for each attribute.
 use crate::blend::Blend;
+use sizes::LAYER_ATTR;
+use sizes::OPACITY_BASE;
+use sizes::PAINT_ATTR;
 ghost use mathlib.Core.Path.{_≡_};
 ghost use Prim.Native.Nat.{_+_, _*_, _<_};
 ghost use lib.ListN.{length, getD};
+ghost use Rattle.sizes.specs.Sizes.{most-attrs, most-filters, handle-end, opacity-count, paint-attr-table, layer-attr-table, filter-paint-table};
 ghost use Rattle.cmd.specs.Attrs.{put-paint, layer-tables, put-layer, put-filter};
 
 // Rule 3: what a fill's commands share.
@@ -34,11 +38,11 @@ pub struct FilterPaint {
 }
 
 pub fn put_paint_attrs(table: &mut [u32], i: usize, a: PaintFillAttrs)
-    requires { ⌜ (i < 1024) × (length (now table) ≡ 8192) ⌝ }
+    requires { ⌜ (i < most-attrs) × (length (now table) ≡ paint-attr-table) ⌝ }
     ensures { λ _. ⌜ now (table .exit) ≡ put-paint (now (table .entry)) i a ⌝ }
 {
     let blend = a.blend;
-    let at = 8 * i;
+    let at = PAINT_ATTR * i;
     table[at] = a.paint;
     table[at + 1] = blend.mix;
     table[at + 2] = blend.compose;
@@ -51,38 +55,38 @@ pub fn put_paint_attrs(table: &mut [u32], i: usize, a: PaintFillAttrs)
 
 // The id of a paint attribute.
 pub fn paint_id(table: &[u32], i: usize) -> u32
-    requires { ⌜ (i < 1024) × (length (now table) ≡ 8192) ⌝ }
+    requires { ⌜ (i < most-attrs) × (length (now table) ≡ paint-attr-table) ⌝ }
     ensures { λ r. ⌜ r ≡ getD (now (table .entry)) (8 * i + 4) 0 ⌝ }
 {
-    table[8 * i + 4]
+    table[PAINT_ATTR * i + 4]
 }
 
 // The opacities of the 16 open layers stand before those of the attributes.
 pub fn put_layer_attrs(table: &mut [u32], opacities: &mut [f32], i: usize, a: LayerFillAttrs)
-    requires { ⌜ (i < 1024) × (length (now table) ≡ 6144) × (length (now opacities) ≡ 1040) ⌝ }
+    requires { ⌜ (i < most-attrs) × (length (now table) ≡ layer-attr-table) × (length (now opacities) ≡ opacity-count) ⌝ }
     ensures { λ _. ⌜ layer-tables (now (table .exit)) (now (opacities .exit)) ≡ put-layer (layer-tables (now (table .entry)) (now (opacities .entry))) i a ⌝ }
 {
     let blend = a.blend;
-    let at = 6 * i;
+    let at = LAYER_ATTR * i;
     table[at] = blend.mix;
     table[at + 1] = blend.compose;
     table[at + 2] = a.mask;
     table[at + 3] = a.draw_id;
     table[at + 4] = a.thread_idx;
     table[at + 5] = a.nan;
-    opacities[16 + i] = a.opacity;
+    opacities[OPACITY_BASE + i] = a.opacity;
 }
 
 // The id of a layer attribute.
 pub fn layer_id(table: &[u32], i: usize) -> u32
-    requires { ⌜ (i < 1024) × (length (now table) ≡ 6144) ⌝ }
+    requires { ⌜ (i < most-attrs) × (length (now table) ≡ layer-attr-table) ⌝ }
     ensures { λ r. ⌜ r ≡ getD (now (table .entry)) (6 * i + 3) 0 ⌝ }
 {
     table[6 * i + 3]
 }
 
 pub fn put_filter_paint(table: &mut [i32], i: usize, p: FilterPaint)
-    requires { ⌜ (i < 256) × (length (now table) ≡ 1024) × (p .pixmap < 2147483648) ⌝ }
+    requires { ⌜ (i < most-filters) × (length (now table) ≡ filter-paint-table) × (p .pixmap < handle-end) ⌝ }
     ensures { λ _. ⌜ now (table .exit) ≡ put-filter (now (table .entry)) i p ⌝ }
 {
     let pixmap = p.pixmap as i32;

@@ -1,10 +1,13 @@
 // Render commands, and the four words that stand for one.
+use sizes::TILE_ALPHAS;
+use sizes::TILE_END;
 use span::Alpha;
 use span::TileSpan;
 ghost use mathlib.Core.Path.{_≡_};
 ghost use mathlib.Core.Bool.{_&&_};
 ghost use Prim.Native.Nat.{_<_, _≤_};
 ghost use lib.Dec.{eqb};
+ghost use Rattle.sizes.specs.Sizes.{tile-end};
 ghost use Rattle.rules.specs.Spans.{span};
 ghost use Rattle.rules.specs.Commands.{span-word, fill-words, push-words, command-words};
 ghost use Rattle.cmd.specs.Reading.{word-span, good-span-word, good-alpha};
@@ -133,9 +136,9 @@ impl RenderCmd {
 impl CmdWords {
     // A span up to tile 8,192, and no alpha index.
     fn is_solid(self) -> bool
-        ensures { λ r. ⌜ r ≡ (good-span-word 8192 (self .span) && eqb (self .alpha) 0) ⌝ }
+        ensures { λ r. ⌜ r ≡ (good-span-word tile-end (self .span) && eqb (self .alpha) 0) ⌝ }
     {
-        if good_span_word(8192, self.span) {
+        if good_span_word(TILE_END, self.span) {
             self.alpha == 0
         } else {
             false
@@ -144,11 +147,11 @@ impl CmdWords {
 
     // Such a span, and an alpha index that can be moved over all of it.
     fn is_alpha(self) -> bool
-        ensures { λ r. ⌜ r ≡ (good-span-word 8192 (self .span) && good-alpha (self .alpha) (self .span)) ⌝ }
+        ensures { λ r. ⌜ r ≡ (good-span-word tile-end (self .span) && good-alpha (self .alpha) (self .span)) ⌝ }
     {
-        if good_span_word(8192, self.span) {
+        if good_span_word(TILE_END, self.span) {
             let width = self.span % 65536 - self.span / 65536;
-            self.alpha <= 4294967295 - 16 * width
+            self.alpha <= 4294967295 - TILE_ALPHAS * width
         } else {
             false
         }

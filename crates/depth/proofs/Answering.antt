@@ -1,16 +1,16 @@
 -- What the rules' answers say of each way through the calls over runs. Assumes nothing.
-use mathlib.Core.Path.{_≡_, sym, ap, _∙_}
-use mathlib.Core.Bool.{Bool, true, false, _||_, cond}
+use mathlib.Core.Path.{_≡_, refl, sym, ap, _∙_}
+use mathlib.Core.Bool.{Bool, true, false, _&&_, _||_, not, cond}
 use mathlib.Core.List.{List, [], map}
 use Prim.Native.Nat.{ℕ, _≤_, _<_, _+_, _-_, _*_, _/_, min}
 use native.Mathlib.Omega.{arith}
 use lib.ListN.{length, length-map}
-use lib.Dec.{ltb, eqb}
-use borrow.Author.Tests.{lt-ltb, le-ltb, ltb-false, ne-eqb, eq-eqb}
+use lib.Dec.{leb, ltb, eqb}
+use borrow.Author.Tests.{le-leb, lt-leb, le-ltb, ltb-false, ne-eqb, eq-eqb}
 use Rattle.rules.specs.Answers.{Answer, answer}
 use Rattle.rules.specs.Spans.{Span, span, common, bad-range}
 use Rattle.rules.specs.Depth.{runs-in, runs, tiles-of, is-visible, listed, unset-runs, visible-runs, unset-answer, visible-answer, write-runs, write-answer, write-after, written}
-use Rattle.depth.specs.Listing.{Out, numbers, listing, done, cut-runs, met-end, OutWrite, writing}
+use Rattle.depth.specs.Listing.{RunsOut, numbers, listing, done, cut-runs, met-end, OutWrite, writing}
 use Rattle.depth.proofs.Skipping.{or-true}
 use Rattle.depth.proofs.Searching.{runs-few, runs-shorter, runs-end, runs-uncut, unset-visible}
 
@@ -41,7 +41,7 @@ met-small n s h = go (ltb (s .first) (s .end))
     go false = omega arith
 
 -- a refusal leaves the list
-abbrev pub refused : ℕ → List ℕ → Out
+abbrev pub refused : ℕ → List ℕ → RunsOut
 refused n l = record { number = n; count = 0; list = l }
 
 module _ (n : ℕ) (rs : List Span) (l : List ℕ) where
@@ -57,13 +57,17 @@ listed-done : (n : ℕ) (rs : List Span) (bad : Bool) → bad ≡ false → ltb 
 listed-done n rs bad e f = rw (e, f)
 
 backward : (n : ℕ) (s : Span) → s .end < s .first → bad-range n s ≡ true
-backward n s h = rw (lt-ltb _ _ h)
+backward n s h = rw (lt-leb _ _ h)
 
 past : (n : ℕ) (s : Span) → n < s .end → bad-range n s ≡ true
-past n s h = rw (lt-ltb _ _ h) (or-true (ltb (s .end) (s .first)))
+past n s h = rw (lt-leb _ _ h) (go (leb (s .first) (s .end)))
+  where
+    go : (t : Bool) → not (t && false) ≡ true
+    go true = refl
+    go false = refl
 
 good : (n : ℕ) (s : Span) → s .first ≤ s .end → s .end ≤ n → bad-range n s ≡ false
-good n s h g = rw (le-ltb _ _ h, le-ltb _ _ g)
+good n s h g = rw (le-leb _ _ h, le-leb _ _ g)
 
 -- a span of tiles, at w tiles a bucket
 module _ (w : ℕ) (bs : List ℕ) (id : ℕ) (s : Span) (l : List ℕ) where

@@ -29,7 +29,7 @@ use Rattle.depth.specs.declared.state.Skip.the-variants as skip
 use Rattle.depth.specs.declared.runs.Runs.{Runs}
 use Rattle.depth.specs.declared.runs.Runs.the-variants as runs
 use Rattle.depth.specs.Answers.{refusal, split-of, union-of, summary, skip-of}
-use Rattle.depth.specs.Listing.{Out, out, listing, OutWrite, out-write}
+use Rattle.depth.specs.Listing.{RunsOut, out, listing, OutWrite, out-write}
 
 -- what has a way back tells its arguments apart
 once : {A B : Type 0} (f : A → B) (g : B → A) → ((x : A) → g (f x) ≡ x) → (x y : A) → f x ≡ f y → x ≡ y
@@ -131,7 +131,7 @@ skip-there skip.No = refl
 pub skip-once : (r q : Skip) → skip-of r ≡ skip-of q → r ≡ q
 skip-once r q e = once skip-of skip-back skip-there r q e
 
-abbrev out-back : Out → Runs
+abbrev out-back : RunsOut → Runs
 out-back o = cond (eqb (o .number) 0) (runs.Listed (o .count)) (runs.Refused (named (o .number)))
 
 out-there : (r : Runs) (l : List ℕ) → out-back (out r l) ≡ r
@@ -144,7 +144,7 @@ list-there (runs.Listed n) l = refl
 
 pub out-once : (r q : Runs) (l m : List ℕ) → out r l ≡ out q m → (r ≡ q) × (l ≡ m)
 out-once r q l m e =
-    (sym (out-there r l) ∙ ap out-back e ∙ out-there q m, sym (list-there r l) ∙ ap (λ (o : Out). o .list) e ∙ list-there q m)
+    (sym (out-there r l) ∙ ap out-back e ∙ out-there q m, sym (list-there r l) ∙ ap (λ (o : RunsOut). o .list) e ∙ list-there q m)
 
 pub write-once : (r q : Runs) (l m bs cs : List ℕ) → out-write r l bs ≡ out-write q m cs → (r ≡ q) × (l ≡ m) × (bs ≡ cs)
 write-once r q l m bs cs e =
@@ -200,8 +200,8 @@ module _ (bs : List ℕ) (id : ℕ) (s : Span) (n : ℕ) where
 module _ (r : Runs) (l m : List ℕ) (x : rules.Answer (List Span)) (e : out r l ≡ listing x m) where
   pub told-refused : (a : Answer) → r ≡ runs.Refused a → x .number < 15 → number-of a ≡ x .number
   unfolding listing
-  told-refused a q h = refused-number a (x .number) (ap (λ (o : Out). o .number) (rw q at e)) h
+  told-refused a q h = refused-number a (x .number) (ap (λ (o : RunsOut). o .number) (rw q at e)) h
 
   pub told-listed : (n : ℕ) → r ≡ runs.Listed n → (x .number ≡ 0) × (length (x .value) ≡ n)
   unfolding listing
-  told-listed n q = (sym (ap (λ (o : Out). o .number) (rw q at e)), sym (ap (λ (o : Out). o .count) (rw q at e)))
+  told-listed n q = (sym (ap (λ (o : RunsOut). o .number) (rw q at e)), sym (ap (λ (o : RunsOut). o .count) (rw q at e)))

@@ -4,7 +4,7 @@ use mathlib.Core.Bool.{Bool, true, false, cond}
 use mathlib.Core.List.{List, [], _∷_}
 use Prim.Native.Nat.{ℕ, _≤_, _<_, _/_}
 use lib.Dec.{ltb}
-use borrow.Author.Tests.{le-ltb, lt-leb}
+use borrow.Author.Tests.{le-leb, lt-leb}
 use Rattle.rules.specs.Lists.{keep}
 use Rattle.rules.specs.Answers.{answer}
 use Rattle.rules.specs.Spans.{Span, span}
@@ -23,4 +23,4 @@ pub in-three : (w : ℕ) (s : Span) (p q : Edge) → s .first ≤ s .end → s .
     → answer 0 (beside p (buckets (span (raised w (s .first) / w) (lowered w (s .end) / w)) ∷ beside q [])) ≡ split-answer w s
 unfolding split split-answer
 in-three w s p q h₁ h₂ h₃ e₁ e₂ =
-    rw (e₁, e₂, kept (ltb (s .first) (raised w (s .first))), kept (ltb (lowered w (s .end)) (s .end)), le-ltb _ _ h₁, le-ltb _ _ h₂, lt-leb _ _ h₃)
+    rw (e₁, e₂, kept (ltb (s .first) (raised w (s .first))), kept (ltb (lowered w (s .end)) (s .end)), le-leb _ _ h₁, le-leb _ _ h₂, lt-leb _ _ h₃)

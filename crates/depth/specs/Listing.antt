@@ -12,16 +12,16 @@ use Rattle.depth.specs.declared.runs.Runs.the-variants as runs
 use Rattle.depth.specs.Answers.{refusal}
 
 -- an answer, how many runs are listed, and the list's words
-pub record Out : Type 0 where
+pub record RunsOut : Type 0 where
   pub number : ℕ
   pub count : ℕ
   pub list : List ℕ
 
-abbrev pub out : Runs → List ℕ → Out
+abbrev pub out : Runs → List ℕ → RunsOut
 out (runs.Refused a) l = record { number = refusal a; count = 0; list = l }
 out (runs.Listed n) l = record { number = Done; count = n; list = l }
 
-abbrev pub done : ℕ → List ℕ → Out
+abbrev pub done : ℕ → List ℕ → RunsOut
 done n l = record { number = Done; count = n; list = l }
 
 -- two numbers a run
@@ -34,7 +34,7 @@ abbrev pub over : List ℕ → List ℕ → List ℕ
 over ns l = ns ++ drop (length ns) l
 
 -- what an answer leaves; a refusal's value is no run, so that it leaves the list
-unfoldable pub listing : Answer (List Span) → List ℕ → Out
+unfoldable pub listing : Answer (List Span) → List ℕ → RunsOut
 listing a l = record { number = a .number; count = length (a .value); list = over (numbers (a .value)) l }
 
 -- the runs of the buckets from lo to hi, w tiles a bucket, cut to a span
@@ -47,7 +47,7 @@ met-end w s n = cond (ltb (s .first) (s .end)) (min ((s .end + (w - 1)) / w) n) 
 
 -- .. and the depth words
 pub record OutWrite : Type 0 where
-  pub listed : Out
+  pub listed : RunsOut
   pub depth : List ℕ
 
 abbrev pub out-write : Runs → List ℕ → List ℕ → OutWrite

@@ -13,6 +13,3 @@ pub use split::split_opaque_span;
 pub use state::Bounds;
 pub use state::DepthState;
 pub use state::Skip;
-
-// Tiles in a depth bucket.
-const BUCKET: u32 = 32;

@@ -1,6 +1,7 @@
 // Runs of buckets in one row's depth words. The private functions are parts: their callers have judged the range and the room.
-use crate::BUCKET;
 use cmd::Answer;
+use sizes::BUCKET;
+use sizes::TILE_END;
 use span::BucketRange;
 use span::TileSpan;
 use span::larger;
@@ -9,6 +10,7 @@ ghost use mathlib.Core.Path.{_≡_};
 ghost use Prim.Native.Nat.{_≤_, _<_, _*_, _/_};
 ghost use lib.ListN.{length};
 ghost use lib.Dec.{ltb};
+ghost use Rattle.sizes.specs.Sizes.{bucket-tiles, tile-end};
 ghost use Rattle.rules.specs.Spans.{span};
 ghost use Rattle.rules.specs.Depth.{is-visible, runs-in, unset-answer, visible-answer, written};
 ghost use Rattle.span.specs.Spans.{tiles, buckets};
@@ -108,8 +110,8 @@ fn is_short(depth: &[u32], lo: usize, hi: usize, ceiling: u32, words: usize) -> 
 
 // Where the search over a span's buckets ends: at the buffer's end at the latest. An empty span has no bucket to search.
 fn met_end(span: TileSpan, buckets: usize) -> usize
-    requires { ⌜ span .«end» ≤ 8192 ⌝ }
-    ensures { λ r. ⌜ r ≡ met-end 32 (tiles span) buckets ⌝ }
+    requires { ⌜ span .«end» ≤ tile-end ⌝ }
+    ensures { λ r. ⌜ r ≡ met-end bucket-tiles (tiles span) buckets ⌝ }
 {
     if span.end <= span.first {
         return 0;
@@ -120,12 +122,12 @@ fn met_end(span: TileSpan, buckets: usize) -> usize
 
 // The runs of a span's tiles whose buckets hold at most the id.
 pub fn visible_runs(depth: &[u32], span: TileSpan, draw_id: u32, list: &mut [u32]) -> Runs
-    ensures { λ r. ⌜ out r (now (list .exit)) ≡ listing (visible-answer 32 (now (depth .entry)) «draw_id» (tiles span) (length (now (list .entry)) / 2)) (now (list .entry)) ⌝ }
+    ensures { λ r. ⌜ out r (now (list .exit)) ≡ listing (visible-answer bucket-tiles (now (depth .entry)) «draw_id» (tiles span) (length (now (list .entry)) / 2)) (now (list .entry)) ⌝ }
 {
     if span.end < span.first {
         return Runs::Refused(Answer::BadRun);
     }
-    if 8192 < span.end {
+    if TILE_END < span.end {
         return Runs::Refused(Answer::BadRun);
     }
     let lo = (span.first / BUCKET) as usize;
@@ -147,7 +149,7 @@ pub fn visible_runs(depth: &[u32], span: TileSpan, draw_id: u32, list: &mut [u32
 
 // The runs of a span's tiles whose buckets hold 0: what is visible at id 0.
 pub fn unset_runs(depth: &[u32], span: TileSpan, list: &mut [u32]) -> Runs
-    ensures { λ r. ⌜ out r (now (list .exit)) ≡ listing (unset-answer 32 (now (depth .entry)) (tiles span) (length (now (list .entry)) / 2)) (now (list .entry)) ⌝ }
+    ensures { λ r. ⌜ out r (now (list .exit)) ≡ listing (unset-answer bucket-tiles (now (depth .entry)) (tiles span) (length (now (list .entry)) / 2)) (now (list .entry)) ⌝ }
 {
     visible_runs(depth, span, 0, list)
 }

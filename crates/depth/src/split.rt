@@ -1,9 +1,11 @@
 // Rule 7: an opaque span is split into a depth fill of whole buckets and regular pieces beside it.
-use crate::BUCKET;
 use cmd::Answer;
+use sizes::BUCKET;
+use sizes::TILE_END;
 use span::BucketRange;
 use span::TileSpan;
 ghost use mathlib.Core.Path.{_≡_};
+ghost use Rattle.sizes.specs.Sizes.{bucket-tiles};
 ghost use Rattle.rules.specs.Split.{split-answer};
 ghost use Rattle.span.specs.Spans.{tiles};
 ghost use Rattle.depth.specs.Answers.{piece-of, split-of};
@@ -27,14 +29,14 @@ pub enum Split {
 
 // Rule 7: the whole buckets of a span, and what is left of it on each side.
 pub fn split_opaque_span(span: TileSpan) -> Split
-    ensures { λ r. ⌜ split-of r ≡ split-answer 32 (tiles span) ⌝ }
+    ensures { λ r. ⌜ split-of r ≡ split-answer bucket-tiles (tiles span) ⌝ }
 {
     let first = span.first;
     let end = span.end;
     if end < first {
         return Split::Refused(Answer::BadRun);
     }
-    if 8192 < end {
+    if TILE_END < end {
         return Split::Refused(Answer::BadRun);
     }
     let aligned_first = (first + (BUCKET - 1)) / BUCKET * BUCKET;

@@ -1,5 +1,6 @@
 // A row's depth summary: the union of its depth fills' spans, and the largest of their ids.
 use cmd::Answer;
+use sizes::TILE_END;
 use span::TileSpan;
 use span::larger;
 ghost use mathlib.Core.Path.{_≡_};
@@ -58,7 +59,7 @@ impl DepthState {
         if span.end < span.first {
             return Skip::Refused(Answer::BadRun);
         }
-        if 8192 < span.end {
+        if TILE_END < span.end {
             return Skip::Refused(Answer::BadRun);
         }
         if self.max_draw_id <= draw_id {

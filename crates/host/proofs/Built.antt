@@ -10,23 +10,23 @@ use Rattle.rules.specs.Answers.{Answer, answer}
 use Rattle.rect.specs.declared.Rect.{Rect}
 use Rattle.row.specs.Words.{Words}
 use Rattle.screen.specs.declared.Screen.{Screen}
-use Rattle.screen.specs.Tables.{Tables, Lent, lent, reset-to}
-use Rattle.walk.specs.Recorded.{recorded}
-use Rattle.fill.specs.declared.Draw.{Draw}
-use Rattle.fill.specs.Fills as fills
-use Rattle.fill.specs.Fills.{filled}
-use Rattle.layers.specs.declared.LayerProps.{LayerProps}
-use Rattle.push.specs.Push as push
-use Rattle.push.specs.Push.{pushed}
-use Rattle.pop.specs.Pop as pop
-use Rattle.pop.specs.Pop.{popped}
-use Rattle.filter.specs.declared.Placement.{Placement}
-use Rattle.filter.specs.Filter as filter
-use Rattle.filter.specs.Filter.{given, filtered}
-use Rattle.painter.specs.Beginning.{canvas, beginning}
-use Rattle.held.specs.declared.Held.{Held}
-use Rattle.held.specs.declared.Held.the-variants as held
-use Rattle.held.specs.State.{screen-words, screen-of, at-held}
+use Rattle.screen.specs.Tables.{Tables, ScreenLent, lent, reset-to}
+use Rattle.file_call.specs.Recorded.{recorded}
+use Rattle.step_fill.specs.declared.Draw.{Draw}
+use Rattle.step_fill.specs.Fills as fills
+use Rattle.step_fill.specs.Fills.{filled}
+use Rattle.screen_layers.specs.declared.LayerProps.{LayerProps}
+use Rattle.step_push.specs.Push as push
+use Rattle.step_push.specs.Push.{pushed}
+use Rattle.step_pop.specs.Pop as pop
+use Rattle.step_pop.specs.Pop.{popped}
+use Rattle.step_filter.specs.declared.Placement.{Placement}
+use Rattle.step_filter.specs.Filter as filter
+use Rattle.step_filter.specs.Filter.{given, filtered}
+use Rattle.paint_screen.specs.Beginning.{canvas, beginning}
+use Rattle.host_screen.specs.declared.Held.{Held}
+use Rattle.host_screen.specs.declared.Held.the-variants as held
+use Rattle.host_screen.specs.State.{screen-words, screen-of, at-held}
 use Rattle.host.specs.Building.{tables-left, reset-call, recording-call, fill-left, fill-call, push-left, push-call, pop-left, pop-call, filter-left, filter-call}
 use Rattle.host.specs.Painting.{begin-left, begin-call}
 
@@ -48,7 +48,7 @@ module _ (st st' : List ℕ) (s s' : Screen) (r n : ℕ) (h : held.Good s ≡ sc
   fill-built ps ss d w w' pas pas' e =
       rw (rn, sw) (ap fill-left e ∙ ap (λ (x : Held). at-held x st (st, w, pas) (λ (s : Screen). fill-left (filled (fills.lent s w pas) ps ss d))) h)
 
-  pub pop-built : (ss : List ℕ) (l l' : pop.Lent) → pop.out n s' l' ≡ popped s l ss → answer r (st', l') ≡ pop-call ss st l
+  pub pop-built : (ss : List ℕ) (l l' : pop.PopLent) → pop.out n s' l' ≡ popped s l ss → answer r (st', l') ≡ pop-call ss st l
   unfolding pop-call
   pop-built ss l l' e =
       rw (rn, sw) (ap pop-left e ∙ ap (λ (x : Held). at-held x st (st, l) (λ (s : Screen). pop-left (popped s l ss))) h)

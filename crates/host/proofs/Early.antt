@@ -22,46 +22,46 @@ use Rattle.rules.specs.Walk.{go-on, _then_, walk-all}
 use Rattle.rules.proofs.Logged.{Logged, logged-call}
 use Rattle.rules.specs.Painting as rules
 use Rattle.rules.proofs.All.{nil, cons}
-use Rattle.tiles.proofs.Cases.{by}
-use Rattle.tiles.proofs.Walked.{Late, late-done, first-late, plan-late, refusal-late, all-walks}
+use Rattle.rules_picture.proofs.Cases.{by}
+use Rattle.rules_picture.proofs.Walked.{Late, late-done, first-late, plan-late, refusal-late, all-walks}
 use Rattle.rules.specs.Boxes.{good-viewport, rows-of}
 use Rattle.rules.specs.Walk.{good-arenas}
 use Rattle.rect.specs.declared.Rect.{Rect}
 use Rattle.rect.specs.Rects.{box-of}
 use Rattle.row.specs.Words.{Words, word-ops}
-use Rattle.building.specs.Building.{step-number}
+use Rattle.row_judge.specs.Building.{step-number}
 use Rattle.screen.specs.declared.Screen.{Screen}
 use Rattle.screen.specs.Screens.{rect-of, frame}
 use Rattle.screen.specs.declared.Lengths.{Lengths}
 use Rattle.screen.specs.Judging as judging
 use Rattle.screen.specs.Judging.{judged, good-tables, judged-reset}
-use Rattle.screen.specs.Tables.{Tables, lengths, Lent, lent, reset-to}
-use Rattle.fill.specs.declared.Draw.{Draw}
-use Rattle.fill.specs.Fills as fills
-use Rattle.fill.specs.Fills.{filled}
-use Rattle.layers.specs.declared.LayerProps.{LayerProps}
-use Rattle.layers.specs.Layers.{good-pattern}
-use Rattle.push.specs.Push as push
-use Rattle.push.specs.Push.{pushed}
-use Rattle.pop.specs.Pop as pop
-use Rattle.pop.specs.Pop.{popped}
-use Rattle.filter.specs.Filter as filter
-use Rattle.filter.specs.Filter.{filtered}
-use Rattle.recording.specs.Judging as records
-use Rattle.steps.specs.Steps.{call-at}
-use Rattle.walk.specs.Recorded.{or-fresh, played, recorded-in, of-sections, recorded}
-use Rattle.refine.proofs.Refined.{reset-refines}
-use Rattle.refine.proofs.Walks.{walk-refines}
-use Rattle.paint.specs.Painting as paint
-use Rattle.painter.specs.Judging as painter
-use Rattle.painter.specs.Judging.{wide, begin-number, runs-number, skip-number}
-use Rattle.painter.specs.Beginning.{Canvas, canvas, beginning}
-use Rattle.painter.specs.Stepping.{Attributes, part, own, number, row-step, stepped}
-use Rattle.painter.specs.Rows.{Wrote, or-runs, write-in-place, record-skip, unset-of, visible-of, write-of, skip-of-row}
-use Rattle.rowpaint.specs.Running.{goes-on, ended, one-more, run, standing, call-step, row-painted}
+use Rattle.screen.specs.Tables.{Tables, lengths, ScreenLent, lent, reset-to}
+use Rattle.step_fill.specs.declared.Draw.{Draw}
+use Rattle.step_fill.specs.Fills as fills
+use Rattle.step_fill.specs.Fills.{filled}
+use Rattle.screen_layers.specs.declared.LayerProps.{LayerProps}
+use Rattle.screen_layers.specs.Layers.{good-pattern}
+use Rattle.step_push.specs.Push as push
+use Rattle.step_push.specs.Push.{pushed}
+use Rattle.step_pop.specs.Pop as pop
+use Rattle.step_pop.specs.Pop.{popped}
+use Rattle.step_filter.specs.Filter as filter
+use Rattle.step_filter.specs.Filter.{filtered}
+use Rattle.file_judge.specs.Judging as records
+use Rattle.file_steps.specs.Steps.{call-at}
+use Rattle.file_call.specs.Recorded.{or-fresh, played, recorded-in, of-sections, recorded}
+use Rattle.refine_steps.proofs.Refined.{reset-refines}
+use Rattle.refine_steps.proofs.Walks.{walk-refines}
+use Rattle.paint_command.specs.Painting as paint
+use Rattle.paint_screen.specs.Judging as painter
+use Rattle.paint_screen.specs.Judging.{wide, begin-number, runs-number, skip-number}
+use Rattle.paint_screen.specs.Beginning.{Canvas, canvas, beginning}
+use Rattle.paint_screen.specs.Stepping.{Attributes, part, own, number, row-step, stepped}
+use Rattle.paint_screen.specs.Rows.{Wrote, or-runs, write-in-place, record-skip, unset-of, visible-of, write-of, skip-of-row}
+use Rattle.paint_whole.specs.Running.{goes-on, ended, one-more, run, standing, call-step, row-painted}
 use Rattle.depth.specs.Listing.{listing, writing}
-use Rattle.shown.specs.Summaries.{good-summary, summary-at}
-use Rattle.held.specs.State.{before-4}
+use Rattle.paint_runs.specs.Summaries.{good-summary, summary-at}
+use Rattle.host_screen.specs.State.{before-4}
 use Rattle.host.specs.Border.{arenas-number, in-sections, file-number}
 use Rattle.host.proofs.Kept.{on-done, gone-on}
 
@@ -97,7 +97,7 @@ step-early k good p s h = after k _ (late-or good _ (refusal-late word-ops 32 p 
 lists-early : (k : ℕ) (b : Bool) → before-4 k ≡ before-4 (cond (eqb k Done) (cond b Done BadRecord) k)
 lists-early k b = after k _ (late-or b Done late-done)
 
-pub fill-early : (l : fills.Lent) (ps ss : List ℕ) (d : Draw)
+pub fill-early : (l : fills.FillLent) (ps ss : List ℕ) (d : Draw)
     → before-4 (judged (l .screen) (length (l .words .state)) (length (l .words .render)) (length (l .words .fills))) ≡ before-4 (filled l ps ss d .number)
 unfolding fills.fill-number fills.first-number plan
 fill-early l ps ss d =
@@ -106,7 +106,7 @@ fill-early l ps ss d =
     ∙ step-early (fills.first-of-lent l ps ss) _ _ _ (plan-late (a-fill _ _ _) [] _)
     ∙ ap before-4 (sym (settle-number (fills.fill-number l ps ss d) _ _))
 
-pub push-early : (p : LayerProps) (l : push.Lent)
+pub push-early : (p : LayerProps) (l : push.PushLent)
     → before-4 (judged (l .screen) (length (l .words .state)) (length (l .words .render)) (length (l .words .fills))) ≡ before-4 (pushed p l .number)
 unfolding pushed push.push-number plan
 push-early p l =
@@ -115,7 +115,7 @@ push-early p l =
     ∙ step-early (push.first-number p l) _ _ _ (plan-late (a-push _) [] _)
     ∙ ap before-4 (sym (settle-number (push.push-number p l) _ _))
 
-pub filter-early : (g : filter.Given) (l : filter.Lent)
+pub filter-early : (g : filter.FilterGiven) (l : filter.FilterLent)
     → before-4 (judged (l .screen) (length (l .words .state)) (length (l .words .render)) (length (l .words .fills))) ≡ before-4 (filtered g l .number)
 unfolding filtered filter.filter-number plan
 filter-early g l =
@@ -133,11 +133,11 @@ first-early k x y =
     turned true m = refl
     turned false m = refl
 
-pop-number : (s : Screen) (l : pop.Lent) (ws : List ℕ) → pop.number s l ws ≡ popped s l ws .number
+pop-number : (s : Screen) (l : pop.PopLent) (ws : List ℕ) → pop.number s l ws ≡ popped s l ws .number
 unfolding popped
 pop-number s l ws = by (eqb (pop.number s l ws) Done) (λ y. rw y (eqb-true (pop.number s l ws) Done y)) (λ z. rw z)
 
-pub pop-early : (s : Screen) (l : pop.Lent) (ws : List ℕ)
+pub pop-early : (s : Screen) (l : pop.PopLent) (ws : List ℕ)
     → before-4 (judged s (length (l .words .state)) (length (l .words .render)) (length (l .words .fills))) ≡ before-4 (popped s l ws .number)
 unfolding pop.number-after pop.first plan
 pop-early s l ws =
@@ -157,19 +157,19 @@ unfolding paint.settled
 row-late none d p l = λ e. omega arith
 row-late (some o) d p l = by (ltb (length l / 6) (length (o .pieces))) (λ y. rw y (λ e. omega arith)) (λ z. rw z late-done)
 
-out-number : (b : Bool) (n : ℕ) (o p : paint.Out) → p .answer .number ≡ n → cond b (o .answer .number) n ≡ cond b o p .answer .number
+out-number : (b : Bool) (n : ℕ) (o p : paint.StepOut) → p .answer .number ≡ n → cond b (o .answer .number) n ≡ cond b o p .answer .number
 out-number true n o p e = refl
 out-number false n o p e = sym e
 
-pub step-is-early : (s : Screen) (r : ℕ) (a : Attributes) (l : paint.Lent) → before-4 (number s r a l) ≡ before-4 (stepped s r a l .answer .number)
+pub step-is-early : (s : Screen) (r : ℕ) (a : Attributes) (l : paint.RowLent) → before-4 (number s r a l) ≡ before-4 (stepped s r a l .answer .number)
 unfolding stepped row-step paint.painted-row
 step-is-early s r a l =
     after (number s r a l) (row-step s r a l .answer .number) (row-late (paint.next-step (paint.attrs-at (a .paints) (s .«paint_attrs») (a .layers) (s .«layer_attrs»)) (own s r l)) _ _ (l .list))
     ∙ ap before-4 (out-number (eqb (number s r a l) Done) (number s r a l) (row-step s r a l) (paint.out (paint.refused (number s r a l)) (l .depth) (l .painting) (l .list)) refl)
 
 -- a row's call has its first step's number
-module _ (step : List ℕ → List ℕ → List ℕ → paint.Out) (d p l : List ℕ) where
-  abbrev first : paint.Out
+module _ (step : List ℕ → List ℕ → List ℕ → paint.StepOut) (d p l : List ℕ) where
+  abbrev first : paint.StepOut
   first = one-more step (standing d p l)
 
   first-number : step d p l .answer .number ≡ first .answer .number
@@ -180,13 +180,13 @@ module _ (step : List ℕ → List ℕ → List ℕ → paint.Out) (d p l : List
   unfolding run
   run-number f = by (goes-on (first .answer)) (λ y. rw y (gone-on first y ∙ sym (on-done step f 0 first (gone-on first y)))) (λ z. rw z)
 
-row-number : (s : Screen) (r : ℕ) (a : Attributes) (l : paint.Lent) → stepped s r a l .answer .number ≡ row-painted s r a l .answer .number
+row-number : (s : Screen) (r : ℕ) (a : Attributes) (l : paint.RowLent) → stepped s r a l .answer .number ≡ row-painted s r a l .answer .number
 unfolding row-painted
 row-number s r a l =
     let step = call-step s r a (l .state) (l .render) (l .fills) in
     first-number step (l .depth) (l .painting) (l .list) ∙ run-number step (l .depth) (l .painting) (l .list) 2048
 
-pub row-is-early : (s : Screen) (r : ℕ) (a : Attributes) (l : paint.Lent) → before-4 (number s r a l) ≡ before-4 (row-painted s r a l .answer .number)
+pub row-is-early : (s : Screen) (r : ℕ) (a : Attributes) (l : paint.RowLent) → before-4 (number s r a l) ≡ before-4 (row-painted s r a l .answer .number)
 row-is-early s r a l = step-is-early s r a l ∙ ap before-4 (row-number s r a l)
 
 -- Runs.
@@ -253,7 +253,7 @@ arenas-early v c d l = go (good-viewport (box-of v)) (good-arenas 32 (frame v c 
     go true true true = refl
     go true true false = refl
 
-pub reset-early : (v : Rect) (c d : ℕ) (l : Lent) → before-4 (arenas-number v c d (judging.arenas (lengths (l .tables)))) ≡ before-4 (reset-to v c d l .number)
+pub reset-early : (v : Rect) (c d : ℕ) (l : ScreenLent) → before-4 (arenas-number v c d (judging.arenas (lengths (l .tables)))) ≡ before-4 (reset-to v c d l .number)
 unfolding reset-to
 reset-early v c d l =
     arenas-early v c d (lengths (l .tables)) ∙ ap before-4 (sym (settle-number (judged-reset v c d (lengths (l .tables))) _ _))
@@ -261,14 +261,14 @@ reset-early v c d l =
 records-late : (r : Recording) → Late (records.judged r)
 records-late r = first-late ((not (good-records r), BadRecord) ∷ (not (good-order r), BadOrder) ∷ []) (cons (omega arith) (cons (omega arith) nil))
 
-module _ (r : Recording) (c d : ℕ) (l : Lent) where
+module _ (r : Recording) (c d : ℕ) (l : ScreenLent) where
   abbrev v : Rect
   v = rect-of (r .viewport)
 
   abbrev early : ℕ
   early = judged-reset v c d (lengths (l .tables))
 
-  walk-late : early ≡ Done → Late (walk-all Lent call-at r (reset-to v c d l .value) .number)
+  walk-late : early ≡ Done → Late (walk-all ScreenLent call-at r (reset-to v c d l .value) .number)
   unfolding reset
   walk-late e =
       let start = reset fresh-row (frame v c d) in
@@ -278,10 +278,10 @@ module _ (r : Recording) (c d : ℕ) (l : Lent) where
   played-late : early ≡ Done → Late (played r (reset-to v c d l .value) .number)
   unfolding played _then_
   played-late e = by (eqb (records.judged r) Done)
-      (λ y. rw y (kept (walk-all Lent call-at r (reset-to v c d l .value)) (walk-late e)))
+      (λ y. rw y (kept (walk-all ScreenLent call-at r (reset-to v c d l .value)) (walk-late e)))
       (λ z. rw (z, z) (records-late r))
     where
-      kept : (a : Answer Lent) → Late (a .number) → Late (or-fresh (reset-to v c d l .value) a .number)
+      kept : (a : Answer ScreenLent) → Late (a .number) → Late (or-fresh (reset-to v c d l .value) a .number)
       kept a h = by (eqb (a .number) Done) (λ y. rw y h) (λ z. rw z h)
 
   reset-number : reset-to v c d l .number ≡ early
@@ -294,7 +294,7 @@ module _ (r : Recording) (c d : ℕ) (l : Lent) where
       (λ y. let e = sym reset-number ∙ eqb-true (reset-to v c d l .number) Done y in rw y (zero-4 early e ∙ sym (late-4 _ (played-late e))))
       (λ z. rw z (ap before-4 (sym reset-number)))
 
-pub recorded-is-early : (ws : List ℕ) (c d : ℕ) (l : Lent) → before-4 (file-number ws c d (judging.arenas (lengths (l .tables)))) ≡ before-4 (recorded ws c d l .number)
+pub recorded-is-early : (ws : List ℕ) (c d : ℕ) (l : ScreenLent) → before-4 (file-number ws c d (judging.arenas (lengths (l .tables)))) ≡ before-4 (recorded ws c d l .number)
 unfolding recorded file-number
 recorded-is-early ws c d l = go (sections shape ws)
   where

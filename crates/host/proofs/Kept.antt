@@ -17,15 +17,15 @@ use Rattle.rules.specs.Depth.{listed, unset-runs, visible-runs, write-runs, uns
 use Rattle.cmd.proofs.Tests.{and-left}
 use Rattle.screen.specs.declared.Screen.{Screen}
 use Rattle.depth.specs.Listing.{numbers, listing, writing}
-use Rattle.paint.specs.Painting as paint
-use Rattle.painter.specs.Judging.{wide, runs-number}
-use Rattle.painter.specs.Stepping.{Attributes, part, own, in-place, number, row-step, stepped}
-use Rattle.rowpaint.specs.Running.{goes-on, ended, one-more, run, most, standing, call-step, row-painted}
-use Rattle.painter.specs.Rows.{Wrote, or-runs, unset-of, visible-of, write-of, write-in-place, skip-of-row}
-use Rattle.held.specs.declared.Held.{Held}
-use Rattle.held.specs.declared.Held.the-variants as held
-use Rattle.held.specs.State.{screen-words, screen-of, at-held, on}
-use Rattle.held.proofs.Words.{written-back}
+use Rattle.paint_command.specs.Painting as paint
+use Rattle.paint_screen.specs.Judging.{wide, runs-number}
+use Rattle.paint_screen.specs.Stepping.{Attributes, part, own, in-place, number, row-step, stepped}
+use Rattle.paint_whole.specs.Running.{goes-on, ended, one-more, run, most, standing, call-step, row-painted}
+use Rattle.paint_screen.specs.Rows.{Wrote, or-runs, unset-of, visible-of, write-of, write-in-place, skip-of-row}
+use Rattle.host_screen.specs.declared.Held.{Held}
+use Rattle.host_screen.specs.declared.Held.the-variants as held
+use Rattle.host_screen.specs.State.{screen-words, screen-of, at-held, on}
+use Rattle.host_screen.proofs.Words.{written-back}
 use Rattle.host.specs.Painting.{with-room, step-left, step-call, row-call, runs-left, unset-call, visible-call, write-left, write-call, skip-left, skip-call, split-left, split-call}
 use Rattle.host.proofs.Refused.{Refused, settled}
 
@@ -130,11 +130,11 @@ row-kept (some o) d p l q = by (ltb (length l / 6) (length (o .pieces))) q
     by true q = (refl, refl, refl)
     by false q = absurd (q refl)
 
-module _ (s : Screen) (r : ℕ) (a : Attributes) (l : paint.Lent) (res : List ℕ) where
+module _ (s : Screen) (r : ℕ) (a : Attributes) (l : paint.RowLent) (res : List ℕ) where
   abbrev same-step : List ℕ × List ℕ × List ℕ × List ℕ
   same-step = (l .depth, l .painting, l .list, res)
 
-  placed-kept : (x : paint.Out) → (x .depth ≡ part (wide s) r (l .depth)) × (x .painting ≡ part 2 r (l .painting)) × (x .list ≡ l .list) → Refused (step-left res (in-place s r l x))
+  placed-kept : (x : paint.StepOut) → (x .depth ≡ part (wide s) r (l .depth)) × (x .painting ≡ part 2 r (l .painting)) × (x .list ≡ l .list) → Refused (step-left res (in-place s r l x))
       → step-left res (in-place s r l x) .value ≡ same-step
   placed-kept x k q = rw (k .0, k .1, k .2, put-same (r * wide s) (wide s) (l .depth), put-same (r * 2) 2 (l .painting), ne-eqb _ _ q)
 
@@ -149,21 +149,21 @@ module _ (s : Screen) (r : ℕ) (a : Attributes) (l : paint.Lent) (res : List �
           (row-kept (paint.next-step (paint.attrs-at (a .paints) (s .«paint_attrs») (a .layers) (s .«layer_attrs»)) (own s r l)) (part (wide s) r (l .depth)) (part 2 r (l .painting)) (l .list) q) q
       by false f q = rw f
 
-pub step-refused : (r : ℕ) (a : Attributes) (st : List ℕ) (l : paint.Lent) (res : List ℕ) → Refused (step-call r a st l res) → step-call r a st l res .value ≡ (l .depth, l .painting, l .list, res)
+pub step-refused : (r : ℕ) (a : Attributes) (st : List ℕ) (l : paint.RowLent) (res : List ℕ) → Refused (step-call r a st l res) → step-call r a st l res .value ≡ (l .depth, l .painting, l .list, res)
 unfolding step-call
 step-refused r a st l res =
     at-screen (eqb (length res) 2) st (l .depth, l .painting, l .list, res) (λ (s : Screen). step-left res (stepped s r a l))
     (λ (s : Screen) (e : held.Good s ≡ screen-of (eqb (length res) 2) st). step-at-row s r a l res)
 
 -- A row's steps. After one that is done the call is not refused, ..
-pub gone-on : (o : paint.Out) → goes-on (o .answer) ≡ true → o .answer .number ≡ 0
+pub gone-on : (o : paint.StepOut) → goes-on (o .answer) ≡ true → o .answer .number ≡ 0
 gone-on o e = eqb-true (o .answer .number) 0 (and-left (eqb (o .answer .number) 0) (not (o .answer .finished)) e)
 
-late : (k : ℕ) (o : paint.Out) → (k ≡ 0 → ⊥) → ended k o .answer .number ≡ 0
+late : (k : ℕ) (o : paint.StepOut) → (k ≡ 0 → ⊥) → ended k o .answer .number ≡ 0
 late k o h = rw (ne-eqb k 0 h)
 
-module _ (step : List ℕ → List ℕ → List ℕ → paint.Out) where
-  pub on-done : (f k : ℕ) (g : paint.Out) → g .answer .number ≡ 0 → run step f (k + 1) g .answer .number ≡ 0
+module _ (step : List ℕ → List ℕ → List ℕ → paint.StepOut) where
+  pub on-done : (f k : ℕ) (g : paint.StepOut) → g .answer .number ≡ 0 → run step f (k + 1) g .answer .number ≡ 0
   unfolding run
   on-done zero k g e = e
   on-done (suc f) k g e = by (goes-on (one-more step g .answer)) refl (on-done f (k + 1) (one-more step g))
@@ -174,14 +174,14 @@ module _ (step : List ℕ → List ℕ → List ℕ → paint.Out) where
       by false i more = late (k + 1) (one-more step g) (λ z. omega (arith, z))
 
 -- .. and a refused first step leaves what it was lent.
-abbrev As-lent : paint.Out → List ℕ → List ℕ → List ℕ → Type 0
+abbrev As-lent : paint.StepOut → List ℕ → List ℕ → List ℕ → Type 0
 As-lent o d p l = (o .depth ≡ d) × (o .painting ≡ p) × (o .list ≡ l)
 
-left-kept : (o : paint.Out) (d p l res : List ℕ) → As-lent o d p l → Refused (step-left res o) → step-left res o .value ≡ (d, p, l, res)
+left-kept : (o : paint.StepOut) (d p l res : List ℕ) → As-lent o d p l → Refused (step-left res o) → step-left res o .value ≡ (d, p, l, res)
 left-kept o d p l res k q = rw (k .0, k .1, k .2, ne-eqb _ _ q)
 
-module _ (step : List ℕ → List ℕ → List ℕ → paint.Out) (d p l : List ℕ) (keeps : (step d p l .answer .number ≡ 0 → ⊥) → As-lent (step d p l) d p l) where
-  abbrev first : paint.Out
+module _ (step : List ℕ → List ℕ → List ℕ → paint.StepOut) (d p l : List ℕ) (keeps : (step d p l .answer .number ≡ 0 → ⊥) → As-lent (step d p l) d p l) where
+  abbrev first : paint.StepOut
   first = one-more step (standing d p l)
 
   first-kept : (first .answer .number ≡ 0 → ⊥) → As-lent first d p l
@@ -197,7 +197,7 @@ module _ (step : List ℕ → List ℕ → List ℕ → paint.Out) (d p l : List
       by true i q = absurd (q (on-done step f 0 first (gone-on first i)))
       by false i q = first-kept q
 
-module _ (s : Screen) (r : ℕ) (a : Attributes) (l : paint.Lent) (res : List ℕ) where
+module _ (s : Screen) (r : ℕ) (a : Attributes) (l : paint.RowLent) (res : List ℕ) where
   stepped-kept : (stepped s r a l .answer .number ≡ 0 → ⊥) → As-lent (stepped s r a l) (l .depth) (l .painting) (l .list)
   stepped-kept q =
       let e = step-at-row s r a l res q in
@@ -210,7 +210,7 @@ module _ (s : Screen) (r : ℕ) (a : Attributes) (l : paint.Lent) (res : List �
   steps-at-row : Refused (step-left res (row-painted s r a l)) → step-left res (row-painted s r a l) .value ≡ (l .depth, l .painting, l .list, res)
   steps-at-row q = left-kept (row-painted s r a l) (l .depth) (l .painting) (l .list) res (steps-kept q) q
 
-pub row-refused : (r : ℕ) (a : Attributes) (st : List ℕ) (l : paint.Lent) (res : List ℕ) → Refused (row-call r a st l res) → row-call r a st l res .value ≡ (l .depth, l .painting, l .list, res)
+pub row-refused : (r : ℕ) (a : Attributes) (st : List ℕ) (l : paint.RowLent) (res : List ℕ) → Refused (row-call r a st l res) → row-call r a st l res .value ≡ (l .depth, l .painting, l .list, res)
 unfolding row-call
 row-refused r a st l res =
     at-screen (eqb (length res) 2) st (l .depth, l .painting, l .list, res) (λ (s : Screen). step-left res (row-painted s r a l))

@@ -4,5 +4,6 @@ pub mod Results
 pub mod Refused
 pub mod Sized
 pub mod Kept
+pub mod Listed
 pub mod Early
 pub mod Unheld

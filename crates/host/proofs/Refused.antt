@@ -13,26 +13,26 @@ use Rattle.row.specs.Words.{Words}
 use Rattle.screen.specs.declared.Screen.{Screen}
 use Rattle.screen.specs.Screens.{fresh-screen}
 use Rattle.screen.specs.Judging.{judged-reset}
-use Rattle.screen.specs.Tables.{Tables, Lent, lent, lengths, zeros, zeroed, reset-to}
-use Rattle.fill.specs.declared.Draw.{Draw}
-use Rattle.fill.specs.Fills as fills
-use Rattle.fill.specs.Fills.{filled}
-use Rattle.layers.specs.declared.LayerProps.{LayerProps}
-use Rattle.push.specs.Push as push
-use Rattle.push.specs.Push.{pushed}
-use Rattle.pop.specs.Pop as pop
-use Rattle.pop.specs.Pop.{popped}
-use Rattle.filter.specs.declared.Placement.{Placement}
-use Rattle.filter.specs.Filter as filter
-use Rattle.filter.specs.Filter.{given, filtered}
-use Rattle.painter.specs.Judging.{begin-number}
-use Rattle.painter.specs.Beginning.{Canvas, canvas, begun, beginning}
-use Rattle.held.specs.declared.Held.{Held}
-use Rattle.held.specs.declared.Held.the-variants as held
-use Rattle.held.specs.State.{screen-words, screen-of, at-held}
+use Rattle.screen.specs.Tables.{Tables, ScreenLent, lent, lengths, zeros, zeroed, reset-to}
+use Rattle.step_fill.specs.declared.Draw.{Draw}
+use Rattle.step_fill.specs.Fills as fills
+use Rattle.step_fill.specs.Fills.{filled}
+use Rattle.screen_layers.specs.declared.LayerProps.{LayerProps}
+use Rattle.step_push.specs.Push as push
+use Rattle.step_push.specs.Push.{pushed}
+use Rattle.step_pop.specs.Pop as pop
+use Rattle.step_pop.specs.Pop.{popped}
+use Rattle.step_filter.specs.declared.Placement.{Placement}
+use Rattle.step_filter.specs.Filter as filter
+use Rattle.step_filter.specs.Filter.{given, filtered}
+use Rattle.paint_screen.specs.Judging.{begin-number}
+use Rattle.paint_screen.specs.Beginning.{Canvas, canvas, begun, beginning}
+use Rattle.host_screen.specs.declared.Held.{Held}
+use Rattle.host_screen.specs.declared.Held.the-variants as held
+use Rattle.host_screen.specs.State.{screen-words, screen-of, at-held}
 use Rattle.host.specs.Building.{reset-call, fill-call, push-call, pop-call, filter-call}
 use Rattle.host.specs.Painting.{begin-call}
-use Rattle.held.proofs.Words.{written-back}
+use Rattle.host_screen.proofs.Words.{written-back}
 
 abbrev pub Refused : {A : Type 0} → Answer A → Type 0
 Refused a = a .number ≡ 0 → ⊥
@@ -57,13 +57,13 @@ module _ {L T F : Type 0} (pack : List ℕ → T → F) (screen-in : L → Scree
 pub reset-refused : (v : Rect) (c d : ℕ) (st : List ℕ) (t : Tables) → Refused (reset-call v c d st t) → reset-call v c d st t .value ≡ (st, t)
 unfolding reset-call reset-to
 reset-refused v c d st t q =
-    unchanged {T = Tables} {F = List ℕ × Tables} (λ (ws : List ℕ) (t : Tables). (ws, t)) (λ (l : Lent). l .screen) (λ (l : Lent). l .tables) true st t (λ (s : Screen). lent s t) (λ (s : Screen). reset-to v c d (lent s t)) (λ (s : Screen). (refl, refl))
+    unchanged {T = Tables} {F = List ℕ × Tables} (λ (ws : List ℕ) (t : Tables). (ws, t)) (λ (l : ScreenLent). l .screen) (λ (l : ScreenLent). l .tables) true st t (λ (s : Screen). lent s t) (λ (s : Screen). reset-to v c d (lent s t)) (λ (s : Screen). (refl, refl))
     (λ (s : Screen). settled (judged-reset v c d (lengths t)) (lent s t) (lent (fresh-screen v c d) (zeroed t))) (screen-of true st) refl q
 
 pub fill-refused : (ps ss : List ℕ) (d : Draw) (st : List ℕ) (w : Words) (pas : List ℕ) → Refused (fill-call ps ss d st w pas) → fill-call ps ss d st w pas .value ≡ (st, w, pas)
 unfolding fill-call
 fill-refused ps ss d st w pas q =
-    unchanged {T = Words × List ℕ} {F = List ℕ × Words × List ℕ} (λ (ws : List ℕ) (t : Words × List ℕ). (ws, t .0, t .1)) (λ (l : fills.Lent). l .screen) (λ (l : fills.Lent). (l .words, l .paint-attrs)) true st (w, pas) (λ (s : Screen). fills.lent s w pas) (λ (s : Screen). filled (fills.lent s w pas) ps ss d)
+    unchanged {T = Words × List ℕ} {F = List ℕ × Words × List ℕ} (λ (ws : List ℕ) (t : Words × List ℕ). (ws, t .0, t .1)) (λ (l : fills.FillLent). l .screen) (λ (l : fills.FillLent). (l .words, l .paint-attrs)) true st (w, pas) (λ (s : Screen). fills.lent s w pas) (λ (s : Screen). filled (fills.lent s w pas) ps ss d)
     (λ (s : Screen). (refl, refl)) (λ (s : Screen). settled (fills.fill-number (fills.lent s w pas) ps ss d) (fills.lent s w pas) (fills.fill-done (fills.lent s w pas) ps ss d)) (screen-of true st) refl q
 
 pub push-refused : (flag : ℕ) (p : LayerProps) (st : List ℕ) (w : Words) (ls : List ℕ) (os : List Float) → Refused (push-call flag p st w ls os)
@@ -71,7 +71,7 @@ pub push-refused : (flag : ℕ) (p : LayerProps) (st : List ℕ) (w : Words) (ls
 unfolding push-call pushed
 push-refused flag p st w ls os q =
     unchanged {T = Words × List ℕ × List Float} {F = List ℕ × Words × List ℕ × List Float} (λ (ws : List ℕ) (t : Words × List ℕ × List Float). (ws, t .0, t .1, t .2))
-    (λ (l : push.Lent). l .screen) (λ (l : push.Lent). (l .words, l .layers, l .opacities)) (leb flag 1) st (w, ls, os) (λ (s : Screen). push.lent s w ls os)
+    (λ (l : push.PushLent). l .screen) (λ (l : push.PushLent). (l .words, l .layers, l .opacities)) (leb flag 1) st (w, ls, os) (λ (s : Screen). push.lent s w ls os)
     (λ (s : Screen). pushed p (push.lent s w ls os)) (λ (s : Screen). (refl, refl))
     (λ (s : Screen). settled (push.push-number p (push.lent s w ls os)) (push.lent s w ls os) (push.after p (push.lent s w ls os))) (screen-of (leb flag 1) st) refl q
 
@@ -79,7 +79,7 @@ pub filter-refused : (p : Placement) (pixmap n : ℕ) (st : List ℕ) (w : Words
     → filter-call p pixmap n st w pas fps .value ≡ (st, w, pas, fps)
 unfolding filter-call filtered
 filter-refused p pixmap n st w pas fps q =
-    unchanged {T = Words × List ℕ × List ℤ} {F = List ℕ × Words × List ℕ × List ℤ} (λ (ws : List ℕ) (t : Words × List ℕ × List ℤ). (ws, t .0, t .1, t .2)) (λ (l : filter.Lent). l .screen) (λ (l : filter.Lent). (l .words, l .paint-attrs, l .filter-paints)) true st (w, pas, fps) (λ (s : Screen). filter.lent s w pas fps)
+    unchanged {T = Words × List ℕ × List ℤ} {F = List ℕ × Words × List ℕ × List ℤ} (λ (ws : List ℕ) (t : Words × List ℕ × List ℤ). (ws, t .0, t .1, t .2)) (λ (l : filter.FilterLent). l .screen) (λ (l : filter.FilterLent). (l .words, l .paint-attrs, l .filter-paints)) true st (w, pas, fps) (λ (s : Screen). filter.lent s w pas fps)
     (λ (s : Screen). filtered (given p pixmap n) (filter.lent s w pas fps)) (λ (s : Screen). (refl, refl)) (λ (s : Screen). settled (filter.filter-number (given p pixmap n) (filter.lent s w pas fps)) (filter.lent s w pas fps) (filter.after (given p pixmap n) (filter.lent s w pas fps))) (screen-of true st) refl q
 
 pub begin-refused : (st d p : List ℕ) → Refused (begin-call st d p) → begin-call st d p .value ≡ (st, d, p)
@@ -88,11 +88,11 @@ begin-refused st d p q =
     unchanged {T = List ℕ × List ℕ} {F = List ℕ × List ℕ × List ℕ} (λ (ws : List ℕ) (t : List ℕ × List ℕ). (ws, t .0, t .1)) (λ (k : Canvas). k .screen) (λ (k : Canvas). (k .depth, k .painting)) true st (d, p) (λ (s : Screen). canvas s d p) (λ (s : Screen). beginning (canvas s d p))
     (λ (s : Screen). (refl, refl)) (λ (s : Screen). settled (begin-number s (length d) (length p)) (canvas s d p) (canvas (begun true s) (zeros 0 d) (zeros 0 p))) (screen-of true st) refl q
 
-pub pop-refused : (ss st : List ℕ) (l : pop.Lent) → Refused (pop-call ss st l) → pop-call ss st l .value ≡ (st, l)
+pub pop-refused : (ss st : List ℕ) (l : pop.PopLent) → Refused (pop-call ss st l) → pop-call ss st l .value ≡ (st, l)
 unfolding pop-call popped
 pop-refused ss st l q = by (screen-of true st) refl q
   where
-    shut : Held → Answer (List ℕ × pop.Lent)
+    shut : Held → Answer (List ℕ × pop.PopLent)
     shut h = at-held h st (st, l) (λ (s : Screen). answer (popped s l ss .number) (screen-words (popped s l ss .screen), popped s l ss .lent))
 
     inner : (s : Screen) → held.Good s ≡ screen-of true st → (b : Bool) → eqb (pop.number s l ss) Done ≡ b → Refused (shut (held.Good s)) → shut (held.Good s) .value ≡ (st, l)

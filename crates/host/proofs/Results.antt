@@ -17,20 +17,20 @@ use Rattle.depth.specs.declared.runs.Runs.the-variants as runs
 use Rattle.depth.specs.declared.split.Split.{Split}
 use Rattle.depth.specs.declared.state.Skip.{Skip}
 use Rattle.depth.specs.Answers.{refusal, skip-of, split-of}
-use Rattle.depth.specs.Listing.{Out, out}
-use Rattle.paint.specs.declared.Painted.{Painted}
-use Rattle.paint.specs.Painting as paint
-use Rattle.painter.specs.declared.rows.Written.{Written}
-use Rattle.painter.specs.Stepping.{Attributes, stepped}
-use Rattle.rowpaint.specs.Running.{row-painted}
-use Rattle.painter.specs.Rows.{Wrote, wrote, unset-of, visible-of, write-of, skip-of-row}
+use Rattle.depth.specs.Listing.{RunsOut, out}
+use Rattle.paint_command.specs.declared.Painted.{Painted}
+use Rattle.paint_command.specs.Painting as paint
+use Rattle.paint_screen.specs.declared.rows.Written.{Written}
+use Rattle.paint_screen.specs.Stepping.{Attributes, stepped}
+use Rattle.paint_whole.specs.Running.{row-painted}
+use Rattle.paint_screen.specs.Rows.{Wrote, wrote, unset-of, visible-of, write-of, skip-of-row}
 use Rattle.host.specs.declared.painting.Slots.{Slots}
-use Rattle.held.specs.declared.Held.{Held}
-use Rattle.held.specs.declared.Held.the-variants as held
-use Rattle.held.specs.State.{screen-words, screen-of}
+use Rattle.host_screen.specs.declared.Held.{Held}
+use Rattle.host_screen.specs.declared.Held.the-variants as held
+use Rattle.host_screen.specs.State.{screen-words, screen-of}
 use Rattle.host.specs.Painting.{result, step-result, step-left, step-call, row-call, count-left, runs-left, unset-call, visible-call, write-left, write-call, skip-left, skip-call, slot-words, split-left, split-call}
 use Rattle.host.specs.Sizes.{fixed}
-use Rattle.held.proofs.Lists.{by-length}
+use Rattle.host_screen.proofs.Lists.{by-length}
 
 -- a refusal's number is not 0
 pub refused : (a : cmd.Answer) → eqb (refusal a) 0 ≡ false
@@ -71,13 +71,13 @@ written o d l n n' k e = ap (λ (x : Answer (List ℕ × List ℕ)). answer (x .
 
 -- at the screen that the words stand for, with a result of the right length
 module _ (st : List ℕ) (s : Screen) where
-  pub step-roomed : (r k : ℕ) (a : Attributes) (l : paint.Lent) (p : Painted) (d' p' l' res res' : List ℕ) → held.Good s ≡ screen-of (eqb (length res) 2) st
+  pub step-roomed : (r k : ℕ) (a : Attributes) (l : paint.RowLent) (p : Painted) (d' p' l' res res' : List ℕ) → held.Good s ≡ screen-of (eqb (length res) 2) st
       → paint.out p d' p' l' ≡ stepped s r a l → answer k res' ≡ step-result res p → answer k (d', p', l', res') ≡ step-call r a st l res
   unfolding step-call
   step-roomed r k a l p d' p' l' res res' q e f =
       rw (← q) (ap (λ (x : Answer (List ℕ)). answer (x .number) (d', p', l', x .value)) f ∙ ap (step-left res) e)
 
-  pub row-roomed : (r k : ℕ) (a : Attributes) (l : paint.Lent) (p : Painted) (d' p' l' res res' : List ℕ) → held.Good s ≡ screen-of (eqb (length res) 2) st
+  pub row-roomed : (r k : ℕ) (a : Attributes) (l : paint.RowLent) (p : Painted) (d' p' l' res res' : List ℕ) → held.Good s ≡ screen-of (eqb (length res) 2) st
       → paint.out p d' p' l' ≡ row-painted s r a l → answer k res' ≡ step-result res p → answer k (d', p', l', res') ≡ row-call r a st l res
   unfolding row-call
   row-roomed r k a l p d' p' l' res res' q e f =

@@ -14,27 +14,27 @@ use Rattle.row.specs.Words.{Words}
 use Rattle.screen.specs.declared.Screen.{Screen}
 use Rattle.screen.specs.Judging.{judged}
 use Rattle.screen.specs.Tables.{Tables, lent, reset-to}
-use Rattle.walk.specs.Recorded.{recorded}
-use Rattle.fill.specs.declared.Draw.{Draw}
-use Rattle.fill.specs.Fills as fills
-use Rattle.fill.specs.Fills.{filled}
-use Rattle.layers.specs.declared.LayerProps.{LayerProps}
-use Rattle.push.specs.Push as push
-use Rattle.push.specs.Push.{pushed}
-use Rattle.pop.specs.Pop as pop
-use Rattle.pop.specs.Pop.{popped}
-use Rattle.filter.specs.declared.Placement.{Placement}
-use Rattle.filter.specs.Filter as filter
-use Rattle.filter.specs.Filter.{given, filtered}
-use Rattle.paint.specs.Painting as paint
-use Rattle.painter.specs.Judging.{begin-number, runs-number, skip-number}
-use Rattle.painter.specs.Beginning.{canvas, beginning}
-use Rattle.painter.specs.Stepping.{Attributes, number, stepped}
-use Rattle.painter.specs.Rows.{unset-of, visible-of, write-of, skip-of-row}
-use Rattle.rowpaint.specs.Running.{row-painted}
-use Rattle.held.specs.declared.Held.the-variants as held
-use Rattle.held.specs.State.{screen-of, refused-at}
-use Rattle.held.proofs.Words.{refused-on}
+use Rattle.file_call.specs.Recorded.{recorded}
+use Rattle.step_fill.specs.declared.Draw.{Draw}
+use Rattle.step_fill.specs.Fills as fills
+use Rattle.step_fill.specs.Fills.{filled}
+use Rattle.screen_layers.specs.declared.LayerProps.{LayerProps}
+use Rattle.step_push.specs.Push as push
+use Rattle.step_push.specs.Push.{pushed}
+use Rattle.step_pop.specs.Pop as pop
+use Rattle.step_pop.specs.Pop.{popped}
+use Rattle.step_filter.specs.declared.Placement.{Placement}
+use Rattle.step_filter.specs.Filter as filter
+use Rattle.step_filter.specs.Filter.{given, filtered}
+use Rattle.paint_command.specs.Painting as paint
+use Rattle.paint_screen.specs.Judging.{begin-number, runs-number, skip-number}
+use Rattle.paint_screen.specs.Beginning.{canvas, beginning}
+use Rattle.paint_screen.specs.Stepping.{Attributes, number, stepped}
+use Rattle.paint_screen.specs.Rows.{unset-of, visible-of, write-of, skip-of-row}
+use Rattle.paint_whole.specs.Running.{row-painted}
+use Rattle.host_screen.specs.declared.Held.the-variants as held
+use Rattle.host_screen.specs.State.{screen-of, refused-at}
+use Rattle.host_screen.proofs.Words.{refused-on}
 use Rattle.host.specs.Border.{arenas, arenas-number, file-number}
 use Rattle.host.specs.Building.{tables-left, reset-call, recording-call, fill-left, fill-call, push-left, push-call, pop-left, pop-call, filter-left, filter-call}
 use Rattle.host.specs.Painting.{begin-left, begin-call, step-left, step-call, row-call, runs-left, unset-call, visible-call, write-left, write-call, skip-left, skip-call}
@@ -69,7 +69,7 @@ module _ (st : List ℕ) (n : ℕ) where
       refused-on (screen-of (leb flag 1) st) st (st, w, ls, os) (λ (s : Screen). push-left (pushed p (push.lent s w ls os)))
       (λ (s : Screen). judged s (length (w .state)) (length (w .render)) (length (w .fills))) n h q (λ (s : Screen). push-early p (push.lent s w ls os))
 
-  pub pop-unheld : (ss : List ℕ) (l : pop.Lent) → held.Nothing ≡ screen-of true st
+  pub pop-unheld : (ss : List ℕ) (l : pop.PopLent) → held.Nothing ≡ screen-of true st
       → n ≡ refused-at st (λ (s : Screen). judged s (length (l .words .state)) (length (l .words .render)) (length (l .words .fills))) → answer n (st, l) ≡ pop-call ss st l
   unfolding pop-call
   pop-unheld ss l h q =
@@ -90,14 +90,14 @@ module _ (st : List ℕ) (n : ℕ) where
       (λ (s : Screen). begin-early (canvas s d p))
 
   module _ (r : ℕ) where
-    pub step-unheld : (a : Attributes) (l : paint.Lent) (res : List ℕ) → held.Nothing ≡ screen-of (eqb (length res) 2) st → n ≡ refused-at st (λ (s : Screen). number s r a l)
+    pub step-unheld : (a : Attributes) (l : paint.RowLent) (res : List ℕ) → held.Nothing ≡ screen-of (eqb (length res) 2) st → n ≡ refused-at st (λ (s : Screen). number s r a l)
         → answer n (l .depth, l .painting, l .list, res) ≡ step-call r a st l res
     unfolding step-call
     step-unheld a l res h q =
         refused-on (screen-of (eqb (length res) 2) st) st (l .depth, l .painting, l .list, res) (λ (s : Screen). step-left res (stepped s r a l)) (λ (s : Screen). number s r a l) n h q
         (λ (s : Screen). step-is-early s r a l)
 
-    pub row-unheld : (a : Attributes) (l : paint.Lent) (res : List ℕ) → held.Nothing ≡ screen-of (eqb (length res) 2) st → n ≡ refused-at st (λ (s : Screen). number s r a l)
+    pub row-unheld : (a : Attributes) (l : paint.RowLent) (res : List ℕ) → held.Nothing ≡ screen-of (eqb (length res) 2) st → n ≡ refused-at st (λ (s : Screen). number s r a l)
         → answer n (l .depth, l .painting, l .list, res) ≡ row-call r a st l res
     unfolding row-call
     row-unheld a l res h q =

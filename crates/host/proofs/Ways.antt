@@ -16,13 +16,13 @@ use Rattle.rect.specs.Rects.{box-of}
 use Rattle.screen.specs.declared.Screen.{Screen}
 use Rattle.screen.specs.Screens.{rect-of, frame}
 use Rattle.screen.specs.Judging.{good-rooms}
-use Rattle.form.specs.declared.Layout.{Layout}
-use Rattle.form.specs.Places as file
-use Rattle.form.proofs.Laid.{GoodForm}
-use Rattle.form.proofs.Reading.{reads}
-use Rattle.recording.specs.Judging.{box-from}
-use Rattle.reading.proofs.Boxed.{boxed}
-use Rattle.held.specs.State.{screen-at, before-4, refused-at}
+use Rattle.file_form.specs.declared.Layout.{Layout}
+use Rattle.file_form.specs.Places as file
+use Rattle.file_form.proofs.Laid.{GoodForm}
+use Rattle.file_form.proofs.Reading.{reads}
+use Rattle.file_judge.specs.Judging.{box-from}
+use Rattle.file_read.proofs.Boxed.{boxed}
+use Rattle.host_screen.specs.State.{screen-at, before-4, refused-at}
 use Rattle.host.specs.Border.{arenas-number, file-number}
 
 depth-last : (p x y z : Bool) → (p && ((x && y) && z)) ≡ (((p && x) && y) && z)

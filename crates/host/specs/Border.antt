@@ -3,6 +3,7 @@ use Prim.Native.Nat.{ℕ}
 use mathlib.Core.Bool.{not}
 use mathlib.Core.List.{List, [], _∷_}
 use mathlib.Core.Option.{Option, none, some}
+use Rattle.sizes.specs.Sizes.{bucket-tiles}
 use Rattle.rules.specs.Answers.{first-of, BadArena, BadViewport, BadForm}
 use Rattle.rules.specs.Boxes.{good-viewport}
 use Rattle.rules.specs.Recording.{shape, sections, recording}
@@ -16,7 +17,7 @@ arenas render fills depth = record { render = render; fills = fills; depth = dep
 
 unfoldable pub arenas-number : Rect → ℕ → ℕ → Arenas → ℕ
 arenas-number v c d a =
-    first-of ((not (good-viewport (box-of v)), BadViewport) ∷ (not (good-arenas 32 (frame v c d) a), BadArena) ∷ [])
+    first-of ((not (good-viewport (box-of v)), BadViewport) ∷ (not (good-arenas bucket-tiles (frame v c d) a), BadArena) ∷ [])
 
 abbrev pub in-sections : Option (List (List (List ℕ))) → ℕ → ℕ → Arenas → ℕ
 in-sections none c d a = BadForm

@@ -13,24 +13,24 @@ use Rattle.rules.specs.Inputs as rule
 use Rattle.rect.specs.declared.Rect.{Rect}
 use Rattle.row.specs.Words.{Words}
 use Rattle.screen.specs.declared.Screen.{Screen}
-use Rattle.screen.specs.Tables.{Tables, Lent, lent, reset-to}
-use Rattle.walk.specs.Recorded.{recorded}
-use Rattle.fill.specs.declared.Draw.{Draw}
-use Rattle.fill.specs.Fills as fills
-use Rattle.fill.specs.Fills.{filled}
-use Rattle.layers.specs.declared.LayerProps.{LayerProps}
-use Rattle.push.specs.Push as push
-use Rattle.push.specs.Push.{pushed}
-use Rattle.pop.specs.Pop as pop
-use Rattle.pop.specs.Pop.{popped}
-use Rattle.filter.specs.declared.Placement.{Placement}
-use Rattle.filter.specs.Filter as filter
-use Rattle.filter.specs.Filter.{given, filtered}
-use Rattle.reading.specs.Reading.{props-in}
-use Rattle.held.specs.State.{screen-words, on}
+use Rattle.screen.specs.Tables.{Tables, ScreenLent, lent, reset-to}
+use Rattle.file_call.specs.Recorded.{recorded}
+use Rattle.step_fill.specs.declared.Draw.{Draw}
+use Rattle.step_fill.specs.Fills as fills
+use Rattle.step_fill.specs.Fills.{filled}
+use Rattle.screen_layers.specs.declared.LayerProps.{LayerProps}
+use Rattle.step_push.specs.Push as push
+use Rattle.step_push.specs.Push.{pushed}
+use Rattle.step_pop.specs.Pop as pop
+use Rattle.step_pop.specs.Pop.{popped}
+use Rattle.step_filter.specs.declared.Placement.{Placement}
+use Rattle.step_filter.specs.Filter as filter
+use Rattle.step_filter.specs.Filter.{given, filtered}
+use Rattle.file_read.specs.Reading.{props-in}
+use Rattle.host_screen.specs.State.{screen-words, on}
 
 -- all tables
-abbrev pub tables-left : Answer Lent → Answer (List ℕ × Tables)
+abbrev pub tables-left : Answer ScreenLent → Answer (List ℕ × Tables)
 tables-left a = answer (a .number) (screen-words (a .value .screen), a .value .tables)
 
 unfoldable pub reset-call : Rect → ℕ → ℕ → List ℕ → Tables → Answer (List ℕ × Tables)
@@ -44,7 +44,7 @@ abbrev pub draw : ℕ → ℕ → ℕ → ℕ → ℕ → ℕ → ℕ → Draw
 draw thread start end paint mix compose mask =
     record { thread = thread; start = start; «end» = end; paint = paint; blend = record { mix = mix; compose = compose }; mask = mask }
 
-abbrev pub fill-left : Answer fills.Lent → Answer (List ℕ × Words × List ℕ)
+abbrev pub fill-left : Answer fills.FillLent → Answer (List ℕ × Words × List ℕ)
 fill-left a = answer (a .number) (screen-words (a .value .screen), a .value .words, a .value .paint-attrs)
 
 unfoldable pub fill-call : List ℕ → List ℕ → Draw → List ℕ → Words → List ℕ → Answer (List ℕ × Words × List ℕ)
@@ -60,24 +60,24 @@ abbrev pub clip : ℕ → ℕ → ℕ → ℕ → ℕ → ℕ → ℕ → rule.C
 clip x0 y0 x1 y1 start end thread = record { bounds = box x0 y0 x1 y1; start = start; end = end; thread = thread }
 
 -- the rows, the open layers and the opacities; a flag that is neither 0 nor 1 is refused
-abbrev pub push-left : Answer push.Lent → Answer (List ℕ × Words × List ℕ × List Float)
+abbrev pub push-left : Answer push.PushLent → Answer (List ℕ × Words × List ℕ × List Float)
 push-left a = answer (a .number) (screen-words (a .value .screen), a .value .words, a .value .layers, a .value .opacities)
 
 unfoldable pub push-call : ℕ → LayerProps → List ℕ → Words → List ℕ → List Float → Answer (List ℕ × Words × List ℕ × List Float)
 push-call flag p st w ls os = on (leb flag 1) st (st, w, ls, os) (λ s. push-left (pushed p (push.lent s w ls os)))
 
 -- the rows, the open layers, the opacities and the layer attributes
-abbrev pub pop-left : pop.Out → Answer (List ℕ × pop.Lent)
+abbrev pub pop-left : pop.PopOut → Answer (List ℕ × pop.PopLent)
 pop-left o = answer (o .number) (screen-words (o .screen), o .lent)
 
-unfoldable pub pop-call : List ℕ → List ℕ → pop.Lent → Answer (List ℕ × pop.Lent)
+unfoldable pub pop-call : List ℕ → List ℕ → pop.PopLent → Answer (List ℕ × pop.PopLent)
 pop-call ss st l = on true st (st, l) (λ s. pop-left (popped s l ss))
 
 -- the rows, the paint attributes and the filter paints
 abbrev pub placement : Rect → ℕ → ℕ → Placement
 placement dest x y = record { dest = dest; «source_x» = x; «source_y» = y }
 
-abbrev pub filter-left : Answer filter.Lent → Answer (List ℕ × Words × List ℕ × List ℤ)
+abbrev pub filter-left : Answer filter.FilterLent → Answer (List ℕ × Words × List ℕ × List ℤ)
 filter-left a = answer (a .number) (screen-words (a .value .screen), a .value .words, a .value .paint-attrs, a .value .filter-paints)
 
 unfoldable pub filter-call : Placement → ℕ → ℕ → List ℕ → Words → List ℕ → List ℤ → Answer (List ℕ × Words × List ℕ × List ℤ)

@@ -5,20 +5,21 @@ use mathlib.Core.Bool.{Bool, true, cond}
 use mathlib.Core.List.{List, [], _∷_, _++_}
 use lib.ListN.{length, drop}
 use lib.Dec.{eqb}
+use Rattle.sizes.specs.Sizes.{bucket-tiles}
 use Rattle.rules.specs.Answers.{Answer, answer, BadRecord}
 use Rattle.rules.specs.Spans.{Span}
 use Rattle.rules.specs.Split.{Part, regular, buckets, split-answer}
 use Rattle.screen.specs.declared.Screen.{Screen}
-use Rattle.depth.specs.Listing.{Out}
-use Rattle.paint.specs.declared.Painted.{Painted}
-use Rattle.paint.specs.Painting as paint
-use Rattle.painter.specs.Beginning.{Canvas, canvas, beginning}
-use Rattle.painter.specs.Stepping.{Attributes, stepped}
-use Rattle.painter.specs.Rows.{Wrote, unset-of, visible-of, write-of, skip-of-row}
-use Rattle.rowpaint.specs.Running.{row-painted}
+use Rattle.depth.specs.Listing.{RunsOut}
+use Rattle.paint_command.specs.declared.Painted.{Painted}
+use Rattle.paint_command.specs.Painting as paint
+use Rattle.paint_screen.specs.Beginning.{Canvas, canvas, beginning}
+use Rattle.paint_screen.specs.Stepping.{Attributes, stepped}
+use Rattle.paint_screen.specs.Rows.{Wrote, unset-of, visible-of, write-of, skip-of-row}
+use Rattle.paint_whole.specs.Running.{row-painted}
 use Rattle.host.specs.declared.painting.Slot.{Slot}
 use Rattle.host.specs.declared.painting.Slots.{Slots}
-use Rattle.held.specs.State.{bit, screen-words, on}
+use Rattle.host_screen.specs.State.{bit, screen-words, on}
 
 -- the split has no screen: n result words ws, or 4 where another number of them is lent
 abbrev pub with-room : {T : Type 0} → ℕ → List ℕ → T → Answer T → Answer T
@@ -40,26 +41,26 @@ abbrev pub step-result : List ℕ → Painted → Answer (List ℕ)
 step-result old p = answer (p .number) (result (p .number) (bit (p .finished) ∷ p .pieces ∷ []) old)
 
 -- .. with the depth words, the painting table and the list
-abbrev pub step-left : List ℕ → paint.Out → Answer (List ℕ × List ℕ × List ℕ × List ℕ)
+abbrev pub step-left : List ℕ → paint.StepOut → Answer (List ℕ × List ℕ × List ℕ × List ℕ)
 step-left res o = answer (o .answer .number) (o .depth, o .painting, o .list, step-result res (o .answer) .value)
 
-unfoldable pub step-call : ℕ → Attributes → List ℕ → paint.Lent → List ℕ → Answer (List ℕ × List ℕ × List ℕ × List ℕ)
+unfoldable pub step-call : ℕ → Attributes → List ℕ → paint.RowLent → List ℕ → Answer (List ℕ × List ℕ × List ℕ × List ℕ)
 step-call r a st l res =
     on (eqb (length res) 2) st (l .depth, l .painting, l .list, res)
     (λ s. step-left res (stepped s r a l))
 
 -- a row's next steps in one call
-unfoldable pub row-call : ℕ → Attributes → List ℕ → paint.Lent → List ℕ → Answer (List ℕ × List ℕ × List ℕ × List ℕ)
+unfoldable pub row-call : ℕ → Attributes → List ℕ → paint.RowLent → List ℕ → Answer (List ℕ × List ℕ × List ℕ × List ℕ)
 row-call r a st l res =
     on (eqb (length res) 2) st (l .depth, l .painting, l .list, res)
     (λ s. step-left res (row-painted s r a l))
 
 -- how many runs are listed
-abbrev pub count-left : List ℕ → Out → Answer (List ℕ)
+abbrev pub count-left : List ℕ → RunsOut → Answer (List ℕ)
 count-left n o = answer (o .number) (result (o .number) (o .count ∷ []) n)
 
 -- .. and the list
-abbrev pub runs-left : List ℕ → Out → Answer (List ℕ × List ℕ)
+abbrev pub runs-left : List ℕ → RunsOut → Answer (List ℕ × List ℕ)
 runs-left n o = answer (o .number) (o .list, count-left n o .value)
 
 unfoldable pub unset-call : ℕ → Span → List ℕ → List ℕ → List ℕ → List ℕ → Answer (List ℕ × List ℕ)
@@ -108,4 +109,4 @@ abbrev pub split-left : List ℕ → Answer (List Part) → Answer (List ℕ)
 split-left parts a = answer (a .number) (result (a .number) (three-words (a .value)) parts)
 
 unfoldable pub split-call : Span → List ℕ → Answer (List ℕ)
-split-call s parts = with-room 9 parts parts (split-left parts (split-answer 32 s))
+split-call s parts = with-room 9 parts parts (split-left parts (split-answer bucket-tiles s))

@@ -4,6 +4,7 @@ use mathlib.Core.Bool.{_&&_, not}
 use mathlib.Core.List.{List, [], _∷_}
 use lib.ListN.{length}
 use lib.Dec.{eqb}
+use Rattle.sizes.specs.Sizes.{bucket-tiles, row-size, open-layer-table, opacity-count, paint-attr-table, layer-attr-table, filter-paint-table}
 use Rattle.rules.specs.Answers.{Answer, settle, first-of, BadArena, BadViewport, BadRecord}
 use Rattle.rules.specs.Boxes.{good-viewport, rows-of, buckets-of}
 use Rattle.rules.specs.Walk.{good-room}
@@ -12,15 +13,15 @@ use Rattle.rect.specs.Rects.{box-of}
 
 -- layers, opacities, paint attributes, layer attributes, filter paints
 abbrev pub fixed : List ℕ
-fixed = 256 ∷ 1040 ∷ 8192 ∷ 6144 ∷ 1024 ∷ []
+fixed = open-layer-table ∷ opacity-count ∷ paint-attr-table ∷ layer-attr-table ∷ filter-paint-table ∷ []
 
 -- render, fills, depth, rows, painting, then those
 abbrev pub size-words : Rect → ℕ → ℕ → List ℕ
 size-words v c d =
     rows-of (box-of v) * (4 * c)
     ∷ rows-of (box-of v) * (2 * d)
-    ∷ rows-of (box-of v) * buckets-of 32 (box-of v)
-    ∷ rows-of (box-of v) * 54
+    ∷ rows-of (box-of v) * buckets-of bucket-tiles (box-of v)
+    ∷ rows-of (box-of v) * row-size
     ∷ rows-of (box-of v) * 2
     ∷ fixed
 

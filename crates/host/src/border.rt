@@ -1,24 +1,25 @@
 // What a call answers where the host's own words are refused by 4: a state that is no screen's, a clip flag, a result of a wrong length.
 // Each asks the judge that the call itself asks first, so that 3, 2 and 1 come before that 4. Parts of the calls.
-use form::Form;
-use form::read_form;
-use held::before_4;
-use held::screen_at;
-use painter::judge::judge_begin;
-use painter::judge::judge_runs;
-use painter::judge::judge_skip;
-use painter::judge::judge_step;
-use recording::box_at;
+use file_form::Form;
+use file_form::read_form;
+use file_judge::box_at;
+use host_screen::before_4;
+use host_screen::screen_at;
+use paint_screen::judge::judge_begin;
+use paint_screen::judge::judge_runs;
+use paint_screen::judge::judge_skip;
+use paint_screen::judge::judge_step;
 use rect::Rect;
 use screen::fresh;
 use screen::is_good_rooms;
 use screen::judge_screen;
+use sizes::STATE;
 ghost use mathlib.Core.Path.{_≡_};
 ghost use lib.ListN.{length};
 ghost use Rattle.screen.specs.declared.Screen.{Screen as Numbers};
 ghost use Rattle.screen.specs.Judging.{judged};
-ghost use Rattle.painter.specs.Judging.{arenas-long, tables-long, begin-number, step-number, runs-number, skip-number};
-ghost use Rattle.held.specs.State.{refused-at};
+ghost use Rattle.paint_screen.specs.Judging.{arenas-long, tables-long, begin-number, step-number, runs-number, skip-number};
+ghost use Rattle.host_screen.specs.State.{refused-at};
 ghost use Rattle.host.specs.Border.{arenas, arenas-number, file-number};
 
 // 2, then 1, or 0: what a reset says of a viewport, C, D and the three arenas.
@@ -50,7 +51,7 @@ pub fn refuse_reset(
 ) -> u32
     ensures { λ r. ⌜ r ≡ refused-at (now (state .entry)) (λ (s : Numbers). arenas-number viewport c d (arenas render fills depth)) ⌝ }
 {
-    if state.len() != 16 {
+    if state.len() != STATE {
         return 4;
     }
     before_4(judge_arenas(viewport, c, d, render, fills, depth))
@@ -77,7 +78,7 @@ pub fn refuse_recording(
 ) -> u32
     ensures { λ r. ⌜ r ≡ refused-at (now (state .entry)) (λ (s : Numbers). file-number (now (file .entry)) c d (arenas render fills depth)) ⌝ }
 {
-    if state.len() != 16 {
+    if state.len() != STATE {
         return 4;
     }
     before_4(judge_file(file, c, d, render, fills, depth))
@@ -87,7 +88,7 @@ pub fn refuse_recording(
 pub fn refuse_build(state: &[u32], rows: usize, render: usize, fills: usize) -> u32
     ensures { λ r. ⌜ r ≡ refused-at (now (state .entry)) (λ (s : Numbers). judged s rows render fills) ⌝ }
 {
-    if state.len() != 16 {
+    if state.len() != STATE {
         return 4;
     }
     before_4(judge_screen(screen_at(state), rows, render, fills))
@@ -96,7 +97,7 @@ pub fn refuse_build(state: &[u32], rows: usize, render: usize, fills: usize) -> 
 pub fn refuse_begin(state: &[u32], depth: usize, painting: usize) -> u32
     ensures { λ r. ⌜ r ≡ refused-at (now (state .entry)) (λ (s : Numbers). begin-number s depth painting) ⌝ }
 {
-    if state.len() != 16 {
+    if state.len() != STATE {
         return 4;
     }
     before_4(judge_begin(screen_at(state), depth, painting))
@@ -116,7 +117,7 @@ pub fn refuse_step(
 ) -> u32
     ensures { λ r. ⌜ r ≡ refused-at (now (state .entry)) (λ (s : Numbers). step-number s row (arenas-long s render fills depth) (tables-long s rows painting «paint_attrs» «layer_attrs»)) ⌝ }
 {
-    if state.len() != 16 {
+    if state.len() != STATE {
         return 4;
     }
     before_4(judge_step(
@@ -136,7 +137,7 @@ pub fn refuse_step(
 pub fn refuse_runs(state: &[u32], row: usize, depth: usize) -> u32
     ensures { λ r. ⌜ r ≡ refused-at (now (state .entry)) (λ (s : Numbers). runs-number s row depth) ⌝ }
 {
-    if state.len() != 16 {
+    if state.len() != STATE {
         return 4;
     }
     before_4(judge_runs(screen_at(state), row, depth))
@@ -145,7 +146,7 @@ pub fn refuse_runs(state: &[u32], row: usize, depth: usize) -> u32
 pub fn refuse_skip(state: &[u32], row: usize, rows: usize) -> u32
     ensures { λ r. ⌜ r ≡ refused-at (now (state .entry)) (λ (s : Numbers). skip-number s row rows) ⌝ }
 {
-    if state.len() != 16 {
+    if state.len() != STATE {
         return 4;
     }
     before_4(judge_skip(screen_at(state), row, rows))

@@ -4,6 +4,8 @@ ghost use Prim.Native.Nat.{_-_};
 ghost use Rattle.rules.specs.Boxes.{width, height, empty-box, meet, to-local, bounded, good-dest, good-box, good-viewport, whole, span-of, box};
 ghost use Rattle.span.specs.Spans.{tiles};
 ghost use Rattle.rect.specs.Rects.{box-of, same-box};
+use sizes::MOST_HEIGHT;
+use sizes::MOST_WIDTH;
 use span::TileSpan;
 use span::larger;
 use span::smaller;
@@ -15,6 +17,14 @@ pub struct Rect {
     pub x1: u32,
     pub y1: u32,
 }
+
+// No box: all zeros.
+pub const NOWHERE: Rect = Rect {
+    x0: 0,
+    y0: 0,
+    x1: 0,
+    y1: 0,
+};
 
 // A difference that stops at 0.
 pub fn less(a: u32, b: u32) -> u32
@@ -121,10 +131,10 @@ impl Rect {
         if !self.is_good() {
             return false;
         }
-        if 4096 < self.width() {
+        if MOST_WIDTH < self.width() {
             return false;
         }
-        self.height() <= 2048
+        self.height() <= MOST_HEIGHT
     }
 
     // A box of the same size at 0, 0: the first clip box of this viewport.

@@ -2,6 +2,15 @@
 // one row and not its place on the screen; all take the row's three slices: state, render commands, depth fills.
 use cmd::command::span_word;
 use cmd::depth_fill::DepthFill;
+use sizes::BUCKET;
+use sizes::DEPTHS;
+use sizes::END;
+use sizes::FIRST;
+use sizes::LARGEST;
+use sizes::LEVEL;
+use sizes::LEVEL_BASE;
+use sizes::LEVELS;
+use sizes::RENDERS;
 use span::Alpha;
 use span::TileSpan;
 use span::larger;
@@ -9,6 +18,7 @@ use span::smaller;
 ghost use mathlib.Core.Path.{_≡_};
 ghost use Prim.Native.Nat.{_+_, _*_, _≤_, _<_};
 ghost use lib.ListN.{length, getD, set};
+ghost use Rattle.sizes.specs.Sizes.{bucket-tiles, tile-end, most-layers, most-room, row-size, renders-at, levels-at};
 ghost use Rattle.rules.specs.Spans.{span};
 ghost use Rattle.rules.specs.Commands.{span-word, paint-fill, layer-fill};
 ghost use Rattle.cmd.specs.DepthFills.{depth-fill};
@@ -25,7 +35,7 @@ pub fn wide(x: u32) -> usize
 
 // The span word of a union that grows; the tag 6 says that there is one already.
 fn hull_word(tag: u32, span: u32, first: u32, end: u32) -> u32
-    requires { ⌜ (first ≤ 8192) × («end» ≤ 8192) ⌝ }
+    requires { ⌜ (first ≤ tile-end) × («end» ≤ tile-end) ⌝ }
     ensures { λ r. ⌜ r ≡ hull-word tag span first «end» ⌝ }
 {
     if tag == 6 {
@@ -37,14 +47,14 @@ fn hull_word(tag: u32, span: u32, first: u32, end: u32) -> u32
 
 // Rule 10: a fill counts for the innermost level.
 fn include_current_span(state: &mut [u32], first: u32, end: u32)
-    requires { ⌜ (length (now state) ≡ 54) × (getD (now state) 5 0 ≤ 16) × (first ≤ 8192) × («end» ≤ 8192) ⌝ }
+    requires { ⌜ (length (now state) ≡ row-size) × (getD (now state) levels-at 0 ≤ most-layers) × (first ≤ tile-end) × («end» ≤ tile-end) ⌝ }
     ensures { λ _. ⌜ now (state .exit) ≡ include-span first «end» (now (state .entry)) ⌝ }
 {
-    let k = wide(state[5]);
+    let k = wide(state[LEVELS]);
     if k == 0 {
         return;
     }
-    let at = 3 + 3 * k;
+    let at = LEVEL_BASE + LEVEL * k;
     let tag = state[at + 1];
     let span = state[at + 2];
     state[at + 1] = 6;
@@ -73,14 +83,14 @@ fn put_fill(
     alpha: u32,
     attrs_idx: u32,
 )
-    requires { ⌜ (length (now state) ≡ 54) × (getD (now state) 5 0 ≤ 16) × (first ≤ 8192) × («end» ≤ 8192) × (4 * getD (now state) 0 0 + 4 ≤ length (now render)) × (length (now render) ≤ 4096) ⌝ }
+    requires { ⌜ (length (now state) ≡ row-size) × (getD (now state) levels-at 0 ≤ most-layers) × (first ≤ tile-end) × («end» ≤ tile-end) × (4 * getD (now state) renders-at 0 + 4 ≤ length (now render)) × (length (now render) ≤ 4 * most-room) ⌝ }
     ensures { λ _. ⌜ (now (state .exit) ≡ set (include-span first «end» (now (state .entry))) 0 (getD (now (state .entry)) 0 0 + 1))
         × (now (render .exit) ≡ put4 (now (render .entry)) (getD (now (state .entry)) 0 0) tag (span-word (span first «end»)) alpha «attrs_idx») ⌝ }
 {
-    let n = state[0];
+    let n = state[RENDERS];
     include_current_span(state, first, end);
     put_four(render, n, tag, span_word(first, end), alpha, attrs_idx);
-    state[0] = n + 1;
+    state[RENDERS] = n + 1;
 }
 
 // A PaintFill.
@@ -129,18 +139,18 @@ pub fn push_closing(
 
 // Rule 5: a PushBuf, one level more. Its span is none so far.
 pub fn push_buf(state: &mut [u32], render: &mut [u32], fills: &mut [u32])
-    requires { ⌜ (getD (now state) 5 0 < 16) × Room (words (now state) (now render) (now fills)) (put-buf (words (now state) (now render) (now fills))) ⌝ }
+    requires { ⌜ (getD (now state) levels-at 0 < most-layers) × Room (words (now state) (now render) (now fills)) (put-buf (words (now state) (now render) (now fills))) ⌝ }
     ensures { λ _. ⌜ words (now (state .exit)) (now (render .exit)) (now (fills .exit)) ≡ put-buf (words (now (state .entry)) (now (render .entry)) (now (fills .entry))) ⌝ }
 {
-    let n = state[0];
-    let k = state[5] + 1;
+    let n = state[RENDERS];
+    let k = state[LEVELS] + 1;
     put_four(render, n, 5, 0, 0, 0);
-    let at = 3 + 3 * wide(k);
+    let at = LEVEL_BASE + LEVEL * wide(k);
     state[at] = n;
     state[at + 1] = 5;
     state[at + 2] = 0;
-    state[5] = k;
-    state[0] = n + 1;
+    state[LEVELS] = k;
+    state[RENDERS] = n + 1;
 }
 
 // Rules 9 and 10: a PopBuf; the level's PushBuf gets its span, and the level's words become 0.
@@ -148,9 +158,9 @@ pub fn pop_buf(state: &mut [u32], render: &mut [u32], fills: &mut [u32])
     requires { ⌜ Ends (words (now state) (now render) (now fills)) × Room (words (now state) (now render) (now fills)) (end-buf (words (now state) (now render) (now fills))) ⌝ }
     ensures { λ _. ⌜ words (now (state .exit)) (now (render .exit)) (now (fills .exit)) ≡ end-buf (words (now (state .entry)) (now (render .entry)) (now (fills .entry))) ⌝ }
 {
-    let n = state[0];
-    let k = state[5];
-    let at = 3 + 3 * wide(k);
+    let n = state[RENDERS];
+    let k = state[LEVELS];
+    let at = LEVEL_BASE + LEVEL * wide(k);
     let p = 4 * wide(state[at]);
     render[p] = state[at + 1];
     render[p + 1] = state[at + 2];
@@ -158,8 +168,8 @@ pub fn pop_buf(state: &mut [u32], render: &mut [u32], fills: &mut [u32])
     state[at] = 0;
     state[at + 1] = 0;
     state[at + 2] = 0;
-    state[5] = k - 1;
-    state[0] = n + 1;
+    state[LEVELS] = k - 1;
+    state[RENDERS] = n + 1;
 }
 
 // Rule 7: a depth fill; the row's summary takes in its tiles, 32 a bucket, and its id.
@@ -170,23 +180,23 @@ pub fn push_depth_fill(
     cmd: DepthFill,
     draw_id: u32,
 )
-    requires { ⌜ Short (buckets (cmd .buckets)) × Room (words (now state) (now render) (now fills)) (put-depth 32 (depth-fill cmd) «draw_id» (words (now state) (now render) (now fills))) ⌝ }
-    ensures { λ _. ⌜ words (now (state .exit)) (now (render .exit)) (now (fills .exit)) ≡ put-depth 32 (depth-fill cmd) «draw_id» (words (now (state .entry)) (now (render .entry)) (now (fills .entry))) ⌝ }
+    requires { ⌜ Short (buckets (cmd .buckets)) × Room (words (now state) (now render) (now fills)) (put-depth bucket-tiles (depth-fill cmd) «draw_id» (words (now state) (now render) (now fills))) ⌝ }
+    ensures { λ _. ⌜ words (now (state .exit)) (now (render .exit)) (now (fills .exit)) ≡ put-depth bucket-tiles (depth-fill cmd) «draw_id» (words (now (state .entry)) (now (render .entry)) (now (fills .entry))) ⌝ }
 {
     let two = cmd.words();
     let range = cmd.buckets;
-    let n = state[1];
+    let n = state[DEPTHS];
     let first = if n == 0 {
-        range.first * 32
+        range.first * BUCKET
     } else {
-        smaller(state[2], range.first * 32)
+        smaller(state[FIRST], range.first * BUCKET)
     };
-    let end = larger(state[3], range.end * 32);
-    let largest = larger(state[4], draw_id);
-    state[2] = first;
-    state[3] = end;
-    state[4] = largest;
-    state[1] = n + 1;
+    let end = larger(state[END], range.end * BUCKET);
+    let largest = larger(state[LARGEST], draw_id);
+    state[FIRST] = first;
+    state[END] = end;
+    state[LARGEST] = largest;
+    state[DEPTHS] = n + 1;
     let at = 2 * wide(n);
     fills[at] = two.span;
     fills[at + 1] = two.attrs_idx;

@@ -6,10 +6,10 @@ use mathlib.Core.List.{List, [], _∷_}
 use mathlib.Core.Option.{Option, none, some}
 use Rattle.rules.specs.Lists.{every}
 use Rattle.rules.specs.Boxes.{box, good-box, good-dest, good-viewport, empty-box}
-use Rattle.rules.specs.Spans.{span, covers, bad-range}
+use Rattle.rules.specs.Spans.{span, covers, bad-range, good-range}
 use Rattle.rules.specs.Blends.{Blend, default-blend, good-blend, is-default, destructive}
 use Rattle.rules.specs.Segments.{good-segment, follows, ordered}
-use Rattle.rules.specs.Inputs.{Clip, Props, good-handle, good-thread, good-range, good-paint, few-paints, good-draw, good-clip, good-props, needs-buffer, good-filter}
+use Rattle.rules.specs.Inputs.{Clip, Props, good-handle, good-thread, good-paint, few-paints, good-draw, good-clip, good-props, needs-buffer, good-filter}
 use Rattle.rules.specs.Depth.{Summary, no-depth, included, can-skip, is-visible}
 use Rattle.rules.specs.Recording.{good-count}
 use Rattle.rules.specs.Walk.{good-room}

@@ -5,6 +5,7 @@ use mathlib.Core.List.{List, []}
 use lib.ListN.{length}
 use lib.Dec.{ltb}
 use lib.IntN.{ℤ}
+use Rattle.sizes.specs.Sizes.{most-attrs, most-filters}
 use Rattle.rules.specs.Blends.{Blend}
 
 -- rule 3
@@ -41,4 +42,4 @@ no-attrs = record { paints = []; layers = []; filters = [] }
 
 -- answer 9
 abbrev pub attrs-full : Attrs → Bool
-attrs-full a = ltb 1024 (length (a .paints)) || ltb 1024 (length (a .layers)) || ltb 256 (length (a .filters))
+attrs-full a = ltb most-attrs (length (a .paints)) || ltb most-attrs (length (a .layers)) || ltb most-filters (length (a .filters))

@@ -5,21 +5,19 @@ use mathlib.Core.List.{List}
 use mathlib.Core.Option.{Option, none, some}
 use lib.ListN.{length, getD}
 use lib.Dec.{leb, ltb, eqb}
+use Rattle.sizes.specs.Sizes.{thread-end, handle-end, most-records}
 use Rattle.rules.specs.Lists.{is-none, slice}
+use Rattle.rules.specs.Spans.{good-range}
 use Rattle.rules.specs.Boxes.{Box, good-box, good-dest}
 use Rattle.rules.specs.Blends.{Blend, is-default, good-blend}
 use Rattle.rules.specs.Segments.{Segment}
 
 -- masks and pixmaps are handles; 0 says none
 abbrev pub good-handle : ℕ → Bool
-good-handle h = ltb h 2147483648
+good-handle h = ltb h handle-end
 
 abbrev pub good-thread : ℕ → Bool
-good-thread t = ltb t 256
-
--- places start to end of a list of n
-abbrev pub good-range : ℕ → ℕ → ℕ → Bool
-good-range a b n = leb a b && leb b n
+good-thread t = ltb t thread-end
 
 -- a paint record's opaque flag and handle. Its two shifts are free, and no rule reads them
 pub record Paint : Type 0 where
@@ -55,7 +53,7 @@ good-draw ps ss d =
 
 -- a paint list has at most 4,096 records, as a section has
 abbrev pub few-paints : ℕ → Bool
-few-paints n = leb n 4096
+few-paints n = leb n most-records
 
 -- what a fill is lent and told
 abbrev pub good-fill : List Paint → List Segment → Draw → Bool

@@ -3,6 +3,7 @@ use Prim.Native.Nat.{ℕ, _+_, _-_, _*_, _/_}
 use mathlib.Core.Bool.{cond}
 use mathlib.Core.List.{List, [], _∷_}
 use lib.Dec.{leb, ltb}
+use Rattle.sizes.specs.Sizes.{tile-end}
 use Rattle.rules.specs.Lists.{keep}
 use Rattle.rules.specs.Spans.{Span, span, bad-range}
 use Rattle.rules.specs.Answers.{Answer, answer, BadRun, Done}
@@ -34,4 +35,4 @@ split w s =
 
 -- the call: 12 for a bad range
 unfoldable pub split-answer : ℕ → Span → Answer (List Part)
-split-answer w s = cond (bad-range 8192 s) (answer BadRun []) (answer Done (split w s))
+split-answer w s = cond (bad-range tile-end s) (answer BadRun []) (answer Done (split w s))

@@ -1,0 +1,1 @@
+// Document 01 as definitions that compute, with tests of them. No code.

@@ -18,7 +18,7 @@ use Rattle.screen.specs.declared.Screen.{Screen}
 use Rattle.screen.specs.declared.Lengths.{Lengths}
 use Rattle.screen.specs.Screens.{frame, good-screen, fresh-screen}
 use Rattle.screen.specs.Judging.{good-rooms, judged, good-tables, arenas, judged-reset}
-use Rattle.screen.specs.Tables.{zeros, float-0, Tables, tables, lengths, zeroed, Lent, lent, reset-to}
+use Rattle.screen.specs.Tables.{zeros, float-0, Tables, tables, lengths, zeroed, ScreenLent, lent, reset-to}
 
 at-most-4 : (x y z : Bool) → first-of ((x, 2) ∷ (y, 1) ∷ (z, 4) ∷ []) ≤ 4
 at-most-4 true y z = omega arith
@@ -44,7 +44,7 @@ pub length-zeros : {A : Type 0} (z : A) (xs : List A) → length (zeros z xs) �
 unfolding zeros
 length-zeros z xs = length-replicate (length xs) z
 
-module _ (v : Rect) (c d : ℕ) (l : Lent) (n : ℕ) (e : n ≡ judged-reset v c d (lengths (l .tables))) where
+module _ (v : Rect) (c d : ℕ) (l : ScreenLent) (n : ℕ) (e : n ≡ judged-reset v c d (lengths (l .tables))) where
   pub refused : (m : ℕ) → m ≡ n → (n ≡ 0 → ⊥) → answer m l ≡ reset-to v c d l
   unfolding reset-to
   refused m p h = rw (← e, ne-eqb n 0 h, p)

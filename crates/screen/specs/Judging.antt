@@ -3,6 +3,7 @@ use Prim.Native.Nat.{ℕ, _*_}
 use mathlib.Core.Bool.{Bool, _&&_, not}
 use mathlib.Core.List.{[], _∷_}
 use lib.Dec.{eqb}
+use Rattle.sizes.specs.Sizes.{bucket-tiles, row-size, open-layer-table, opacity-count, paint-attr-table, layer-attr-table, filter-paint-table}
 use Rattle.rules.specs.Answers.{first-of, BadArena, BadViewport, BadRecord}
 use Rattle.rules.specs.Boxes.{good-viewport, rows-of}
 use Rattle.rules.specs.Walk.{Arenas, good-room, good-arenas}
@@ -23,21 +24,21 @@ judged s rows render fills =
     first-of
     ((not (good-viewport (box-of (s .viewport))), BadViewport)
     ∷ (not (good-rooms n (s .c) (s .d) render fills), BadArena)
-    ∷ (not (eqb rows (n * 54) && good-screen s), BadRecord)
+    ∷ (not (eqb rows (n * row-size) && good-screen s), BadRecord)
     ∷ [])
 
 -- the tables whose length no screen changes
 abbrev pub good-fixed : Lengths → Bool
 good-fixed l =
-    eqb (l .layers) 256
-    && eqb (l .opacities) 1040
-    && eqb (l .«paint_attrs») 8192
-    && eqb (l .«layer_attrs») 6144
-    && eqb (l .«filter_paints») 1024
+    eqb (l .layers) open-layer-table
+    && eqb (l .opacities) opacity-count
+    && eqb (l .«paint_attrs») paint-attr-table
+    && eqb (l .«layer_attrs») layer-attr-table
+    && eqb (l .«filter_paints») filter-paint-table
 
 -- the tables beside the arenas of n rows
 abbrev pub good-tables : ℕ → Lengths → Bool
-good-tables n l = eqb (l .rows) (n * 54) && eqb (l .painting) (n * 2) && good-fixed l
+good-tables n l = eqb (l .rows) (n * row-size) && eqb (l .painting) (n * 2) && good-fixed l
 
 abbrev pub arenas : Lengths → Arenas
 arenas l = record { render = l .render; fills = l .fills; depth = l .depth }
@@ -46,6 +47,6 @@ unfoldable pub judged-reset : Rect → ℕ → ℕ → Lengths → ℕ
 judged-reset v c d l =
     first-of
     ((not (good-viewport (box-of v)), BadViewport)
-    ∷ (not (good-arenas 32 (frame v c d) (arenas l)), BadArena)
+    ∷ (not (good-arenas bucket-tiles (frame v c d) (arenas l)), BadArena)
     ∷ (not (good-tables (rows-of (box-of v)) l), BadRecord)
     ∷ [])

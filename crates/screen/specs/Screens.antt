@@ -5,6 +5,7 @@ use mathlib.Core.Option.{none}
 use lib.ListN.{length, replicate}
 use lib.Dec.{leb, eqb}
 use lib.IntN.{pos}
+use Rattle.sizes.specs.Sizes.{most-layers, most-attrs, most-filters}
 use Rattle.rules.specs.Boxes.{Box, width, height, by-4, whole}
 use Rattle.rules.specs.Blends.{default-blend}
 use Rattle.rules.specs.Attributes.{PaintAttr, LayerAttr, FilterPaint}
@@ -34,10 +35,10 @@ abbrev pub good-counts : Screen → Bool
 good-counts s =
     leb 1 (s .«next_draw_id»)
     && leb (s .«next_draw_id») 1048577
-    && leb (s .«paint_attrs») 1024
-    && leb (s .«layer_attrs») 1024
-    && leb (s .«filter_paints») 256
-    && leb (s .layers) 16
+    && leb (s .«paint_attrs») most-attrs
+    && leb (s .«layer_attrs») most-attrs
+    && leb (s .«filter_paints») most-filters
+    && leb (s .layers) most-layers
 
 unfoldable pub good-screen : Screen → Bool
 good-screen s = good-counts s && good-clip (box-of (s .viewport)) (box-of (s .«clip_bbox»)) (s .layers)

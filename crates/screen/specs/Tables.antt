@@ -66,13 +66,13 @@ zeroed t =
     (zeros float-0 (t .opacities)) (zeros 0 (t .paint-attrs)) (zeros 0 (t .layer-attrs)) (zeros (pos 0) (t .filter-paints))
 
 -- a screen and its words
-pub record Lent : Type 0 where
+pub record ScreenLent : Type 0 where
   pub screen : Screen
   pub tables : Tables
 
-abbrev pub lent : Screen → Tables → Lent
+abbrev pub lent : Screen → Tables → ScreenLent
 lent s t = record { screen = s; tables = t }
 
 -- a reset: the fresh screen with every word 0, or what was there before
-unfoldable pub reset-to : Rect → ℕ → ℕ → Lent → Answer Lent
+unfoldable pub reset-to : Rect → ℕ → ℕ → ScreenLent → Answer ScreenLent
 reset-to v c d l = settle (judged-reset v c d (lengths (l .tables))) l (lent (fresh-screen v c d) (zeroed (l .tables)))

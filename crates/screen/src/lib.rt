@@ -2,6 +2,7 @@
 ghost use mathlib.Core.Path.{_≡_};
 ghost use Prim.Native.Nat.{_≤_};
 ghost use lib.IntN.{pos};
+ghost use Rattle.sizes.specs.Sizes.{bucket-tiles, most-rows};
 ghost use Rattle.rules.specs.Answers.{answer};
 ghost use Rattle.rules.specs.Boxes.{rows-of, buckets-of};
 ghost use Rattle.rules.specs.Walk.{good-room};
@@ -12,11 +13,18 @@ ghost use Rattle.screen.specs.Judging.{good-rooms, judged, good-fixed, j
 ghost use Rattle.screen.specs.Tables.{zeros, tables, lent, reset-to, float-0};
 use cmd::Answer;
 use rect::Rect;
-
-// Words of a row's record, and of an open layer.
-pub const ROW: usize = 54;
-
-pub const OPEN: usize = 16;
+use sizes::BUCKET;
+use sizes::BUCKET_ROUND;
+use sizes::FILTER_TABLE;
+use sizes::LAYER_TABLE;
+use sizes::MOST_ATTRS;
+use sizes::MOST_FILTERS;
+use sizes::MOST_LAYERS;
+use sizes::MOST_ROOM;
+use sizes::OPACITIES;
+use sizes::OPEN_TABLE;
+use sizes::PAINT_TABLE;
+use sizes::ROW;
 
 pub struct Screen {
     pub viewport: Rect,
@@ -82,7 +90,7 @@ pub fn is_good_room(n: u32) -> bool
     if n < 1 {
         return false;
     }
-    n <= 1024
+    n <= MOST_ROOM
 }
 
 // Multiples of 4.
@@ -131,10 +139,10 @@ impl Screen {
     }
 
     pub fn buckets(self) -> usize
-        ensures { λ r. ⌜ r ≡ buckets-of 32 (box-of (self .viewport)) ⌝ }
+        ensures { λ r. ⌜ r ≡ buckets-of bucket-tiles (box-of (self .viewport)) ⌝ }
     {
         let viewport = self.viewport;
-        ((viewport.width() / 4 + 31) / 32) as usize
+        ((viewport.width() / 4 + BUCKET_ROUND) / BUCKET) as usize
     }
 
     // The screen's own numbers, answer 4.
@@ -149,16 +157,16 @@ impl Screen {
         if 1048577 < self.next_draw_id {
             return false;
         }
-        if 1024 < self.paint_attrs {
+        if MOST_ATTRS < self.paint_attrs {
             return false;
         }
-        if 1024 < self.layer_attrs {
+        if MOST_ATTRS < self.layer_attrs {
             return false;
         }
-        if 256 < self.filter_paints {
+        if MOST_FILTERS < self.filter_paints {
             return false;
         }
-        if 16 < self.layers {
+        if MOST_LAYERS < self.layers {
             return false;
         }
         is_good_clip(viewport, clip, self.layers)
@@ -167,7 +175,7 @@ impl Screen {
 
 // C and D in range, and the render and depth fill arenas of n rows lent exactly.
 pub fn is_good_rooms(n: usize, c: u32, d: u32, render: usize, fills: usize) -> bool
-    requires { ⌜ n ≤ 512 ⌝ }
+    requires { ⌜ n ≤ most-rows ⌝ }
     ensures { λ r. ⌜ r ≡ good-rooms n c d render fills ⌝ }
 {
     if !is_good_room(c) {
@@ -256,19 +264,19 @@ impl Lengths {
     fn is_good_fixed(self) -> bool
         ensures { λ r. ⌜ r ≡ good-fixed self ⌝ }
     {
-        if self.layers != 16 * OPEN {
+        if self.layers != OPEN_TABLE {
             return false;
         }
-        if self.opacities != 1040 {
+        if self.opacities != OPACITIES {
             return false;
         }
-        if self.paint_attrs != 8192 {
+        if self.paint_attrs != PAINT_TABLE {
             return false;
         }
-        if self.layer_attrs != 6144 {
+        if self.layer_attrs != LAYER_TABLE {
             return false;
         }
-        self.filter_paints == 1024
+        self.filter_paints == FILTER_TABLE
     }
 }
 

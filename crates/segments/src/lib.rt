@@ -9,6 +9,8 @@ ghost use Rattle.span.specs.Spans.{alpha};
 ghost use Rattle.rect.specs.Rects.{box-of, Small};
 ghost use Rattle.segments.specs.Segs.{segment-of, seg-at, segs, placed-of, origin, bounds, Starts, SceneOf};
 use rect::Rect;
+use sizes::TILE_ALPHAS;
+use sizes::TILE_END;
 use span::Alpha;
 use span::Cut;
 use span::Stretch;
@@ -22,6 +24,15 @@ pub struct Segment {
     pub end: u32,
     pub alpha: u32,
 }
+
+// Before the first of a list.
+pub const NO_SEGMENT: Segment = Segment {
+    kind: 0,
+    row: 0,
+    first: 0,
+    end: 0,
+    alpha: 0,
+};
 
 // Segment i of a list.
 pub fn segment_at(list: &[u32], i: usize) -> Segment
@@ -46,19 +57,19 @@ impl Segment {
         if 1 < self.kind {
             return false;
         }
-        if 8192 <= self.row {
+        if TILE_END <= self.row {
             return false;
         }
         if self.end <= self.first {
             return false;
         }
-        if 8192 < self.end {
+        if TILE_END < self.end {
             return false;
         }
         if self.kind == 0 {
             return self.alpha == 0;
         }
-        self.alpha <= 4294967295 - 16 * (self.end - self.first)
+        self.alpha <= 4294967295 - TILE_ALPHAS * (self.end - self.first)
     }
 
     // Answer 5: this one may stand right before `next` in a list.

@@ -1,6 +1,7 @@
 -- The code's spans, alpha indices and stretches as the rules'.
 use mathlib.Core.Option.{Option, none, some}
 use Prim.Native.Nat.{ℕ, _+_, _-_, _*_, _<_}
+use Rattle.sizes.specs.Sizes.{tile-alphas}
 use Rattle.rules.specs.Spans as rule
 use Rattle.rules.specs.Spans.{Span, span}
 use Rattle.span.specs.declared.TileSpan.{TileSpan}
@@ -30,7 +31,7 @@ alpha (At a) = some a
 -- an alpha index that n tiles on is still a u32
 abbrev pub Moves : Alpha → ℕ → Type 0
 Moves Solid n = Unit
-Moves (At a) n = a + 16 * n < 4294967296
+Moves (At a) n = a + tile-alphas * n < 4294967296
 
 abbrev pub stretch : Stretch → rule.Stretch
 stretch s = record { tiles = tiles (s .tiles); alpha = alpha (s .alpha) }

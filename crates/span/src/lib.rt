@@ -4,9 +4,13 @@ ghost use Prim.Native.Nat.{_+_, _-_, _*_, _≤_, min, max};
 ghost use Rattle.rules.specs.Spans.{span, hull, meeting, moved, cut-to};
 ghost use Rattle.rules.specs.Depth.{tiles-of};
 ghost use mathlib.Core.Option.{some};
+ghost use Rattle.sizes.specs.Sizes.{bucket-tiles, tile-end, bucket-end};
 ghost use Rattle.span.specs.Spans.{tiles, buckets, meeting-of, alpha, Moves, stretch, cut-of};
+use sizes::BUCKET;
+use sizes::TILE_ALPHAS;
 
-// From a first tile to an end tile, which is not among them.
+// From a first tile to an end tile, which is not among them. Laid out as in C: a host lends slices of it.
+#[repr(C)]
 pub struct TileSpan {
     pub first: u32,
     pub end: u32,
@@ -56,7 +60,7 @@ pub fn larger(a: u32, b: u32) -> u32
 
 impl TileSpan {
     pub fn from_tiles(start: u32, count: u32) -> TileSpan
-        requires { ⌜ start + count ≤ 8192 ⌝ }
+        requires { ⌜ start + count ≤ tile-end ⌝ }
         ensures { λ r. ⌜ tiles r ≡ span start (start + count) ⌝ }
     {
         TileSpan {
@@ -90,14 +94,14 @@ impl TileSpan {
 
     // The first tile's first pixel. A tile is 4 pixels wide.
     pub fn pixel_x(self) -> u32
-        requires { ⌜ self .first ≤ 8192 ⌝ }
+        requires { ⌜ self .first ≤ tile-end ⌝ }
         ensures { λ r. ⌜ r ≡ 4 * self .first ⌝ }
     {
         4 * self.first
     }
 
     pub fn pixel_end(self) -> u32
-        requires { ⌜ self .end ≤ 8192 ⌝ }
+        requires { ⌜ self .end ≤ tile-end ⌝ }
         ensures { λ r. ⌜ r ≡ 4 * self .end ⌝ }
     {
         4 * self.end
@@ -130,12 +134,12 @@ impl TileSpan {
 impl BucketRange {
     // The tiles of the buckets, 32 each.
     pub fn span(self) -> TileSpan
-        requires { ⌜ (self .first ≤ 256) × (self .end ≤ 256) ⌝ }
-        ensures { λ r. ⌜ tiles r ≡ tiles-of 32 (buckets self) ⌝ }
+        requires { ⌜ (self .first ≤ bucket-end) × (self .end ≤ bucket-end) ⌝ }
+        ensures { λ r. ⌜ tiles r ≡ tiles-of bucket-tiles (buckets self) ⌝ }
     {
         TileSpan {
-            first: self.first * 32,
-            end: self.end * 32,
+            first: self.first * BUCKET,
+            end: self.end * BUCKET,
         }
     }
 }
@@ -148,7 +152,7 @@ impl Alpha {
     {
         match self {
             Alpha::Solid => Alpha::Solid,
-            Alpha::At(index) => Alpha::At(index + 16 * tiles),
+            Alpha::At(index) => Alpha::At(index + TILE_ALPHAS * tiles),
         }
     }
 }

@@ -9,9 +9,9 @@ use lib.Seq.{take-at}
 use borrow.Author.Tests.{le-leb, eq-eqb}
 use Rattle.screen.specs.Judging.{good-fixed}
 use Rattle.screen.specs.Tables.{Tables, lengths}
-use Rattle.listing.specs.declared.FileText.{FileText}
-use Rattle.listing.specs.Files.{FileOut, file-out, showed, is-roomy, bytes-text}
-use Rattle.printed.proofs.Files.{shows, file-printed}
+use Rattle.text_file.specs.declared.FileText.{FileText}
+use Rattle.text_file.specs.Files.{FileOut, file-out, showed, is-roomy, bytes-text}
+use Rattle.refine_text.proofs.Files.{shows, file-printed}
 use Rattle.text_programs.specs.Programs.{rowlist-text, first}
 
 -- the lengths of the programs' tables

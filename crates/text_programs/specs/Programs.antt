@@ -3,7 +3,7 @@ use Prim.Native.Nat.{ℕ}
 use mathlib.Core.List.{List, _++_}
 use lib.ListN.{length, drop}
 use Rattle.rules.specs.Lines.{rowlist}
-use Rattle.list.specs.Listed.{text-of}
+use Rattle.text_screen.specs.Listed.{text-of}
 
 -- `rowlist`: the rules' own lines
 abbrev pub rowlist-text : List ℕ → List ℕ

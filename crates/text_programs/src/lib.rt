@@ -1,6 +1,6 @@
 // What the programs have in common: their tables, the text of a file's bytes, reading to the end. Parts: where a function asks something,
 // the programs have seen to it.
-use listing::file_text;
+use text_file::file_text;
 ghost use mathlib.Core.Path.{_≡_};
 ghost use Prim.Native.Nat.{_≤_};
 ghost use lib.ListN.{length};

@@ -1,60 +1,70 @@
 // The programs' tables and buffers.
 ghost use mathlib.Core.Path.{_≡_};
 ghost use lib.ListN.{length};
+ghost use Rattle.sizes.specs.Sizes.{program-render, program-fills, program-depth, program-records, program-painting, open-layer-table, opacity-count, layer-attr-table, filter-paint-table};
+use sizes::FILTER_TABLE;
+use sizes::LAYER_TABLE;
+use sizes::OPACITIES;
+use sizes::OPEN_TABLE;
+use sizes::PROGRAM_DEPTH;
+use sizes::PROGRAM_FILLS;
+use sizes::PROGRAM_PAINTING;
+use sizes::PROGRAM_RECORDS;
+use sizes::PROGRAM_RENDER;
 
 // Tables for 32 rows of 32 buckets.
-pub fn render_words() -> [u32; 8192]
-    ensures { λ r. ⌜ 8192 ≡ length r ⌝ }
+pub fn render_words() -> [u32; PROGRAM_RENDER]
+    ensures { λ r. ⌜ program-render ≡ length r ⌝ }
 {
-    [0; 8192]
+    [0; PROGRAM_RENDER]
 }
 
-pub fn fill_words() -> [u32; 4096]
-    ensures { λ r. ⌜ 4096 ≡ length r ⌝ }
+pub fn fill_words() -> [u32; PROGRAM_FILLS]
+    ensures { λ r. ⌜ program-fills ≡ length r ⌝ }
 {
-    [0; 4096]
+    [0; PROGRAM_FILLS]
 }
 
-pub fn depth_words() -> [u32; 1024]
-    ensures { λ r. ⌜ 1024 ≡ length r ⌝ }
+pub fn depth_words() -> [u32; PROGRAM_DEPTH]
+    ensures { λ r. ⌜ program-depth ≡ length r ⌝ }
 {
-    [0; 1024]
+    [0; PROGRAM_DEPTH]
 }
 
-pub fn row_words() -> [u32; 1728]
-    ensures { λ r. ⌜ 1728 ≡ length r ⌝ }
+pub fn row_words() -> [u32; PROGRAM_RECORDS]
+    ensures { λ r. ⌜ program-records ≡ length r ⌝ }
 {
-    [0; 1728]
+    [0; PROGRAM_RECORDS]
 }
 
-pub fn painting_words() -> [u32; 64]
-    ensures { λ r. ⌜ 64 ≡ length r ⌝ }
+pub fn painting_words() -> [u32; PROGRAM_PAINTING]
+    ensures { λ r. ⌜ program-painting ≡ length r ⌝ }
 {
-    [0; 64]
+    [0; PROGRAM_PAINTING]
 }
 
-pub fn layer_words() -> [u32; 256]
-    ensures { λ r. ⌜ 256 ≡ length r ⌝ }
+pub fn layer_words() -> [u32; OPEN_TABLE]
+    ensures { λ r. ⌜ open-layer-table ≡ length r ⌝ }
 {
-    [0; 256]
+    [0; OPEN_TABLE]
 }
 
-pub fn opacity_words() -> [f32; 1040]
-    ensures { λ r. ⌜ 1040 ≡ length r ⌝ }
+pub fn opacity_words() -> [f32; OPACITIES]
+    ensures { λ r. ⌜ opacity-count ≡ length r ⌝ }
 {
-    [0.0; 1040]
+    [0.0; OPACITIES]
 }
 
-pub fn layer_attr_words() -> [u32; 6144]
-    ensures { λ r. ⌜ 6144 ≡ length r ⌝ }
+pub fn layer_attr_words() -> [u32; LAYER_TABLE]
+    ensures { λ r. ⌜ layer-attr-table ≡ length r ⌝ }
 {
-    [0; 6144]
+    [0; LAYER_TABLE]
 }
 
-pub fn filter_words() -> [i32; 1024]
-    ensures { λ r. ⌜ 1024 ≡ length r ⌝ }
+pub fn filter_words() -> [i32; FILTER_TABLE]
+    ensures { λ r. ⌜ filter-paint-table ≡ length r ⌝ }
 {
-    [0; 1024]
+    [0; FILTER_TABLE]
 }
 
 // The pieces of a row: at most 64 depth fills and 64 commands, each at most 17 pieces of six words.

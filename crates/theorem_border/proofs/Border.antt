@@ -12,19 +12,19 @@ use Rattle.rules.specs.Answers.{Answer, answer, Done}
 use Rattle.rules.specs.Plans.{Frame, Step}
 use Rattle.rules.specs.Painting.{received}
 use Rattle.rules.proofs.All.{both}
-use Rattle.screen.specs.Tables.{Lent}
-use Rattle.paint.specs.Painting as paint
-use Rattle.tiles.specs.Turns.{Gave, from, said-finished}
-use Rattle.tiles.proofs.Cases.{by}
-use Rattle.painter.specs.Rows.{skip-of-row}
-use Rattle.held.specs.State.{bit}
+use Rattle.screen.specs.Tables.{ScreenLent}
+use Rattle.paint_command.specs.Painting as paint
+use Rattle.rules_picture.specs.Turns.{Gave, from, said-finished}
+use Rattle.rules_picture.proofs.Cases.{by}
+use Rattle.paint_screen.specs.Rows.{skip-of-row}
+use Rattle.host_screen.specs.State.{bit}
 use Rattle.host.specs.Painting.{step-left, skip-left}
-use Rattle.picture.specs.Turns as turns
-use Rattle.picture.specs.Reached as reached
-use Rattle.picture.specs.Rows as rows
-use Rattle.picture.proofs.Rows.{rows-picture}
-use Rattle.picture.proofs.Skip as picture
-use Rattle.picture.specs.Skip as lent
+use Rattle.theorem_picture.specs.Turns as turns
+use Rattle.theorem_picture.specs.Reached as reached
+use Rattle.theorem_picture.specs.Rows as rows
+use Rattle.theorem_picture.proofs.Rows.{rows-picture}
+use Rattle.theorem_picture.proofs.Skip as picture
+use Rattle.theorem_picture.specs.Skip as lent
 use Rattle.theorem_border.specs.Hosted.{Host, Hosted, Call, one-step, whole-row, turn-in, begin-at, paint-out}
 use Rattle.theorem_border.specs.Border.{gave-words, painted, log, finished-at, finished, Demand-3, Clear}
 use Rattle.theorem_border.proofs.Words.{host-of, hosted, begin-on, call-of, paint-on, paint-done, paint-kept, skip-on}
@@ -35,14 +35,14 @@ bit-read : (b : Bool) → eqb (bit b) 1 ≡ b
 bit-read true = refl
 bit-read false = refl
 
-pub left-read : (r : ℕ) (res : List ℕ) (o : paint.Out) → o .answer .number ≡ Done → gave-words r (step-left res o) ≡ turns.gave-out r o
+pub left-read : (r : ℕ) (res : List ℕ) (o : paint.StepOut) → o .answer .number ≡ Done → gave-words r (step-left res o) ≡ turns.gave-out r o
 left-read r res o e = rw (e, bit-read (o .answer .finished))
 
 same-row : (c : Call) → turn-in c .row ≡ rows.turn-in (call-of c) .row
 same-row (one-step t) = refl
 same-row (whole-row t) = refl
 
-gave-done : (c : Call) (l : Lent) → paint-out c (host-of l) .number ≡ Done
+gave-done : (c : Call) (l : ScreenLent) → paint-out c (host-of l) .number ≡ Done
     → gave-words (turn-in c .row) (paint-out c (host-of l)) ≡ turns.gave-out (rows.turn-in (call-of c) .row) (rows.call-out (call-of c) l)
 gave-done c l e =
     let q = paint-on c l e in
@@ -62,13 +62,13 @@ module _ (g k : Gave) (gs ks : List Gave) (r : ℕ) (e : g ≡ k) where
   first-said h = rw e (ap (λ (b : Bool). (eqb (k .row) r && k .finished) || b) h)
 
 -- picture's calls that do what painting calls of a host do
-record Runs (cs : List Call) (l : Lent) : Type 0 where
+record Runs (cs : List Call) (l : ScreenLent) : Type 0 where
   calls : List rows.Call
   words : painted cs (host-of l) ≡ host-of (rows.called calls l)
   pieces : (r : ℕ) → from r (log cs (host-of l)) ≡ from r (rows.call-log calls l)
   said : (r : ℕ) → said-finished r (log cs (host-of l)) ≡ said-finished r (rows.call-log calls l)
 
-module _ (c : Call) (cs : List Call) (l : Lent) where
+module _ (c : Call) (cs : List Call) (l : ScreenLent) where
   done-first : paint-out c (host-of l) .number ≡ Done → Runs cs (rows.after-call (call-of c) l) → Runs (c ∷ cs) l
   unfolding painted log rows.called rows.call-log
   done-first e z =
@@ -94,7 +94,7 @@ module _ (c : Call) (cs : List Call) (l : Lent) where
         said = λ r. rw (w, q) (by (eqb (turn-in c .row) r) (λ y. rw y (z .said r)) (λ y. rw y (z .said r)));
       }
 
-runs : (cs : List Call) (l : Lent) → Runs cs l
+runs : (cs : List Call) (l : ScreenLent) → Runs cs l
 runs [] l = record { calls = []; words = unfold painted rows.called in refl; pieces = λ r. unfold log rows.call-log in refl; said = λ r. unfold log rows.call-log in refl }
 runs (c ∷ cs) l =
     by (eqb (paint-out c (host-of l) .number) Done)
@@ -102,7 +102,7 @@ runs (c ∷ cs) l =
     (λ n. refused-first c cs l (eqb-false _ _ n) (runs cs l))
 
 -- a row that has finished by the words that a host reads has
-finished-too : (l : Lent) (r : ℕ) → finished-at (host-of l) r ≡ true → turns.finished-at l r ≡ true
+finished-too : (l : ScreenLent) (r : ℕ) → finished-at (host-of l) r ≡ true → turns.finished-at l r ≡ true
 finished-too l r e =
     let c = one-step (record { row = r; list = []; result = 0 ∷ 0 ∷ [] }) in
     let d = eqb-true (paint-out c (host-of l) .number) Done (both _ _ e .0) in
@@ -139,7 +139,7 @@ said-yes a old e =
     let f : answer (a .number) (a .value) ≡ answer Done true = rw (n, one-bit (a .value) v) in
     f
 
-clear : (l : Lent) → lent.Clear l → Clear (host-of l)
+clear : (l : ScreenLent) → lent.Clear l → Clear (host-of l)
 clear l k b r t id old e =
     let q = skip-on l r t id old (ap (λ (a : Answer (List ℕ)). a .number) e) in
     k (one-bit (l .screen .painting) b) r t id (said-yes (skip-of-row (l .screen) r (l .tables .rows) t id) old (sym q ∙ e))

@@ -13,14 +13,14 @@ use Rattle.rules.specs.Plans.{Frame, Step}
 use Rattle.rules.specs.Painting as rules
 use Rattle.rules.proofs.All.{never}
 use Rattle.screen.specs.declared.Screen.{Screen}
-use Rattle.screen.specs.Tables.{Lent}
-use Rattle.paint.specs.Painting as paint
-use Rattle.painter.specs.Stepping.{Attributes, own, number, row-step, stepped}
-use Rattle.tiles.specs.Turns.{Gave, said-finished}
-use Rattle.held.specs.State.{screen-words}
-use Rattle.picture.specs.Turns as turns
-use Rattle.picture.specs.Reached as reached
-use Rattle.picture.proofs.Finishes.{finishes}
+use Rattle.screen.specs.Tables.{ScreenLent}
+use Rattle.paint_command.specs.Painting as paint
+use Rattle.paint_screen.specs.Stepping.{Attributes, own, number, row-step, stepped}
+use Rattle.rules_picture.specs.Turns.{Gave, said-finished}
+use Rattle.host_screen.specs.State.{screen-words}
+use Rattle.theorem_picture.specs.Turns as turns
+use Rattle.theorem_picture.specs.Reached as reached
+use Rattle.theorem_picture.proofs.Finishes.{finishes}
 use Rattle.theorem_border.specs.Hosted.{Host, host, with-painting, Hosted, Call, one-step, begin-at, paint-out, paint-at}
 use Rattle.theorem_border.specs.Border.{gave-words, painted, log, finished-at, finished}
 use Rattle.theorem_border.proofs.Words.{host-of, hosted, begin-on, paint-lent}
@@ -38,7 +38,7 @@ row-done (some o) d p l e = go (ltb (length l / 6) (length (o .pieces))) e
     go true z = never (sym z)
     go false z = refl
 
-stepped-done : (s : Screen) (r : ℕ) (a : Attributes) (w : paint.Lent) → stepped s r a w .answer .finished ≡ true → stepped s r a w .answer .number ≡ Done
+stepped-done : (s : Screen) (r : ℕ) (a : Attributes) (w : paint.RowLent) → stepped s r a w .answer .finished ≡ true → stepped s r a w .answer .number ≡ Done
 unfolding stepped row-step paint.painted-row
 stepped-done s r a w e = go (eqb (number s r a w) Done) e
   where
@@ -51,8 +51,8 @@ stepped-done s r a w e = go (eqb (number s r a w) Done) e
 abbrev lend : turns.Turn → Call
 lend t = one-step (record { row = t .row; list = t .list; result = 0 ∷ 0 ∷ [] })
 
-module _ (t : turns.Turn) (l : Lent) where
-  abbrev o : paint.Out
+module _ (t : turns.Turn) (l : ScreenLent) where
+  abbrev o : paint.StepOut
   o = reached.paint-out (t .row) (t .list) l
 
   turn-words : paint-at (lend t) (host-of l) ≡ host-of (reached.paint-at (t .row) (t .list) l)
@@ -66,7 +66,7 @@ module _ (t : turns.Turn) (l : Lent) where
       let q = paint-lent (record { row = t .row; list = t .list; result = 0 ∷ 0 ∷ [] }) l refl in
       ap (λ (g : Gave). g .finished) (ap (gave-words (t .row)) q ∙ left-read (t .row) (0 ∷ 0 ∷ []) o d) ∙ e
 
-all-words : (ts : List turns.Turn) (l : Lent) → painted (map lend ts) (host-of l) ≡ host-of (turns.turned ts l)
+all-words : (ts : List turns.Turn) (l : ScreenLent) → painted (map lend ts) (host-of l) ≡ host-of (turns.turned ts l)
 unfolding painted turns.turned
 all-words [] l = refl
 all-words (t ∷ ts) l = ap (painted (map lend ts)) (turn-words t l) ∙ all-words ts (reached.paint-at (t .row) (t .list) l)
@@ -77,7 +77,7 @@ or-both true true b c d e f g = rw (f refl)
 or-both true false true c d e f g = refl
 or-both true false false c d e f g = g e
 
-all-said : (r : ℕ) (ts : List turns.Turn) (l : Lent) → said-finished r (turns.log ts l) ≡ true → said-finished r (log (map lend ts) (host-of l)) ≡ true
+all-said : (r : ℕ) (ts : List turns.Turn) (l : ScreenLent) → said-finished r (turns.log ts l) ≡ true → said-finished r (log (map lend ts) (host-of l)) ≡ true
 unfolding log turns.log said-finished
 all-said r [] l e = e
 all-said r (t ∷ ts) l e =

@@ -12,33 +12,33 @@ use Rattle.rules.specs.Recording.{recording}
 use Rattle.rules.specs.Walk.{frame-of}
 use Rattle.rect.specs.declared.Rect.{Rect}
 use Rattle.screen.specs.Screens.{frame}
-use Rattle.screen.specs.Tables.{Lent, reset-to}
-use Rattle.walk.specs.Recorded.{recorded}
+use Rattle.screen.specs.Tables.{ScreenLent, reset-to}
+use Rattle.file_call.specs.Recorded.{recorded}
 use Rattle.host.specs.Building.{props}
-use Rattle.tiles.specs.Recorded.{history, Readable, said}
-use Rattle.tiles.proofs.Cases.{by}
-use Rattle.held.specs.State.{screen-words}
+use Rattle.rules_picture.specs.Recorded.{history, Readable, said}
+use Rattle.rules_picture.proofs.Cases.{by}
+use Rattle.host_screen.specs.State.{screen-words}
 use Rattle.host.specs.Painting.{write-call}
-use Rattle.picture.specs.Calls as calls
-use Rattle.picture.specs.Rows as rows
-use Rattle.picture.specs.Reached as reached
-use Rattle.picture.specs.Reached.{Reached}
-use Rattle.picture.proofs.Rows.{row-reached}
-use Rattle.picture.proofs.Recorded.{recorded-reached}
+use Rattle.theorem_picture.specs.Calls as calls
+use Rattle.theorem_picture.specs.Rows as rows
+use Rattle.theorem_picture.specs.Reached as reached
+use Rattle.theorem_picture.specs.Reached.{Reached}
+use Rattle.theorem_picture.proofs.Rows.{row-reached}
+use Rattle.theorem_picture.proofs.Recorded.{recorded-reached}
 use Rattle.theorem_border.specs.Hosted.{Host, Hosted, by-reset, by-recording, by-fill, by-push, by-pop, by-filter, by-begin, by-paint, by-write}
 use Rattle.theorem_border.specs.Hosted.{Call, one-step, whole-row, place, reset-at, recording-at, fill-at, push-at, pop-at, filter-at, begin-at, paint-out, paint-at, write-at}
 use Rattle.theorem_border.proofs.Words.{host-of, hosted, reset-on, recording-on, Known, nothing, these, known, reset-never, recording-never, fill-on, push-on, pop-on, filter-on, begin-on, call-of, paint-done, paint-kept, write-done, write-kept}
 
 pub record Holds (f : Frame) (xs : List Step) (h : Host) : Type 0 where
-  pub words : Lent
+  pub words : ScreenLent
   pub reached : Reached f xs words
   pub same : h ≡ host-of words
 
 -- a call at the border that is a call at the words
-made : {f : Frame} {ys : List Step} (a : Answer Host) (b : Answer Lent) → a ≡ hosted b → Reached f ys (b .value) → Holds f ys (a .value)
+made : {f : Frame} {ys : List Step} (a : Answer Host) (b : Answer ScreenLent) → a ≡ hosted b → Reached f ys (b .value) → Holds f ys (a .value)
 made a b q r = record { words = b .value; reached = r; same = ap (λ (x : Answer Host). x .value) q }
 
-number-of : (a : Answer Host) (b : Answer Lent) → a ≡ hosted b → a .number ≡ Done → b .number ≡ Done
+number-of : (a : Answer Host) (b : Answer ScreenLent) → a ≡ hosted b → a .number ≡ Done → b .number ≡ Done
 number-of a b q e = sym (ap (λ (x : Answer Host). x .number) q) ∙ e
 
 -- words have one recording
@@ -51,7 +51,7 @@ unfolding parts-in
 said-once w v = ap (λ (o : Option (List (List (List ℕ)))). recording (parts-in o)) (sym (w .formed) ∙ v .formed)
 
 module _ {f : Frame} {xs : List Step} {h : Host} (z : Holds f xs h) where
-  abbrev l : Lent
+  abbrev l : ScreenLent
   l = z .words
 
   paint-reached : (c : Call) → Reached f xs (rows.after-call (call-of c) l)

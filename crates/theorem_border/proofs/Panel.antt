@@ -11,7 +11,7 @@ use Rattle.rules.specs.Answers.{Done}
 use Rattle.rules.specs.Painting.{Entry, received}
 use Rattle.rules.specs.Plain.{plain}
 use Rattle.rules.proofs.Computing.{computing}
-use Rattle.tiles.specs.Turns.{from}
+use Rattle.rules_picture.specs.Turns.{from}
 use Rattle.theorem_border.specs.Hosted.{Hosted, by-reset, by-fill, Call}
 use Rattle.theorem_border.specs.Border.{log, finished}
 use Rattle.theorem_border.specs.Panel.{screen, own-frame, blank, paints, segments, one, fresh, with-banner, with-panel, begun, by-steps, mixed, steps}

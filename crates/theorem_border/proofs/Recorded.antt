@@ -4,10 +4,10 @@ use native.Mathlib.Omega.{arith}
 use mathlib.Core.Path.{_≡_, sym, ap, _∙_}
 use mathlib.Core.List.{List}
 use Rattle.rules.specs.Answers.{Answer, Done}
-use Rattle.screen.specs.Tables.{Lent}
-use Rattle.walk.specs.Recorded.{recorded}
-use Rattle.picture.specs.Recorded as lent
-use Rattle.picture.proofs.Recorded.{recorded-reached, recorded-refused}
+use Rattle.screen.specs.Tables.{ScreenLent}
+use Rattle.file_call.specs.Recorded.{recorded}
+use Rattle.theorem_picture.specs.Recorded as lent
+use Rattle.theorem_picture.proofs.Recorded.{recorded-reached, recorded-refused}
 use Rattle.theorem_border.specs.Hosted.{Host, by-recording, recording-at, begin-at}
 use Rattle.theorem_border.specs.Border.{Accepted, Refused, kept, emptied}
 use Rattle.theorem_border.proofs.Words.{host-of, hosted, reset-on, recording-on, begin-on, Known, nothing, these, known, recording-never, recording-left}
@@ -25,7 +25,7 @@ module _ (file : List ℕ) (c d : ℕ) where
       }
 
   -- at a screen's words
-  refused-on : (l : Lent) → lent.Refused c d file l (recorded file c d l) → Refused file c d (host-of l)
+  refused-on : (l : ScreenLent) → lent.Refused c d file l (recorded file c d l) → Refused file c d (host-of l)
   refused-on l (lent.kept e) = kept (ap (λ (a : Answer Host). a .value) (recording-on c d l file) ∙ ap host-of e)
   refused-on l (lent.emptied w n r e) =
       let q = recording-on c d l file in

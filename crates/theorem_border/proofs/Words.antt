@@ -17,38 +17,38 @@ use Rattle.rules.proofs.All.{both}
 use Rattle.rect.specs.declared.Rect.{Rect}
 use Rattle.row.specs.Words.{Words}
 use Rattle.screen.specs.declared.Screen.{Screen}
-use Rattle.screen.specs.Tables.{Tables, Lent, lent, reset-to}
-use Rattle.fill.specs.declared.Draw.{Draw}
-use Rattle.fill.specs.Fills as fills
-use Rattle.fill.specs.Fills.{filled}
-use Rattle.push.specs.Push as push
-use Rattle.push.specs.Push.{pushed}
-use Rattle.pop.specs.Pop as pop
-use Rattle.pop.specs.Pop.{popped}
-use Rattle.filter.specs.declared.Placement.{Placement}
-use Rattle.filter.specs.Filter as filter
-use Rattle.filter.specs.Filter.{given, filtered}
-use Rattle.painter.specs.Beginning.{canvas, beginning}
-use Rattle.painter.specs.Rows.{skip-of-row}
-use Rattle.walk.specs.Recorded.{recorded}
-use Rattle.steps.specs.Steps.{rows-words, pop-part}
-use Rattle.held.specs.declared.Held.{Held}
-use Rattle.held.specs.declared.Held.the-variants as held
-use Rattle.held.specs.State.{screen-words, screen-at, screen-of, before-4, refused-at, at-held, on}
-use Rattle.held.proofs.Words.{read-back, written-back}
+use Rattle.screen.specs.Tables.{Tables, ScreenLent, lent, reset-to}
+use Rattle.step_fill.specs.declared.Draw.{Draw}
+use Rattle.step_fill.specs.Fills as fills
+use Rattle.step_fill.specs.Fills.{filled}
+use Rattle.step_push.specs.Push as push
+use Rattle.step_push.specs.Push.{pushed}
+use Rattle.step_pop.specs.Pop as pop
+use Rattle.step_pop.specs.Pop.{popped}
+use Rattle.step_filter.specs.declared.Placement.{Placement}
+use Rattle.step_filter.specs.Filter as filter
+use Rattle.step_filter.specs.Filter.{given, filtered}
+use Rattle.paint_screen.specs.Beginning.{canvas, beginning}
+use Rattle.paint_screen.specs.Rows.{skip-of-row}
+use Rattle.file_call.specs.Recorded.{recorded}
+use Rattle.file_steps.specs.Steps.{rows-words, pop-part}
+use Rattle.host_screen.specs.declared.Held.{Held}
+use Rattle.host_screen.specs.declared.Held.the-variants as held
+use Rattle.host_screen.specs.State.{screen-words, screen-at, screen-of, before-4, refused-at, at-held, on}
+use Rattle.host_screen.proofs.Words.{read-back, written-back}
 use Rattle.host.specs.Building.{tables-left, reset-call, recording-call, fill-left, fill-call, props, push-left, push-call, pop-left, pop-call, filter-left, filter-call}
 use Rattle.host.specs.Painting.{begin-left, begin-call, step-left, step-call, row-call, write-call, skip-left, skip-call}
 use Rattle.host.proofs.Kept.{step-refused, row-refused, write-refused}
-use Rattle.picture.specs.Calls as calls
-use Rattle.picture.specs.Reached as reached
-use Rattle.picture.specs.Rows as rows
+use Rattle.theorem_picture.specs.Calls as calls
+use Rattle.theorem_picture.specs.Reached as reached
+use Rattle.theorem_picture.specs.Rows as rows
 use Rattle.theorem_border.specs.Hosted.{Host, host, with-rows, with-painting, reset-at, recording-at, fill-at, push-at, pop-at, filter-at, begin-at, Turn, Call, one-step, whole-row, turn-in, paint-out, paint-at, write-at}
 
 -- the words of a screen and its tables
-abbrev pub host-of : Lent → Host
+abbrev pub host-of : ScreenLent → Host
 host-of l = host (screen-words (l .screen)) (l .tables)
 
-abbrev pub hosted : Answer Lent → Answer Host
+abbrev pub hosted : Answer ScreenLent → Answer Host
 hosted a = answer (a .number) (host-of (a .value))
 
 -- a refusal at the border is no 0
@@ -80,13 +80,13 @@ module _ {T : Type 0} (t : T) (f : Screen → Answer T) where
   on-done false s e = absurd (never-done (screen-words s) (λ (s : Screen). f s .number) e)
 
 -- `coarse_can_skip`
-pub skip-on : (l : Lent) (r : ℕ) (t : Span) (id : ℕ) (old : List ℕ) → skip-call r t id (screen-words (l .screen)) (l .tables .rows) old .number ≡ Done
+pub skip-on : (l : ScreenLent) (r : ℕ) (t : Span) (id : ℕ) (old : List ℕ) → skip-call r t id (screen-words (l .screen)) (l .tables .rows) old .number ≡ Done
     → skip-call r t id (screen-words (l .screen)) (l .tables .rows) old ≡ skip-left old (skip-of-row (l .screen) r (l .tables .rows) t id)
 unfolding skip-call
 skip-on l r t id old e = on-done {T = List ℕ} _ _ (eqb (length old) 1) (l .screen) e
 
 -- a reset and a recording, on a screen's words
-module _ (c d : ℕ) (l : Lent) where
+module _ (c d : ℕ) (l : ScreenLent) where
   pub reset-on : (v : Rect) → reset-at v c d (host-of l) ≡ hosted (reset-to v c d l)
   unfolding reset-at reset-call
   reset-on v =
@@ -102,7 +102,7 @@ module _ (c d : ℕ) (l : Lent) where
 -- words that are a screen's, or no call on them is done
 pub data Known (h : Host) : Type 0 where
   nothing : held.Nothing ≡ screen-of true (h .state) → Known h
-  these : (l : Lent) → h ≡ host-of l → Known h
+  these : (l : ScreenLent) → h ≡ host-of l → Known h
 
 pub known : (h : Host) → Known h
 known h = go (screen-of true (h .state)) refl
@@ -125,7 +125,7 @@ module _ (h : Host) (q : held.Nothing ≡ screen-of true (h .state)) where
   recording-left file c d = rw (← q)
 
 -- the building calls on a screen's words
-module _ (l : Lent) where
+module _ (l : ScreenLent) where
   abbrev t : Tables
   t = l .tables
 
@@ -149,7 +149,7 @@ module _ (l : Lent) where
   pub pop-on : (ss : List ℕ) → pop-at ss (host-of l) ≡ hosted (calls.pop-at ss l)
   unfolding pop-at pop-call calls.pop-at
   pop-on ss =
-      ap (λ (a : Answer (List ℕ × pop.Lent)). answer (a .number)
+      ap (λ (a : Answer (List ℕ × pop.PopLent)). answer (a .number)
       (host (a .value .0)
       (with-rows t (a .value .1 .words) (a .value .1 .layers) (a .value .1 .opacities) (t .paint-attrs) (a .value .1 .attrs) (t .filter-paints))))
       (on-screen (screen-words (l .screen), pop-part l) (λ (s : Screen). pop-left (popped s (pop-part l) ss)) (l .screen))
@@ -176,18 +176,18 @@ call-of (whole-row t) = rows.whole-row (record { row = t .row; list = t .list })
 abbrev Painted : Type 0
 Painted = List ℕ × List ℕ × List ℕ × List ℕ
 
-pub paint-on : (c : Call) (l : Lent) → paint-out c (host-of l) .number ≡ Done → paint-out c (host-of l) ≡ step-left (turn-in c .result) (rows.call-out (call-of c) l)
+pub paint-on : (c : Call) (l : ScreenLent) → paint-out c (host-of l) .number ≡ Done → paint-out c (host-of l) ≡ step-left (turn-in c .result) (rows.call-out (call-of c) l)
 unfolding paint-out step-call row-call reached.paint-out rows.row-out
 paint-on (one-step t) l e = on-done {T = Painted} _ _ (eqb (length (t .result)) 2) (l .screen) e
 paint-on (whole-row t) l e = on-done {T = Painted} _ _ (eqb (length (t .result)) 2) (l .screen) e
 
 -- .. and a step whose result words are two, also where it is refused
-pub paint-lent : (t : Turn) (l : Lent) → eqb (length (t .result)) 2 ≡ true → paint-out (one-step t) (host-of l) ≡ step-left (t .result) (reached.paint-out (t .row) (t .list) l)
+pub paint-lent : (t : Turn) (l : ScreenLent) → eqb (length (t .result)) 2 ≡ true → paint-out (one-step t) (host-of l) ≡ step-left (t .result) (reached.paint-out (t .row) (t .list) l)
 unfolding paint-out step-call reached.paint-out
 paint-lent t l e = rw e (on-screen {T = Painted} _ _ (l .screen))
 
 -- the words after it
-pub paint-done : (c : Call) (l : Lent) → paint-out c (host-of l) .number ≡ Done → paint-at c (host-of l) ≡ host-of (rows.after-call (call-of c) l)
+pub paint-done : (c : Call) (l : ScreenLent) → paint-out c (host-of l) .number ≡ Done → paint-at c (host-of l) ≡ host-of (rows.after-call (call-of c) l)
 paint-done c l e = ap (λ (a : Answer Painted). host (screen-words (l .screen)) (with-painting (l .tables) (a .value .0) (a .value .1))) (paint-on c l e)
 
 pub paint-kept : (c : Call) (h : Host) → (paint-out c h .number ≡ Done → ⊥) → paint-at c h ≡ h
@@ -198,7 +198,7 @@ paint-kept (whole-row t) h q =
     ap (λ (o : Painted). host (h .state) (with-painting (h .tables) (o .0) (o .1))) (row-refused (t .row) _ (h .state) _ (t .result) q)
 
 -- a writing run, done or refused
-module _ (i id : ℕ) (b : Span) (list count : List ℕ) (l : Lent) where
+module _ (i id : ℕ) (b : Span) (list count : List ℕ) (l : ScreenLent) where
   abbrev a : Answer Painted
   a = write-call i b id (screen-words (l .screen)) (l .tables .depth) list count
 

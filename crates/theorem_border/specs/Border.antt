@@ -5,6 +5,7 @@ use mathlib.Core.Bool.{Bool, true, _&&_, _||_, cond}
 use mathlib.Core.List.{List, [], _∷_}
 use lib.ListN.{getD}
 use lib.Dec.{eqb}
+use Rattle.sizes.specs.Sizes.{bucket-tiles}
 use Rattle.rules.specs.Answers.{Answer, answer, Done, BadForm}
 use Rattle.rules.specs.Boxes.{width, rows-of}
 use Rattle.rules.specs.Spans.{Span}
@@ -13,12 +14,12 @@ use Rattle.rules.specs.Painting.{received}
 use Rattle.rules.specs.Plain.{plain}
 use Rattle.rules.specs.Walk.{frame-of}
 use Rattle.screen.specs.Screens.{rect-of}
-use Rattle.painter.specs.Judging.{wide}
-use Rattle.painter.specs.Stepping.{part}
-use Rattle.tiles.specs.Turns.{Gave, from, said-finished}
-use Rattle.tiles.specs.Recorded.{history, Readable, said}
-use Rattle.picture.specs.Turns.{pieces-in}
-use Rattle.held.specs.State.{screen-at}
+use Rattle.paint_screen.specs.Judging.{wide}
+use Rattle.paint_screen.specs.Stepping.{part}
+use Rattle.rules_picture.specs.Turns.{Gave, from, said-finished}
+use Rattle.rules_picture.specs.Recorded.{history, Readable, said}
+use Rattle.theorem_picture.specs.Turns.{pieces-in}
+use Rattle.host_screen.specs.State.{screen-at}
 use Rattle.host.specs.Painting.{skip-call}
 use Rattle.theorem_border.specs.Hosted.{Host, Hosted, Call, one-step, turn-in, paint-out, paint-at, place, reset-at, recording-at, begin-at}
 
@@ -61,7 +62,7 @@ Demand-3 =
     (f : Frame) (xs : List Step) (h : Host) → Hosted f xs h → begin-at h .number ≡ Done
     → (cs : List Call) (r t : ℕ) → r < rows-of (f .viewport) → t < width (f .viewport) / 4
     → finished r cs (begin-at h .value) ≡ true
-    → received t (from r (log cs (begin-at h .value))) ≡ plain 32 (f .viewport) r t xs
+    → received t (from r (log cs (begin-at h .value))) ≡ plain bucket-tiles (f .viewport) r t xs
 
 -- Where painting goes on, by the state's last word, and `coarse_can_skip` of the tiles t of row r and an id answers 0 with the word 1: the
 -- depth word of each tile's bucket lets the id through.
@@ -70,12 +71,12 @@ Clear h =
     getD (h .state) 15 0 ≡ 1 → (r : ℕ) (t : Span) (id : ℕ) (old : List ℕ)
     → skip-call r t id (h .state) (h .tables .rows) old ≡ answer Done (1 ∷ [])
     → (x : ℕ) → t .first ≤ x → x < t .end
-    → getD (part (wide (screen-at (h .state))) r (h .tables .depth)) (x / 32) 0 ≤ id
+    → getD (part (wide (screen-at (h .state))) r (h .tables .depth)) (x / bucket-tiles) 0 ≤ id
 
 -- What a recording leaves. Accepted: words that are `Hosted` by the steps of its walk, and painting can begin there.
 pub record Accepted (file : List ℕ) (c d : ℕ) (h : Host) : Type 0 where
   pub words : Readable file
-  pub hosted : Hosted (frame-of (place c d h) (said words)) (history 32 (place c d h) (said words)) (recording-at file c d h .value)
+  pub hosted : Hosted (frame-of (place c d h) (said words)) (history bucket-tiles (place c d h) (said words)) (recording-at file c d h .value)
   pub begins : begin-at (recording-at file c d h .value) .number ≡ Done
 
 -- Refused: every word as it was; or, with a number past 3, what a reset to the file's viewport leaves.

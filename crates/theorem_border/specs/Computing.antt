@@ -5,24 +5,24 @@ use Rattle.screen.specs.Judging as screens
 use Rattle.screen.specs.Judging.{judged-reset}
 use Rattle.screen.specs.Screens.{good-clip, good-screen, state-of, screen-after}
 use Rattle.screen.specs.Tables.{zeros, reset-to}
-use Rattle.arena.specs.Arena.{cut, lay}
+use Rattle.row_screen.specs.Arena.{cut, lay}
 use Rattle.row.specs.Words.{hull-word, include-span, put-command, put-depth}
-use Rattle.building.specs.Building as building
-use Rattle.building.specs.Building.{good-row, good-rows}
-use Rattle.fill.specs.Fills.{paints, first-number, fill-number, fill-done}
-use Rattle.shown.specs.Summaries.{shown-runs}
-use Rattle.paint.specs.Painting.{attrs-at, given, fill-shown, command-shown, depth-step, command-step, next-step, settled, painted-row}
-use Rattle.paint.specs.Pieces.{runs-at}
-use Rattle.painter.specs.Judging as painter
-use Rattle.painter.specs.Judging.{begin-number}
-use Rattle.painter.specs.Beginning.{beginning}
-use Rattle.painter.specs.Stepping.{row-step, stepped}
-use Rattle.rowpaint.specs.Running.{one-more, run, row-painted}
-use Rattle.held.specs.State.{screen-of}
+use Rattle.row_judge.specs.Building as building
+use Rattle.row_judge.specs.Building.{good-row, good-rows}
+use Rattle.step_fill.specs.Fills.{paints, first-number, fill-number, fill-done}
+use Rattle.paint_runs.specs.Summaries.{shown-runs}
+use Rattle.paint_command.specs.Painting.{attrs-at, given, fill-shown, command-shown, depth-step, command-step, next-step, settled, painted-row}
+use Rattle.paint_command.specs.Pieces.{runs-at}
+use Rattle.paint_screen.specs.Judging as painter
+use Rattle.paint_screen.specs.Judging.{begin-number}
+use Rattle.paint_screen.specs.Beginning.{beginning}
+use Rattle.paint_screen.specs.Stepping.{row-step, stepped}
+use Rattle.paint_whole.specs.Running.{one-more, run, row-painted}
+use Rattle.host_screen.specs.State.{screen-of}
 use Rattle.host.specs.Building.{reset-call, fill-call}
 use Rattle.host.specs.Painting.{begin-call, step-call, row-call}
-use Rattle.tiles.specs.Turns.{from, said-finished}
-use Rattle.picture.specs.Turns.{pieces-in}
+use Rattle.rules_picture.specs.Turns.{from, said-finished}
+use Rattle.theorem_picture.specs.Turns.{pieces-in}
 use Rattle.theorem_border.specs.Hosted.{reset-at, fill-at, begin-at, paint-out}
 use Rattle.theorem_border.specs.Border.{painted, log}
 

@@ -7,6 +7,7 @@ use mathlib.Core.Option.{none, some}
 use lib.Dec.{eqb}
 use lib.Ieee.{Float}
 use lib.IntN.{ℤ}
+use Rattle.sizes.specs.Sizes.{bucket-tiles, most-rows}
 use Rattle.rules.specs.Answers.{Answer, answer, Done}
 use Rattle.rules.specs.Spans.{Span}
 use Rattle.rules.specs.Inputs.{Clip}
@@ -17,14 +18,14 @@ use Rattle.row.specs.Words.{Words}
 use Rattle.screen.specs.Screens.{frame}
 use Rattle.screen.specs.Judging.{arenas}
 use Rattle.screen.specs.Tables.{Tables, tables, lengths}
-use Rattle.fill.specs.declared.Draw.{Draw}
-use Rattle.pop.specs.Pop as pop
-use Rattle.filter.specs.declared.Placement.{Placement}
-use Rattle.paint.specs.Painting as paint
-use Rattle.painter.specs.Stepping.{Attributes, attributes}
-use Rattle.steps.specs.Steps.{rows-words}
-use Rattle.tiles.specs.Recorded.{history, Readable, said}
-use Rattle.picture.specs.Calls.{fill-said, pop-said, filter-said}
+use Rattle.step_fill.specs.declared.Draw.{Draw}
+use Rattle.step_pop.specs.Pop as pop
+use Rattle.step_filter.specs.declared.Placement.{Placement}
+use Rattle.paint_command.specs.Painting as paint
+use Rattle.paint_screen.specs.Stepping.{Attributes, attributes}
+use Rattle.file_steps.specs.Steps.{rows-words}
+use Rattle.rules_picture.specs.Recorded.{history, Readable, said}
+use Rattle.theorem_picture.specs.Calls.{fill-said, pop-said, filter-said}
 use Rattle.host.specs.Building.{reset-call, recording-call, fill-call, props, push-call, pop-call, filter-call}
 use Rattle.host.specs.Painting.{begin-call, step-call, row-call, write-call}
 
@@ -110,7 +111,7 @@ turn-in (whole-row t) = t
 abbrev pub own-attributes : Host → Attributes
 own-attributes h = attributes (h .tables .paint-attrs) (h .tables .layer-attrs)
 
-abbrev pub own-words : List ℕ → Host → paint.Lent
+abbrev pub own-words : List ℕ → Host → paint.RowLent
 own-words list h = let t = h .tables in paint.lent (t .rows) (t .render) (t .fills) (t .depth) (t .painting) list
 
 -- its number; the depth and painting words, the list and the result afterwards
@@ -129,7 +130,7 @@ write-at i id t list count h =
 
 -- where a recording is played: C and D, and how much is lent of the arenas
 abbrev pub place : ℕ → ℕ → Host → Place
-place c d h = record { limit = 512; c = c; d = d; arenas = arenas (lengths (h .tables)) }
+place c d h = record { limit = most-rows; c = c; d = d; arenas = arenas (lengths (h .tables)) }
 
 -- A host's words after a done `coarse_reset` to the frame f, or a done recording, on any words whatever, and then `coarse_` calls, each given
 -- what the last one left; xs are the steps that the done building calls say, in order. Painting calls and writing runs may come between, done or
@@ -138,7 +139,7 @@ place c d h = record { limit = 512; c = c; d = d; arenas = arenas (lengths (h .t
 pub data Hosted : Frame → List Step → Host → Type 0 where
   by-reset : (v : Rect) (c d : ℕ) (h : Host) → reset-at v c d h .number ≡ Done → Hosted (frame v c d) [] (reset-at v c d h .value)
   by-recording : (file : List ℕ) (c d : ℕ) (h : Host) (w : Readable file) → recording-at file c d h .number ≡ Done
-      → Hosted (frame-of (place c d h) (said w)) (history 32 (place c d h) (said w)) (recording-at file c d h .value)
+      → Hosted (frame-of (place c d h) (said w)) (history bucket-tiles (place c d h) (said w)) (recording-at file c d h .value)
   by-fill : {f : Frame} {xs : List Step} {h : Host} (ps ss : List ℕ) (d : Draw) → Hosted f xs h → fill-at ps ss d h .number ≡ Done
       → Hosted f (xs ++ (fill-said ps ss d ∷ [])) (fill-at ps ss d h .value)
   by-push : {f : Frame} {xs : List Step} {h : Host} (mix compose opacity mask flag : ℕ) (clip : Clip) → Hosted f xs h

@@ -3,20 +3,21 @@ use Prim.Native.Nat.{ℕ, _+_, _*_}
 use mathlib.Core.List.{List, [], _∷_}
 use lib.ListN.{replicate}
 use lib.IntN.{pos}
+use Rattle.sizes.specs.Sizes.{most-rows, row-size, open-layer-table, opacity-count, paint-attr-table, layer-attr-table, filter-paint-table, state-size}
 use Rattle.rules.specs.Answers.{Answer}
 use Rattle.rules.specs.Plans.{Frame, Step}
 use Rattle.rect.specs.declared.Rect.{Rect}
 use Rattle.screen.specs.Screens.{frame}
 use Rattle.screen.specs.Tables.{tables, float-0}
-use Rattle.fill.specs.declared.Draw.{Draw}
-use Rattle.picture.specs.Calls.{fill-said}
-use Rattle.held.specs.State.{rect}
+use Rattle.step_fill.specs.declared.Draw.{Draw}
+use Rattle.theorem_picture.specs.Calls.{fill-said}
+use Rattle.host_screen.specs.State.{rect}
 use Rattle.host.specs.Building.{draw}
 use Rattle.theorem_border.specs.Hosted.{Host, host, reset-at, fill-at, begin-at, Call, one-step, whole-row}
 
 -- 512 x 4 pixels, one row of 128 tiles in 4 buckets, with room for 64 commands and 64 depth fills
 abbrev pub screen : Rect
-screen = rect 0 0 512 4
+screen = rect 0 0 most-rows 4
 
 abbrev pub own-frame : Frame
 own-frame = frame screen 64 64
@@ -24,9 +25,9 @@ own-frame = frame screen 64 64
 -- 16 words of state and the ten tables, all of them 0
 abbrev pub blank : Host
 blank =
-    host (replicate 16 0)
-    (tables (replicate 256 0) (replicate 128 0) (replicate 4 0) (replicate 54 0) (replicate 2 0) (replicate 256 0) (replicate 1040 float-0)
-    (replicate 8192 0) (replicate 6144 0) (replicate 1024 (pos 0)))
+    host (replicate state-size 0)
+    (tables (replicate 256 0) (replicate 128 0) (replicate 4 0) (replicate row-size 0) (replicate 2 0) (replicate open-layer-table 0) (replicate opacity-count float-0)
+    (replicate paint-attr-table 0) (replicate layer-attr-table 0) (replicate filter-paint-table (pos 0)))
 
 -- both opaque; the banner has the whole row, the panel tiles 20 to 70: all of bucket 1, and a part of 0 and of 2
 abbrev pub paints : List ℕ

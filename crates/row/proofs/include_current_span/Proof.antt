@@ -67,7 +67,10 @@ same-length c = search needs
 
 returns-2 : tie.Need-returns-2
 unfolding include-span
-returns-2 c = simp (c .hull-word .ensures, c .before .before .before .before .wide .ensures, ne-eqb _ _ (rw (c .before .before .before .before .wide .ensures) at (c .before .before .before .if1 .left)))
+returns-2 c =
+    let at-if1 = c .before .before .before in
+    let at-wide = at-if1 .before in
+    simp (c .hull-word .ensures, at-wide .wide .ensures, ne-eqb _ _ (rw (at-wide .wide .ensures) at (at-if1 .if1 .left)))
 
 pub include-current-span-spec : {M : Type 1} → statement M
 include-current-span-spec =

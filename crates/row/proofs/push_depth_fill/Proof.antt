@@ -1,3 +1,4 @@
+-- The fill's two words are stored, the summary takes in its tiles and id, the count goes up: the stores in order are `put-depth`.
 use lib.ListN.{length-set}
 use native.Mathlib.Omega.{arith}
 use mathlib.Core.Logic.{⊎-elim}
@@ -52,7 +53,9 @@ slice-write-state-3 : tie.Need-slice-write-state-3
 slice-write-state-3 c = search needs
 
 add-state : tie.Need-add-state
-add-state c = record { fits = omega (arith, fill-room 32 (depth-fill (c .before .before .before .before .before .before .before .before .before .before .before .before .args .cmd)) _ (c .before .before .before .before .before .before .before .before .before .before .before .before .pre .1)) }
+add-state c =
+    let at-args = c .before .before .before .before .before .before .before .before .before .before .before .before in
+    record { fits = omega (arith, fill-room 32 (depth-fill (at-args .args .cmd)) _ (at-args .pre .1)) }
 
 slice-write-state-4 : tie.Need-slice-write-state-4
 slice-write-state-4 c = search needs
@@ -61,22 +64,34 @@ wide-requires : tie.Need-wide-requires
 wide-requires c κs = search needs
 
 mul-at : tie.Need-mul-at
-mul-at c = record { fits = omega (arith, fill-room 32 (depth-fill (c .before .before .before .before .before .before .before .before .before .before .before .before .before .args .cmd)) _ (c .before .before .before .before .before .before .before .before .before .before .before .before .before .pre .1)) }
+mul-at c =
+    let at-args = c .before .before .before .before .before .before .before .before .before .before .before .before .before in
+    record { fits = omega (arith, fill-room 32 (depth-fill (at-args .args .cmd)) _ (at-args .pre .1)) }
 
 mul-fills : tie.Need-mul-fills
-mul-fills c = record { fits = omega (arith, fill-room 32 (depth-fill (c .before .before .before .before .before .before .before .before .before .before .before .before .before .args .cmd)) _ (c .before .before .before .before .before .before .before .before .before .before .before .before .before .pre .1)) }
+mul-fills c =
+    let at-args = c .before .before .before .before .before .before .before .before .before .before .before .before .before in
+    record { fits = omega (arith, fill-room 32 (depth-fill (at-args .args .cmd)) _ (at-args .pre .1)) }
 
 slice-write-fills : tie.Need-slice-write-fills
-slice-write-fills c = omega (arith, fill-room 32 (depth-fill (c .before .before .before .before .before .before .before .before .before .before .before .before .before .args .cmd)) _ (c .before .before .before .before .before .before .before .before .before .before .before .before .before .pre .1))
+slice-write-fills c =
+    let at-args = c .before .before .before .before .before .before .before .before .before .before .before .before .before in
+    omega (arith, fill-room 32 (depth-fill (at-args .args .cmd)) _ (at-args .pre .1))
 
 add-fills : tie.Need-add-fills
-add-fills c = record { fits = omega (arith, fill-room 32 (depth-fill (c .before .before .before .before .before .before .before .before .before .before .before .before .before .args .cmd)) _ (c .before .before .before .before .before .before .before .before .before .before .before .before .before .pre .1)) }
+add-fills c =
+    let at-args = c .before .before .before .before .before .before .before .before .before .before .before .before .before in
+    record { fits = omega (arith, fill-room 32 (depth-fill (at-args .args .cmd)) _ (at-args .pre .1)) }
 
 mul-fills-2 : tie.Need-mul-fills-2
-mul-fills-2 c = record { fits = omega (arith, fill-room 32 (depth-fill (c .before .before .before .before .before .before .before .before .before .before .before .before .before .args .cmd)) _ (c .before .before .before .before .before .before .before .before .before .before .before .before .before .pre .1)) }
+mul-fills-2 c =
+    let at-args = c .before .before .before .before .before .before .before .before .before .before .before .before .before in
+    record { fits = omega (arith, fill-room 32 (depth-fill (at-args .args .cmd)) _ (at-args .pre .1)) }
 
 slice-write-fills-2 : tie.Need-slice-write-fills-2
-slice-write-fills-2 c = simp length-set (omega (arith, fill-room 32 (depth-fill (c .before .before .before .before .before .before .before .before .before .before .before .before .before .args .cmd)) _ (c .before .before .before .before .before .before .before .before .before .before .before .before .before .pre .1)))
+slice-write-fills-2 c =
+    let at-args = c .before .before .before .before .before .before .before .before .before .before .before .before .before in
+    simp length-set (omega (arith, fill-room 32 (depth-fill (at-args .args .cmd)) _ (at-args .pre .1)))
 
 same-length : tie.Need-same-length
 same-length c = search needs
@@ -86,7 +101,25 @@ same-length-2 c = search needs
 
 returns : tie.Need-returns
 unfolding put-depth
-returns c = ⊎-elim (λ w. rw (← c .before .before .before .before .before .before .before .before .before .words .ensures) (simp (w .2, eq-eqb _ _ (w .0 .taken), c .before .before .before .larger .ensures, c .before .larger2 .ensures, c .wide .ensures))) (λ w. rw (← c .before .before .before .before .before .before .before .before .before .words .ensures) (simp (w .4, w .3 .ensures, ne-eqb _ _ (w .0 .left), c .before .before .before .larger .ensures, c .before .larger2 .ensures, c .wide .ensures))) (c .before .before .before .before .before .before .if1 .came)
+returns c =
+    let at-larger2 = c .before in
+    let at-larger = at-larger2 .before .before in
+    let at-if1 = at-larger .before .before .before in
+    let at-words = at-if1 .before .before .before in
+    ⊎-elim (λ w. rw (← at-words .words .ensures) (simp (
+      w .2,
+      eq-eqb _ _ (w .0 .taken),
+      at-larger .larger .ensures,
+      at-larger2 .larger2 .ensures,
+      c .wide .ensures,
+    ))) (λ w. rw (← at-words .words .ensures) (simp (
+      w .4,
+      w .3 .ensures,
+      ne-eqb _ _ (w .0 .left),
+      at-larger .larger .ensures,
+      at-larger2 .larger2 .ensures,
+      c .wide .ensures,
+    ))) (at-if1 .if1 .came)
 
 pub push-depth-fill-spec : {M : Type 1} → statement M
 push-depth-fill-spec =

@@ -5,47 +5,46 @@ use borrow.Author.Needs.{needs}
 use Rattle.row.proofs.push_paint.Statement.{statement}
 use Rattle.row.proofs.push_paint.Tie as tie
 
--- src/lib.rt:134:22
 enum-told : tie.Need-enum-told
 enum-told c = search needs
 
--- src/lib.rt:134:13
 put-fill-requires : tie.Need-put-fill-requires
 put-fill-requires c κs = let p = c .before .before .before .before .before .before .before .pre in (p .1 .state, p .1 .levels, p .0 .0, p .0 .1, cmd-room _ (p .1), p .1 .render)
 
--- src/lib.rt:136:19
 enum-known-alpha : tie.Need-enum-known-alpha
 enum-known-alpha c = search needs
 
--- src/lib.rt:137:13
 put-fill-requires-2 : tie.Need-put-fill-requires-2
-put-fill-requires-2 c κs = let p = c .before .before .before .before .before .before .before .before .pre in (p .1 .state, p .1 .levels, p .0 .0, p .0 .1, cmd-room _ (p .1), p .1 .render)
+put-fill-requires-2 c κs =
+    let at-pre = c .before .before .before .before .before .before .before .before in
+    let p = at-pre .pre in
+    (p .1 .state, p .1 .levels, p .0 .0, p .0 .1, cmd-room _ (p .1), p .1 .render)
 
--- src/lib.rt:121:1
 same-length : tie.Need-same-length
 same-length c = search needs
 
--- src/lib.rt:121:1
 same-length-2 : tie.Need-same-length-2
 same-length-2 c = search needs
 
--- src/lib.rt:121:1
 returns : tie.Need-returns
 unfolding put-command command-words
-returns c = rw (c .before .before .before .before .before .before .before .enum-told .given .1, c .before .before .before .before .put-fill .ensures .0, c .before .before .before .before .put-fill .ensures .1)
+returns c =
+    let at-put-fill = c .before .before .before .before in
+    let at-enum-told = at-put-fill .before .before .before in
+    rw (at-enum-told .enum-told .given .1, at-put-fill .put-fill .ensures .0, at-put-fill .put-fill .ensures .1)
 
--- src/lib.rt:121:1
 same-length-3 : tie.Need-same-length-3
 same-length-3 c = search needs
 
--- src/lib.rt:121:1
 same-length-4 : tie.Need-same-length-4
 same-length-4 c = search needs
 
--- src/lib.rt:121:1
 returns-2 : tie.Need-returns-2
 unfolding put-command command-words
-returns-2 c = rw (c .before .before .before .before .before .before .before .before .alpha .given .1, c .before .before .before .before .put-fill2 .ensures .0, c .before .before .before .before .put-fill2 .ensures .1)
+returns-2 c =
+    let at-put-fill2 = c .before .before .before .before in
+    let at-alpha = at-put-fill2 .before .before .before .before in
+    rw (at-alpha .alpha .given .1, at-put-fill2 .put-fill2 .ensures .0, at-put-fill2 .put-fill2 .ensures .1)
 
 pub push-paint-spec : {M : Type 1} → statement M
 push-paint-spec =

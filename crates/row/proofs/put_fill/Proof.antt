@@ -2,41 +2,36 @@ use borrow.Author.Needs.{needs}
 use Rattle.row.proofs.put_fill.Statement.{statement}
 use Rattle.row.proofs.put_fill.Tie as tie
 
--- src/lib.rt:114:13
 slice-read-n : tie.Need-slice-read-n
 slice-read-n c = search needs
 
--- src/lib.rt:115:5
 include-current-span-requires : tie.Need-include-current-span-requires
 include-current-span-requires c κs = search needs
 
--- src/lib.rt:116:30
 span-word-requires : tie.Need-span-word-requires
 span-word-requires c κs = search needs
 
--- src/lib.rt:116:5
 put-four-requires : tie.Need-put-four-requires
 put-four-requires c κs = search needs
 
--- src/lib.rt:117:16
 add-state : tie.Need-add-state
 add-state c = search needs
 
--- src/lib.rt:117:5
 slice-write-state : tie.Need-slice-write-state
 slice-write-state c = search needs
 
--- src/lib.rt:101:1
 same-length : tie.Need-same-length
 same-length c = search needs
 
--- src/lib.rt:101:1
 same-length-2 : tie.Need-same-length-2
 same-length-2 c = search needs
 
--- src/lib.rt:101:1
 returns : tie.Need-returns
-returns c = (rw (c .before .before .before .before .before .before .before .include-current-span .ensures), rw (c .before .before .put-four .ensures, c .before .before .before .span-word .ensures))
+returns c =
+    let at-put-four = c .before .before in
+    let at-span-word = at-put-four .before in
+    let at-include-current-span = at-span-word .before .before .before .before in
+    (rw (at-include-current-span .include-current-span .ensures), rw (at-put-four .put-four .ensures, at-span-word .span-word .ensures))
 
 pub put-fill-spec : {M : Type 1} → statement M
 put-fill-spec =

@@ -1,4 +1,4 @@
--- The first bytes are the file.
+-- As many bytes as were read are a file.
 use mathlib.Core.Path.{sym}
 use lib.Seq.{length-take-le}
 use borrow.Author.Needs.{needs}
@@ -11,6 +11,9 @@ slice-aggregate-print-recording c = sym (length-take-le _ _ (c .before .if1 .tak
 print-recording-requires : tie.Need-print-recording-requires
 print-recording-requires c κs = search needs
 
+same-length : tie.Need-same-length
+same-length c = search needs
+
 returns : tie.Need-returns
 returns c = search needs
 
@@ -19,4 +22,10 @@ returns-2 c = search needs
 
 pub print-file-spec : {M : Type 1} → statement M
 print-file-spec =
-    tie.close (tie.spec slice-aggregate-print-recording print-recording-requires returns returns-2)
+    tie.close
+    (tie.spec
+    slice-aggregate-print-recording
+    print-recording-requires
+    same-length
+    returns
+    returns-2)

@@ -25,9 +25,12 @@ rowlist-text-requires c κs = search needs
 
 array-share-prefix-out : tie.Need-array-share-prefix-out
 array-share-prefix-out c =
-    let at-text-buffer = c .before .before .before in
+    let at-rowlist-text = c .before in
+    let back = at-rowlist-text .before .before in
+    let at-text-buffer = back in
     let entry = at-text-buffer .before .before in
-    long (rowlist-text (entry .args .file .now)) (at-text-buffer .text-buffer .result) (c .before .rowlist-text .result) _ (c .before .rowlist-text .ensures .0) (c .before .rowlist-text .ensures .1)
+    long (rowlist-text (entry .args .file .now)) (at-text-buffer .text-buffer .result) (at-rowlist-text .rowlist-text .result) _
+    (at-rowlist-text .rowlist-text .ensures .0) (at-rowlist-text .rowlist-text .ensures .1)
 
 slice-aggregate-print : tie.Need-slice-aggregate-print
 slice-aggregate-print c =

@@ -1,3 +1,4 @@
+-- So far the first i words are 0.
 use Prim.Native.Nat.{_-_}
 use native.Mathlib.Omega.{arith}
 use lib.ListN.{length}

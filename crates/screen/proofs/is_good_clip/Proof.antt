@@ -25,25 +25,67 @@ returns-2 c = rw (ne-eqb _ _ (c .before .before .if1 .left), sym (c .before .is-
 
 returns-3 : tie.Need-returns-3
 unfolding good-clip
-returns-3 c = rw (ne-eqb _ _ (c .before .before .before .before .if1 .left), sym (c .before .before .before .is-in-tiles .ensures) ∙ not-false _ (c .before .before .if2 .left), lt-leb _ _ (c .if3 .taken))
+returns-3 c =
+    let at-if2 = c .before .before in
+    let at-is-in-tiles = at-if2 .before in
+    let at-if1 = at-is-in-tiles .before in
+    rw (ne-eqb _ _ (at-if1 .if1 .left), sym (at-is-in-tiles .is-in-tiles .ensures) ∙ not-false _ (at-if2 .if2 .left), lt-leb _ _ (c .if3 .taken))
 
 returns-4 : tie.Need-returns-4
 unfolding good-clip
-returns-4 c = rw (ne-eqb _ _ (c .before .before .before .before .before .before .if1 .left), sym (c .before .before .before .before .before .is-in-tiles .ensures) ∙ not-false _ (c .before .before .before .before .if2 .left), le-leb _ _ (c .before .before .if3 .left), lt-leb _ _ (c .if4 .taken))
+returns-4 c =
+    let at-if3 = c .before .before in
+    let at-if2 = at-if3 .before .before in
+    let at-is-in-tiles = at-if2 .before in
+    let at-if1 = at-is-in-tiles .before in
+    rw (
+      ne-eqb _ _ (at-if1 .if1 .left),
+      sym (at-is-in-tiles .is-in-tiles .ensures) ∙ not-false _ (at-if2 .if2 .left),
+      le-leb _ _ (at-if3 .if3 .left),
+      lt-leb _ _ (c .if4 .taken),
+    )
 
 width-requires : tie.Need-width-requires
 width-requires c κs = search needs
 
 returns-5 : tie.Need-returns-5
 unfolding good-clip
-returns-5 c = rw (ne-eqb _ _ (c .before .before .before .before .before .before .before .before .before .if1 .left), sym (c .before .before .before .before .before .before .before .before .is-in-tiles .ensures) ∙ not-false _ (c .before .before .before .before .before .before .before .if2 .left), le-leb _ _ (c .before .before .before .before .before .if3 .left), le-leb _ _ (c .before .before .before .if4 .left), lt-leb _ _ (rw (c .before .before .width .ensures) at (c .if5 .taken)))
+returns-5 c =
+    let at-width = c .before .before in
+    let at-if4 = at-width .before in
+    let at-if3 = at-if4 .before .before in
+    let at-if2 = at-if3 .before .before in
+    let at-is-in-tiles = at-if2 .before in
+    let at-if1 = at-is-in-tiles .before in
+    rw (
+      ne-eqb _ _ (at-if1 .if1 .left),
+      sym (at-is-in-tiles .is-in-tiles .ensures) ∙ not-false _ (at-if2 .if2 .left),
+      le-leb _ _ (at-if3 .if3 .left),
+      le-leb _ _ (at-if4 .if4 .left),
+      lt-leb _ _ (rw (at-width .width .ensures) at (c .if5 .taken)),
+    )
 
 height-requires : tie.Need-height-requires
 height-requires c κs = search needs
 
 returns-6 : tie.Need-returns-6
 unfolding good-clip
-returns-6 c = rw (ne-eqb _ _ (c .before .before .before .before .before .before .before .before .before .before .before .if1 .left), sym (c .before .before .before .before .before .before .before .before .before .before .is-in-tiles .ensures) ∙ not-false _ (c .before .before .before .before .before .before .before .before .before .if2 .left), le-leb _ _ (c .before .before .before .before .before .before .before .if3 .left), le-leb _ _ (c .before .before .before .before .before .if4 .left), le-leb _ _ (rw (c .before .before .before .before .width .ensures) at (c .before .before .if5 .left)), c .before .height .ensures)
+returns-6 c =
+    let at-if5 = c .before .before in
+    let at-width = at-if5 .before .before in
+    let at-if4 = at-width .before in
+    let at-if3 = at-if4 .before .before in
+    let at-if2 = at-if3 .before .before in
+    let at-is-in-tiles = at-if2 .before in
+    let at-if1 = at-is-in-tiles .before in
+    rw (
+      ne-eqb _ _ (at-if1 .if1 .left),
+      sym (at-is-in-tiles .is-in-tiles .ensures) ∙ not-false _ (at-if2 .if2 .left),
+      le-leb _ _ (at-if3 .if3 .left),
+      le-leb _ _ (at-if4 .if4 .left),
+      le-leb _ _ (rw (at-width .width .ensures) at (at-if5 .if5 .left)),
+      c .before .height .ensures,
+    )
 
 pub is-good-clip-spec : {M : Type 1} → statement M
 is-good-clip-spec =

@@ -22,19 +22,50 @@ mul-if3 : tie.Need-mul-if3
 mul-if3 c = search needs
 
 mul-if3-2 : tie.Need-mul-if3-2
-mul-if3-2 c = omega (arith, small (c .before .before .before .before .args .n) 4 (c .before .before .before .before .args .c) (c .before .before .before .before .pre) (omega arith) (sym (c .before .before .before .is-good-room .ensures) ∙ not-false _ (c .before .before .if1 .left)))
+mul-if3-2 c =
+    let at-if1 = c .before .before in
+    let at-is-good-room = at-if1 .before in
+    let at-args = at-is-good-room .before in
+    omega (
+      arith,
+      small (at-args .args .n) 4 (at-args .args .c) (at-args .pre) (omega arith) (sym (at-is-good-room .is-good-room .ensures) ∙ not-false _
+          (at-if1 .if1 .left)),
+    )
 
 returns-3 : tie.Need-returns-3
-returns-3 c = rw (sym (c .before .before .before .before .is-good-room .ensures) ∙ not-false _ (c .before .before .before .if1 .left), sym (c .before .before .is-good-room2 .ensures) ∙ not-false _ (c .before .if2 .left), ne-eqb _ _ (c .if3 .taken))
+returns-3 c =
+    let at-is-good-room2 = c .before .before in
+    let at-if1 = at-is-good-room2 .before in
+    let at-is-good-room = at-if1 .before in
+    rw (
+      sym (at-is-good-room .is-good-room .ensures) ∙ not-false _ (at-if1 .if1 .left),
+      sym (at-is-good-room2 .is-good-room2 .ensures) ∙ not-false _ (c .before .if2 .left),
+      ne-eqb _ _ (c .if3 .taken),
+    )
 
 mul-result : tie.Need-mul-result
 mul-result c = search needs
 
 mul-result-2 : tie.Need-mul-result-2
-mul-result-2 c = omega (arith, small (c .before .before .before .before .before .args .n) 2 (c .before .before .before .before .before .args .d) (c .before .before .before .before .before .pre) (omega arith) (sym (c .before .before .is-good-room2 .ensures) ∙ not-false _ (c .before .if2 .left)))
+mul-result-2 c =
+    let at-is-good-room2 = c .before .before in
+    let at-args = at-is-good-room2 .before .before .before in
+    omega (
+      arith,
+      small (at-args .args .n) 2 (at-args .args .d) (at-args .pre) (omega arith) (sym (at-is-good-room2 .is-good-room2 .ensures) ∙ not-false _
+          (c .before .if2 .left)),
+    )
 
 returns-4 : tie.Need-returns-4
-returns-4 c = rw (sym (c .before .before .before .before .is-good-room .ensures) ∙ not-false _ (c .before .before .before .if1 .left), sym (c .before .before .is-good-room2 .ensures) ∙ not-false _ (c .before .if2 .left), eq-eqb _ _ (c .if3 .left))
+returns-4 c =
+    let at-is-good-room2 = c .before .before in
+    let at-if1 = at-is-good-room2 .before in
+    let at-is-good-room = at-if1 .before in
+    rw (
+      sym (at-is-good-room .is-good-room .ensures) ∙ not-false _ (at-if1 .if1 .left),
+      sym (at-is-good-room2 .is-good-room2 .ensures) ∙ not-false _ (c .before .if2 .left),
+      eq-eqb _ _ (c .if3 .left),
+    )
 
 pub is-good-rooms-spec : {M : Type 1} → statement M
 is-good-rooms-spec =

@@ -1,3 +1,4 @@
+-- 2 for the viewport, then 1 for what is lent of the arenas, then 4 for the other tables.
 use mathlib.Core.Path.{_≡_, sym, ap, _∙_}
 use mathlib.Core.Bool.{true}
 use Prim.Native.Nat.{_≤_}
@@ -35,8 +36,11 @@ buckets-are c = c .buckets .ensures ∙ ap (λ (s : Screen). buckets-of 32 (box-
 
 all-good : (c : tie.Else3) → good-arenas 32 (frame (c .before .before .before .before .before .before .before .before .before .args .viewport) (c .before .before .before .before .before .before .before .before .before .args .c) (c .before .before .before .before .before .before .before .before .before .args .d)) (arenas (c .before .before .before .before .before .before .before .before .before .args .lent)) ≡ true
 all-good c =
-    let c2 = c .before .before .before in
-    reset-arenas _ _ _ _ _ (good-rows (c2 .before .before)) _ (buckets-are (c .before .before)) (sym (c2 .before .is-good-rooms .ensures) ∙ not-false _ (c2 .if2 .left)) (c .if3 .left)
+    let back = c .before .before in
+    let back-2 = back .before in
+    let c2 = back-2 in
+    reset-arenas _ _ _ _ _ (good-rows (c2 .before .before)) _ (buckets-are (back)) (sym (c2 .before .is-good-rooms .ensures) ∙ not-false _ (c2 .if2 .left))
+    (c .if3 .left)
 
 is-good-viewport-requires : tie.Need-is-good-viewport-requires
 is-good-viewport-requires c κs = search needs
@@ -60,33 +64,58 @@ buckets-requires : tie.Need-buckets-requires
 buckets-requires c κs = search needs
 
 mul-if3 : tie.Need-mul-if3
-mul-if3 c = omega (arith, mul-le-mul {m₁ = c .buckets .result} {n₂ = 512} {m₂ = 32} (few (c .before .before .before)) (rw (buckets-are c) (few-buckets _ (good-view (c .before .before .before .before .before)))))
+mul-if3 c =
+    let back = c .before .before .before in
+    let back-2 = back .before .before in
+    omega (arith, mul-le-mul {m₁ = c .buckets .result} {n₂ = 512} {m₂ = 32} (few (back)) (rw (buckets-are c) (few-buckets _ (good-view (back-2)))))
 
 returns-3 : tie.Need-returns-3
 returns-3 c =
-    let c2 = c .before .before .before in
-    reset-bad-depth _ _ _ _ _ (good-rows (c2 .before .before)) _ (buckets-are (c .before .before)) (sym (c2 .before .is-good-rooms .ensures) ∙ not-false _ (c2 .if2 .left)) (c .if3 .taken)
+    let back = c .before .before in
+    let back-2 = back .before in
+    let c2 = back-2 in
+    reset-bad-depth _ _ _ _ _ (good-rows (c2 .before .before)) _ (buckets-are (back)) (sym (c2 .before .is-good-rooms .ensures) ∙ not-false _ (c2 .if2 .left))
+    (c .if3 .taken)
 
 mul-if4 : tie.Need-mul-if4
 mul-if4 c = omega (arith, few (c .before .before .before .before .before))
 
 returns-4 : tie.Need-returns-4
-returns-4 c = reset-bad-rows _ _ _ _ _ (good-rows (c .before .before .before .before .before .before .before)) (all-good (c .before .before)) (c .if4 .taken)
+returns-4 c =
+    let back = c .before .before in
+    let back-2 = back .before .before .before .before .before in
+    reset-bad-rows _ _ _ _ _ (good-rows (back-2)) (all-good (back)) (c .if4 .taken)
 
 mul-if5 : tie.Need-mul-if5
 mul-if5 c = omega (arith, few (c .before .before .before .before .before .before .before))
 
 returns-5 : tie.Need-returns-5
-returns-5 c = reset-bad-painting _ _ _ _ _ (good-rows (c .before .before .before .before .before .before .before .before .before)) (all-good (c .before .before .before .before)) (c .before .before .if4 .left) (c .if5 .taken)
+returns-5 c =
+    let at-if4 = c .before .before in
+    let back = at-if4 .before .before in
+    let back-2 = back .before .before .before .before .before in
+    reset-bad-painting _ _ _ _ _ (good-rows (back-2)) (all-good (back)) (at-if4 .if4 .left) (c .if5 .taken)
 
 is-good-fixed-requires : tie.Need-is-good-fixed-requires
 is-good-fixed-requires c κs = search needs
 
 returns-6 : tie.Need-returns-6
-returns-6 c = reset-bad-fixed _ _ _ _ _ (good-rows (c .before .before .before .before .before .before .before .before .before .before .before)) (all-good (c .before .before .before .before .before .before)) (c .before .before .before .before .if4 .left) (c .before .before .if5 .left) (sym (c .before .is-good-fixed .ensures) ∙ not-true _ (c .if6 .taken))
+returns-6 c =
+    let at-if5 = c .before .before in
+    let at-if4 = at-if5 .before .before in
+    let back = at-if4 .before .before in
+    let back-2 = back .before .before .before .before .before in
+    reset-bad-fixed _ _ _ _ _ (good-rows (back-2)) (all-good (back)) (at-if4 .if4 .left) (at-if5 .if5 .left) (sym (c .before .is-good-fixed .ensures) ∙ not-true
+    _ (c .if6 .taken))
 
 returns-7 : tie.Need-returns-7
-returns-7 c = reset-good _ _ _ _ _ (good-rows (c .before .before .before .before .before .before .before .before .before .before .before)) (all-good (c .before .before .before .before .before .before)) (c .before .before .before .before .if4 .left) (c .before .before .if5 .left) (sym (c .before .is-good-fixed .ensures) ∙ not-false _ (c .if6 .left))
+returns-7 c =
+    let at-if5 = c .before .before in
+    let at-if4 = at-if5 .before .before in
+    let back = at-if4 .before .before in
+    let back-2 = back .before .before .before .before .before in
+    reset-good _ _ _ _ _ (good-rows (back-2)) (all-good (back)) (at-if4 .if4 .left) (at-if5 .if5 .left) (sym (c .before .is-good-fixed .ensures) ∙ not-false _
+    (c .if6 .left))
 
 pub judge-reset-spec : {M : Type 1} → statement M
 judge-reset-spec =

@@ -36,16 +36,31 @@ mul-if3 : tie.Need-mul-if3
 mul-if3 c = search needs
 
 returns-3 : tie.Need-returns-3
-returns-3 c = bad-rows _ _ _ _ _ (c .before .before .before .rows .ensures) (good-view (c .before .before .before .before)) (good-arenas (c .before)) (c .if3 .taken)
+returns-3 c =
+    let at-rows = c .before .before .before in
+    let back = at-rows .before in
+    bad-rows _ _ _ _ _ (at-rows .rows .ensures) (good-view (back)) (good-arenas (c .before)) (c .if3 .taken)
 
 is-good-requires : tie.Need-is-good-requires
 is-good-requires c κs = search needs
 
 returns-4 : tie.Need-returns-4
-returns-4 c = bad-screen _ _ _ _ _ (c .before .before .before .before .before .rows .ensures) (good-view (c .before .before .before .before .before .before)) (good-arenas (c .before .before .before)) (c .before .before .if3 .left) (sym (c .before .is-good .ensures) ∙ not-true _ (c .if4 .taken))
+returns-4 c =
+    let at-if3 = c .before .before in
+    let back = at-if3 .before in
+    let at-rows = back .before .before in
+    let back-2 = at-rows .before in
+    bad-screen _ _ _ _ _ (at-rows .rows .ensures) (good-view (back-2)) (good-arenas (back)) (at-if3 .if3 .left) (sym (c .before .is-good .ensures) ∙ not-true _
+    (c .if4 .taken))
 
 returns-5 : tie.Need-returns-5
-returns-5 c = good _ _ _ _ _ (c .before .before .before .before .before .rows .ensures) (good-view (c .before .before .before .before .before .before)) (good-arenas (c .before .before .before)) (c .before .before .if3 .left) (sym (c .before .is-good .ensures) ∙ not-false _ (c .if4 .left))
+returns-5 c =
+    let at-if3 = c .before .before in
+    let back = at-if3 .before in
+    let at-rows = back .before .before in
+    let back-2 = at-rows .before in
+    good _ _ _ _ _ (at-rows .rows .ensures) (good-view (back-2)) (good-arenas (back)) (at-if3 .if3 .left) (sym (c .before .is-good .ensures) ∙ not-false _
+    (c .if4 .left))
 
 pub judge-screen-spec : {M : Type 1} → statement M
 judge-screen-spec =

@@ -1,3 +1,4 @@
+-- Judged first; refused, nothing changes. Done, every table is cleared and the screen's numbers are those of the viewport.
 use mathlib.Core.Path.{ap, _∙_}
 use lib.ListN.{length}
 use borrow.Author.Needs.{needs}

@@ -71,7 +71,12 @@ put-digits-returns-2 : (t : ℕ) → put-digits-lts.Need-returns-2 (
   put-digits-below t,
   put-digits.Post,
 ) (put-digits-at t) put-digits.Post
-put-digits-returns-2 t c = one-digit _ _ (c .before .before .before .before .before .before .if1 .left) _ (c .before .before .before .digit .ensures) (c .before .before .before .before .before .if2 .taken) (c .before .before .put-byte .ensures)
+put-digits-returns-2 t c =
+    let at-put-byte = c .before .before in
+    let at-digit = at-put-byte .before in
+    let at-if2 = at-digit .before .before in
+    let at-if1 = at-if2 .before in
+    one-digit _ _ (at-if1 .if1 .left) _ (at-digit .digit .ensures) (at-if2 .if2 .taken) (at-put-byte .put-byte .ensures)
 
 put-digits-sub-put-digits : (t : ℕ) → put-digits-lts.Need-sub-put-digits (
   digit-reads.Asked,
@@ -131,7 +136,14 @@ put-digits-returns-3 : (t : ℕ) → put-digits-lts.Need-returns-3 (
   put-digits-below t,
   put-digits.Post,
 ) (put-digits-at t) put-digits.Post
-put-digits-returns-3 t c = more-digits _ _ (c .before .before .before .before .before .before .before .before .before .before .if1 .left) _ (c .before .before .before .digit2 .ensures) (c .before .before .before .before .before .before .before .before .before .if2 .left) (c .before .before .before .before .before .before .before .put-digits .ensures) (c .before .before .put-byte2 .ensures)
+put-digits-returns-3 t c =
+    let at-put-byte2 = c .before .before in
+    let at-digit2 = at-put-byte2 .before in
+    let at-put-digits = at-digit2 .before .before .before .before in
+    let at-if2 = at-put-digits .before .before in
+    let at-if1 = at-if2 .before in
+    more-digits _ _ (at-if1 .if1 .left) _ (at-digit2 .digit2 .ensures) (at-if2 .if2 .left) (at-put-digits .put-digits .ensures)
+    (at-put-byte2 .put-byte2 .ensures)
 
 pub +put-digits-spec : {M : Type 1} → statement M
 +put-digits-spec = close μ-put-digits λ t. put-digits-lts.spec (

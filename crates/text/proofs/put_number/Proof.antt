@@ -13,7 +13,10 @@ same-length : tie.Need-same-length
 same-length c = search needs
 
 returns : tie.Need-returns
-returns c = then ((c .before .before .before .before .before .before .put-byte) .ensures) ((c .before .before .put-digits) .ensures)
+returns c =
+    let at-put-digits = c .before .before in
+    let at-put-byte = at-put-digits .before .before .before .before in
+    then ((at-put-byte .put-byte) .ensures) ((at-put-digits .put-digits) .ensures)
 
 pub put-number-spec : {M : Type 1} → statement M
 put-number-spec = tie.close (tie.spec put-byte-requires put-digits-requires same-length returns)

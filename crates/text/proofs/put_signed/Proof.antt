@@ -17,7 +17,15 @@ same-length : tie.Need-same-length
 same-length c = search needs
 
 returns : tie.Need-returns
-returns c = then (rw (same (c .before .before .before .before .before .before .before .before .before .before .fits .x)) at ((c .before .before .before .before .before .before .before .put-sign) .ensures)) (rw ((c .before .before .before .magnitude) .ensures, same (c .before .before .before .before .before .before .before .before .before .before .fits .x)) at ((c .before .before .put-digits) .ensures))
+returns c =
+    let at-put-digits = c .before .before in
+    let at-magnitude = at-put-digits .before in
+    let at-put-sign = at-magnitude .before .before .before .before in
+    let at-fits = at-put-sign .before .before .before in
+    then (rw (same (at-fits .fits .x)) at ((at-put-sign .put-sign) .ensures)) (rw (
+      (at-magnitude .magnitude) .ensures,
+      same (at-fits .fits .x),
+    ) at ((at-put-digits .put-digits) .ensures))
 
 pub put-signed-spec : {M : Type 1} → statement M
 put-signed-spec =

@@ -29,7 +29,10 @@ loop-less : tie.Need-loop-less Inv-loop μ-loop
 loop-less c = omega arith
 
 loop-again : tie.Need-loop-again Inv-loop μ-loop
-loop-again c = (omega arith, one-more _ _ ((c .before .before .before .before .before .before .loop) .inv .1) (omega arith) ((c .before .before .put-byte) .ensures))
+loop-again c =
+    let at-put-byte = c .before .before in
+    let at-loop = at-put-byte .before .before .before .before in
+    (omega arith, one-more _ _ ((at-loop .loop) .inv .1) (omega arith) ((at-put-byte .put-byte) .ensures))
 
 same-length : tie.Need-same-length Inv-loop μ-loop
 same-length c = omega arith

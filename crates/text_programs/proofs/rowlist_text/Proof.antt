@@ -73,7 +73,8 @@ same-length c = search needs
 
 returns : tie.Need-returns
 returns c =
-    let at-file-text = c .before .before .before .before .before .before .before .before .before .before .before .before in
+    let back = c .before .before .before .before .before .before .before .before .before .before .before .before in
+    let at-file-text = back in
     let at-filter-words = at-file-text .before .before .before .before .before .before .before .before .before .before .before .before in
     let at-layer-attr-words = at-filter-words .before in
     let at-render-words2 = at-layer-attr-words .before in
@@ -85,9 +86,24 @@ returns c =
     let at-fill-words = at-depth-words .before in
     let at-render-words = at-fill-words .before in
     let entry = at-render-words .before .before .before in
-    rowlist-shown (tables (at-render-words .render-words .result) (at-fill-words .fill-words .result) (at-depth-words .depth-words .result) (at-row-words .row-words .result) (at-painting-words .painting-words .result) (at-layer-words .layer-words .result) (at-opacity-words .opacity-words .result) (at-render-words2 .render-words2 .result) (at-layer-attr-words .layer-attr-words .result) (at-filter-words .filter-words .result))
-    (record { render = at-render-words .render-words .ensures; fills = at-fill-words .fill-words .ensures; depth = at-depth-words .depth-words .ensures; rows = at-row-words .row-words .ensures; painting = at-painting-words .painting-words .ensures; layers = at-layer-words .layer-words .ensures; opacities = at-opacity-words .opacity-words .ensures; paint-attrs = at-render-words2 .render-words2 .ensures; layer-attrs = at-layer-attr-words .layer-attr-words .ensures; filter-paints = at-filter-words .filter-words .ensures })
-    (entry .args .file .now) (entry .args .out .now) (entry .pre) (at-file-text .file-text .ensures)
+    rowlist-shown (tables (at-render-words .render-words .result) (at-fill-words .fill-words .result) (at-depth-words .depth-words .result)
+    (at-row-words .row-words .result) (at-painting-words .painting-words .result) (at-layer-words .layer-words .result)
+    (at-opacity-words .opacity-words .result) (at-render-words2 .render-words2 .result) (at-layer-attr-words .layer-attr-words .result)
+    (at-filter-words .filter-words .result)) (record {
+      render = at-render-words .render-words .ensures;
+      fills = at-fill-words .fill-words .ensures;
+      depth =
+          at-depth-words .depth-words .ensures;
+      rows = at-row-words .row-words .ensures;
+      painting = at-painting-words .painting-words .ensures;
+      layers =
+          at-layer-words .layer-words .ensures;
+      opacities = at-opacity-words .opacity-words .ensures;
+      paint-attrs = at-render-words2 .render-words2 .ensures;
+      layer-attrs = at-layer-attr-words .layer-attr-words .ensures;
+      filter-paints = at-filter-words .filter-words .ensures;
+    }) (entry .args .file .now)
+    (entry .args .out .now) (entry .pre) (at-file-text .file-text .ensures)
 
 pub rowlist-text-spec : {M : Type 1} → statement M
 rowlist-text-spec =

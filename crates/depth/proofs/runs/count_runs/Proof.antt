@@ -1,3 +1,4 @@
+-- The runs counted so far and those from bucket `at` on are all runs of the range; the inner search has seen visible buckets only.
 use mathlib.Core.Logic.{⊎-elim}
 use mathlib.Core.Path.{_≡_, sym, ap, _∙_}
 use Prim.Native.Nat.{ℕ, _≤_, _-_, _+_}
@@ -39,7 +40,14 @@ loop-less : tie.Need-loop-less Inv-loop2 μ-loop2 Inv-loop μ-loop
 loop-less c = omega arith
 
 loop-again : tie.Need-loop-again Inv-loop2 μ-loop2 Inv-loop μ-loop
-loop-again c = (omega arith, ap (λ (k : ℕ). c .before .before .before .loop .count + k) (ap length (sym (runs-closed (is-visible _) _ _ (c .before .before .before .before .pre) _ (c .before .before .loop-test .taken) (lt-leb _ _ (c .if1 .taken))))) ∙ c .before .before .before .loop .inv .1)
+loop-again c =
+    let at-loop-test = c .before .before in
+    let at-loop = at-loop-test .before in
+    let at-pre = at-loop .before in (
+      omega arith,
+      ap (λ (k : ℕ). at-loop .loop .count + k) (ap length (sym (runs-closed (is-visible _) _ _ (at-pre .pre) _ (at-loop-test .loop-test .taken)
+          (lt-leb _ _ (c .if1 .taken))))) ∙ at-loop .loop .inv .1,
+    )
 
 add-next : tie.Need-add-next Inv-loop2 μ-loop2 Inv-loop μ-loop
 add-next c = omega arith
@@ -60,16 +68,20 @@ loop2-less : tie.Need-loop2-less Inv-loop2 μ-loop2 Inv-loop μ-loop
 loop2-less c = omega arith
 
 loop2-again : tie.Need-loop2-again Inv-loop2 μ-loop2 Inv-loop μ-loop
-loop2-again c = reach-more (is-visible _) _ _ (c .before .before .before .before .before .before .before .before .pre) _ _ (c .before .before .before .loop2 .inv) (c .before .before .if2 .left) (le-leb _ _ (c .if3 .left))
+loop2-again c =
+    let at-if2 = c .before .before in
+    let at-loop2 = at-if2 .before in
+    let at-pre = at-loop2 .before .before .before .before .before in
+    reach-more (is-visible _) _ _ (at-pre .pre) _ _ (at-loop2 .loop2 .inv) (at-if2 .if2 .left) (le-leb _ _ (c .if3 .left))
 
 -- where the inner loop is left, by either way, its value is the run's end
 stopped : (c : tie.Joined2 Inv-loop2 μ-loop2 Inv-loop μ-loop) → Ended (is-visible (c .before .before .before .before .before .before .args .ceiling)) (c .before .before .before .before .before .before .args .depth .now) (c .before .before .before .before .before .before .args .hi) (c .before .before .before .before .before .loop .at) (c .if2 .stop)
 stopped c =
-    let fits = c .before .before .before .before .before .before .pre in
-    ⊎-elim
-    (λ w. rw (w .1) (reach-end (is-visible _) _ _ fits _ _ (c .before .loop2 .inv) (w .0 .taken)))
-    (λ w. rw (w .3) (reach-closed (is-visible _) _ _ fits _ _ (c .before .loop2 .inv) (w .0 .left) (lt-leb _ _ (w .2 .taken))))
-    (c .if2 .came)
+    let at-loop2 = c .before in
+    let at-pre = at-loop2 .before .before .before .before .before in
+    let fits = at-pre .pre in
+    ⊎-elim (λ w. rw (w .1) (reach-end (is-visible _) _ _ fits _ _ (at-loop2 .loop2 .inv) (w .0 .taken))) (λ w. rw (w .3) (reach-closed (is-visible _) _ _ fits _
+    _ (at-loop2 .loop2 .inv) (w .0 .left) (lt-leb _ _ (w .2 .taken)))) (c .if2 .came)
 
 add-count : tie.Need-add-count Inv-loop2 μ-loop2 Inv-loop μ-loop
 add-count c = omega (arith, stopped c .past, stopped c .within)

@@ -1,3 +1,4 @@
+-- So far the runs that stopped before bucket i stand in the list; the inner search has seen visible buckets only, from i on.
 use mathlib.Core.Logic.{⊎-elim}
 use Prim.Native.Nat.{_<_, _-_, _+_, _*_}
 use native.Mathlib.Omega.{arith}
@@ -39,13 +40,20 @@ loop-less : tie.Need-loop-less Inv-loop2 μ-loop2 Inv-loop μ-loop
 loop-less c = omega arith
 
 loop-again : tie.Need-loop-again Inv-loop2 μ-loop2 Inv-loop μ-loop
-loop-again c = fill-skip (is-visible _) _ _ _ _ _ _ _ _ (c .before .before .before .loop .inv) (c .before .before .before .before .before .before .pre .0) (c .before .before .loop-test .taken) (lt-leb _ _ (c .if1 .taken))
+loop-again c =
+    let at-loop-test = c .before .before in
+    let at-loop = at-loop-test .before in
+    let at-pre = at-loop .before .before .before in
+    fill-skip (is-visible _) _ _ _ _ _ _ _ _ (at-loop .loop .inv) (at-pre .pre .0) (at-loop-test .loop-test .taken) (lt-leb _ _ (c .if1 .taken))
 
 add-j : tie.Need-add-j Inv-loop2 μ-loop2 Inv-loop μ-loop
 add-j c = omega arith
 
 loop2-holds : tie.Need-loop2-holds Inv-loop2 μ-loop2 Inv-loop μ-loop
-loop2-holds c = reach-first (is-visible _) _ _ (c .before .before .before .before .before .before .pre .0) _ (c .before .before .loop-test .taken) (le-leb _ _ (c .if1 .left))
+loop2-holds c =
+    let at-loop-test = c .before .before in
+    let at-pre = at-loop-test .before .before .before .before in
+    reach-first (is-visible _) _ _ (at-pre .pre .0) _ (at-loop-test .loop-test .taken) (le-leb _ _ (c .if1 .left))
 
 mul-if3 : tie.Need-mul-if3 Inv-loop2 μ-loop2 Inv-loop μ-loop
 mul-if3 c = omega arith
@@ -60,29 +68,42 @@ loop2-less : tie.Need-loop2-less Inv-loop2 μ-loop2 Inv-loop μ-loop
 loop2-less c = omega arith
 
 loop2-again : tie.Need-loop2-again Inv-loop2 μ-loop2 Inv-loop μ-loop
-loop2-again c = reach-more (is-visible _) _ _ (c .before .before .before .before .before .before .before .before .before .before .pre .0) _ _ (c .before .before .before .loop2 .inv) (c .before .before .if2 .left) (le-leb _ _ (c .if3 .left))
+loop2-again c =
+    let at-if2 = c .before .before in
+    let at-loop2 = at-if2 .before in
+    let at-pre = at-loop2 .before .before .before .before .before .before .before in
+    reach-more (is-visible _) _ _ (at-pre .pre .0) _ _ (at-loop2 .loop2 .inv) (at-if2 .if2 .left) (le-leb _ _ (c .if3 .left))
 
 -- where the inner loop is left, by either way, its value is the run's end
 stopped : (c : tie.Joined2 Inv-loop2 μ-loop2 Inv-loop μ-loop) → Ended (is-visible (c .before .before .before .before .before .before .before .before .args .ceiling)) (c .before .before .before .before .before .before .before .before .args .depth .now) (c .before .before .before .before .before .before .before .before .args .hi) (c .before .before .before .before .before .loop .i) (c .if2 .stop)
 stopped c =
-    let fits = c .before .before .before .before .before .before .before .before .pre .0 in
-    ⊎-elim
-    (λ w. rw (w .1) (reach-end (is-visible _) _ _ fits _ _ (c .before .loop2 .inv) (w .0 .taken)))
-    (λ w. rw (w .3) (reach-closed (is-visible _) _ _ fits _ _ (c .before .loop2 .inv) (w .0 .left) (lt-leb _ _ (w .2 .taken))))
-    (c .if2 .came)
+    let at-loop2 = c .before in
+    let at-pre = at-loop2 .before .before .before .before .before .before .before in
+    let fits = at-pre .pre .0 in
+    ⊎-elim (λ w. rw (w .1) (reach-end (is-visible _) _ _ fits _ _ (at-loop2 .loop2 .inv) (w .0 .taken))) (λ w. rw (w .3) (reach-closed (is-visible _) _ _ fits _
+    _ (at-loop2 .loop2 .inv) (w .0 .left) (lt-leb _ _ (w .2 .taken)))) (c .if2 .came)
 
 -- the run's two words are within the list
 room : (c : tie.Joined2 Inv-loop2 μ-loop2 Inv-loop μ-loop) → c .before .before .before .before .before .loop .n * 2 + 1 < length (c .before .before .before .before .before .loop .list)
-room c = fill-room (is-visible _) _ _ _ _ _ _ _ _ (c .before .before .before .before .before .loop .inv) (c .before .before .before .before .before .before .before .before .pre .1 .1) _ (stopped c)
+room c =
+    let at-loop = c .before .before .before .before .before in
+    let at-pre = at-loop .before .before .before in
+    fill-room (is-visible _) _ _ _ _ _ _ _ _ (at-loop .loop .inv) (at-pre .pre .1 .1) _ (stopped c)
 
 mul-at : tie.Need-mul-at Inv-loop2 μ-loop2 Inv-loop μ-loop
 mul-at c = omega arith
 
 mul-larger : tie.Need-mul-larger Inv-loop2 μ-loop2 Inv-loop μ-loop
-mul-larger c = omega (arith, scaled (c .before .before .before .before .before .loop .i) (c .before .before .before .before .before .before .before .before .args .hi) (c .before .before .before .before .before .before .before .before .args .width) (omega arith) (c .before .before .before .before .before .before .before .before .pre .1 .0))
+mul-larger c =
+    let at-loop = c .before .before .before .before .before in
+    let at-args = at-loop .before .before .before in
+    omega (arith, scaled (at-loop .loop .i) (at-args .args .hi) (at-args .args .width) (omega arith) (at-args .pre .1 .0))
 
 cast-larger : tie.Need-cast-larger Inv-loop2 μ-loop2 Inv-loop μ-loop
-cast-larger c = omega (arith, scaled (c .before .before .before .before .before .loop .i) (c .before .before .before .before .before .before .before .before .args .hi) (c .before .before .before .before .before .before .before .before .args .width) (omega arith) (c .before .before .before .before .before .before .before .before .pre .1 .0))
+cast-larger c =
+    let at-loop = c .before .before .before .before .before in
+    let at-args = at-loop .before .before .before in
+    omega (arith, scaled (at-loop .loop .i) (at-args .args .hi) (at-args .args .width) (omega arith) (at-args .pre .1 .0))
 
 larger-requires : tie.Need-larger-requires Inv-loop2 μ-loop2 Inv-loop μ-loop
 larger-requires c κs = search needs
@@ -94,31 +115,50 @@ slice-write-list : tie.Need-slice-write-list Inv-loop2 μ-loop2 Inv-loop μ-loop
 slice-write-list c = omega (arith, room (c .before))
 
 mul-smaller : tie.Need-mul-smaller Inv-loop2 μ-loop2 Inv-loop μ-loop
-mul-smaller c = omega (arith, scaled (c .before .before .if2 .stop) (c .before .before .before .before .before .before .before .before .before .before .args .hi) (c .before .before .before .before .before .before .before .before .before .before .args .width) (stopped (c .before .before) .within) (c .before .before .before .before .before .before .before .before .before .before .pre .1 .0))
+mul-smaller c =
+    let at-if2 = c .before .before in
+    let at-args = at-if2 .before .before .before .before .before .before .before .before in
+    omega (arith, scaled (at-if2 .if2 .stop) (at-args .args .hi) (at-args .args .width) (stopped (at-if2) .within) (at-args .pre .1 .0))
 
 cast-smaller : tie.Need-cast-smaller Inv-loop2 μ-loop2 Inv-loop μ-loop
-cast-smaller c = omega (arith, scaled (c .before .before .if2 .stop) (c .before .before .before .before .before .before .before .before .before .before .args .hi) (c .before .before .before .before .before .before .before .before .before .before .args .width) (stopped (c .before .before) .within) (c .before .before .before .before .before .before .before .before .before .before .pre .1 .0))
+cast-smaller c =
+    let at-if2 = c .before .before in
+    let at-args = at-if2 .before .before .before .before .before .before .before .before in
+    omega (arith, scaled (at-if2 .if2 .stop) (at-args .args .hi) (at-args .args .width) (stopped (at-if2) .within) (at-args .pre .1 .0))
 
 smaller-requires : tie.Need-smaller-requires Inv-loop2 μ-loop2 Inv-loop μ-loop
 smaller-requires c κs = search needs
 
 add-list : tie.Need-add-list Inv-loop2 μ-loop2 Inv-loop μ-loop
-add-list c = omega (arith, room (c .before .before .before), c .before .before .before .before .before .before .before .before .loop .inv .kept)
+add-list c =
+    let back = c .before .before .before in
+    let at-loop = back .before .before .before .before .before in
+    omega (arith, room (back), at-loop .loop .inv .kept)
 
 mul-list-2 : tie.Need-mul-list-2 Inv-loop2 μ-loop2 Inv-loop μ-loop
-mul-list-2 c = omega (arith, room (c .before .before .before), c .before .before .before .before .before .before .before .before .loop .inv .kept)
+mul-list-2 c =
+    let back = c .before .before .before in
+    let at-loop = back .before .before .before .before .before in
+    omega (arith, room (back), at-loop .loop .inv .kept)
 
 slice-write-list-2 : tie.Need-slice-write-list-2 Inv-loop2 μ-loop2 Inv-loop μ-loop
 slice-write-list-2 c = simp length-set (room (c .before .before .before))
 
 add-n : tie.Need-add-n Inv-loop2 μ-loop2 Inv-loop μ-loop
-add-n c = omega (arith, room (c .before .before .before), c .before .before .before .before .before .before .before .before .loop .inv .kept)
+add-n c =
+    let back = c .before .before .before in
+    let at-loop = back .before .before .before .before .before in
+    omega (arith, room (back), at-loop .loop .inv .kept)
 
 loop-less-2 : tie.Need-loop-less-2 Inv-loop2 μ-loop2 Inv-loop μ-loop
 loop-less-2 c = omega (arith, stopped (c .before .before .before) .past, stopped (c .before .before .before) .within)
 
 loop-again-2 : tie.Need-loop-again-2 Inv-loop2 μ-loop2 Inv-loop μ-loop
-loop-again-2 c = fill-more (is-visible _) _ _ _ _ _ _ _ _ (c .before .before .before .before .before .before .before .before .loop .inv) _ _ _ (stopped (c .before .before .before)) (c .before .before .larger .ensures) (c .smaller .ensures)
+loop-again-2 c =
+    let at-larger = c .before .before in
+    let back = at-larger .before in
+    let at-loop = back .before .before .before .before .before in
+    fill-more (is-visible _) _ _ _ _ _ _ _ _ (at-loop .loop .inv) _ _ _ (stopped (back)) (at-larger .larger .ensures) (c .smaller .ensures)
 
 same-length : tie.Need-same-length Inv-loop2 μ-loop2 Inv-loop μ-loop
 same-length c = c .before .loop .inv .kept

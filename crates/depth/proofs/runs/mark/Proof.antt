@@ -1,3 +1,4 @@
+-- Writing the buckets from i on gives what writing all of them from the start gives.
 use mathlib.Core.Logic.{⊎-elim}
 use mathlib.Core.Path.{_≡_, refl, sym, _∙_}
 use Prim.Native.Nat.{_-_}
@@ -37,7 +38,18 @@ loop-less : tie.Need-loop-less Inv-loop μ-loop
 loop-less c = omega arith
 
 loop-again : tie.Need-loop-again Inv-loop μ-loop
-loop-again c = ⊎-elim (λ w. rw (w .1) (simp length-set (c .before .before .before .loop .inv .0), sym (mark-set _ _ _ _ (omega arith) (c .before .before .loop-test .taken) (w .0 .taken)) ∙ c .before .before .before .loop .inv .1)) (λ w. rw (w .1) (c .before .before .before .loop .inv .0, sym (mark-kept _ _ _ _ (omega arith) (c .before .before .loop-test .taken) (w .0 .left)) ∙ c .before .before .before .loop .inv .1)) (c .if1 .came)
+loop-again c =
+    let at-loop-test = c .before .before in
+    let at-loop = at-loop-test .before in
+    ⊎-elim (λ w. rw (w .1) (
+      simp length-set (at-loop .loop .inv .0),
+      sym (mark-set _ _ _ _ (omega arith) (at-loop-test .loop-test .taken) (w .0 .taken)) ∙
+          at-loop .loop .inv .1,
+    )) (λ w. rw (w .1) (
+      at-loop .loop .inv .0,
+      sym (mark-kept _ _ _ _ (omega arith) (at-loop-test .loop-test .taken) (w .0 .left)) ∙
+          at-loop .loop .inv .1,
+    )) (c .if1 .came)
 
 same-length : tie.Need-same-length Inv-loop μ-loop
 same-length c = c .before .loop .inv .0

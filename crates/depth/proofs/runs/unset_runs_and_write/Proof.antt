@@ -27,10 +27,18 @@ same-length : tie.Need-same-length
 same-length c = search needs
 
 returns-4 : tie.Need-returns-4
-returns-4 c = write-short _ _ _ _ (c .before .before .before .before .before .if1 .left) (c .before .before .before .before .if2 .left) (c .before .before .before .if3 .left) (sym (c .if4 .taken) ∙ c .before .is-short .ensures)
+returns-4 c =
+    let at-if3 = c .before .before .before in
+    let at-if2 = at-if3 .before in
+    let at-if1 = at-if2 .before in
+    write-short _ _ _ _ (at-if1 .if1 .left) (at-if2 .if2 .left) (at-if3 .if3 .left) (sym (c .if4 .taken) ∙ c .before .is-short .ensures)
 
 list-runs-requires : tie.Need-list-runs-requires
-list-runs-requires c κs = (c .before .before .before .before .before .before .if2 .left, (omega arith, room-for _ _ (sym (c .before .before .if4 .left) ∙ c .before .before .before .is-short .ensures)))
+list-runs-requires c κs =
+    let at-if4 = c .before .before in
+    let at-is-short = at-if4 .before in
+    let at-if2 = at-is-short .before .before .before in
+    (at-if2 .if2 .left, (omega arith, room-for _ _ (sym (at-if4 .if4 .left) ∙ at-is-short .is-short .ensures)))
 
 mark-requires : tie.Need-mark-requires
 mark-requires c κs = search needs
@@ -42,7 +50,16 @@ same-length-3 : tie.Need-same-length-3
 same-length-3 c = search needs
 
 returns-5 : tie.Need-returns-5
-returns-5 c = write-done _ _ _ _ (c .before .before .before .before .before .before .before .before .before .before .before .before .before .before .if1 .left) (c .before .before .before .before .before .before .before .before .before .before .before .before .before .if2 .left) (c .before .before .before .before .before .before .before .before .before .before .before .before .if3 .left) _ _ _ (sym (c .before .before .before .before .before .before .before .before .before .if4 .left) ∙ c .before .before .before .before .before .before .before .before .before .before .is-short .ensures) (c .before .before .before .before .before .before .list-runs .ensures) (c .before .before .mark .ensures)
+returns-5 c =
+    let at-mark = c .before .before in
+    let at-list-runs = at-mark .before .before .before .before in
+    let at-if4 = at-list-runs .before .before .before in
+    let at-is-short = at-if4 .before in
+    let at-if3 = at-is-short .before .before in
+    let at-if2 = at-if3 .before in
+    let at-if1 = at-if2 .before in
+    write-done _ _ _ _ (at-if1 .if1 .left) (at-if2 .if2 .left) (at-if3 .if3 .left) _ _ _ (sym (at-if4 .if4 .left) ∙ at-is-short .is-short .ensures)
+    (at-list-runs .list-runs .ensures) (at-mark .mark .ensures)
 
 pub unset-runs-and-write-spec : {M : Type 1} → statement M
 unset-runs-and-write-spec =

@@ -18,22 +18,46 @@ met-end-requires : tie.Need-met-end-requires
 met-end-requires c κs = search needs
 
 is-short-requires : tie.Need-is-short-requires
-is-short-requires c κs = rw (c .met-end .ensures) (met-within 32 _ (tiles (c .before .before .before .before .before .before .before .before .args .span)))
+is-short-requires c κs =
+    let at-args = c .before .before .before .before .before .before .before .before in
+    rw (c .met-end .ensures) (met-within 32 _ (tiles (at-args .args .span)))
 
 returns-3 : tie.Need-returns-3
-returns-3 c = tiles-short 32 _ _ _ _ (c .before .before .before .before .before .before .if1 .left) (c .before .before .before .before .if2 .left) _ (c .before .before .met-end .ensures) (sym (c .if3 .taken) ∙ c .before .is-short .ensures)
+returns-3 c =
+    let at-met-end = c .before .before in
+    let at-if2 = at-met-end .before .before in
+    let at-if1 = at-if2 .before .before in
+    tiles-short 32 _ _ _ _ (at-if1 .if1 .left) (at-if2 .if2 .left) _ (at-met-end .met-end .ensures) (sym (c .if3 .taken) ∙ c .before .is-short .ensures)
 
 cast-list-runs : tie.Need-cast-list-runs
 cast-list-runs c = search needs
 
 list-runs-requires : tie.Need-list-runs-requires
-list-runs-requires c κs = (rw (c .before .before .before .met-end .ensures) (met-within 32 _ (tiles (c .before .before .before .before .before .before .before .before .before .before .before .args .span))), (rw (c .before .before .before .met-end .ensures) (met-small _ (tiles (c .before .before .before .before .before .before .before .before .before .before .before .args .span)) (c .before .before .before .before .before .if2 .left)), room-for _ _ (sym (c .before .if3 .left) ∙ c .before .before .is-short .ensures)))
+list-runs-requires c κs =
+    let at-is-short = c .before .before in
+    let at-met-end = at-is-short .before in
+    let at-if2 = at-met-end .before .before in
+    let at-args = at-if2 .before .before .before .before .before .before in (
+      rw (at-met-end .met-end .ensures) (met-within 32 _ (tiles (at-args .args .span))),
+      (
+        rw (at-met-end .met-end .ensures) (met-small _ (tiles (at-args .args .span)) (at-if2 .if2 .left)),
+        room-for _ _ (sym (c .before .if3 .left) ∙ at-is-short .is-short .ensures),
+      ),
+    )
 
 same-length : tie.Need-same-length
 same-length c = search needs
 
 returns-4 : tie.Need-returns-4
-returns-4 c = tiles-done 32 _ _ _ _ (c .before .before .before .before .before .before .before .before .before .before .if1 .left) (c .before .before .before .before .before .before .before .before .if2 .left) _ (c .before .before .before .before .before .before .met-end .ensures) _ _ (sym (c .before .before .before .before .if3 .left) ∙ c .before .before .before .before .before .is-short .ensures) (c .before .before .list-runs .ensures)
+returns-4 c =
+    let at-list-runs = c .before .before in
+    let at-if3 = at-list-runs .before .before in
+    let at-is-short = at-if3 .before in
+    let at-met-end = at-is-short .before in
+    let at-if2 = at-met-end .before .before in
+    let at-if1 = at-if2 .before .before in
+    tiles-done 32 _ _ _ _ (at-if1 .if1 .left) (at-if2 .if2 .left) _ (at-met-end .met-end .ensures) _ _ (sym (at-if3 .if3 .left) ∙
+    at-is-short .is-short .ensures) (at-list-runs .list-runs .ensures)
 
 pub visible-runs-spec : {M : Type 1} → statement M
 visible-runs-spec =

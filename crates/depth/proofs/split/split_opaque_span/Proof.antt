@@ -1,4 +1,4 @@
-use borrow.Author.Tests.{lt-ltb, le-ltb, le-leb}
+use borrow.Author.Tests.{lt-leb, le-leb}
 use borrow.Author.Needs.{needs}
 use Rattle.rules.specs.Split.{split-answer, split}
 use Rattle.depth.proofs.Splitting.{in-three}
@@ -7,11 +7,11 @@ use Rattle.depth.proofs.split.split_opaque_span.Tie as tie
 
 returns : tie.Need-returns
 unfolding split-answer
-returns c = simp (lt-ltb _ _ (c .if1 .taken))
+returns c = simp (lt-leb _ _ (c .if1 .taken))
 
 returns-2 : tie.Need-returns-2
 unfolding split-answer
-returns-2 c = simp (le-ltb _ _ (c .before .if1 .left), lt-ltb _ _ (c .if2 .taken))
+returns-2 c = simp (le-leb _ _ (c .before .if1 .left), lt-leb _ _ (c .if2 .taken))
 
 sub-aligned-first : tie.Need-sub-aligned-first
 sub-aligned-first c = search needs
@@ -27,7 +27,7 @@ mul-aligned-end c = search needs
 
 returns-3 : tie.Need-returns-3
 unfolding split-answer split
-returns-3 c = simp (le-ltb _ _ (c .before .before .if1 .left), le-ltb _ _ (c .before .if2 .left), le-leb _ _ (c .if3 .taken))
+returns-3 c = simp (le-leb _ _ (c .before .before .if1 .left), le-leb _ _ (c .before .if2 .left), le-leb _ _ (c .if3 .taken))
 
 piece-requires : tie.Need-piece-requires
 piece-requires c κs = search needs
@@ -37,7 +37,11 @@ piece-requires-2 c κs = search needs
 
 returns-4 : tie.Need-returns-4
 unfolding split-answer split
-returns-4 c = in-three 32 _ _ _ (c .before .before .before .before .if1 .left) (c .before .before .before .if2 .left) (c .before .before .if3 .left) (c .before .piece .ensures) (c .piece2 .ensures)
+returns-4 c =
+    let at-if3 = c .before .before in
+    let at-if2 = at-if3 .before in
+    let at-if1 = at-if2 .before in
+    in-three 32 _ _ _ (at-if1 .if1 .left) (at-if2 .if2 .left) (at-if3 .if3 .left) (c .before .piece .ensures) (c .piece2 .ensures)
 
 pub split-opaque-span-spec : {M : Type 1} → statement M
 split-opaque-span-spec =

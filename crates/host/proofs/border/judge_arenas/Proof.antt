@@ -58,17 +58,19 @@ mul-if3 c =
 
 returns-3 : tie.Need-returns-3
 returns-3 c =
-    let at-rooms = c .before .before in
+    let back = c .before .before in
+    let at-rooms = back in
     let at-rows = at-rooms .before .before in
-    bad-depth _ _ _ _ (good-view (at-rows .before .before)) _ (rows-are at-rows) (sym (at-rooms .before .is-good-rooms .ensures) ∙ not-false _ (at-rooms .if2 .left)) _
-    (buckets-are (c .before)) (c .if3 .taken)
+    bad-depth _ _ _ _ (good-view (at-rows .before .before)) _ (rows-are at-rows) (sym (at-rooms .before .is-good-rooms .ensures) ∙ not-false _
+    (at-rooms .if2 .left)) _ (buckets-are (c .before)) (c .if3 .taken)
 
 returns-4 : tie.Need-returns-4
 returns-4 c =
-    let at-rooms = c .before .before in
+    let back = c .before .before in
+    let at-rooms = back in
     let at-rows = at-rooms .before .before in
-    good-lent _ _ _ _ (good-view (at-rows .before .before)) _ (rows-are at-rows) (sym (at-rooms .before .is-good-rooms .ensures) ∙ not-false _ (at-rooms .if2 .left)) _
-    (buckets-are (c .before)) (c .if3 .left)
+    good-lent _ _ _ _ (good-view (at-rows .before .before)) _ (rows-are at-rows) (sym (at-rooms .before .is-good-rooms .ensures) ∙ not-false _
+    (at-rooms .if2 .left)) _ (buckets-are (c .before)) (c .if3 .left)
 
 pub judge-arenas-spec : {M : Type 1} → statement M
 judge-arenas-spec =

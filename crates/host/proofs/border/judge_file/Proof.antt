@@ -1,6 +1,6 @@
 -- The form, then the reset to the viewport that stands at place 1.
 use mathlib.Core.Path.{sym, _∙_}
-use Rattle.form.proofs.Laid.{good-form, bad-form}
+use Rattle.file_form.proofs.Laid.{good-form, bad-form}
 use Rattle.host.proofs.Ways.{no-file, a-file}
 use borrow.Author.Needs.{needs}
 use Rattle.host.proofs.border.judge_file.Statement.{statement}

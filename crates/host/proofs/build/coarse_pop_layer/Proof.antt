@@ -1,8 +1,8 @@
 -- Where the words stand for no screen the border answers; else the call's own equation, carried over to the words.
-use Rattle.pop.specs.Pop.{lent}
+use Rattle.step_pop.specs.Pop.{lent}
 use Rattle.row.specs.Words.{words}
 use mathlib.Core.Path.{sym, _∙_}
-use Rattle.held.proofs.Words.{long}
+use Rattle.host_screen.proofs.Words.{long}
 use Rattle.host.proofs.Built.{pop-built}
 use Rattle.host.proofs.Unheld.{pop-unheld}
 use borrow.Author.Needs.{needs}
@@ -35,7 +35,9 @@ pop-layer-requires c κs = search needs
 
 leave-requires : tie.Need-leave-requires
 leave-requires c κs =
-    let at-screen = c .before .before .before .before .before .before .before .before .before .before .before .before .before .before .before .before .before .before .before .before .before in
+    let back = c .before .before .before .before .before .before .before .before .before .before .before .before .before .before .before .before .before
+    .before .before .before .before in
+    let at-screen = back in
     let at-screen-of = at-screen .before .before in
     long _ _ _ (sym (at-screen .screen .given .1) ∙ at-screen-of .screen-of .ensures)
 
@@ -62,11 +64,13 @@ same-length-8 c = search needs
 
 returns-2 : tie.Need-returns-2
 returns-2 c =
-    let at-leave = c .before .before in
+    let back = c .before .before in
+    let at-leave = back in
     let at-pop-layer = at-leave .before .before .before .before .before .before .before .before .before .before .before .before .before .before in
     let at-screen = at-pop-layer .before .before .before .before .before .before .before .before in
     let at-screen-of = at-screen .before .before in
-    pop-built _ _ _ _ _ _ (sym (at-screen .screen .given .1) ∙ at-screen-of .screen-of .ensures) (at-leave .leave .ensures .0) (at-leave .leave .ensures .1) _ _ _ (at-pop-layer .pop-layer .ensures)
+    pop-built _ _ _ _ _ _ (sym (at-screen .screen .given .1) ∙ at-screen-of .screen-of .ensures) (at-leave .leave .ensures .0) (at-leave .leave .ensures .1) _ _
+    _ (at-pop-layer .pop-layer .ensures)
 
 pub coarse-pop-layer-spec : {M : Type 1} → statement M
 coarse-pop-layer-spec =

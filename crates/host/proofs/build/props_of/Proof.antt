@@ -1,5 +1,5 @@
-use Rattle.form.specs.Places.{clip-from}
-use Rattle.form.specs.Places.{layer-from}
+use Rattle.file_form.specs.Places.{clip-from}
+use Rattle.file_form.specs.Places.{layer-from}
 use borrow.Author.Needs.{needs}
 use Rattle.host.proofs.build.props_of.Statement.{statement}
 use Rattle.host.proofs.build.props_of.Tie as tie

@@ -1,6 +1,6 @@
 -- Where the words stand for no screen the border answers; else the call's own equation, carried over to the words.
 use mathlib.Core.Path.{sym, _∙_}
-use Rattle.held.proofs.Words.{long}
+use Rattle.host_screen.proofs.Words.{long}
 use Rattle.host.proofs.Built.{begin-built}
 use Rattle.host.proofs.Unheld.{begin-unheld}
 use borrow.Author.Needs.{needs}
@@ -33,7 +33,8 @@ begin-painting-requires c κs = search needs
 
 leave-requires : tie.Need-leave-requires
 leave-requires c κs =
-    let at-screen = c .before .before .before .before .before .before .before .before .before in
+    let back = c .before .before .before .before .before .before .before .before .before in
+    let at-screen = back in
     let at-screen-of = at-screen .before .before in
     long _ _ _ (sym (at-screen .screen .given .1) ∙ at-screen-of .screen-of .ensures)
 
@@ -48,11 +49,13 @@ same-length-4 c = search needs
 
 returns-2 : tie.Need-returns-2
 returns-2 c =
-    let at-leave = c .before .before in
+    let back = c .before .before in
+    let at-leave = back in
     let at-begin-painting = at-leave .before .before .before .before .before .before in
     let at-screen = at-begin-painting .before .before .before .before in
     let at-screen-of = at-screen .before .before in
-    begin-built _ _ _ _ _ _ (sym (at-screen .screen .given .1) ∙ at-screen-of .screen-of .ensures) (at-leave .leave .ensures .0) (at-leave .leave .ensures .1) _ _ _ _ (at-begin-painting .begin-painting .ensures)
+    begin-built _ _ _ _ _ _ (sym (at-screen .screen .given .1) ∙ at-screen-of .screen-of .ensures) (at-leave .leave .ensures .0) (at-leave .leave .ensures .1) _
+    _ _ _ (at-begin-painting .begin-painting .ensures)
 
 pub coarse-begin-painting-spec : {M : Type 1} → statement M
 coarse-begin-painting-spec =

@@ -1,7 +1,7 @@
 -- Where the words stand for no screen the border answers; else the call's own equation, carried over to the words.
 use mathlib.Core.Path.{sym, _∙_}
 use borrow.Author.Tests.{eqb-true}
-use Rattle.held.proofs.Words.{was-good}
+use Rattle.host_screen.proofs.Words.{was-good}
 use Rattle.host.proofs.Results.{skip-roomed}
 use Rattle.host.proofs.Unheld.{skip-unheld}
 use borrow.Author.Needs.{needs}
@@ -40,11 +40,13 @@ same-length c = search needs
 
 returns-2 : tie.Need-returns-2
 returns-2 c =
-    let at-put-skip = c .before .before in
+    let back = c .before .before in
+    let at-put-skip = back in
     let at-can-skip = at-put-skip .before .before in
     let at-screen = at-can-skip .before .before in
     let at-screen-of = at-screen .before .before in
-    skip-roomed _ _ _ _ _ _ (at-can-skip .can-skip .result) _ _ _ (sym (at-screen .screen .given .1) ∙ at-screen-of .screen-of .ensures) (at-can-skip .can-skip .ensures) (at-put-skip .put-skip .ensures)
+    skip-roomed _ _ _ _ _ _ (at-can-skip .can-skip .result) _ _ _ (sym (at-screen .screen .given .1) ∙ at-screen-of .screen-of .ensures)
+    (at-can-skip .can-skip .ensures) (at-put-skip .put-skip .ensures)
 
 pub coarse-can-skip-spec : {M : Type 1} → statement M
 coarse-can-skip-spec =

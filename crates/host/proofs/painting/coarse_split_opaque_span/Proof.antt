@@ -16,7 +16,12 @@ same-length : tie.Need-same-length
 same-length c = search needs
 
 returns-2 : tie.Need-returns-2
-returns-2 c = split-roomed _ _ (c .before .before .before .split-opaque-span .result) _ _ (c .before .before .before .before .before .if1 .left) (c .before .before .before .split-opaque-span .ensures) (c .before .before .put-split .ensures)
+returns-2 c =
+    let at-put-split = c .before .before in
+    let at-split-opaque-span = at-put-split .before in
+    let at-if1 = at-split-opaque-span .before .before in
+    split-roomed _ _ (at-split-opaque-span .split-opaque-span .result) _ _ (at-if1 .if1 .left) (at-split-opaque-span .split-opaque-span .ensures)
+    (at-put-split .put-split .ensures)
 
 pub coarse-split-opaque-span-spec : {M : Type 1} → statement M
 coarse-split-opaque-span-spec =

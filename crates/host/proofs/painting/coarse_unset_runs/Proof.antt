@@ -1,7 +1,7 @@
 -- Where the words stand for no screen the border answers; else the call's own equation, carried over to the words.
 use mathlib.Core.Path.{sym, _∙_}
 use borrow.Author.Tests.{eqb-true}
-use Rattle.held.proofs.Words.{was-good}
+use Rattle.host_screen.proofs.Words.{was-good}
 use Rattle.host.proofs.Results.{unset-roomed}
 use Rattle.host.proofs.Unheld.{unset-unheld}
 use borrow.Author.Needs.{needs}
@@ -31,7 +31,8 @@ unset-runs-requires c κs = search needs
 
 put-runs-requires : tie.Need-put-runs-requires
 put-runs-requires c κs =
-    let at-screen = c .before .before .before .before .before .before in
+    let back = c .before .before .before .before .before .before in
+    let at-screen = back in
     let at-screen-of = at-screen .before .before in
     eqb-true _ _ (was-good _ _ _ (sym (at-screen .screen .given .1) ∙ at-screen-of .screen-of .ensures))
 
@@ -43,11 +44,13 @@ same-length-2 c = search needs
 
 returns-2 : tie.Need-returns-2
 returns-2 c =
-    let at-put-runs = c .before .before in
+    let back = c .before .before in
+    let at-put-runs = back in
     let at-unset-runs = at-put-runs .before .before .before .before in
     let at-screen = at-unset-runs .before .before .before in
     let at-screen-of = at-screen .before .before in
-    unset-roomed _ _ _ _ _ (at-unset-runs .unset-runs .result) _ _ _ _ _ (sym (at-screen .screen .given .1) ∙ at-screen-of .screen-of .ensures) (at-unset-runs .unset-runs .ensures) (at-put-runs .put-runs .ensures)
+    unset-roomed _ _ _ _ _ (at-unset-runs .unset-runs .result) _ _ _ _ _ (sym (at-screen .screen .given .1) ∙ at-screen-of .screen-of .ensures)
+    (at-unset-runs .unset-runs .ensures) (at-put-runs .put-runs .ensures)
 
 pub coarse-unset-runs-spec : {M : Type 1} → statement M
 coarse-unset-runs-spec =

@@ -1,7 +1,7 @@
 -- Where the words stand for no screen the border answers; else the call's own equation, carried over to the words.
 use mathlib.Core.Path.{sym, _∙_}
 use borrow.Author.Tests.{eqb-true}
-use Rattle.held.proofs.Words.{long, was-good}
+use Rattle.host_screen.proofs.Words.{long, was-good}
 use Rattle.host.proofs.Results.{write-roomed}
 use Rattle.host.proofs.Unheld.{write-unheld}
 use borrow.Author.Needs.{needs}
@@ -34,13 +34,15 @@ unset-runs-and-write-requires c κs = search needs
 
 put-screen-requires : tie.Need-put-screen-requires
 put-screen-requires c κs =
-    let at-screen = c .before .before .before .before .before .before .before .before .before .before in
+    let back = c .before .before .before .before .before .before .before .before .before .before in
+    let at-screen = back in
     let at-screen-of = at-screen .before .before in
     long _ _ _ (sym (at-screen .screen .given .1) ∙ at-screen-of .screen-of .ensures)
 
 put-runs-requires : tie.Need-put-runs-requires
 put-runs-requires c κs =
-    let at-screen = c .before .before .before .before .before .before .before .before .before .before .before .before .before .before in
+    let back = c .before .before .before .before .before .before .before .before .before .before .before .before .before .before in
+    let at-screen = back in
     let at-screen-of = at-screen .before .before in
     eqb-true _ _ (was-good _ _ _ (sym (at-screen .screen .given .1) ∙ at-screen-of .screen-of .ensures))
 
@@ -58,12 +60,15 @@ same-length-5 c = search needs
 
 returns-2 : tie.Need-returns-2
 returns-2 c =
-    let at-put-runs = c .before .before in
+    let back = c .before .before in
+    let at-put-runs = back in
     let at-put-screen = at-put-runs .before .before .before .before in
     let at-unset-runs-and-write = at-put-screen .before .before .before .before .before .before .before in
     let at-screen = at-unset-runs-and-write .before .before .before .before in
     let at-screen-of = at-screen .before .before in
-    write-roomed _ _ _ _ _ _ (at-unset-runs-and-write .unset-runs-and-write .result) _ _ _ _ _ _ _ (sym (at-screen .screen .given .1) ∙ at-screen-of .screen-of .ensures) (at-unset-runs-and-write .unset-runs-and-write .ensures) (at-put-screen .put-screen .ensures) (at-put-runs .put-runs .ensures)
+    write-roomed _ _ _ _ _ _ (at-unset-runs-and-write .unset-runs-and-write .result) _ _ _ _ _ _ _ (sym (at-screen .screen .given .1) ∙
+    at-screen-of .screen-of .ensures) (at-unset-runs-and-write .unset-runs-and-write .ensures) (at-put-screen .put-screen .ensures)
+    (at-put-runs .put-runs .ensures)
 
 pub coarse-unset-runs-and-write-spec : {M : Type 1} → statement M
 coarse-unset-runs-and-write-spec =

@@ -36,7 +36,9 @@ same-length : tie.Need-same-length
 same-length c = search needs
 
 returns : tie.Need-returns
-returns c = slots-stored (c .before .before .before .args .slots) (c .before .before .before .args .parts .now) (c .before .before .before .pre)
+returns c =
+    let at-args = c .before .before .before in
+    slots-stored (at-args .args .slots) (at-args .args .parts .now) (at-args .pre)
 
 pub put-slots-spec : {M : Type 1} → statement M
 put-slots-spec =

@@ -42,13 +42,23 @@ same-length c = search needs
 
 returns-2 : tie.Need-returns-2
 unfolding three-words
-returns-2 c = rw (c .before .before .before .before .before .before .before .before .split2 .given .1, c .before .before .put-slots .ensures, c .before .before .before .before .blank2 .ensures, c .before .before .before .before .before .blank .ensures, c .before .before .before .before .before .before .regular .ensures)
+returns-2 c =
+    let at-put-slots = c .before .before in
+    let at-blank2 = at-put-slots .before .before in
+    let at-blank = at-blank2 .before in
+    let at-regular = at-blank .before in
+    let at-split2 = at-regular .before .before in
+    rw (at-split2 .split2 .given .1, at-put-slots .put-slots .ensures, at-blank2 .blank2 .ensures, at-blank .blank .ensures, at-regular .regular .ensures)
 
 same-length-2 : tie.Need-same-length-2
 same-length-2 c = search needs
 
 returns-3 : tie.Need-returns-3
-returns-3 c = rw (c .before .before .before .before .before .before .split3 .given .1, c .before .before .put-slots2 .ensures, c .before .before .before .before .with-edges .ensures)
+returns-3 c =
+    let at-put-slots2 = c .before .before in
+    let at-with-edges = at-put-slots2 .before .before in
+    let at-split3 = at-with-edges .before .before in
+    rw (at-split3 .split3 .given .1, at-put-slots2 .put-slots2 .ensures, at-with-edges .with-edges .ensures)
 
 pub put-split-spec : {M : Type 1} → statement M
 put-split-spec =

@@ -51,15 +51,24 @@ returns c = rw (c .before .before .before .before .enum-told .given .1, c .befor
 
 returns-2 : tie.Need-returns-2
 unfolding three-words
-returns-2 c = rw (c .before .before .before .before .before .enum-told .given .1, c .before .before .before .after .given .1, c .blank3 .ensures, c .before .regular .ensures)
+returns-2 c =
+    let at-after = c .before .before .before in
+    let at-enum-told = at-after .before .before in
+    rw (at-enum-told .enum-told .given .1, at-after .after .given .1, c .blank3 .ensures, c .before .regular .ensures)
 
 returns-3 : tie.Need-returns-3
 unfolding three-words
-returns-3 c = rw (c .before .before .before .before .before .before2 .given .1, c .before .before .enum-told3 .given .1, c .blank4 .ensures, c .before .regular2 .ensures)
+returns-3 c =
+    let at-enum-told3 = c .before .before in
+    let at-before2 = at-enum-told3 .before .before .before in
+    rw (at-before2 .before2 .given .1, at-enum-told3 .enum-told3 .given .1, c .blank4 .ensures, c .before .regular2 .ensures)
 
 returns-4 : tie.Need-returns-4
 unfolding three-words
-returns-4 c = rw (c .before .before .before .before .before .before .before2 .given .1, c .before .before .before .after2 .given .1, c .regular4 .ensures, c .before .regular3 .ensures)
+returns-4 c =
+    let at-after2 = c .before .before .before in
+    let at-before2 = at-after2 .before .before .before in
+    rw (at-before2 .before2 .given .1, at-after2 .after2 .given .1, c .regular4 .ensures, c .before .regular3 .ensures)
 
 pub with-edges-spec : {M : Type 1} → statement M
 with-edges-spec =

@@ -16,7 +16,10 @@ is-good-dest-requires : tie.Need-is-good-dest-requires
 is-good-dest-requires c κs = search needs
 
 returns-3 : tie.Need-returns-3
-returns-3 c = c .is-good-dest .ensures ∙ good-rows (box-of (c .before .before .before .before .before .args .self)) (eq-eqb _ _ (c .before .before .before .if1 .left)) (eq-eqb _ _ (c .before .if2 .left))
+returns-3 c =
+    let at-if1 = c .before .before .before in
+    let at-args = at-if1 .before .before in
+    c .is-good-dest .ensures ∙ good-rows (box-of (at-args .args .self)) (eq-eqb _ _ (at-if1 .if1 .left)) (eq-eqb _ _ (c .before .if2 .left))
 
 pub is-good-spec : {M : Type 1} → statement M
 is-good-spec = tie.close (tie.spec returns returns-2 is-good-dest-requires returns-3)

@@ -24,7 +24,15 @@ height-requires c κs = search needs
 
 returns-3 : tie.Need-returns-3
 unfolding good-viewport
-returns-3 c = rw (sym (c .before .before .before .before .is-good .ensures) ∙ not-false _ (c .before .before .before .if1 .left), le-leb _ _ (rw (c .before .before .width .ensures) at (c .before .if2 .left)), c .height .ensures)
+returns-3 c =
+    let at-width = c .before .before in
+    let at-if1 = at-width .before in
+    let at-is-good = at-if1 .before in
+    rw (
+      sym (at-is-good .is-good .ensures) ∙ not-false _ (at-if1 .if1 .left),
+      le-leb _ _ (rw (at-width .width .ensures) at (c .before .if2 .left)),
+      c .height .ensures,
+    )
 
 pub is-good-viewport-spec : {M : Type 1} → statement M
 is-good-viewport-spec =

@@ -25,7 +25,10 @@ sub-moved : tie.Need-sub-moved
 sub-moved c = within _ _ _ (met (c .before .before .before)) .starts
 
 moved-requires : tie.Need-moved-requires
-moved-requires c κs = moves-within (c .before .before .before .before .before .before .before .args .self .alpha) _ _ (within _ _ _ (met (c .before .before .before))) (c .before .before .before .before .before .before .before .pre)
+moved-requires c κs =
+    let back = c .before .before .before in
+    let at-args = back .before .before .before .before in
+    moves-within (at-args .args .self .alpha) _ _ (within _ _ _ (met (back))) (at-args .pre)
 
 returns : tie.Need-returns
 returns c = cut-none _ _ (sym (ap meeting-of (c .enum-told .given .1)) ∙ c .before .before .intersect .ensures)

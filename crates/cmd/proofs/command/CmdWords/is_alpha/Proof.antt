@@ -17,7 +17,11 @@ sub-result : tie.Need-sub-result
 sub-result c = search needs
 
 returns : tie.Need-returns
-returns c = alpha-test (c .before .before .before .before .before .args .self .alpha) (c .before .before .before .before .before .args .self .span) (sym (c .before .before .before .before .good-span-word .ensures) ∙ c .before .before .before .if1 .taken)
+returns c =
+    let at-if1 = c .before .before .before in
+    let at-good-span-word = at-if1 .before in
+    let at-args = at-good-span-word .before in
+    alpha-test (at-args .args .self .alpha) (at-args .args .self .span) (sym (at-good-span-word .good-span-word .ensures) ∙ at-if1 .if1 .taken)
 
 returns-2 : tie.Need-returns-2
 returns-2 c = rw (sym (c .before .good-span-word .ensures) ∙ c .if1 .left)

@@ -73,10 +73,20 @@ returns-10 : tie.Need-returns-10
 returns-10 c = tag-5 _ _ _ _ false (c .before .before .match .keys5) (sym (c .before .is-bare .ensures) ∙ c .if5 .left)
 
 returns-11 : tie.Need-returns-11
-returns-11 c = rw (c .before .fill5 .ensures) (tag-6 _ _ _ _ true true (c .before .before .before .before .before .before .match .keys6) (sym (c .before .before .before .before .before .is-solid3 .ensures) ∙ c .before .before .before .before .if6 .taken) (eq-eqb _ _ (c .before .before .if7 .taken)))
+returns-11 c =
+    let at-if7 = c .before .before in
+    let at-if6 = at-if7 .before .before in
+    let at-is-solid3 = at-if6 .before in
+    let at-match = at-is-solid3 .before in
+    rw (c .before .fill5 .ensures) (tag-6 _ _ _ _ true true (at-match .match .keys6) (sym (at-is-solid3 .is-solid3 .ensures) ∙ at-if6 .if6 .taken) (eq-eqb _ _
+    (at-if7 .if7 .taken)))
 
 returns-12 : tie.Need-returns-12
-returns-12 c = tag-6 _ _ _ _ true false (c .before .before .before .before .match .keys6) (sym (c .before .before .before .is-solid3 .ensures) ∙ c .before .before .if6 .taken) (ne-eqb _ _ (c .if7 .left))
+returns-12 c =
+    let at-if6 = c .before .before in
+    let at-is-solid3 = at-if6 .before in
+    let at-match = at-is-solid3 .before in
+    tag-6 _ _ _ _ true false (at-match .match .keys6) (sym (at-is-solid3 .is-solid3 .ensures) ∙ at-if6 .if6 .taken) (ne-eqb _ _ (c .if7 .left))
 
 returns-13 : tie.Need-returns-13
 returns-13 c = tag-6 _ _ _ _ false _ (c .before .before .match .keys6) (sym (c .before .is-solid3 .ensures) ∙ c .if6 .left) refl

@@ -1,0 +1,67 @@
+// A row's runs as spans in a lent list of any length: found over tile numbers in words of the call's own, written as spans.
+use crate::runs::write_runs;
+use cmd::Answer;
+use depth::Runs;
+use depth::visible_runs;
+use sizes::BUCKET_END;
+use span::TileSpan;
+ghost use mathlib.Core.Path.{_≡_};
+ghost use lib.ListN.{length, replicate};
+ghost use Rattle.sizes.specs.Sizes.{bucket-tiles, bucket-end};
+ghost use Rattle.rules.specs.Depth.{visible-answer};
+ghost use Rattle.span.specs.Spans.{tiles};
+ghost use Rattle.depth.specs.Listing as words;
+ghost use Rattle.depth_forms.specs.Listing.{out, listing, counted};
+
+// Why nothing is listed, or how many runs are; their number in either case; and their tile numbers.
+struct Found {
+    runs: Runs,
+    count: usize,
+    words: [u32; BUCKET_END],
+}
+
+// The runs that a list of so many spans has room for. Tiles end at 8,192, in 256 buckets, which have at most 128 runs: the words hold
+// them all.
+fn found_runs(depth: &[u32], span: TileSpan, draw_id: u32, room: usize) -> Found
+    ensures { λ r. ⌜ (words.out (r .runs) (r .words) ≡ words.listing (visible-answer bucket-tiles (now (depth .entry)) «draw_id» (tiles span) room) (replicate bucket-end 0)) × (r .count ≡ counted (r .runs)) ⌝ }
+{
+    let mut words = [0u32; BUCKET_END];
+    let runs = visible_runs(depth, span, draw_id, &mut words);
+    match runs {
+        Runs::Refused(answer) => Found {
+            runs: Runs::Refused(answer),
+            count: 0,
+            words,
+        },
+        Runs::Listed(count) => {
+            if room < count {
+                return Found {
+                    runs: Runs::Refused(Answer::NoRoom),
+                    count: 0,
+                    words: [0u32; BUCKET_END],
+                };
+            }
+            Found {
+                runs: Runs::Listed(count),
+                count,
+                words,
+            }
+        }
+    }
+}
+
+// The runs of a span's tiles whose buckets hold at most the id, as spans at the list's start; the entries after them stay. 14 where the
+// list is shorter than the runs. At id 0 they are the unset runs.
+pub fn list_visible_spans(
+    depth: &[u32],
+    span: TileSpan,
+    draw_id: u32,
+    list: &mut [TileSpan],
+) -> Runs
+    ensures { λ r. ⌜ out r (now (list .exit)) ≡ listing (visible-answer bucket-tiles (now (depth .entry)) «draw_id» (tiles span) (length (now (list .entry)))) (now (list .entry)) ⌝ }
+{
+    let found = found_runs(depth, span, draw_id, list.len());
+    let words = found.words;
+    write_runs(list, &words, found.count);
+    found.runs
+}

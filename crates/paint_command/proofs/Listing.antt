@@ -1,0 +1,170 @@
+-- What a call over runs leaves at the start of the result list, and the pieces made of it. Assumes nothing.
+use mathlib.Core.Path.{_≡_, refl, sym, ap, _∙_}
+use mathlib.Core.Bool.{Bool, true, false, cond}
+use mathlib.Core.List.{List, [], _∷_, _++_, map, append-assoc}
+use Prim.Native.Nat.{ℕ, zero, suc, _≤_, _<_, _+_, _*_, _/_}
+use native.Mathlib.Nat.{not-suc-le-zero, le-of-suc-le-suc}
+use native.Mathlib.Omega.{arith}
+use lib.ListN.{length, getD, take, drop, length-append, length-drop, length-map, take-append-drop}
+use lib.Seq.{length-take-le, take-length, take-suc, drop-append-add, drop-append-le, drop-drop}
+use lib.Dec.{ltb}
+use borrow.Author.Tests.{ltb-false}
+use Rattle.rules.specs.Answers as rules
+use Rattle.rules.specs.Lists.{join}
+use Rattle.rules.specs.Spans.{Span, span}
+use Rattle.rules.specs.Depth as rule
+use Rattle.rules.specs.Painting.{Piece}
+use Rattle.cmd.specs.declared.Answer.{Answer}
+use Rattle.cmd.specs.Answers.{number-of}
+use Rattle.depth.specs.declared.runs.Runs.{Runs}
+use Rattle.depth.specs.declared.runs.Runs.the-variants as runs
+use Rattle.depth.specs.Answers.{refusal}
+use Rattle.depth.specs.Listing.{RunsOut, out, numbers, over, listing}
+use Rattle.depth.proofs.Filling.{length-numbers}
+use Rattle.depth.proofs.Once.{refused-number}
+use Rattle.paint_command.specs.declared.pieces.Brush.{Brush}
+use Rattle.paint_command.specs.Pieces.{piece-words, laid, run-at, runs-at}
+use Rattle.paint_command.proofs.Spreading.{length-pieces, piece}
+use Rattle.paint_command.proofs.Within.{Each, each-at}
+
+-- the part of the list that is lent for runs: two words for each piece that the list has room for
+abbrev pub lent : List ℕ → List ℕ
+lent l = take (2 * (length l / 6)) l
+
+pub lent-length : (l : List ℕ) → length (lent l) ≡ 2 * (length l / 6)
+lent-length l = length-take-le (2 * (length l / 6)) l (omega arith)
+
+pub lent-room : (l : List ℕ) → length (lent l) / 2 ≡ length l / 6
+lent-room l = rw (lent-length l) (omega arith)
+
+twice : (k : ℕ) → 2 * suc k ≡ suc (suc (2 * k))
+twice k = omega arith
+
+twice-one : (k : ℕ) → 2 * suc k + 1 ≡ suc (suc (2 * k + 1))
+twice-one k = omega arith
+
+spans : {a b c d : ℕ} → a ≡ c → b ≡ d → span a b ≡ span c d
+spans p q = rw (p, q)
+
+-- the numbers of runs, read back
+run-back : (rs : List Span) (rest : List ℕ) (k : ℕ) → k < length rs → run-at (numbers rs ++ rest) k ≡ getD rs k (span 0 0)
+unfolding numbers
+run-back [] rest k h = absurd (not-suc-le-zero h)
+run-back (r ∷ rs) rest zero h = refl
+run-back (r ∷ rs) rest (suc k) h =
+    let l : List ℕ = r .first ∷ r .end ∷ (numbers rs ++ rest) in
+    spans (ap (λ (n : ℕ). getD l n 0) (twice k)) (ap (λ (n : ℕ). getD l n 0) (twice-one k))
+    ∙ run-back rs rest k (le-of-suc-le-suc h)
+
+runs-back : (rs : List Span) (rest : List ℕ) (n : ℕ) → n ≤ length rs → runs-at n (numbers rs ++ rest) ≡ take n rs
+unfolding runs-at
+runs-back rs rest zero h = refl
+runs-back rs rest (suc n) h =
+    rw (runs-back rs rest n (omega arith), run-back rs rest n (omega arith), take-suc rs n (span 0 0))
+
+-- n runs at the start of the list m, which is l otherwise
+pub record Listed (rs : List Span) (l : List ℕ) (n : ℕ) (m : List ℕ) : Type 0 where
+  pub many : n ≡ length rs
+  pub roomy : ltb (length l / 6) (length rs) ≡ false
+  pub start : m ≡ over (numbers rs) l
+
+module _ (rs : List Span) (l : List ℕ) (n : ℕ) (m : List ℕ) (s : Listed rs l n m) where
+  few : 6 * n ≤ length l
+  few = let h = ltb-false (length l / 6) (length rs) (s .roomy) in omega (arith, s .many)
+
+  words : length (numbers rs) ≡ 2 * n
+  words = length-numbers rs ∙ omega (arith, s .many)
+
+  pub same-long : length m ≡ length l
+  same-long = ap length (s .start) ∙ rw (length-append, length-drop, words) (omega (arith, few))
+
+  pub listed-room : 6 * n ≤ length m
+  listed-room = rw same-long few
+
+  pub listed-at : (P : Span → Type 0) → Each P rs → (k : ℕ) → k < n → P (run-at m k)
+  listed-at P e k h =
+      let g : k < length rs = omega (arith, s .many) in
+      let q : run-at m k ≡ getD rs k (span 0 0) = ap (λ (x : List ℕ). run-at x k) (s .start) ∙ run-back rs _ k g in
+      rw q (each-at P rs k (span 0 0) e g)
+
+  runs-are : runs-at n m ≡ rs
+  runs-are =
+      ap (λ (x : List ℕ). runs-at n x) (s .start) ∙ runs-back rs _ n (omega (arith, s .many)) ∙ rw (s .many, take-length)
+
+  -- pieces laid over the runs cover them
+  cover : (ps : List Piece) → length ps ≡ n → laid ps m ≡ laid ps l
+  cover ps h =
+      let long : length (join piece-words ps) ≡ length (numbers rs) + 4 * n = length-pieces ps ∙ omega (arith, words) in
+      let past : drop (length (numbers rs) + 4 * n) m ≡ drop (length (numbers rs) + 4 * n) l =
+      ap (λ (x : List ℕ). drop (length (numbers rs) + 4 * n) x) (s .start)
+      ∙ drop-append-add (numbers rs) _ (4 * n)
+      ∙ drop-drop (4 * n) (length (numbers rs)) l
+      in
+      rw (long, past)
+
+  -- spreading the runs over m leaves their pieces over l
+  pub listed-spread : (w : ℕ) (b : Brush) (l′ : List ℕ) → l′ ≡ laid (map (piece w b) (runs-at n m)) m → l′ ≡ laid (map (piece w b) rs) l
+  listed-spread w b l′ e =
+      e ∙ ap (λ (x : List Span). laid (map (piece w b) x) m) runs-are
+      ∙ cover (map (piece w b) rs) (rw (length-map) (sym (s .many)))
+
+-- the list that comes back with its lent part
+abbrev pub back : List ℕ → List ℕ → List ℕ
+back l ys = ys ++ drop (2 * (length l / 6)) l
+
+-- what a call on a good range leaves, if there is room in the list or not
+module _ (rs : List Span) (l ys : List ℕ) where
+  told : Bool → RunsOut
+  told t = listing (rules.settle (cond t 14 0) [] rs) (lent l)
+
+  short : (a : Answer) → out (runs.Refused a) ys ≡ told true → (number-of a ≡ 14) × (back l ys ≡ l)
+  unfolding told listing numbers
+  short a e = (
+    refused-number a 14 (ap (λ (o : RunsOut). o .number) e) (omega arith),
+    ap (back l) (ap (λ (o : RunsOut). o .list) e) ∙ take-append-drop (2 * (length l / 6)) l,
+  )
+
+  not-refused : (a : Answer) → out (runs.Refused a) ys ≡ told false → ⊥
+  unfolding told listing
+  not-refused a e =
+      let q : refusal a ≡ 0 = ap (λ (o : RunsOut). o .number) e in
+      let n : number-of a ≡ 0 = refused-number a 0 q (omega arith) in
+      let z : _≡_ {A = ℕ} 15 0 = rw n at q in
+      omega arith
+
+  not-listed : (n : ℕ) → out (runs.Listed n) ys ≡ told true → ⊥
+  unfolding told listing
+  not-listed n e = let z : _≡_ {A = ℕ} 0 14 = ap (λ (o : RunsOut). o .number) e in omega arith
+
+  full : (n : ℕ) → out (runs.Listed n) ys ≡ told false → ltb (length l / 6) (length rs) ≡ false → Listed rs l n (back l ys)
+  unfolding told listing
+  full n e q =
+      let many : n ≡ length rs = ap (λ (o : RunsOut). o .count) e in
+      let room = ltb-false (length l / 6) (length rs) q in
+      let fits : length (numbers rs) ≤ length (lent l) = rw (length-numbers rs, lent-length l) (omega arith) in
+      record {
+        many = many;
+        roomy = q;
+        start =
+            ap (back l) (ap (λ (o : RunsOut). o .list) e)
+            ∙ rw (append-assoc, ← drop-append-le (length (numbers rs)) (lent l) (drop (2 * (length l / 6)) l) fits, take-append-drop (2 * (length l / 6)) l);
+      }
+
+  module _ (r : Runs) (h : out r ys ≡ listing (rule.listed false (length l / 6) rs) (lent l)) where
+    pub when-refused : (a : Answer) → r ≡ runs.Refused a → (number-of a ≡ 14) × (back l ys ≡ l) × (ltb (length l / 6) (length rs) ≡ true)
+    unfolding told
+    when-refused a q = go (ltb (length l / 6) (length rs)) refl (rw q at h)
+      where
+        go : (t : Bool) → ltb (length l / 6) (length rs) ≡ t → out (runs.Refused a) ys ≡ listing (rules.settle (cond t 14 0) [] rs) (lent l)
+            → (number-of a ≡ 14) × (back l ys ≡ l) × (t ≡ true)
+        go true p e = let s = short a e in (s .0, s .1, refl)
+        go false p e = absurd (not-refused a e)
+
+    pub when-listed : (n : ℕ) → r ≡ runs.Listed n → Listed rs l n (back l ys)
+    unfolding told
+    when-listed n q = go (ltb (length l / 6) (length rs)) refl (rw q at h)
+      where
+        go : (t : Bool) → ltb (length l / 6) (length rs) ≡ t → out (runs.Listed n) ys ≡ listing (rules.settle (cond t 14 0) [] rs) (lent l)
+            → Listed rs l n (back l ys)
+        go true p e = absurd (not-listed n e)
+        go false p e = full n e p

@@ -1,0 +1,103 @@
+-- The unset runs go to the front of the list, are spread to pieces of six words, and the place moves on.
+use mathlib.Core.Path.{sym}
+use Rattle.paint_command.proofs.Listing.{lent-length}
+use Rattle.paint_command.proofs.Filling.{depth-refused, depth-ready, depth-done}
+use borrow.Author.Needs.{needs}
+use Rattle.paint_command.proofs.fills.paint_depth.Statement.{statement}
+use Rattle.paint_command.proofs.fills.paint_depth.Tie as tie
+
+mul-unset-runs-and-write : tie.Need-mul-unset-runs-and-write
+mul-unset-runs-and-write c = search needs
+
+slice-relend-prefix-unset-runs-and-write : tie.Need-slice-relend-prefix-unset-runs-and-write
+slice-relend-prefix-unset-runs-and-write c = search needs
+
+slice-aggregate-unset-runs-and-write : tie.Need-slice-aggregate-unset-runs-and-write
+slice-aggregate-unset-runs-and-write c = sym (lent-length (c .before .before .before .before .before .before .args .list .now))
+
+unset-runs-and-write-requires : tie.Need-unset-runs-and-write-requires
+unset-runs-and-write-requires c κs = search needs
+
+enum-known-answer : tie.Need-enum-known-answer
+enum-known-answer c = search needs
+
+number-requires : tie.Need-number-requires
+number-requires c κs = search needs
+
+refused-requires : tie.Need-refused-requires
+refused-requires c κs = search needs
+
+enum-known-n : tie.Need-enum-known-n
+enum-known-n c = search needs
+
+spread-requires : tie.Need-spread-requires
+spread-requires c κs =
+    let at-n = c .before .before in
+    let at-unset-runs-and-write = at-n .before .before .before .before .before .before in
+    let at-args = at-unset-runs-and-write .before .before .before .before .before .before .before in
+    depth-ready _ (at-args .args .painting .now) (at-args .args .list .now) _ _ _ (at-args .args .fill .«attrs_idx») (at-args .args .fill .buckets)
+    (at-args .pre .0 .0) (at-args .pre .0 .1) (at-args .pre .0 .3) _ (at-unset-runs-and-write .unset-runs-and-write .ensures) _ (at-n .n .given .1)
+    (at-args .pre .0 .2)
+
+slice-read-nesting : tie.Need-slice-read-nesting
+slice-read-nesting c = search needs
+
+advance-requires : tie.Need-advance-requires
+advance-requires c κs = search needs
+
+same-length : tie.Need-same-length
+same-length c = search needs
+
+same-length-2 : tie.Need-same-length-2
+same-length-2 c = search needs
+
+returns : tie.Need-returns
+returns c =
+    let at-answer = c .before .before .before in
+    let at-unset-runs-and-write = at-answer .before .before .before .before .before .before in
+    let at-args = at-unset-runs-and-write .before .before .before .before .before .before .before in
+    depth-refused _ _ (at-args .args .list .now) _ _ _ _ (at-args .args .fill .buckets) (at-args .pre .0 .0) (at-args .pre .0 .1) (at-args .pre .0 .3) _
+    (at-unset-runs-and-write .unset-runs-and-write .ensures) _ _ _ (at-answer .answer .given .1) (c .before .number .ensures) (c .refused .ensures)
+
+same-length-3 : tie.Need-same-length-3
+same-length-3 c = search needs
+
+same-length-4 : tie.Need-same-length-4
+same-length-4 c = search needs
+
+same-length-5 : tie.Need-same-length-5
+same-length-5 c = search needs
+
+returns-2 : tie.Need-returns-2
+returns-2 c =
+    let at-advance = c .before .before in
+    let at-spread = at-advance .before .before .before .before .before in
+    let at-n = at-spread .before .before .before in
+    let at-unset-runs-and-write = at-n .before .before .before .before .before .before in
+    let at-args = at-unset-runs-and-write .before .before .before .before .before .before .before in
+    depth-done _ (at-args .args .painting .now) (at-args .args .list .now) _ _ _ _ (at-args .args .fill .buckets) (at-args .pre .0 .0) (at-args .pre .0 .1)
+    (at-args .pre .0 .3) _ (at-unset-runs-and-write .unset-runs-and-write .ensures) _ (at-n .n .given .1) _ _ _ (at-advance .advance .ensures)
+    (at-spread .spread .ensures)
+
+pub paint-depth-spec : {M : Type 1} → statement M
+paint-depth-spec =
+    tie.close
+    (tie.spec
+    mul-unset-runs-and-write
+    slice-relend-prefix-unset-runs-and-write
+    slice-aggregate-unset-runs-and-write
+    unset-runs-and-write-requires
+    enum-known-answer
+    number-requires
+    refused-requires
+    enum-known-n
+    spread-requires
+    slice-read-nesting
+    advance-requires
+    same-length
+    same-length-2
+    returns
+    same-length-3
+    same-length-4
+    same-length-5
+    returns-2)

@@ -1,0 +1,117 @@
+-- The fill's words are judged, then its attribute; its unset runs become pieces and its id is written.
+use native.Mathlib.Omega.{arith}
+use Rattle.paint_command.proofs.Steps.{depth-unread, depth-forged, depth-taken, depth-good}
+use borrow.Author.Needs.{needs}
+use Rattle.paint_command.proofs.row.step_depth.Statement.{statement}
+use Rattle.paint_command.proofs.row.step_depth.Tie as tie
+
+mul-at : tie.Need-mul-at
+mul-at c = search needs
+
+mul-t12 : tie.Need-mul-t12
+mul-t12 c = search needs
+
+shared-slice-read-t14 : tie.Need-shared-slice-read-t14
+shared-slice-read-t14 c = search needs
+
+add-read : tie.Need-add-read
+add-read c = search needs
+
+mul-read : tie.Need-mul-read
+mul-read c = search needs
+
+shared-slice-read-read : tie.Need-shared-slice-read-read
+shared-slice-read-read c = search needs
+
+cast-read : tie.Need-cast-read
+cast-read c = search needs
+
+read-requires : tie.Need-read-requires
+read-requires c κs = search needs
+
+enum-told : tie.Need-enum-told
+enum-told c = search needs
+
+refused-requires : tie.Need-refused-requires
+refused-requires c κs = search needs
+
+enum-known-fill : tie.Need-enum-known-fill
+enum-known-fill c = search needs
+
+paint-taken-requires : tie.Need-paint-taken-requires
+paint-taken-requires c κs = search needs
+
+refused-requires-2 : tie.Need-refused-requires-2
+refused-requires-2 c κs = search needs
+
+returns : tie.Need-returns
+returns c =
+    let at-paint-taken = c .before .before in
+    let at-fill = at-paint-taken .before .before in
+    let at-read = at-fill .before .before in
+    let at-args = at-read .before .before .before .before .before .before .before .before in
+    depth-forged (at-args .args .paint-attrs .now) (at-args .args .paints) _ _ (at-args .args .depth .now) (at-args .args .painting .now)
+    (at-args .args .list .now) _ _ 0 (at-read .read .ensures) _ (at-fill .fill .given .1) _ (at-paint-taken .paint-taken .ensures) _ (c .before .if1 .taken)
+    (c .refused2 .ensures)
+
+paint-depth-requires : tie.Need-paint-depth-requires
+paint-depth-requires c κs =
+    let at-if1 = c .before .before .before in
+    let at-fill = at-if1 .before .before .before in
+    let at-read = at-fill .before .before in
+    let at-pre = at-read .before .before .before .before .before .before .before .before in
+    let g = depth-good _ _ _ _ _ (at-read .read .ensures) (at-fill .fill .given .1) in
+    ((g .0, g .1, omega (arith, g .1, at-pre .pre .0 .2), omega (arith, at-if1 .if1 .left)), (at-pre .pre .1 .1, at-pre .pre .1 .2))
+
+returns-2 : tie.Need-returns-2
+returns-2 c =
+    let at-read = c .before .before .before in
+    let at-args = at-read .before .before .before .before .before .before .before .before in
+    depth-unread (at-args .args .paint-attrs .now) (at-args .args .paints) _ _ (at-args .args .depth .now) (at-args .args .painting .now)
+    (at-args .args .list .now) _ _ 0 (at-read .read .ensures) _ (c .before .enum-told .given .1) (c .refused .ensures)
+
+same-length : tie.Need-same-length
+same-length c = search needs
+
+same-length-2 : tie.Need-same-length-2
+same-length-2 c = search needs
+
+same-length-3 : tie.Need-same-length-3
+same-length-3 c = search needs
+
+returns-3 : tie.Need-returns-3
+returns-3 c =
+    let at-paint-depth = c .before .before .before .before .before .before in
+    let at-if1 = at-paint-depth .before .before .before .before in
+    let at-paint-taken = at-if1 .before in
+    let at-fill = at-paint-taken .before .before in
+    let at-read = at-fill .before .before in
+    let at-args = at-read .before .before .before .before .before .before .before .before in
+    depth-taken (at-args .args .paint-attrs .now) (at-args .args .paints) _ _ (at-args .args .depth .now) (at-args .args .painting .now)
+    (at-args .args .list .now) _ _ 0 (at-read .read .ensures) _ (at-fill .fill .given .1) _ (at-paint-taken .paint-taken .ensures) _ (at-if1 .if1 .left)
+    (at-paint-depth .paint-depth .ensures)
+
+pub step-depth-spec : {M : Type 1} → statement M
+step-depth-spec =
+    tie.close
+    (tie.spec
+    mul-at
+    mul-t12
+    shared-slice-read-t14
+    add-read
+    mul-read
+    shared-slice-read-read
+    cast-read
+    read-requires
+    enum-told
+    refused-requires
+    enum-known-fill
+    paint-taken-requires
+    refused-requires-2
+    returns
+    paint-depth-requires
+    returns-2
+    same-length
+    same-length-2
+    same-length-3
+    returns-3)

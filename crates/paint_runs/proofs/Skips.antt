@@ -1,0 +1,164 @@
+-- Where a summary is sound, a fill's runs by the summary are its visible runs, and painting keeps it sound. Assumes nothing.
+use mathlib.Core.Path.{_≡_, refl, sym, ap, _∙_}
+use mathlib.Core.Bool.{Bool, true, false, _&&_, _||_, cond}
+use mathlib.Core.List.{List, [], _∷_, map}
+use mathlib.Core.Logic.{_⊎_, inl, inr, ⊎-elim}
+use mathlib.Core.Option.{Option, none, some}
+use Prim.Native.Nat.{ℕ, zero, suc, _≤_, _<_, _+_, _-_, _*_, _/_}
+use native.Mathlib.Nat.{add-zero, add-suc, suc-add, zero-add}
+use native.Mathlib.Omega.{arith}
+use lib.ListN.{length, getD, drop, replicate, length-drop}
+use lib.Seq.{length-take-le, getD-take, getD-drop}
+use lib.Dec.{leb, ltb}
+use borrow.Author.Tests.{eq-eqb, le-leb, leb-true, ltb-true, ltb-false}
+use Rattle.rules.specs.Lists.{slice}
+use Rattle.rules.specs.Spans.{Span, span, covers, hull, common}
+use Rattle.rules.specs.Depth.{Summary, included, apart, can-skip, bucket-runs, runs-in, runs, tiles-of, is-unset, is-visible, visible-runs, written-from, written}
+use Rattle.paint_runs.specs.Summaries.{whole-run, shown-runs, Inside, Sound, Included}
+
+spans : {a b c d : ℕ} → a ≡ c → b ≡ d → span a b ≡ span c d
+spans p q = rw (p, q)
+
+-- buckets that are all open are one run
+all-open : (p : ℕ → Bool) (i b : ℕ) (bs : List ℕ) → ((k : ℕ) → k < suc (length bs) → p (getD (b ∷ bs) k 0) ≡ true)
+    → bucket-runs p i (b ∷ bs) ≡ span i (i + suc (length bs)) ∷ []
+unfolding bucket-runs
+all-open p i b [] h = rw (h 0 (omega arith)) (ap (λ (r : Span). r ∷ []) (spans refl (omega arith)))
+all-open p i b (c ∷ bs) h =
+    let e : bucket-runs p (suc i) (c ∷ bs) ≡ span (suc i) (suc i + suc (length bs)) ∷ [] =
+    all-open p (suc i) c bs (λ k l. h (suc k) (omega arith))
+    in
+    rw (h 0 (omega arith), e, eq-eqb (suc i) (suc i) refl) (ap (λ (r : Span). r ∷ []) (spans refl (omega arith)))
+
+some-open : (p : ℕ → Bool) (i n : ℕ) (bs : List ℕ) → length bs ≡ n → 0 < n → ((k : ℕ) → k < n → p (getD bs k 0) ≡ true)
+    → bucket-runs p i bs ≡ span i (i + n) ∷ []
+some-open p i n [] e h g = absurd (omega arith)
+some-open p i n (b ∷ bs) e h g =
+    all-open p i b bs (λ k l. g k (omega (arith, e))) ∙ ap (λ (m : ℕ). span i (i + m) ∷ []) e
+
+range-open : (p : ℕ → Bool) (bs : List ℕ) (lo hi : ℕ) → lo < hi → hi ≤ length bs → ((k : ℕ) → lo ≤ k → k < hi → p (getD bs k 0) ≡ true)
+    → runs-in p bs (span lo hi) ≡ span lo hi ∷ []
+unfolding runs-in
+range-open p bs lo hi h g a =
+    some-open p lo (hi - lo) (slice lo hi bs) (length-take-le (hi - lo) (drop lo bs) (rw length-drop (omega arith))) (omega arith) each
+    ∙ ap (λ (r : Span). r ∷ []) (spans refl (omega arith))
+  where
+    each : (k : ℕ) → k < hi - lo → p (getD (slice lo hi bs) k 0) ≡ true
+    each k l = rw (getD-take (hi - lo) (drop lo bs) k 0 l, getD-drop lo bs k 0) (a (lo + k) (omega arith) (omega arith))
+
+-- the buckets that a span meets, all open: the span itself
+module _ (bs : List ℕ) (id : ℕ) (s : Span) (g : s .end ≤ 32 * length bs)
+    (a : (k : ℕ) → s .first / 32 ≤ k → k < (s .end + 31) / 32 → s .first < s .end → getD bs k 0 ≤ id) where
+  all-shown : visible-runs 32 bs id s ≡ whole-run s
+  unfolding visible-runs runs
+  all-shown = go (ltb (s .first) (s .end)) refl
+    where
+      go : (t : Bool) → ltb (s .first) (s .end) ≡ t
+          → cond t (map (λ (r : Span). common s (tiles-of 32 r)) (runs-in (is-visible id) bs (span (s .first / 32) ((s .end + 31) / 32)))) []
+          ≡ cond t (s ∷ []) []
+      go true e =
+          let h : s .first < s .end = ltb-true _ _ e in
+          rw (range-open (is-visible id) bs (s .first / 32) ((s .end + 31) / 32) (omega arith) (omega arith) (λ k l m. le-leb _ _ (a k l m h)))
+          (ap (λ (r : Span). r ∷ []) (spans {c = s .first} {d = s .end} (omega arith) (omega arith)))
+      go false e = refl
+
+-- a bucket of the span under a summary that lets it pass
+module _ (u : Summary) (bs : List ℕ) (o : Sound u bs) (id : ℕ) (s : Span) where
+  by-largest : leb (u .largest) id ≡ true → (k : ℕ) → getD bs k 0 ≤ id
+  by-largest e k = let h : u .largest ≤ id = leb-true _ _ e in omega (arith, o .low k)
+
+  outside : (w : Option Span) (k : ℕ) → apart w s ≡ true → s .first / 32 ≤ k → k < (s .end + 31) / 32 → s .first < s .end → Inside w k → ⊥
+  outside none k e l m h i = i
+  outside (some v) k e l m h i = go (leb (v .end) (s .first)) refl e
+    where
+      go : (t : Bool) → leb (v .end) (s .first) ≡ t → (t || leb (s .end) (v .first)) ≡ true → ⊥
+      go true p q = let x : v .end ≤ s .first = leb-true _ _ p in omega (arith, i .0, i .1)
+      go false p q = let x : s .end ≤ v .first = leb-true _ _ q in omega (arith, i .0, i .1)
+
+  by-apart : apart (u .union) s ≡ true → (k : ℕ) → s .first / 32 ≤ k → k < (s .end + 31) / 32 → s .first < s .end → getD bs k 0 ≤ id
+  by-apart e k l m h = go (ltb 0 (getD bs k 0)) refl
+    where
+      go : (t : Bool) → ltb 0 (getD bs k 0) ≡ t → getD bs k 0 ≤ id
+      go true p = absurd (outside (u .union) k e l m h (o .inside k (ltb-true _ _ p)))
+      go false p = let x : getD bs k 0 ≤ 0 = ltb-false _ _ p in omega arith
+
+  -- where `can_skip` says yes, every bucket that the span meets is visible
+  pub passes : can-skip u s id ≡ true → (k : ℕ) → s .first / 32 ≤ k → k < (s .end + 31) / 32 → s .first < s .end → getD bs k 0 ≤ id
+  unfolding can-skip
+  passes e k l m h = go (leb (u .largest) id) refl e
+    where
+      go : (t : Bool) → leb (u .largest) id ≡ t → (t || apart (u .union) s) ≡ true → getD bs k 0 ≤ id
+      go true p q = by-largest p k
+      go false p q = by-apart q k l m h
+
+  -- the pieces are the same with the summary and without it
+  pub same-runs : shown-runs u bs id s ≡ visible-runs 32 bs id s
+  unfolding shown-runs
+  same-runs = go (can-skip u s id) (leb (s .end) (32 * length bs)) refl refl
+    where
+      go : (t v : Bool) → can-skip u s id ≡ t → leb (s .end) (32 * length bs) ≡ v
+          → cond (t && v) (whole-run s) (visible-runs 32 bs id s) ≡ visible-runs 32 bs id s
+      go true true e f = sym (all-shown bs id s (leb-true _ _ f) (passes e))
+      go true false e f = refl
+      go false v e f = refl
+
+-- Words that are all 0 are sound under any summary.
+pub sound-blank : (u : Summary) (n : ℕ) → Sound u (replicate n 0)
+sound-blank u n = record { low = λ k. omega (arith, blank n k); inside = λ k h. absurd (omega (arith, blank n k)) }
+  where
+    blank : (n k : ℕ) → _≡_ {A = ℕ} (getD (replicate n 0) k 0) 0
+    blank zero k = refl
+    blank (suc n) zero = refl
+    blank (suc n) (suc k) = blank n k
+
+-- what stands at a place after the writing form: what stood there, or the id within the range
+at-written : (id : ℕ) (r : Span) (i : ℕ) (bs : List ℕ) (k : ℕ)
+    → (getD (written-from i id r bs) k 0 ≡ getD bs k 0) ⊎ ((getD (written-from i id r bs) k 0 ≡ id) × (covers r (i + k) ≡ true))
+at-written id r i [] k = inl refl
+at-written id r i (b ∷ bs) zero = go (covers r i) (is-unset b) refl
+  where
+    go : (t v : Bool) → covers r i ≡ t → (cond t (cond v id b) b ≡ b) ⊎ ((cond t (cond v id b) b ≡ id) × (covers r (i + 0) ≡ true))
+    go true true e = inr (refl, rw (add-zero i) e)
+    go true false e = inl refl
+    go false v e = inl refl
+at-written id r i (b ∷ bs) (suc k) =
+    ⊎-elim (λ e. inl e) (λ e. inr (e .0, rw (add-suc i k, ← suc-add i k) (e .1))) (at-written id r (suc i) bs k)
+
+covered : (r : Span) (k : ℕ) → covers r k ≡ true → (r .first ≤ k) × (k < r .end)
+covered r k e = go (leb (r .first) k) refl e
+  where
+    go : (t : Bool) → leb (r .first) k ≡ t → (t && ltb k (r .end)) ≡ true → (r .first ≤ k) × (k < r .end)
+    go true p q = (leb-true _ _ p, ltb-true _ _ q)
+    go false p q = let z : _≡_ {A = ℕ} 0 1 = cc in absurd (omega arith)
+
+-- a depth fill that the summary includes keeps it sound
+module _ (u : Summary) (bs : List ℕ) (o : Sound u bs) (r : Span) (id : ℕ) (n : Included u r id) where
+  low-after : (k : ℕ) → getD (written bs id r) k 0 ≤ u .largest
+  unfolding written
+  low-after k = ⊎-elim (λ e. omega (arith, o .low k)) (λ e. omega (arith, e .0, n .below)) (at-written id r 0 bs k)
+
+  inside-after : (k : ℕ) → 0 < getD (written bs id r) k 0 → Inside (u .union) k
+  unfolding written
+  inside-after k h =
+      ⊎-elim (λ e. o .inside k (omega (arith, e)))
+      (λ e. let c = covered r k (rw (zero-add k) at (e .1)) in n .inside k (c .0) (c .1))
+      (at-written id r 0 bs k)
+
+  pub sound-after : Sound u (written bs id r)
+  sound-after = record { low = low-after; inside = inside-after }
+
+-- A summary includes the depth fill that it was just updated with, and those that it included before.
+module _ (u : Summary) (s : Span) (j : ℕ) where
+  pub includes-new : (r : Span) → s ≡ tiles-of 32 r → Included (included u s j) r j
+  includes-new r e = record { below = omega arith; inside = λ k h g. in-hull (u .union) k h g }
+    where
+      in-hull : (w : Option Span) (k : ℕ) → r .first ≤ k → k < r .end → Inside (some (hull w s)) k
+      in-hull none k h g = rw e (omega arith, omega arith)
+      in-hull (some v) k h g = rw e (omega arith, omega arith)
+
+  pub includes-still : (r : Span) (id : ℕ) → Included u r id → Included (included u s j) r id
+  includes-still r id n = record { below = omega (arith, n .below); inside = λ k h g. wider (u .union) k (n .inside k h g) }
+    where
+      wider : (w : Option Span) (k : ℕ) → Inside w k → Inside (some (hull w s)) k
+      wider none k i = absurd i
+      wider (some v) k i = (omega (arith, i .0), omega (arith, i .1))

@@ -1,0 +1,56 @@
+// The runs of a fill. `shown_runs` is a part: its callers have judged the span.
+use cmd::Answer;
+use depth::DepthState;
+use depth::Runs;
+use depth::Skip;
+use depth::visible_runs;
+use sizes::BUCKET_TILES;
+use span::TileSpan;
+ghost use mathlib.Core.Path.{_≡_};
+ghost use mathlib.Core.Bool.{false};
+ghost use Prim.Native.Nat.{_/_, _≤_};
+ghost use lib.ListN.{length};
+ghost use Rattle.sizes.specs.Sizes.{tile-end};
+ghost use Rattle.rules.specs.Depth.{listed};
+ghost use Rattle.span.specs.Spans.{tiles};
+ghost use Rattle.depth.specs.Answers.{summary};
+ghost use Rattle.depth.specs.Listing.{listing};
+ghost use Rattle.paint_runs.specs.Summaries.{listing-out, whole-run, is-clear, shown-runs};
+
+// Whether the summary of a row of so many buckets says that nothing hides the span.
+fn is_clear(sum: DepthState, span: TileSpan, id: u32, buckets: usize) -> bool
+    requires { ⌜ (span .first ≤ span .«end») × (span .«end» ≤ tile-end) × (buckets ≤ 65535) ⌝ }
+    ensures { λ r. ⌜ r ≡ is-clear (summary sum) buckets id (tiles span) ⌝ }
+{
+    match sum.can_skip(span, id) {
+        Skip::Yes => (span.end as usize) <= BUCKET_TILES * buckets,
+        Skip::No => false,
+        Skip::Refused(_) => false,
+    }
+}
+
+// The span as its one run.
+fn list_whole(span: TileSpan, list: &mut [u32]) -> Runs
+    ensures { λ r. ⌜ listing-out r (now (list .exit)) ≡ listing (listed false (length (now (list .entry)) / 2) (whole-run (tiles span))) (now (list .entry)) ⌝ }
+{
+    if span.end <= span.first {
+        return Runs::Listed(0);
+    }
+    if list.len() < 2 {
+        return Runs::Refused(Answer::NoRoom);
+    }
+    list[0] = span.first;
+    list[1] = span.end;
+    Runs::Listed(1)
+}
+
+// The runs of a fill, whole where the summary says so: only else are the depth words searched.
+pub fn shown_runs(depth: &[u32], sum: DepthState, span: TileSpan, id: u32, list: &mut [u32]) -> Runs
+    requires { ⌜ (span .first ≤ span .«end») × (span .«end» ≤ tile-end) × (length (now depth) ≤ 65535) ⌝ }
+    ensures { λ r. ⌜ listing-out r (now (list .exit)) ≡ listing (listed false (length (now (list .entry)) / 2) (shown-runs (summary sum) (now (depth .entry)) id (tiles span))) (now (list .entry)) ⌝ }
+{
+    if is_clear(sum, span, id, depth.len()) {
+        return list_whole(span, list);
+    }
+    visible_runs(depth, span, id, list)
+}

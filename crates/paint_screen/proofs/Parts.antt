@@ -1,0 +1,133 @@
+-- A row's own part of a screen's words. Assumes nothing.
+use mathlib.Core.Path.{_≡_, ap}
+use mathlib.Core.Bool.{true, false, _&&_}
+use mathlib.Core.Logic.{⊎-elim}
+use mathlib.Core.List.{List}
+use Prim.Native.Nat.{ℕ, _≤_, _<_, _+_, _-_, _*_}
+use native.Mathlib.Omega.{arith}
+use lib.ListN.{length, take, drop, length-drop}
+use lib.Seq.{length-take-le}
+use lib.Dec.{eqb, leb}
+use borrow.Author.Tests.{eq-eqb, ne-eqb, eqb-true, leb-true}
+use borrow.Rule.Slice.PartMut.{putMid}
+use Rattle.rules.specs.Answers.{answer}
+use Rattle.rules.specs.Attributes.{Attrs}
+use Rattle.row_screen.proofs.Laws.{within, small}
+use Rattle.screen.specs.declared.Screen.{Screen}
+use Rattle.screen.specs.Screens.{good-screen}
+use Rattle.screen.proofs.Numbers.{and-left, and-right}
+use Rattle.paint_command.specs.declared.Painted.{Painted}
+use Rattle.paint_command.specs.Painting.{attrs-at, RowLent, lent, StepOut, out, refused, painted-row}
+use Rattle.paint_command.proofs.Laws.{done-or-kept}
+use Rattle.paint_screen.specs.Judging.{count, wide, runs-number, skip-number}
+use Rattle.paint_screen.specs.Stepping.{part, with-part, Within, Attributes, own, in-place, number, StepReady, row-step, stepped}
+use Rattle.paint_screen.proofs.Judged.{step-there, runs-there, skip-there}
+
+-- a part as code cuts it out
+as-long : (a j : ℕ) → a + j - a ≡ j
+as-long a j = omega arith
+
+pub part-is : (k r : ℕ) (xs : List ℕ) → take (r * k + k - r * k) (drop (r * k) xs) ≡ part k r xs
+part-is k r xs = rw (as-long (r * k) k)
+
+pub put-is : (k r : ℕ) (xs ys : List ℕ) → putMid (r * k) (r * k + k - r * k) xs ys ≡ with-part k r xs ys
+put-is k r xs ys = rw (as-long (r * k) k)
+
+pub part-length : (k r : ℕ) (xs : List ℕ) → Within k r xs → length (take (r * k + k - r * k) (drop (r * k) xs)) ≡ k
+part-length k r xs w =
+    rw (as-long (r * k) k) (length-take-le k (drop (r * k) xs) (rw length-drop (omega (arith, w .ends))))
+
+-- a row that is there, of words that have their length
+lies : (n r k : ℕ) (xs : List ℕ) → r < n → n ≤ 512 → k ≤ 4096 → eqb (length xs) (n * k) ≡ true → Within k r xs
+lies n r k xs h few short e =
+    let l : length xs ≡ n * k = eqb-true _ _ e in
+    record { ends = rw l (within r n k h); near = small r n k h few short; short = short }
+
+module _ (s : Screen) (r : ℕ) where
+  pub depth-within : (depth : List ℕ) → runs-number s r (length depth) ≡ 0 → Within (wide s) r depth
+  depth-within depth h =
+      let t = runs-there s r (length depth) h in
+      lies (count s) r (wide s) depth (t .there) (t .passed .few) (omega (arith, t .passed .narrow)) (t .passed .arenas)
+
+  pub state-within : (rows : List ℕ) → skip-number s r (length rows) ≡ 0 → Within 54 r rows
+  state-within rows h =
+      let t = skip-there s r (length rows) h in
+      lies (count s) r 54 rows (t .there) (t .passed .few) (omega arith) (t .passed .tables)
+
+few-attrs : (s : Screen) → good-screen s ≡ true → (s .«paint_attrs» ≤ 1024) × (s .«layer_attrs» ≤ 1024)
+unfolding good-screen
+few-attrs s h =
+    let a = leb 1 (s .«next_draw_id») && leb (s .«next_draw_id») 1048577 in
+    let p = leb (s .«paint_attrs») 1024 in
+    let l = leb (s .«layer_attrs») 1024 in
+    let f = leb (s .«filter_paints») 256 in
+    let o = leb (s .layers) 16 in
+    let g : (a && p && l && f && o) ≡ true = and-left (a && p && l && f && o) _ h in
+    let g3 : (a && p && l) ≡ true = and-left (a && p && l) f (and-left (a && p && l && f) o g) in
+    (leb-true _ _ (and-right a p (and-left (a && p) l g3)), leb-true _ _ (and-right (a && p) l g3))
+
+pub ready : (s : Screen) (r : ℕ) (a : Attributes) (l : RowLent) → number s r a l ≡ 0 → StepReady s r a l
+ready s r a l h =
+    let n = count s in
+    let re = eqb (length (l .render)) (n * (4 * s .c)) in
+    let fi = eqb (length (l .fills)) (n * (2 * s .d)) in
+    let de = eqb (length (l .depth)) (n * wide s) in
+    let ro = eqb (length (l .state)) (n * 54) in
+    let pa = eqb (length (l .painting)) (n * 2) in
+    let ps = eqb (length (a .paints)) 8192 in
+    let ls = eqb (length (a .layers)) 6144 in
+    let t = step-there s r (re && fi && de) (ro && pa && ps && ls) h in
+    let o = t .passed in
+    let g : (re && fi) ≡ true = and-left (re && fi) de (o .arenas) in
+    let k : (ro && pa && ps) ≡ true = and-left (ro && pa && ps) ls (o .tables) in
+    let m : (ro && pa) ≡ true = and-left (ro && pa) ps k in
+    let few = few-attrs s (o .screen) in
+    record {
+      state = lies n r 54 (l .state) (t .there) (o .few) (omega arith) (and-left ro pa m);
+      render = lies n r (4 * s .c) (l .render) (t .there) (o .few) (omega (arith, o .c-room .few)) (and-left re fi g);
+      fills = lies n r (2 * s .d) (l .fills) (t .there) (o .few) (omega (arith, o .d-room .few)) (and-right re fi g);
+      depth = lies n r (wide s) (l .depth) (t .there) (o .few) (omega (arith, o .narrow)) (and-right (re && fi) de (o .arenas));
+      painting = lies n r 2 (l .painting) (t .there) (o .few) (omega arith) (and-right ro pa m);
+      c = o .c-room .few;
+      d = o .d-room .few;
+      paint-table = eqb-true _ _ (and-right (ro && pa) ps k);
+      layer-table = eqb-true _ _ (and-right (ro && pa && ps) ls (o .tables));
+      paints = few .0;
+      layers = few .1;
+    }
+
+-- a row's step has a number of document 01
+pub row-number : (r : Painted) (d p l : List ℕ) (a : Attrs) (w : RowLent) → out r d p l ≡ painted-row a w → r .number ≤ 14
+row-number r d p l a w e =
+    let n : r .number ≡ painted-row a w .answer .number = ap (λ (o : StepOut). o .answer .number) e in
+    ⊎-elim (λ h. omega arith) (λ h. ⊎-elim (λ i. omega arith) (λ i. omega arith) (h .0)) (done-or-kept a w)
+
+-- the step of the row's own parts, put back in their places
+module _ (s : Screen) (r : ℕ) (a : Attributes) (l : RowLent) (b : ℕ) (e : b ≡ wide s) (o : Painted) (d p t : List ℕ) where
+  pub step-back : (m : ℕ) → m ≡ o .number
+      → out o d p t ≡ painted-row (attrs-at (a .paints) (s .«paint_attrs») (a .layers) (s .«layer_attrs»))
+      (lent (take (r * 54 + 54 - r * 54) (drop (r * 54) (l .state)))
+      (take (r * (4 * s .c) + 4 * s .c - r * (4 * s .c)) (drop (r * (4 * s .c)) (l .render)))
+      (take (r * (2 * s .d) + 2 * s .d - r * (2 * s .d)) (drop (r * (2 * s .d)) (l .fills)))
+      (take (r * b + b - r * b) (drop (r * b) (l .depth)))
+      (take (r * 2 + 2 - r * 2) (drop (r * 2) (l .painting)))
+      (l .list))
+      → out (record { number = m; finished = o .finished; pieces = o .pieces }) (putMid (r * b) (r * b + b - r * b) (l .depth) d)
+      (putMid (r * 2) (r * 2 + 2 - r * 2) (l .painting) p) t
+      ≡ row-step s r a l
+  unfolding row-step
+  step-back m g h =
+      let i : out o d p t ≡ painted-row (attrs-at (a .paints) (s .«paint_attrs») (a .layers) (s .«layer_attrs»)) (own s r l) =
+      rw (part-is 54 r (l .state), part-is (4 * s .c) r (l .render), part-is (2 * s .d) r (l .fills), part-is b r (l .depth), part-is 2 r (l .painting), e) at h in
+      rw (put-is b r (l .depth) d, put-is 2 r (l .painting) p, e, g) (ap (in-place s r l) i)
+
+-- the call, refused or done
+module _ (s : Screen) (r : ℕ) (a : Attributes) (l : RowLent) (n : ℕ) (e : n ≡ number s r a l) where
+  pub step-refused : (m : ℕ) → m ≡ n → (n ≡ 0 → ⊥)
+      → out (record { number = m; finished = false; pieces = 0 }) (l .depth) (l .painting) (l .list) ≡ stepped s r a l
+  unfolding stepped
+  step-refused m p h = rw (← e, ne-eqb n 0 h, p)
+
+  pub step-done : (o : StepOut) → n ≡ 0 → o ≡ row-step s r a l → o ≡ stepped s r a l
+  unfolding stepped
+  step-done o h p = rw (← e, eq-eqb n 0 h) p

@@ -1,0 +1,109 @@
+// A painting step of one row of a screen.
+use crate::judge::judge_step;
+use cmd::Answer;
+use paint_command::step_row;
+use screen::Screen;
+use screen::answer_of;
+use sizes::ROW;
+ghost use mathlib.Core.Path.{_≡_};
+ghost use Rattle.paint_command.specs.Painting.{lent, out};
+ghost use Rattle.paint_screen.specs.Stepping.{painted-of, attributes, StepReady, row-step, stepped};
+
+// finished: no step was left. pieces: how many stand in the list, six words each.
+pub struct Stepped {
+    pub answer: Answer,
+    pub finished: bool,
+    pub pieces: usize,
+}
+
+// The step of a row that is there, painting having begun: the row's own parts are handed on.
+fn step_part(
+    screen: Screen,
+    row: usize,
+    rows: &[u32],
+    render: &[u32],
+    fills: &[u32],
+    depth: &mut [u32],
+    painting: &mut [u32],
+    paint_attrs: &[u32],
+    layer_attrs: &[u32],
+    list: &mut [u32],
+) -> Stepped
+    requires { ⌜ StepReady screen row (attributes (now «paint_attrs») (now «layer_attrs»)) (lent (now rows) (now render) (now fills) (now depth) (now painting) (now list)) ⌝ }
+    ensures { λ r. ⌜ out (painted-of r) (now (depth .exit)) (now (painting .exit)) (now (list .exit))
+        ≡ row-step screen row (attributes (now («paint_attrs» .entry)) (now («layer_attrs» .entry))) (lent (now (rows .entry)) (now (render .entry)) (now (fills .entry)) (now (depth .entry)) (now (painting .entry)) (now (list .entry))) ⌝ }
+{
+    let b = screen.buckets();
+    let c = 4 * (screen.c as usize);
+    let d = 2 * (screen.d as usize);
+    let x = row * ROW;
+    let y = row * c;
+    let z = row * d;
+    let u = row * b;
+    let v = row * 2;
+    let done = step_row(
+        &rows[x..x + ROW],
+        &render[y..y + c],
+        &fills[z..z + d],
+        &mut depth[u..u + b],
+        &mut painting[v..v + 2],
+        paint_attrs,
+        screen.paint_attrs,
+        layer_attrs,
+        screen.layer_attrs,
+        list,
+    );
+    Stepped {
+        answer: answer_of(done.number),
+        finished: done.finished,
+        pieces: done.pieces,
+    }
+}
+
+// One stored command of one row: its depth fills last to first, then its render commands in order, then finished, as often as asked.
+pub fn paint_step(
+    screen: Screen,
+    row: usize,
+    rows: &[u32],
+    render: &[u32],
+    fills: &[u32],
+    depth: &mut [u32],
+    painting: &mut [u32],
+    paint_attrs: &[u32],
+    layer_attrs: &[u32],
+    list: &mut [u32],
+) -> Stepped
+    ensures { λ r. ⌜ out (painted-of r) (now (depth .exit)) (now (painting .exit)) (now (list .exit))
+        ≡ stepped screen row (attributes (now («paint_attrs» .entry)) (now («layer_attrs» .entry))) (lent (now (rows .entry)) (now (render .entry)) (now (fills .entry)) (now (depth .entry)) (now (painting .entry)) (now (list .entry))) ⌝ }
+{
+    let n = judge_step(
+        screen,
+        row,
+        rows.len(),
+        render.len(),
+        fills.len(),
+        depth.len(),
+        painting.len(),
+        paint_attrs.len(),
+        layer_attrs.len(),
+    );
+    if n != 0 {
+        return Stepped {
+            answer: answer_of(n),
+            finished: false,
+            pieces: 0,
+        };
+    }
+    step_part(
+        screen,
+        row,
+        rows,
+        render,
+        fills,
+        depth,
+        painting,
+        paint_attrs,
+        layer_attrs,
+        list,
+    )
+}

@@ -1,0 +1,174 @@
+-- A row's steps in their place on the screen. Assumes nothing.
+use mathlib.Core.Path.{_≡_, refl, sym, ap, _∙_}
+use mathlib.Core.Bool.{Bool, true, false, _&&_, not, cond}
+use mathlib.Core.Logic.{⊎-elim}
+use mathlib.Core.List.{List, _++_}
+use Prim.Native.Nat.{ℕ, zero, suc, _+_, _-_, _*_, _≤_, _<_}
+use native.Mathlib.Omega.{arith}
+use lib.ListN.{length, take, drop, take-append-drop, length-drop}
+use lib.Seq.{length-take-le, take-at, drop-at}
+use lib.Dec.{eqb}
+use borrow.Author.Tests.{eq-eqb, ne-eqb}
+use borrow.Rule.Slice.PartMut.{putMid, put-same, take-put}
+use Rattle.rules.specs.Attributes.{Attrs}
+use Rattle.row_screen.proofs.Laws.{put-length}
+use Rattle.screen.specs.declared.Screen.{Screen}
+use Rattle.paint_command.specs.declared.Painted.{Painted}
+use Rattle.paint_command.specs.Painting.{attrs-at, RowLent, lent, StepOut, out, refused, painted-row}
+use Rattle.paint_command.proofs.Laws.{done-or-kept, same-lengths}
+use Rattle.paint_screen.specs.Judging.{wide}
+use Rattle.paint_screen.specs.Stepping.{part, with-part, Within, Attributes, own, in-place, number, StepReady, row-step, stepped}
+use Rattle.paint_screen.proofs.Parts.{part-is, put-is, ready}
+use Rattle.paint_whole.specs.Running.{goes-on, ended, one-more, run, most, standing, own-step, own-run, row-run, call-step, row-painted}
+use Rattle.paint_whole.proofs.Runs.{stops}
+
+-- a number of document 01, if each step's is
+module _ (step : List ℕ → List ℕ → List ℕ → StepOut) (small : (d p l : List ℕ) → step d p l .answer .number ≤ 14) where
+  small-one : (g : StepOut) → one-more step g .answer .number ≤ 14
+  unfolding one-more
+  small-one g = small _ _ _
+
+  small-run : (f k : ℕ) (g : StepOut) → g .answer .number ≤ 14 → run step f k g .answer .number ≤ 14
+  unfolding run
+  small-run zero k g h = h
+  small-run (suc f) k g h = go (goes-on (one-more step g .answer)) (eqb k 0) (small-run f (k + 1) (one-more step g) (small-one g))
+    where
+      go : (b c : Bool) → run step f (k + 1) (one-more step g) .answer .number ≤ 14
+          → cond b (run step f (k + 1) (one-more step g))
+          (out (record { number = cond c (one-more step g .answer .number) 0; finished = one-more step g .answer .finished; pieces = one-more step g .answer .pieces })
+          (one-more step g .depth) (one-more step g .painting) (one-more step g .list))
+          .answer .number ≤ 14
+      go true c i = i
+      go false true i = small-one g
+      go false false i = omega arith
+
+row-small : (a : Attrs) (w : RowLent) → painted-row a w .answer .number ≤ 14
+row-small a w = ⊎-elim (λ h. omega arith) (λ h. ⊎-elim (λ i. omega arith) (λ i. omega arith) (h .0)) (done-or-kept a w)
+
+pub run-number : (r : Painted) (d p l : List ℕ) (a : Attrs) (w : RowLent) → out r d p l ≡ own-run a w → r .number ≤ 14
+unfolding own-run
+run-number r d p l a w e =
+    let n : r .number ≡ own-run a w .answer .number = ap (λ (o : StepOut). o .answer .number) e in
+    rw n (small-run (own-step a (w .state) (w .render) (w .fills)) (λ x y z. row-small a (lent (w .state) (w .render) (w .fills) x y z)) most 0 (standing (w .depth) (w .painting) (w .list)) (omega arith))
+
+-- the steps of the row's own parts, put back in their places
+module _ (s : Screen) (r : ℕ) (a : Attributes) (l : RowLent) (b : ℕ) (e : b ≡ wide s) (o : Painted) (d p t : List ℕ) where
+  pub run-back : (m : ℕ) → m ≡ o .number
+      → out o d p t ≡ own-run (attrs-at (a .paints) (s .«paint_attrs») (a .layers) (s .«layer_attrs»))
+      (lent (take (r * 54 + 54 - r * 54) (drop (r * 54) (l .state)))
+      (take (r * (4 * s .c) + 4 * s .c - r * (4 * s .c)) (drop (r * (4 * s .c)) (l .render)))
+      (take (r * (2 * s .d) + 2 * s .d - r * (2 * s .d)) (drop (r * (2 * s .d)) (l .fills)))
+      (take (r * b + b - r * b) (drop (r * b) (l .depth)))
+      (take (r * 2 + 2 - r * 2) (drop (r * 2) (l .painting)))
+      (l .list))
+      → out (record { number = m; finished = o .finished; pieces = o .pieces }) (putMid (r * b) (r * b + b - r * b) (l .depth) d)
+      (putMid (r * 2) (r * 2 + 2 - r * 2) (l .painting) p) t
+      ≡ row-run s r a l
+  unfolding row-run
+  run-back m g h =
+      let i : out o d p t ≡ own-run (attrs-at (a .paints) (s .«paint_attrs») (a .layers) (s .«layer_attrs»)) (own s r l) =
+      rw (part-is 54 r (l .state), part-is (4 * s .c) r (l .render), part-is (2 * s .d) r (l .fills), part-is b r (l .depth), part-is 2 r (l .painting), e) at h in
+      rw (put-is b r (l .depth) d, put-is 2 r (l .painting) p, e, g) (ap (in-place s r l) i)
+
+-- a part in its place: it stands there, and another takes its place
+module _ (k r : ℕ) (xs ys : List ℕ) (h : Within k r xs) (e : length ys ≡ k) where
+  from-there : drop (r * k) (with-part k r xs ys) ≡ ys ++ drop k (drop (r * k) xs)
+  from-there = drop-at (take (r * k) xs) _ (r * k) (length-take-le (r * k) xs (omega (arith, h .ends)))
+
+  pub part-there : part k r (with-part k r xs ys) ≡ ys
+  part-there = rw from-there (take-at ys _ k e)
+
+  pub part-again : (zs : List ℕ) → with-part k r (with-part k r xs ys) zs ≡ with-part k r xs zs
+  part-again zs =
+      rw (take-put (r * k) k xs ys (omega (arith, h .ends)), from-there, drop-at ys (drop k (drop (r * k) xs)) k e)
+
+  pub put-long : length (with-part k r xs ys) ≡ length xs
+  put-long = put-length (r * k) k xs ys (h .ends) e
+
+part-of-length : (k r : ℕ) (xs : List ℕ) → Within k r xs → length (part k r xs) ≡ k
+part-of-length k r xs h = length-take-le k (drop (r * k) xs) (rw length-drop (omega (arith, h .ends)))
+
+-- A call whose screen and lengths are judged 0: its steps are those of the row's own words.
+module _ (s : Screen) (r : ℕ) (a : Attributes) (l : RowLent) (z : number s r a l ≡ 0) where
+  abbrev b : Attrs
+  b = attrs-at (a .paints) (s .«paint_attrs») (a .layers) (s .«layer_attrs»)
+
+  abbrev mine : List ℕ → List ℕ → List ℕ → StepOut
+  mine = own-step b (own s r l .state) (own s r l .render) (own s r l .fills)
+
+  abbrev called : List ℕ → List ℕ → List ℕ → StepOut
+  called = call-step s r a (l .state) (l .render) (l .fills)
+
+  -- the row's own depth and painting words have their lengths
+  abbrev Long : StepOut → Type 0
+  Long g = (length (g .depth) ≡ wide s) × (length (g .painting) ≡ 2)
+
+  module _ (d p t : List ℕ) (x : length d ≡ wide s) (y : length p ≡ 2) where
+    abbrev then : RowLent
+    then = lent (l .state) (l .render) (l .fills) (with-part (wide s) r (l .depth) d) (with-part 2 r (l .painting) p) t
+
+    still : number s r a then ≡ 0
+    still =
+        let g = ready s r a l z in
+        rw (put-long (wide s) r (l .depth) d (g .depth) x, put-long 2 r (l .painting) p (g .painting) y) z
+
+    call-mine : called (with-part (wide s) r (l .depth) d) (with-part 2 r (l .painting) p) t ≡ in-place s r l (mine d p t)
+    unfolding stepped row-step
+    call-mine =
+        let g = ready s r a l z in
+        let o = painted-row b (lent (own s r l .state) (own s r l .render) (own s r l .fills) d p t) in
+        rw (
+          eq-eqb _ _ still,
+          part-there (wide s) r (l .depth) d (g .depth) x,
+          part-there 2 r (l .painting) p (g .painting) y,
+          part-again (wide s) r (l .depth) d (g .depth) x (o .depth),
+          part-again 2 r (l .painting) p (g .painting) y (o .painting),
+        )
+
+  one-mine : (g : StepOut) → Long g → one-more called (in-place s r l g) ≡ in-place s r l (one-more mine g)
+  unfolding one-more
+  one-mine g h = rw (call-mine (g .depth) (g .painting) (drop (6 * g .answer .pieces) (g .list)) (h .0) (h .1))
+
+  one-long : (g : StepOut) → Long g → Long (one-more mine g)
+  unfolding one-more
+  one-long g h =
+      let o = same-lengths b (lent (own s r l .state) (own s r l .render) (own s r l .fills) (g .depth) (g .painting) (drop (6 * g .answer .pieces) (g .list))) (h .1) in
+      (o .0 ∙ h .0, o .1)
+
+  run-mine : (f k : ℕ) (g : StepOut) → Long g → run called f k (in-place s r l g) ≡ in-place s r l (run mine f k g)
+  unfolding run
+  run-mine zero k g h = refl
+  run-mine (suc f) k g h = rw (one-mine g h, run-mine f (k + 1) (one-more mine g) (one-long g h)) (go (goes-on (one-more mine g .answer)))
+    where
+      go : (t : Bool)
+          → cond t (in-place s r l (run mine f (k + 1) (one-more mine g))) (ended k (in-place s r l (one-more mine g)))
+          ≡ in-place s r l (cond t (run mine f (k + 1) (one-more mine g)) (ended k (one-more mine g)))
+      go true = refl
+      go false = refl
+
+  pub calls-are-run : row-painted s r a l ≡ row-run s r a l
+  unfolding row-painted row-run own-run
+  calls-are-run =
+      let g = ready s r a l z in
+      let e = run-mine most 0 (standing (own s r l .depth) (own s r l .painting) (l .list)) (part-of-length (wide s) r (l .depth) (g .depth), part-of-length 2 r (l .painting) (g .painting)) in
+      (rw (put-same (r * wide s) (wide s) (l .depth), put-same (r * 2) 2 (l .painting)) at e)
+
+-- the call, refused or done
+module _ (s : Screen) (r : ℕ) (a : Attributes) (l : RowLent) (n : ℕ) (e : n ≡ number s r a l) where
+  first-refused : (n ≡ 0 → ⊥) → one-more (call-step s r a (l .state) (l .render) (l .fills)) (standing (l .depth) (l .painting) (l .list))
+      ≡ out (refused n) (l .depth) (l .painting) (l .list)
+  unfolding one-more stepped
+  first-refused h = rw (← e, ne-eqb n 0 h)
+
+  pub row-refused : (m : ℕ) → m ≡ n → (n ≡ 0 → ⊥)
+      → out (record { number = m; finished = false; pieces = 0 }) (l .depth) (l .painting) (l .list) ≡ row-painted s r a l
+  unfolding row-painted
+  row-refused m p h =
+      let step = call-step s r a (l .state) (l .render) (l .fills) in
+      let start = standing (l .depth) (l .painting) (l .list) in
+      let f = first-refused h in
+      let i : goes-on (one-more step start .answer) ≡ false = rw (f, ne-eqb n 0 h) in
+      rw p (sym (stops step most 0 start (omega arith) i ∙ rw f))
+
+  pub row-done : (o : StepOut) → n ≡ 0 → o ≡ row-run s r a l → o ≡ row-painted s r a l
+  row-done o h p = p ∙ sym (calls-are-run s r a l (sym e ∙ h))

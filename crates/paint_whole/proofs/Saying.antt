@@ -1,0 +1,185 @@
+-- What is said of a command, and what its step then leaves. Assumes nothing.
+use mathlib.Core.Path.{_≡_, refl, sym, ap, _∙_}
+use mathlib.Core.Bool.{Bool, true, false, _&&_, cond}
+use mathlib.Core.List.{List, [], _∷_, _++_}
+use mathlib.Core.Logic.{_⊎_, inl, inr}
+use mathlib.Core.Option.{Option, none, some}
+use Prim.Native.Nat.{ℕ, zero, suc, _+_, _-_, _*_, _/_, _%_, _≤_, _<_}
+use native.Mathlib.Omega.{arith}
+use lib.ListN.{length}
+use lib.Dec.{leb, ltb, eqb}
+use borrow.Author.Tests.{lt-ltb, le-ltb, le-leb, eqb-true, eq-eqb, ltb-true}
+use Rattle.rules.specs.Spans.{Span, span, moved}
+use Rattle.rules.specs.Depth.{Summary}
+use Rattle.rules.specs.Commands.{Command, paint-fill, layer-fill, push-buf, pop-buf}
+use Rattle.cmd.specs.Reading.{word-span, good-span-word, good-alpha, command-of}
+use Rattle.rules.specs.Attributes.{Attrs}
+use Rattle.rules.specs.Painting as rules
+use Rattle.rules.specs.Painting.{Painter, paint-id, layer-id, paint-command}
+use Rattle.depth.specs.Listing.{over}
+use Rattle.cmd.proofs.Tests.{and-left, both}
+use Rattle.cmd.proofs.Commands.{tag-1, tag-2, tag-3, tag-4, tag-5, tag-6, tag-7}
+use Rattle.paint_runs.specs.Summaries.{shown-runs}
+use Rattle.paint_command.specs.Pieces.{tag-of, index-of}
+use Rattle.paint_command.specs.Painting.{word, attrs-at, StepOut, out, good-id, given, good-paint, good-layer, fill-shown, command-shown, command-step, settled, listed}
+use Rattle.paint_command.proofs.Judging.{given-some, paint-id-is, layer-id-is, good-paint-is, good-layer-is}
+use Rattle.paint_command.proofs.Steps.{bare}
+use Rattle.paint_whole.specs.Kinds.{id-given, good-index, Fills, FillSaid, step-to, Said}
+
+-- where the painting of a row stands
+abbrev at-step : List ℕ → ℕ → ℕ → Painter
+at-step D q m = record { buckets = D; steps = q; nesting = m }
+
+stay : (a : Option ℕ) (n : ℕ) → moved a (n - n) ≡ a
+stay none n = refl
+stay (some a) n = ap some (omega arith)
+
+module _ (attrs : Attrs) (u : Summary) (D : List ℕ) (m : ℕ) where
+  -- a fill that is shown whole, or not at all
+  module _ (layer : Bool) (a : Option ℕ) (s : Span) (i id q : ℕ) (P l : List ℕ) where
+    fill-whole : shown-runs u D id s ≡ s ∷ [] → 6 ≤ length l
+        → settled (some (fill-shown attrs u layer id i s a (at-step D q m))) D P l
+        ≡ out (listed 1) D ((q + 1) ∷ m ∷ []) (over (tag-of layer a ∷ i ∷ s .first ∷ s .end ∷ index-of a ∷ m ∷ []) l)
+    unfolding fill-shown settled
+    fill-whole e h = rw (e, stay a (s .first), le-ltb (length l / 6) 1 (omega arith))
+
+    fill-hidden : shown-runs u D id s ≡ []
+        → settled (some (fill-shown attrs u layer id i s a (at-step D q m))) D P l ≡ out (listed 0) D ((q + 1) ∷ m ∷ []) l
+    unfolding fill-shown
+    fill-hidden e = rw e (sym (bare D P l false (at-step D (q + 1) m) refl))
+
+  module _ (t w x i : ℕ) where
+    pub said-none : Said attrs u D m t w x i 0
+    said-none =
+        record { whole = λ h. absurd (omega arith); hidden = λ h. absurd (omega arith); pushed = λ h. absurd (omega arith); popped = λ h. absurd (omega arith) }
+
+    -- buffers
+    said-push : (c : Option Span) → m < 16 → command-of t w x i ≡ some (push-buf c) → Said attrs u D m t w x i 3
+    unfolding command-step command-shown paint-command
+    said-push c h e =
+        record {
+          whole = λ z. absurd (omega arith);
+          hidden = λ z. absurd (omega arith);
+          pushed = λ z. (h, λ q P l. rw (e, lt-ltb m 16 h) (sym (bare D P l false (at-step D (q + 1) (m + 1)) refl)));
+          popped = λ z. absurd (omega arith);
+        }
+
+    said-pop : 0 < m → command-of t w x i ≡ some pop-buf → Said attrs u D m t w x i 4
+    unfolding command-step command-shown paint-command
+    said-pop h e =
+        record {
+          whole = λ z. absurd (omega arith);
+          hidden = λ z. absurd (omega arith);
+          pushed = λ z. absurd (omega arith);
+          popped = λ z. (h, λ q P l. rw (e, lt-ltb 0 m h) (sym (bare D P l false (at-step D (q + 1) (m - 1)) refl)));
+        }
+
+    module _ (ex : x ≡ 0) (ei : i ≡ 0) where
+      pub push-bare : t ≡ 5 → w ≡ 0 → m < 16 → Said attrs u D m t w x i 3
+      push-bare et ew h = said-push none h (sym (tag-5 t w x i true et (rw (eq-eqb _ _ ew, eq-eqb _ _ ex, eq-eqb _ _ ei))))
+
+      pub push-tiles : t ≡ 6 → w / 65536 ≤ w % 65536 → w % 65536 ≤ 8192 → m < 16 → Said attrs u D m t w x i 3
+      push-tiles et lo hi h =
+          said-push (some (word-span w)) h (sym (tag-6 t w x i true true et (rw (le-leb _ _ lo, le-leb _ _ hi, eq-eqb _ _ ex)) (eq-eqb _ _ ei)))
+
+      pub pop-bare : t ≡ 7 → w ≡ 0 → 0 < m → Said attrs u D m t w x i 4
+      pop-bare et ew h = said-pop h (sym (tag-7 t w x i true et (rw (eq-eqb _ _ ew, eq-eqb _ _ ex, eq-eqb _ _ ei))))
+
+    -- a fill of either kind
+    from-fill : (layer : Bool) (a : Option ℕ) (id r : ℕ) → FillSaid u D id t w x r
+        → (0 < r
+        → ((q : ℕ) → command-step attrs u (at-step D q m) (command-of t w x i) ≡ some (fill-shown attrs u layer id i (word-span w) a (at-step D q m)))
+        × (tag-of layer a ≡ t)
+        × (index-of a ≡ x))
+        → Said attrs u D m t w x i r
+    from-fill layer a id r f g =
+        record {
+          whole = λ z q P l h. let o = g (omega arith) in
+              ap (λ (c : Option rules.Painted). settled c D P l) (o .0 q) ∙ fill-whole layer a (word-span w) i id q P l (f .whole z) h ∙ rw (o .1, o .2);
+          hidden = λ z q P l. let o = g (omega arith) in
+              ap (λ (c : Option rules.Painted). settled c D P l) (o .0 q) ∙ fill-hidden layer a (word-span w) i id q P l (f .hidden z);
+          pushed = λ z. absurd (omega (arith, f .low));
+          popped = λ z. absurd (omega (arith, f .low));
+        }
+
+-- the four tags
+four : (t : ℕ) → 0 < t → t ≤ 4 → (t ≡ 1) ⊎ ((t ≡ 2) ⊎ ((t ≡ 3) ⊎ (t ≡ 4)))
+four zero h g = absurd (omega arith)
+four (suc zero) h g = inl refl
+four (suc (suc zero)) h g = inr (inl refl)
+four (suc (suc (suc zero))) h g = inr (inr (inl refl))
+four (suc (suc (suc (suc zero)))) h g = inr (inr (inr refl))
+four (suc (suc (suc (suc (suc t))))) h g = absurd (omega arith)
+
+module _ (t w x : ℕ) (f : Fills t w x) where
+  good-word : good-span-word 8192 w ≡ true
+  good-word = both _ _ (le-leb _ _ (f .low)) (le-leb _ _ (f .high))
+
+  solid : t % 2 ≡ 1 → x ≡ 0
+  solid e = let i : good-index t x (w % 65536 - w / 65536) ≡ true = f .index in eqb-true x 0 (rw e at i)
+
+  alpha : t % 2 ≡ 0 → good-alpha x w ≡ true
+  alpha e = let i : good-index t x (w % 65536 - w / 65536) ≡ true = f .index in (rw e at i)
+
+module _ (ps : List ℕ) (paints : ℕ) (ls : List ℕ) (layers : ℕ) (u : Summary) (D : List ℕ) (m t w x i id r : ℕ) (nz : id ≡ 0 → ⊥) (f : FillSaid u D id t w x r) where
+  abbrev attrs : Attrs
+  attrs = attrs-at ps paints ls layers
+
+  -- of a paint
+  module _ (g : id ≡ given (ltb i paints) (word ps (8 * i + 4))) where
+    paint-good : (good-paint attrs i ≡ true) × (paint-id attrs i ≡ id)
+    paint-good =
+        let o = given-some (ltb i paints) (word ps (8 * i + 4)) (λ z. nz (g ∙ z)) in
+        let h : i < paints = ltb-true i paints (and-left (ltb i paints) (good-id (word ps (8 * i + 4))) (o .0)) in
+        (good-paint-is ps paints ls layers i ∙ o .0, paint-id-is ps paints ls layers i h ∙ sym (g ∙ o .1))
+
+    paint-step : (a : Option ℕ) → command-of t w x i ≡ some (paint-fill (word-span w) a i) → (q : ℕ)
+        → command-step attrs u (at-step D q m) (command-of t w x i) ≡ some (fill-shown attrs u false id i (word-span w) a (at-step D q m))
+    unfolding command-step command-shown
+    paint-step a e q = rw (e, paint-good .0, paint-good .1)
+
+    said-1 : t ≡ 1 → Said attrs u D m t w x i r
+    said-1 e =
+        from-fill attrs u D m t w x i false none id r f
+        (λ h. let k = f .good h in let z = solid t w x k (rw e) in
+        (paint-step none (sym (tag-1 t w x i true e (both _ _ (good-word t w x k) (eq-eqb _ _ z)))), sym e, sym z))
+
+    said-2 : t ≡ 2 → Said attrs u D m t w x i r
+    said-2 e =
+        from-fill attrs u D m t w x i false (some x) id r f
+        (λ h. let k = f .good h in
+        (paint-step (some x) (sym (tag-2 t w x i true e (both _ _ (good-word t w x k) (alpha t w x k (rw e))))), sym e, refl))
+
+  -- of a layer
+  module _ (g : id ≡ given (ltb i layers) (word ls (6 * i + 3))) where
+    layer-good : (good-layer attrs i ≡ true) × (layer-id attrs i ≡ id)
+    layer-good =
+        let o = given-some (ltb i layers) (word ls (6 * i + 3)) (λ z. nz (g ∙ z)) in
+        let h : i < layers = ltb-true i layers (and-left (ltb i layers) (good-id (word ls (6 * i + 3))) (o .0)) in
+        (good-layer-is ps paints ls layers i ∙ o .0, layer-id-is ps paints ls layers i h ∙ sym (g ∙ o .1))
+
+    layer-step : (a : Option ℕ) → command-of t w x i ≡ some (layer-fill (word-span w) a i) → (q : ℕ)
+        → command-step attrs u (at-step D q m) (command-of t w x i) ≡ some (fill-shown attrs u true id i (word-span w) a (at-step D q m))
+    unfolding command-step command-shown
+    layer-step a e q = rw (e, layer-good .0, layer-good .1)
+
+    said-3 : t ≡ 3 → Said attrs u D m t w x i r
+    said-3 e =
+        from-fill attrs u D m t w x i true none id r f
+        (λ h. let k = f .good h in let z = solid t w x k (rw e) in
+        (layer-step none (sym (tag-3 t w x i true e (both _ _ (good-word t w x k) (eq-eqb _ _ z)))), sym e, sym z))
+
+    said-4 : t ≡ 4 → Said attrs u D m t w x i r
+    said-4 e =
+        from-fill attrs u D m t w x i true (some x) id r f
+        (λ h. let k = f .good h in
+        (layer-step (some x) (sym (tag-4 t w x i true e (both _ _ (good-word t w x k) (alpha t w x k (rw e))))), sym e, refl))
+
+  pub said-fill : 0 < t → t ≤ 4 → id ≡ id-given ps paints ls layers t i → Said attrs u D m t w x i r
+  said-fill h k g = go (four t h k)
+    where
+      go : (t ≡ 1) ⊎ ((t ≡ 2) ⊎ ((t ≡ 3) ⊎ (t ≡ 4))) → Said attrs u D m t w x i r
+      go (inl e) = said-1 (rw e at g) e
+      go (inr (inl e)) = said-2 (rw e at g) e
+      go (inr (inr (inl e))) = said-3 (rw e at g) e
+      go (inr (inr (inr e))) = said-4 (rw e at g) e

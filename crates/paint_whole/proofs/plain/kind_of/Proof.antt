@@ -1,0 +1,66 @@
+use native.Mathlib.Omega.{arith}
+use Rattle.paint_command.specs.Painting.{attrs-at}
+use Rattle.paint_whole.specs.Kinds.{summary-by}
+use Rattle.paint_whole.proofs.Saying.{said-none, said-fill}
+use borrow.Author.Needs.{needs}
+use Rattle.paint_whole.proofs.plain.kind_of.Statement.{statement}
+use Rattle.paint_whole.proofs.plain.kind_of.Tie as tie
+use Rattle.paint_whole.proofs.plain.kind_of.Reads as reads
+use Rattle.paint_whole.proofs.plain.kind_of.Lts as lts
+use Rattle.paint_whole.proofs.plain.buffer_kind.Reads as buffer-kind-reads
+use Rattle.paint_whole.proofs.plain.fill_kind.Reads as fill-kind-reads
+use Rattle.paint_whole.proofs.plain.id_of.Reads as id-of-reads
+
+buffer-kind-requires : tie.Need-buffer-kind-requires
+buffer-kind-requires c κs = search needs
+
+returns : tie.Need-returns
+returns c =
+    let at-args = c .before .before .before .before .before in
+    c .buffer-kind .ensures (attrs-at (at-args .args .paint-attrs .now) (at-args .args .paints) (at-args .args .layer-attrs .now) (at-args .args .layers))
+    (summary-by (at-args .args .from) (at-args .args .to) (at-args .args .largest)) (at-args .args .depth .now)
+
+returns-2 : tie.Need-returns-2
+returns-2 c =
+    let at-args = c .before .before .before .before .before in
+    said-none (attrs-at (at-args .args .paint-attrs .now) (at-args .args .paints) (at-args .args .layer-attrs .now) (at-args .args .layers)) (summary-by
+    (at-args .args .from) (at-args .args .to) (at-args .args .largest)) (at-args .args .depth .now) (at-args .args .nesting) (at-args .args .tag)
+    (at-args .args .tiles) (at-args .args .alpha) (at-args .args .i)
+
+id-of-requires : tie.Need-id-of-requires
+id-of-requires c κs = search needs
+
+returns-3 : tie.Need-returns-3
+returns-3 c =
+    let at-args = c .before .before .before .before .before .before .before in
+    said-none (attrs-at (at-args .args .paint-attrs .now) (at-args .args .paints) (at-args .args .layer-attrs .now) (at-args .args .layers)) (summary-by
+    (at-args .args .from) (at-args .args .to) (at-args .args .largest)) (at-args .args .depth .now) (at-args .args .nesting) (at-args .args .tag)
+    (at-args .args .tiles) (at-args .args .alpha) (at-args .args .i)
+
+fill-kind-requires : tie.Need-fill-kind-requires
+fill-kind-requires c κs = search needs
+
+returns-4 : tie.Need-returns-4
+returns-4 c =
+    let at-id-of = c .before .before in
+    let at-if2 = at-id-of .before in
+    let at-if1 = at-if2 .before in
+    let at-args = at-if1 .before .before .before .before in
+    said-fill (at-args .args .paint-attrs .now) (at-args .args .paints) (at-args .args .layer-attrs .now) (at-args .args .layers) (summary-by
+    (at-args .args .from) (at-args .args .to) (at-args .args .largest)) (at-args .args .depth .now) (at-args .args .nesting) (at-args .args .tag)
+    (at-args .args .tiles) (at-args .args .alpha) (at-args .args .i) _ _ (c .before .if3 .left) (c .fill-kind .ensures) (omega (
+      arith,
+      at-if2 .if2 .left,
+    )) (at-if1 .if1 .left) (at-id-of .id-of .ensures)
+
+pub kind-of-spec : {M : Type 1} → statement M
+kind-of-spec =
+    tie.close
+    (tie.spec
+    buffer-kind-requires
+    returns
+    returns-2
+    id-of-requires
+    returns-3
+    fill-kind-requires
+    returns-4)

@@ -1,0 +1,107 @@
+// A row painted by one call, from where it stands to its end. `paint_row` is a public call: it has no `requires`. The others are its parts.
+use crate::run::run_row;
+use paint_screen::judge::judge_step;
+use paint_screen::step::Stepped;
+use screen::Screen;
+use screen::answer_of;
+use sizes::ROW;
+ghost use mathlib.Core.Path.{_≡_};
+ghost use Rattle.paint_command.specs.Painting.{lent, out};
+ghost use Rattle.paint_screen.specs.Stepping.{painted-of, attributes, StepReady};
+ghost use Rattle.paint_whole.specs.Running.{row-run, row-painted};
+
+pub mod plain;
+pub mod run;
+
+// The steps of a row that is there, painting having begun: the row's own parts are handed on.
+fn row_part(
+    screen: Screen,
+    row: usize,
+    rows: &[u32],
+    render: &[u32],
+    fills: &[u32],
+    depth: &mut [u32],
+    painting: &mut [u32],
+    paint_attrs: &[u32],
+    layer_attrs: &[u32],
+    list: &mut [u32],
+) -> Stepped
+    requires { ⌜ StepReady screen row (attributes (now «paint_attrs») (now «layer_attrs»)) (lent (now rows) (now render) (now fills) (now depth) (now painting) (now list)) ⌝ }
+    ensures { λ r. ⌜ out (painted-of r) (now (depth .exit)) (now (painting .exit)) (now (list .exit))
+        ≡ row-run screen row (attributes (now («paint_attrs» .entry)) (now («layer_attrs» .entry))) (lent (now (rows .entry)) (now (render .entry)) (now (fills .entry)) (now (depth .entry)) (now (painting .entry)) (now (list .entry))) ⌝ }
+{
+    let b = screen.buckets();
+    let c = 4 * (screen.c as usize);
+    let d = 2 * (screen.d as usize);
+    let x = row * ROW;
+    let y = row * c;
+    let z = row * d;
+    let u = row * b;
+    let v = row * 2;
+    let done = run_row(
+        &rows[x..x + ROW],
+        &render[y..y + c],
+        &fills[z..z + d],
+        &mut depth[u..u + b],
+        &mut painting[v..v + 2],
+        paint_attrs,
+        screen.paint_attrs,
+        layer_attrs,
+        screen.layer_attrs,
+        list,
+    );
+    Stepped {
+        answer: answer_of(done.number),
+        finished: done.finished,
+        pieces: done.pieces,
+    }
+}
+
+// The row's next steps, one after the other, until one is refused or the row is finished; refused where the first step is. The pieces stand
+// one after the other in the list. finished: no step is left.
+pub fn paint_row(
+    screen: Screen,
+    row: usize,
+    rows: &[u32],
+    render: &[u32],
+    fills: &[u32],
+    depth: &mut [u32],
+    painting: &mut [u32],
+    paint_attrs: &[u32],
+    layer_attrs: &[u32],
+    list: &mut [u32],
+) -> Stepped
+    ensures { λ r. ⌜ out (painted-of r) (now (depth .exit)) (now (painting .exit)) (now (list .exit))
+        ≡ row-painted screen row (attributes (now («paint_attrs» .entry)) (now («layer_attrs» .entry))) (lent (now (rows .entry)) (now (render .entry)) (now (fills .entry)) (now (depth .entry)) (now (painting .entry)) (now (list .entry))) ⌝ }
+{
+    let n = judge_step(
+        screen,
+        row,
+        rows.len(),
+        render.len(),
+        fills.len(),
+        depth.len(),
+        painting.len(),
+        paint_attrs.len(),
+        layer_attrs.len(),
+    );
+    if n != 0 {
+        return Stepped {
+            answer: answer_of(n),
+            finished: false,
+            pieces: 0,
+        };
+    }
+    row_part(
+        screen,
+        row,
+        rows,
+        render,
+        fills,
+        depth,
+        painting,
+        paint_attrs,
+        layer_attrs,
+        list,
+    )
+}

@@ -1,0 +1,445 @@
+// Commands whose step needs no search over the depth words: fills that one look shows to be visible or hidden whole, and buffers.
+// Parts: where a function asks something, its callers have judged it.
+use paint_runs::is_good_summary;
+use sizes::BUCKET;
+use sizes::BUCKET_ROUND;
+use sizes::BUCKET_TILES;
+use sizes::DEPTHS;
+use sizes::END;
+use sizes::FIRST;
+use sizes::LARGEST;
+use sizes::LAST_ID;
+use sizes::LAYER_ATTR;
+use sizes::MOST_LAYERS;
+use sizes::PAINT_ATTR;
+use sizes::RENDERS;
+use sizes::TILE_ALPHAS;
+use sizes::TILE_END;
+ghost use mathlib.Core.Path.{_≡_};
+ghost use mathlib.Core.Bool.{true};
+ghost use mathlib.Core.List.{List, [], _∷_};
+ghost use Prim.Native.Nat.{ℕ, _+_, _-_, _*_, _/_, _%_, _≤_, _<_};
+ghost use lib.ListN.{length};
+ghost use Rattle.sizes.specs.Sizes.{tile-end, most-layers, most-room, most-attrs, row-size, paint-attr-table, layer-attr-table};
+ghost use Rattle.rules.specs.Attributes.{Attrs};
+ghost use Rattle.rules.specs.Spans.{span};
+ghost use Rattle.rules.specs.Depth.{Summary, can-skip, is-visible, runs-in};
+ghost use Rattle.cmd.specs.Attrs.{words-at};
+ghost use Rattle.paint_command.specs.Painting.{word, given, attrs-at, out, listed};
+ghost use Rattle.paint_whole.specs.Running.{own-step};
+ghost use Rattle.paint_whole.specs.Kinds.{id-given, summary-by, good-index, FillSaid, Said, Calm, place, Reaches, Onward};
+
+fn wide(x: u32) -> usize
+    ensures { λ r. ⌜ r ≡ x ⌝ }
+{
+    x as usize
+}
+
+// The id if a draw can have taken it, else 0.
+fn taken(id: u32) -> u32
+    ensures { λ r. ⌜ r ≡ given true id ⌝ }
+{
+    if id <= LAST_ID { id } else { 0 }
+}
+
+// The id of a fill's attribute, 0 if the attribute is not there or has no id.
+fn id_of(
+    tag: u32,
+    i: u32,
+    paint_attrs: &[u32],
+    paints: u32,
+    layer_attrs: &[u32],
+    layers: u32,
+) -> u32
+    requires { ⌜ (length (now «paint_attrs») ≡ paint-attr-table) × (paints ≤ most-attrs) × (length (now «layer_attrs») ≡ layer-attr-table) × (layers ≤ most-attrs) ⌝ }
+    ensures { λ r. ⌜ r ≡ id-given (now («paint_attrs» .entry)) paints (now («layer_attrs» .entry)) layers tag i ⌝ }
+{
+    if tag <= 2 {
+        if i < paints {
+            return taken(paint_attrs[PAINT_ATTR * wide(i) + 4]);
+        }
+        return 0;
+    }
+    if i < layers {
+        return taken(layer_attrs[LAYER_ATTR * wide(i) + 3]);
+    }
+    0
+}
+
+// A solid fill has no alpha index, another one that can be moved over the whole width.
+fn is_good_index(tag: u32, alpha: u32, width: u32) -> bool
+    requires { ⌜ width ≤ tile-end ⌝ }
+    ensures { λ r. ⌜ r ≡ good-index tag alpha width ⌝ }
+{
+    if tag % 2 == 1 {
+        alpha == 0
+    } else {
+        alpha <= 4294967295 - TILE_ALPHAS * width
+    }
+}
+
+// By the summary alone, nothing hides the tiles.
+fn is_apart(from: u32, to: u32, largest: u32, first: u32, end: u32, id: u32) -> bool
+    ensures { λ r. ⌜ r ≡ can-skip (summary-by from to largest) (span first «end») id ⌝ }
+{
+    if largest <= id {
+        return true;
+    }
+    if to <= first {
+        return true;
+    }
+    end <= from
+}
+
+// Every bucket from a to e holds at most the id.
+fn is_seen(depth: &[u32], a: usize, e: usize, id: u32) -> bool
+    requires { ⌜ (a < e) × (e ≤ length (now depth)) ⌝ }
+    ensures { λ r. ⌜ (r ≡ true → runs-in (is-visible id) (now (depth .entry)) (span a e) ≡ span a e ∷ []) ⌝ }
+{
+    if id < depth[a] {
+        return false;
+    }
+    let mut i = a + 1;
+    while i < e {
+        if id < depth[i] {
+            return false;
+        }
+        i += 1;
+    }
+    true
+}
+
+// Every bucket from a to e holds more.
+fn is_hidden(depth: &[u32], a: usize, e: usize, id: u32) -> bool
+    requires { ⌜ (a < e) × (e ≤ length (now depth)) ⌝ }
+    ensures { λ r. ⌜ (r ≡ true → runs-in (is-visible id) (now (depth .entry)) (span a e) ≡ []) ⌝ }
+{
+    let mut i = a;
+    while i < e {
+        if depth[i] <= id {
+            return false;
+        }
+        i += 1;
+    }
+    true
+}
+
+// What one look shows of a fill's words.
+fn fill_kind(
+    tag: u32,
+    tiles: u32,
+    alpha: u32,
+    id: u32,
+    from: u32,
+    to: u32,
+    largest: u32,
+    depth: &[u32],
+) -> u32
+    requires { ⌜ length (now depth) ≤ 65535 ⌝ }
+    ensures { λ r. ⌜ FillSaid (summary-by from to largest) (now (depth .entry)) id tag tiles alpha r ⌝ }
+{
+    let first = tiles / 65536;
+    let end = tiles % 65536;
+    if end <= first {
+        return 0;
+    }
+    if TILE_END < end {
+        return 0;
+    }
+    if !is_good_index(tag, alpha, end - first) {
+        return 0;
+    }
+    if BUCKET_TILES * depth.len() < wide(end) {
+        return 0;
+    }
+    if is_apart(from, to, largest, first, end, id) {
+        return 1;
+    }
+    let a = wide(first / BUCKET);
+    let e = wide((end + BUCKET_ROUND) / BUCKET);
+    if depth[a] <= id {
+        if e <= a + 1 {
+            return 1;
+        }
+        if is_seen(depth, a, e, id) {
+            return 1;
+        }
+        return 0;
+    }
+    if e <= a + 1 {
+        return 2;
+    }
+    if is_hidden(depth, a, e, id) {
+        return 2;
+    }
+    0
+}
+
+// A buffer's words.
+fn buffer_kind(tag: u32, tiles: u32, alpha: u32, i: u32, nesting: u32) -> u32
+    ensures { λ r. ⌜ ((a : Attrs) (u : Summary) (D : List ℕ) → Said a u D nesting tag tiles alpha i r) ⌝ }
+{
+    if alpha != 0 {
+        return 0;
+    }
+    if i != 0 {
+        return 0;
+    }
+    if tag == 6 {
+        if tiles % 65536 < tiles / 65536 {
+            return 0;
+        }
+        if TILE_END < tiles % 65536 {
+            return 0;
+        }
+        if nesting < MOST_LAYERS {
+            return 3;
+        }
+        return 0;
+    }
+    if tiles != 0 {
+        return 0;
+    }
+    if tag == 5 {
+        if nesting < MOST_LAYERS {
+            return 3;
+        }
+        return 0;
+    }
+    if tag == 7 {
+        if 0 < nesting {
+            return 4;
+        }
+    }
+    0
+}
+
+// What one look shows of a command's words.
+fn kind_of(
+    tag: u32,
+    tiles: u32,
+    alpha: u32,
+    i: u32,
+    nesting: u32,
+    from: u32,
+    to: u32,
+    largest: u32,
+    depth: &[u32],
+    paint_attrs: &[u32],
+    paints: u32,
+    layer_attrs: &[u32],
+    layers: u32,
+) -> u32
+    requires { ⌜ (length (now «paint_attrs») ≡ paint-attr-table) × (paints ≤ most-attrs) × (length (now «layer_attrs») ≡ layer-attr-table) × (layers ≤ most-attrs) × (length (now depth) ≤ 65535) ⌝ }
+    ensures { λ r. ⌜ Said (attrs-at (now («paint_attrs» .entry)) paints (now («layer_attrs» .entry)) layers) (summary-by from to largest) (now (depth .entry)) nesting tag tiles alpha i r ⌝ }
+{
+    if 4 < tag {
+        return buffer_kind(tag, tiles, alpha, i, nesting);
+    }
+    if tag == 0 {
+        return 0;
+    }
+    let id = id_of(tag, i, paint_attrs, paints, layer_attrs, layers);
+    if id == 0 {
+        return 0;
+    }
+    fill_kind(tag, tiles, alpha, id, from, to, largest, depth)
+}
+
+// Six words at place k of the list.
+fn put_words(list: &mut [u32], k: usize, a: u32, b: u32, c: u32, d: u32, e: u32, f: u32)
+    requires { ⌜ 6 * k + 6 ≤ length (now list) ⌝ }
+    ensures { λ _. ⌜ now (list .exit) ≡ words-at (now (list .entry)) (6 * k) (a ∷ b ∷ c ∷ d ∷ e ∷ f ∷ []) ⌝ }
+{
+    let at = 6 * k;
+    list[at] = a;
+    list[at + 1] = b;
+    list[at + 2] = c;
+    list[at + 3] = d;
+    list[at + 4] = e;
+    list[at + 5] = f;
+}
+
+// Where a run of commands ended: the place of the next command, the pieces listed, the nesting.
+struct Reached {
+    at: usize,
+    pieces: usize,
+    nesting: u32,
+}
+
+// The commands from `start` on, up to `stop` or the first that one look does not settle.
+fn run_commands(
+    state: &[u32],
+    render: &[u32],
+    fills: &[u32],
+    depth: &[u32],
+    paint_attrs: &[u32],
+    paints: u32,
+    layer_attrs: &[u32],
+    layers: u32,
+    list: &mut [u32],
+    start: usize,
+    stop: usize,
+    pieces: usize,
+    nesting: u32,
+) -> Reached
+    requires { ⌜ (length (now «paint_attrs») ≡ paint-attr-table) × (paints ≤ most-attrs) × (length (now «layer_attrs») ≡ layer-attr-table) × (layers ≤ most-attrs) × (length (now depth) ≤ 65535) ⌝ }
+    requires { ⌜ (length (now state) ≡ row-size) × Calm (now state) (now render) (now fills) × (length (now render) ≤ 4 * most-room) ⌝ }
+    requires { ⌜ (start ≤ stop) × (stop ≤ word (now state) 0) × (nesting ≤ most-layers) × (6 * pieces ≤ length (now list)) ⌝ }
+    ensures { λ r. ⌜ Reaches (own-step (attrs-at (now («paint_attrs» .entry)) paints (now («layer_attrs» .entry)) layers) (now (state .entry)) (now (render .entry)) (now (fills .entry))) (now (depth .entry)) (word (now (state .entry)) 1) (place start pieces nesting (now (list .entry))) (place (r .at) (r .pieces) (r .nesting) (now (list .exit))) ⌝ }
+    ensures { λ r. ⌜ r .at ≤ stop ⌝ }
+{
+    let from = state[FIRST];
+    let to = state[END];
+    let largest = state[LARGEST];
+    let mut at = start;
+    let mut n = pieces;
+    let mut level = nesting;
+    while at < stop {
+        let k = 4 * at;
+        let tag = render[k];
+        let tiles = render[k + 1];
+        let alpha = render[k + 2];
+        let i = render[k + 3];
+        let kind = kind_of(
+            tag,
+            tiles,
+            alpha,
+            i,
+            level,
+            from,
+            to,
+            largest,
+            depth,
+            paint_attrs,
+            paints,
+            layer_attrs,
+            layers,
+        );
+        if kind == 1 {
+            if list.len() < 6 * n + 6 {
+                return Reached {
+                    at,
+                    pieces: n,
+                    nesting: level,
+                };
+            }
+            put_words(list, n, tag, i, tiles / 65536, tiles % 65536, alpha, level);
+            n += 1;
+            at += 1;
+            continue;
+        }
+        if kind == 2 {
+            at += 1;
+            continue;
+        }
+        if kind == 3 {
+            level += 1;
+            at += 1;
+            continue;
+        }
+        if kind == 4 {
+            level -= 1;
+            at += 1;
+            continue;
+        }
+        return Reached {
+            at,
+            pieces: n,
+            nesting: level,
+        };
+    }
+    Reached {
+        at,
+        pieces: n,
+        nesting: level,
+    }
+}
+
+// How far a run went: the steps done, the pieces listed.
+pub struct Gone {
+    pub steps: usize,
+    pub pieces: usize,
+}
+
+fn none_done(pieces: usize) -> Gone
+    ensures { λ r. ⌜ (r .steps ≡ 0) × (r .pieces ≡ pieces) ⌝ }
+{
+    Gone { steps: 0, pieces }
+}
+
+fn least(a: usize, b: usize) -> usize
+    ensures { λ r. ⌜ (r ≤ a) × (r ≤ b) ⌝ }
+{
+    if a < b { a } else { b }
+}
+
+// The row's next commands, at most `limit`, as far as one look settles each; none where depth fills are left or the row is forged.
+pub fn run_plain(
+    state: &[u32],
+    render: &[u32],
+    fills: &[u32],
+    depth: &[u32],
+    painting: &mut [u32],
+    paint_attrs: &[u32],
+    paints: u32,
+    layer_attrs: &[u32],
+    layers: u32,
+    list: &mut [u32],
+    pieces: usize,
+    limit: usize,
+) -> Gone
+    requires { ⌜ (length (now state) ≡ row-size) × (length (now render) ≤ 4 * most-room) × (length (now fills) ≤ 2 * most-room) × (length (now depth) ≤ 65535) × (length (now painting) ≡ 2) ⌝ }
+    requires { ⌜ (length (now «paint_attrs») ≡ paint-attr-table) × (paints ≤ most-attrs) × (length (now «layer_attrs») ≡ layer-attr-table) × (layers ≤ most-attrs) ⌝ }
+    requires { ⌜ (6 * pieces ≤ length (now list)) × (limit ≤ 2048) ⌝ }
+    ensures { λ r. ⌜ Onward (own-step (attrs-at (now («paint_attrs» .entry)) paints (now («layer_attrs» .entry)) layers) (now (state .entry)) (now (render .entry)) (now (fills .entry))) (r .steps) (out (listed pieces) (now (depth .entry)) (now (painting .entry)) (now (list .entry))) (out (listed (r .pieces)) (now (depth .entry)) (now (painting .exit)) (now (list .exit))) ⌝ }
+    ensures { λ r. ⌜ (r .steps ≤ limit) × (6 * r .pieces ≤ length (now (list .entry))) ⌝ }
+{
+    let depths = state[DEPTHS];
+    let done = painting[0];
+    if done < depths {
+        return none_done(pieces);
+    }
+    let renders = state[RENDERS];
+    let next = done - depths;
+    if renders <= next {
+        return none_done(pieces);
+    }
+    if render.len() < 4 * wide(renders) {
+        return none_done(pieces);
+    }
+    if fills.len() < 2 * wide(depths) {
+        return none_done(pieces);
+    }
+    let nesting = painting[1];
+    if MOST_LAYERS < nesting {
+        return none_done(pieces);
+    }
+    if !is_good_summary(state) {
+        return none_done(pieces);
+    }
+    let start = wide(next);
+    let some = least(wide(renders) - start, limit);
+    let reached = run_commands(
+        state,
+        render,
+        fills,
+        depth,
+        paint_attrs,
+        paints,
+        layer_attrs,
+        layers,
+        list,
+        start,
+        start + some,
+        pieces,
+        nesting,
+    );
+    let steps = reached.at - start;
+    painting[0] = done + (steps as u32);
+    painting[1] = reached.nesting;
+    Gone {
+        steps,
+        pieces: reached.pieces,
+    }
+}

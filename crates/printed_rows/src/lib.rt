@@ -1,1 +1,0 @@
-// Proofs only: the text of a painted row is the rules' text of it.

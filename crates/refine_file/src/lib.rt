@@ -1,0 +1,1 @@
+// Proofs only: the recording call at the words is the rules' walk of the file.

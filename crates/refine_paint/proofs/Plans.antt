@@ -1,0 +1,265 @@
+-- What steps put on rows is fair under the attributes that they leave. Assumes nothing.
+use mathlib.Core.Path.{_≡_, refl}
+use mathlib.Core.Bool.{Bool, true, false, _&&_, not, cond}
+use mathlib.Core.List.{List, [], _∷_}
+use mathlib.Core.Option.{Option, none, some}
+use Prim.Native.Nat.{ℕ, _+_, _-_, _/_, _%_, _≤_, _<_, min, max}
+use native.Mathlib.Omega.{arith}
+use lib.Dec.{leb, ltb, eqb}
+use lib.ListN.{length}
+use borrow.Author.Tests.{leb-false, ltb-true, eqb-true}
+use Rattle.rules.specs.Lists.{some-of, is-empty}
+use Rattle.rules.specs.Answers.{Done, BadRecord}
+use Rattle.rules.specs.Boxes.{Box, width, height, by-4, good-box, bounded, good-viewport, empty-box, rows-in, span-of, scene-tiles, buckets-of}
+use Rattle.rules.specs.Spans.{Span, span, Stretch, common, moved, meeting, cut-at, cut-when, cut-to}
+use Rattle.rules.specs.Segments.{Segment, good-segment, alpha-of, stretch-of, Cut, localised, cut-in, cuts}
+use Rattle.rules.specs.Inputs.{Paint, Draw, Clip, Props, Filter, good-filter, draw-segments, draw-paint, good-fill}
+use Rattle.rules.specs.Blends.{Blend, default-blend}
+use Rattle.rules.specs.Attributes.{FilterPaint, Attrs}
+use Rattle.rules.specs.Painting.{paint-id}
+use Rattle.rules.specs.Plans.{Layer, State, Step, a-fill, a-push, a-pop, a-filter, paint, touch, close, pop, on, Put, still, clip-box, box-of, with-paint, with-layer, eligible, draw-act, draw-puts, plan-fill, layer-box, touches-all, plan-push, clip-segments, clip-fits, close-puts, closing, clip-thread, plan-pop, filter-box, filter-paint, draws-nothing, filter-puts, plan-filter-in, plan-filter, plan}
+use Rattle.rules.proofs.All.{All, nil, cons, head, both, neither, all-if, all-append, all-mapped, all-join}
+use Rattle.rules.proofs.laws.Bounds.{Framed, Inside, judged-facts, good-facts, dest-facts, box-inside}
+use Rattle.cmd.specs.Good.{GoodSpan, GoodAlpha}
+use Rattle.paint_command.specs.Painting.{good-paint, good-layer}
+use Rattle.refine_paint.proofs.Acts.{FairPut}
+use Rattle.refine_paint.proofs.Attributes.{Extends, same-attrs, paint-extends, paint-new, paint-good, layer-extends, layer-good}
+
+-- what is left of a good segment: in order, its alpha index can be moved over it, it ends within w tiles
+record FairCut (w : ℕ) (k : Cut) : Type 0 where
+  pub tiles : GoodSpan 8192 (k .tiles)
+  pub alpha : GoodAlpha (k .tiles) (k .alpha)
+  pub near : k .tiles .end ≤ w
+
+data Left (b : Span) : Option Stretch → Type 0 where
+  nothing : Left b none
+  something : (k : Stretch) → GoodSpan 8192 (k .tiles) → GoodAlpha (k .tiles) (k .alpha) → k .tiles .end ≤ b .end → Left b (some k)
+
+alpha-local : (x : ℕ) (s : Span) (a : Option ℕ) → GoodAlpha s a → GoodAlpha (span (s .first - x) (s .end - x)) a
+alpha-local x s none h = tt
+alpha-local x s (some a) h = omega arith
+
+alpha-cut : (s c : Span) (a : Option ℕ) → GoodAlpha s a → s .first ≤ c .first → c .first ≤ c .end → c .end ≤ s .end → GoodAlpha c (moved a (c .first - s .first))
+alpha-cut s c none h l m r = tt
+alpha-cut s c (some a) h l m r = omega arith
+
+localised-fair : (v : Box) (w row : ℕ) (b : Span) → b .end - v .x0 / 4 ≤ w → {o : Option Stretch} → Left b o → All (FairCut w) (localised v row o)
+localised-fair v w row b n nothing = nil
+localised-fair v w row b n (something k s a m) =
+    let t : GoodSpan 8192 (span (k .tiles .first - v .x0 / 4) (k .tiles .end - v .x0 / 4)) = record { in-order = omega (arith, s .in-order); in-limit = omega (arith, s .in-limit) } in
+    cons (record { tiles = t; alpha = alpha-local (v .x0 / 4) (k .tiles) (k .alpha) a; near = omega arith }) nil
+
+left-if : (b : Span) (t : Bool) {o : Option Stretch} → Left b o → Left b (cond t o none)
+left-if b true l = l
+left-if b false l = nothing
+
+cut-fair : (b : Span) (s : Stretch) → s .tiles .end ≤ 8192 → GoodAlpha (s .tiles) (s .alpha) → Left b (cut-to b s)
+unfolding cut-to meeting
+cut-fair b s h a = go (ltb (common (s .tiles) b .first) (common (s .tiles) b .end)) refl
+  where
+    go : (t : Bool) → ltb (common (s .tiles) b .first) (common (s .tiles) b .end) ≡ t → Left b (cut-when s (cond t (some (common (s .tiles) b)) none))
+    go true e =
+        let l : max (s .tiles .first) (b .first) < min (s .tiles .end) (b .end) = ltb-true (max (s .tiles .first) (b .first)) (min (s .tiles .end) (b .end)) e in
+        something (cut-at s (common (s .tiles) b)) (record { in-order = omega arith; in-limit = omega arith })
+        (alpha-cut (s .tiles) (common (s .tiles) b) (s .alpha) a (omega arith) (omega arith) (omega arith)) (omega arith)
+    go false e = nothing
+
+segment-alpha : (s : Segment) → good-segment s ≡ true → GoodAlpha (span (s .first) (s .end)) (alpha-of s)
+segment-alpha s g = go (eqb (s .kind) 0)
+  where
+    go : (t : Bool) → GoodAlpha (span (s .first) (s .end)) (cond t none (some (s .alpha)))
+    go true = tt
+    go false = good-facts s g .alpha
+
+cut-in-fair : (v b : Box) (w : ℕ) → b .x1 - v .x0 / 4 ≤ w → (s : Segment) → good-segment s ≡ true → All (FairCut w) (cut-in v b s)
+unfolding cut-in
+cut-in-fair v b w n s g =
+    localised-fair v w (s .row) (span (b .x0) (b .x1)) n
+    (left-if (span (b .x0) (b .x1)) (leb (b .y0) (s .row) && ltb (s .row) (b .y1)) (cut-fair (span (b .x0) (b .x1)) (stretch-of s) (good-facts s g .end) (segment-alpha s g)))
+
+view-4 : (v : Box) → good-viewport v ≡ true → v .x0 % 4 ≡ 0
+unfolding good-viewport
+view-4 v g =
+    let h = both (good-box v) (leb (width v) 4096) (both (good-box v && leb (width v) 4096) (leb (height v) 2048) g .0) .0 in
+    let k = both (by-4 (v .x0) && by-4 (v .x1) && by-4 (v .y0) && by-4 (v .y1)) (bounded v) h .0 in
+    let k3 = both (by-4 (v .x0) && by-4 (v .x1) && by-4 (v .y0)) (by-4 (v .y1)) k .0 in
+    let k2 = both (by-4 (v .x0) && by-4 (v .x1)) (by-4 (v .y0)) k3 .0 in
+    eqb-true _ _ (both (by-4 (v .x0)) (by-4 (v .x1)) k2 .0)
+
+cuts-fair : (v c : Box) → good-viewport v ≡ true → c .x1 ≤ width v → {ss : List Segment} → All (λ (s : Segment). good-segment s ≡ true) ss → All (FairCut (width v / 4)) (cuts v c ss)
+unfolding cuts scene-tiles
+cuts-fair v c g r a =
+    let n : (v .x0 + c .x1) / 4 - v .x0 / 4 ≤ width v / 4 = omega (arith, view-4 v g) in
+    all-join (cut-in v (scene-tiles v c)) (cut-in-fair v (scene-tiles v c) (width v / 4) n) a
+
+-- a box's span
+span-fair : (b : Box) → b .x0 ≤ 32768 → b .x1 ≤ 32768 → GoodSpan 8192 (span-of b)
+unfolding span-of
+span-fair b l r = go (empty-box b) refl
+  where
+    go : (t : Bool) → empty-box b ≡ t → GoodSpan 8192 (span (b .x0 / 4) (cond t (b .x0 / 4) (b .x1 / 4)))
+    go true e = record { in-order = omega arith; in-limit = omega arith }
+    go false e =
+        let h = neither (leb (b .x1) (b .x0)) (leb (b .y1) (b .y0)) e in
+        let k : b .x0 < b .x1 = leb-false (b .x1) (b .x0) (h .0) in
+        record { in-order = omega arith; in-limit = omega arith }
+
+module _ (a : Attrs) (w : ℕ) where
+  -- the buckets of w tiles
+  abbrev wide : ℕ
+  wide = (w + 31) / 32
+
+  draw-fair : (e : Bool) (i id r : ℕ) (s : Span) (x : Option ℕ) → good-paint a i ≡ true → paint-id a i ≡ id → GoodSpan 8192 s → GoodAlpha s x → s .end ≤ w → FairPut a wide (on (draw-act e i id s x) r)
+  unfolding draw-act
+  draw-fair true i id r s none p q g h n = record { act = (g, omega arith, p, q) }
+  draw-fair true i id r s (some x) p q g h n = record { act = record { good = (g, h); attributed = p } }
+  draw-fair false i id r s x p q g h n = record { act = record { good = (g, h); attributed = p } }
+
+  draws-fair : (e : Bool) (i id : ℕ) → good-paint a i ≡ true → paint-id a i ≡ id → {ks : List Cut} → All (FairCut w) ks → All (FairPut a wide) (draw-puts e i id ks)
+  unfolding draw-puts
+  draws-fair e i id p q nil = nil
+  draws-fair e i id p q (cons {x = k} h hs) = cons (draw-fair e i id (k .row) (k .tiles) (k .alpha) p q (h .tiles) (h .alpha) (h .near)) (draws-fair e i id p q hs)
+
+  closes-fair : (i : ℕ) → good-layer a i ≡ true → (ts : List ℕ) {ks : List Cut} → All (FairCut w) ks → All (FairPut a wide) (close-puts i ts ks)
+  unfolding close-puts
+  closes-fair i p ts nil = nil
+  closes-fair i p ts (cons {x = k} h hs) =
+      all-if (some-of (eqb (k .row)) ts)
+      (cons {x = on (close (k .tiles) (k .alpha) i) (k .row)} (record { act = record { good = (h .tiles, h .alpha); attributed = p } }) (closes-fair i p ts hs)) (closes-fair i p ts hs)
+
+module _ (s : State) (f : Framed s) (g : good-viewport (s .frame .viewport) ≡ true) (one : 1 ≤ s .next) where
+  abbrev v : Box
+  v = s .frame .viewport
+
+  abbrev FairPuts : Attrs → List Put → Type 0
+  FairPuts a ps = All (FairPut a (buckets-of 32 v)) ps
+
+  new-paint : (p : ℕ) (b : Blend) (m th : ℕ) (fs : List FilterPaint) → s .next ≤ 1048576 → good-paint (with-paint s p b m th fs) (length (s .attrs .paints)) ≡ true
+  new-paint p b m th fs h =
+      paint-good (s .attrs .paints) (s .attrs .layers) [] []
+      (record { paint = p; blend = b; mask = m; id = s .next; thread = th; origin-x = s .frame .viewport .x0; origin-y = s .frame .viewport .y0 }) one h
+
+  new-paint-id : (p : ℕ) (b : Blend) (m th : ℕ) (fs : List FilterPaint) → paint-id (with-paint s p b m th fs) (length (s .attrs .paints)) ≡ s .next
+  new-paint-id p b m th fs =
+      paint-new (s .attrs .paints) (s .attrs .layers) [] []
+      (record { paint = p; blend = b; mask = m; id = s .next; thread = th; origin-x = s .frame .viewport .x0; origin-y = s .frame .viewport .y0 })
+
+  new-layer : (p : Props) → s .next ≤ 1048576 → good-layer (with-layer s p) (length (s .attrs .layers)) ≡ true
+  new-layer p h =
+      layer-good (s .attrs .paints) (s .attrs .layers) [] []
+      (record { blend = p .blend; opacity = p .opacity; mask = p .mask; id = s .next; thread = clip-thread (p .clip) }) one h
+
+  fill-fair : (ps : List Paint) (ss : List Segment) (d : Draw) → plan-fill ps ss d s .refused ≡ Done → plan-fill ps ss d s .next ≤ 1048577 → FairPuts (plan-fill ps ss d s .attrs) (plan-fill ps ss d s .puts)
+  unfolding plan-fill cuts draw-puts
+  fill-fair ps ss d e n = go (draw-segments ss d) (judged-facts (not (good-fill ps ss d)) (draw-segments ss d) e .1)
+    where
+      go : (own : List Segment) → All (λ (x : Segment). good-segment x ≡ true) own
+          → FairPuts (cond (is-empty own) (s .attrs) (with-paint s (d .paint) (d .blend) (d .mask) (d .thread) []))
+          (draw-puts (eligible (is-empty (s .layers)) (draw-paint ps d) d) (length (s .attrs .paints)) (s .next) (cuts v (box-of s) own))
+      go [] a = nil
+      go (x ∷ xs) a =
+          draws-fair (with-paint s (d .paint) (d .blend) (d .mask) (d .thread) []) (width v / 4) (eligible (is-empty (s .layers)) (draw-paint ps d) d) (length (s .attrs .paints)) (s .next)
+          (new-paint (d .paint) (d .blend) (d .mask) (d .thread) [] (omega arith))
+          (new-paint-id (d .paint) (d .blend) (d .mask) (d .thread) [])
+          (cuts-fair v (box-of s) g (box-inside s f .right) a)
+
+  push-fair : (p : Props) → FairPuts (plan-push p s .attrs) (plan-push p s .puts)
+  unfolding plan-push
+  push-fair p =
+      let b = layer-box v (box-of s) (p .clip) in
+      all-if (touches-all p b) (all-mapped (on touch) (λ i. record { act = tt }) (rows-in b)) nil
+
+  inside-fair : (b : Box) → Inside v b → GoodSpan 8192 (span-of b)
+  inside-fair b i = span-fair b (i .left) (omega (arith, i .right, f .wide))
+
+  clip-right : (ls : List Layer) → All (λ (l : Layer). Inside v (l .bounds)) ls → clip-box v ls .x1 ≤ width v
+  clip-right [] a = omega arith
+  clip-right (l ∷ ls) a = head a .right
+
+  closing-fair : (a : Attrs) (c : Option Clip) (own parent : Box) (i : ℕ) (ss : List Segment) (ts : List ℕ) → good-layer a i ≡ true → GoodSpan 8192 (span-of own) → parent .x1 ≤ width v
+      → All (λ (x : Segment). good-segment x ≡ true) (clip-segments c ss) → FairPuts a (closing c v own parent i ss ts)
+  unfolding closing
+  closing-fair a none own parent i ss ts p h r o = all-mapped (on (close (span-of own) none i)) (λ x. record { act = record { good = (h, tt); attributed = p } }) ts
+  closing-fair a (some c) own parent i ss ts p h r o = closes-fair a (width v / 4) i p ts (cuts-fair v parent g r o)
+
+  pop-fair : (ls : List Layer) (ss : List Segment) (ts : List ℕ) → All (λ (l : Layer). Inside v (l .bounds)) ls → plan-pop ls ss ts s .refused ≡ Done → plan-pop ls ss ts s .next ≤ 1048577
+      → FairPuts (plan-pop ls ss ts s .attrs) (plan-pop ls ss ts s .puts)
+  unfolding plan-pop
+  pop-fair [] ss ts a e n = nil
+  pop-fair (l ∷ ls) ss ts (cons i is) e n =
+      all-append
+      (closing-fair (with-layer s (l .props)) (l .props .clip) (l .bounds) (clip-box v ls) (length (s .attrs .layers)) ss ts
+      (new-layer (l .props) (omega arith)) (inside-fair (l .bounds) i) (clip-right ls is)
+      (judged-facts (not (clip-fits (l .props .clip) ss)) (clip-segments (l .props .clip) ss) e .1))
+      (all-mapped (on pop) (λ x. record { act = tt }) ts)
+
+  filter-inside : (q : Filter) → good-filter q ≡ true → Inside v (filter-box v (box-of s) q)
+  filter-inside q h =
+      let b = dest-facts q h in
+      let i = box-inside s f in
+      record { left = omega (arith, b .across, b .right, i .left); right = omega (arith, i .right); bottom = omega (arith, i .bottom) }
+
+  filter-in-fair : (b : Box) (count : ℕ) (q : Filter) → Inside v b → plan-filter-in b count q s .next ≤ 1048577 → FairPuts (plan-filter-in b count q s .attrs) (plan-filter-in b count q s .puts)
+  unfolding plan-filter-in filter-puts
+  filter-in-fair b count q i n =
+      let p = new-paint (count + length (s .attrs .filters)) default-blend 0 0 (filter-paint q ∷ []) (omega arith) in
+      all-mapped (on (paint (span-of b) none (length (s .attrs .paints)))) (λ x. record { act = record { good = (inside-fair b i, tt); attributed = p } }) (rows-in b)
+
+  filter-fair : (count : ℕ) (q : Filter) → plan-filter count q s .next ≤ 1048577 → FairPuts (plan-filter count q s .attrs) (plan-filter count q s .puts)
+  unfolding plan-filter
+  filter-fair count q n = go (good-filter q && leb count 4096) (draws-nothing q (filter-box v (box-of s) q)) refl n
+    where
+      go : (t u : Bool) → (good-filter q && leb count 4096) ≡ t
+          → cond (not t) (still BadRecord s) (cond u (still Done s) (plan-filter-in (filter-box v (box-of s) q) count q s)) .next ≤ 1048577
+          → FairPuts (cond (not t) (still BadRecord s) (cond u (still Done s) (plan-filter-in (filter-box v (box-of s) q) count q s)) .attrs)
+          (cond (not t) (still BadRecord s) (cond u (still Done s) (plan-filter-in (filter-box v (box-of s) q) count q s)) .puts)
+      go false u e m = nil
+      go true true e m = nil
+      go true false e m = filter-in-fair (filter-box v (box-of s) q) count q (filter-inside q (both (good-filter q) (leb count 4096) e .0)) m
+
+  pub plan-fair : (x : Step) (ts : List ℕ) → plan x ts s .refused ≡ Done → plan x ts s .next ≤ 1048577 → All (FairPut (plan x ts s .attrs) (buckets-of 32 (s .frame .viewport))) (plan x ts s .puts)
+  unfolding plan
+  plan-fair (a-fill ps ss d) ts e n = fill-fair ps ss d e n
+  plan-fair (a-push p) ts e n = push-fair p
+  plan-fair (a-pop ss) ts e n = pop-fair (s .layers) ss ts (f .boxes) e n
+  plan-fair (a-filter count q) ts e n = filter-fair count q n
+
+-- the attributes that a plan leaves
+module _ (s : State) where
+  paint-added : (p : ℕ) (b : Blend) (m th : ℕ) (fs : List FilterPaint) → Extends (s .attrs) (with-paint s p b m th fs)
+  paint-added p b m th fs =
+      let e = paint-extends (s .attrs .paints) (s .attrs .layers) [] []
+      (record { paint = p; blend = b; mask = m; id = s .next; thread = th; origin-x = s .frame .viewport .x0; origin-y = s .frame .viewport .y0 }) in
+      record { more-paints = e .more-paints; more-layers = e .more-layers; paint-ids = e .paint-ids; layer-ids = e .layer-ids }
+
+  fill-extends : (ps : List Paint) (ss : List Segment) (d : Draw) → Extends (s .attrs) (plan-fill ps ss d s .attrs)
+  unfolding plan-fill
+  fill-extends ps ss d = go (is-empty (draw-segments ss d))
+    where
+      go : (t : Bool) → Extends (s .attrs) (cond t (s .attrs) (with-paint s (d .paint) (d .blend) (d .mask) (d .thread) []))
+      go true = same-attrs (s .attrs)
+      go false = paint-added (d .paint) (d .blend) (d .mask) (d .thread) []
+
+  pop-extends : (ls : List Layer) (ss : List Segment) (ts : List ℕ) → Extends (s .attrs) (plan-pop ls ss ts s .attrs)
+  unfolding plan-pop
+  pop-extends [] ss ts = same-attrs (s .attrs)
+  pop-extends (l ∷ ls) ss ts =
+      let e = layer-extends (s .attrs .paints) (s .attrs .layers) [] []
+      (record { blend = l .props .blend; opacity = l .props .opacity; mask = l .props .mask; id = s .next; thread = clip-thread (l .props .clip) }) in
+      record { more-paints = e .more-paints; more-layers = e .more-layers; paint-ids = e .paint-ids; layer-ids = e .layer-ids }
+
+  filter-extends : (count : ℕ) (q : Filter) → Extends (s .attrs) (plan-filter count q s .attrs)
+  unfolding plan-filter plan-filter-in
+  filter-extends count q = go (not (good-filter q && leb count 4096)) (draws-nothing q (filter-box (s .frame .viewport) (box-of s) q))
+    where
+      go : (t u : Bool) → Extends (s .attrs) (cond t (still BadRecord s) (cond u (still Done s) (plan-filter-in (filter-box (s .frame .viewport) (box-of s) q) count q s)) .attrs)
+      go true u = same-attrs (s .attrs)
+      go false true = same-attrs (s .attrs)
+      go false false = paint-added (count + length (s .attrs .filters)) default-blend 0 0 (filter-paint q ∷ [])
+
+  pub plan-extends : (x : Step) (ts : List ℕ) → Extends (s .attrs) (plan x ts s .attrs)
+  unfolding plan plan-push
+  plan-extends (a-fill ps ss d) ts = fill-extends ps ss d
+  plan-extends (a-push p) ts = same-attrs (s .attrs)
+  plan-extends (a-pop ss) ts = pop-extends (s .layers) ss ts
+  plan-extends (a-filter count q) ts = filter-extends count q

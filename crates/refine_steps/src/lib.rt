@@ -1,0 +1,1 @@
+// Proofs only: each building step at the words is the rules' step.

@@ -1,0 +1,1 @@
+// What judging a step needs of a row, three numbers: definitions and laws. No code.

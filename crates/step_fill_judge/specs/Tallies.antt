@@ -1,0 +1,136 @@
+-- A running tally over the cut segments of a list: the counts of the row at hand, loaded from its record when the row changes.
+use Prim.Native.Nat.{ℕ, _+_, _-_, _*_, _/_, _≤_}
+use mathlib.Core.Path.{_≡_}
+use mathlib.Core.Bool.{Bool, false, _||_, cond}
+use mathlib.Core.List.{List, [], _∷_}
+use mathlib.Core.Option.{Option, none, some}
+use lib.Dec.{ltb, eqb}
+use lib.ListN.{getD, length, take, drop}
+use Rattle.sizes.specs.Sizes.{bucket-tiles, tile-end, most-layers, most-room, most-rows, row-size, renders-at, depths-at, levels-at}
+use Rattle.rules.specs.Lists.{join}
+use Rattle.rules.specs.Answers.{Done, BadRecord, BadOrder, FullRow, FullDepth}
+use Rattle.rules.specs.Spans.{Span}
+use Rattle.rules.specs.Segments.{Cut, cut-in}
+use Rattle.rules.specs.Plans.{draw-act}
+use Rattle.rules.specs.Steps.{do-act}
+use Rattle.row_counts.specs.Counts as count
+use Rattle.row_counts.specs.Counts.{counts, count-ops}
+use Rattle.row_judge.specs.Building.{good-row}
+use Rattle.segments.specs.Segs.{segs, origin, bounds, Starts}
+use Rattle.step_fill_rows.specs.declared.Job.{Job}
+use Rattle.step_fill_judge.specs.declared.Hand.{Hand}
+
+-- the counts of the row at hand, and whether a row has passed its room so far
+pub record Tally : Type 0 where
+  pub row : ℕ
+  pub renders : ℕ
+  pub depths : ℕ
+  pub levels : ℕ
+  pub full : Bool
+  pub deep : Bool
+
+abbrev pub edge-count : ℕ → ℕ → ℕ
+edge-count a b = cond (ltb a b) 1 0
+
+-- what a stretch adds to the counts of a row that has its layers (rules 6 and 7)
+unfoldable pub added : Bool → Span → Option ℕ → count.Counts
+added e s a = do-act count.Counts count-ops bucket-tiles 0 (draw-act e 0 0 s a) (counts 0 0 0)
+
+-- the counts that a row's record holds
+abbrev pub stored : List ℕ → count.Counts
+stored s = counts (getD s renders-at 0) (getD s depths-at 0) (getD s levels-at 0)
+
+-- those of row r, whose record at entry is s
+unfoldable pub known : Tally → List ℕ → ℕ → count.Counts
+known t s r = cond (eqb (t .row) r) (counts (t .renders) (t .depths) (t .levels)) (stored s)
+
+-- a cut segment's act, on counts
+abbrev pub drawn-counts : Job → Cut → count.Counts → count.Counts
+drawn-counts j k c = do-act count.Counts count-ops bucket-tiles (j .layers) (draw-act (j .eligible) (j .attr) (j .id) (k .tiles) (k .alpha)) c
+
+abbrev pub tally-of : Job → Tally → ℕ → count.Counts → Tally
+tally-of j t r c =
+    record {
+      row = r;
+      renders = c .renders;
+      depths = c .depths;
+      levels = c .levels;
+      full = t .full || ltb (j .c) (c .renders);
+      deep = t .deep || ltb (j .d) (c .depths);
+    }
+
+-- one more cut segment, on a row whose record at entry is s
+unfoldable pub tallied : Job → List ℕ → Tally → Cut → Tally
+tallied j s t k = tally-of j t (k .row) (drawn-counts j k (known t s (k .row)))
+
+-- the record of row r
+abbrev pub record-at : List ℕ → ℕ → List ℕ
+record-at rows r = take row-size (drop (r * row-size) rows)
+
+-- none where a row's record is bad
+unfoldable pub tally-cuts : Job → List ℕ → Tally → List Cut → Option Tally
+tally-cuts j rows t [] = some t
+tally-cuts j rows t (k ∷ ks) =
+    let s = record-at rows (k .row) in
+    let more = tally-cuts j rows (tallied j s t k) ks in
+    cond (good-row (j .c) (j .d) (j .layers) s) more none
+
+abbrev pub verdict : Option Tally → ℕ
+verdict none = BadRecord
+verdict (some t) = cond (t .full) FullRow (cond (t .deep) FullDepth Done)
+
+-- what is left of the segments from a to b
+abbrev pub cuts-of : Job → List ℕ → ℕ → ℕ → List Cut
+cuts-of j ws a b = join (cut-in (origin (j .scene)) (bounds (j .scene))) (segs ws a (b - a))
+
+-- no row at hand: 8,192 is no row
+abbrev pub none-yet : Tally
+none-yet = record { row = tile-end; renders = 0; depths = 0; levels = 0; full = false; deep = false }
+
+-- the job's numbers, and the records of n rows
+pub record Rowed (j : Job) (n : ℕ) (rows : List ℕ) : Type 0 where
+  pub c : j .c ≤ most-room
+  pub d : j .d ≤ most-room
+  pub layers : j .layers ≤ most-layers
+  pub starts : Starts (origin (j .scene)) (bounds (j .scene))
+  pub bottom : j .scene .rows .end ≤ j .scene .y / 4 + n
+  pub long : length rows ≡ n * row-size
+  pub few : n ≤ most-rows
+
+-- the number of a list and of its rows: 4 for either, then the list's, then the rows'
+abbrev pub list-number : ℕ → ℕ → ℕ
+list-number a v = cond (eqb a BadRecord) BadRecord (cond (eqb v BadRecord) BadRecord (cond (eqb a Done) v a))
+
+-- the number n, after counts that pass c if f, and d if g
+abbrev pub noted : ℕ → Bool → Bool → ℕ
+noted n f g = cond f (cond (eqb n BadOrder) BadOrder FullRow) (cond g (cond (eqb n Done) FullDepth n) n)
+
+abbrev pub marked-by : Hand → Bool → Hand
+marked-by h follows = cond follows h (record { row = h .row; renders = h .renders; depths = h .depths; code = BadOrder })
+
+-- row r at hand, whose record at entry is s, with its layers
+unfoldable pub turned-to : Job → List ℕ → Hand → ℕ → Hand
+turned-to j s h r =
+    let read : Hand = record { row = r; renders = getD s renders-at 0 + (j .layers - getD s levels-at 0); depths = getD s depths-at 0; code = h .code } in
+    let bad : Hand = record { row = r; renders = 0; depths = 0; code = BadRecord } in
+    cond (eqb (h .row) r) h (cond (good-row (j .c) (j .d) (j .layers) s) read bad)
+
+-- one more stretch on the row at hand
+unfoldable pub stretched : Job → Hand → Span → Option ℕ → Hand
+stretched j h s a =
+    let renders = h .renders + added (j .eligible) s a .renders in
+    let depths = h .depths + added (j .eligible) s a .depths in
+    record { row = h .row; renders = renders; depths = depths; code = noted (h .code) (ltb (j .c) renders) (ltb (j .d) depths) }
+
+-- more cut segments; a bad record ends it
+unfoldable pub hand-cuts : Job → List ℕ → Hand → List Cut → Hand
+hand-cuts j rows h [] = h
+hand-cuts j rows h (k ∷ ks) =
+    let u = turned-to j (record-at rows (k .row)) h (k .row) in
+    let more = hand-cuts j rows (stretched j u (k .tiles) (k .alpha)) ks in
+    cond (eqb (u .code) BadRecord) u more
+
+-- counts that can grow by one stretch
+pub record Low (h : Hand) : Type 0 where
+  pub renders : h .renders ≤ 9223372036854775808
+  pub depths : h .depths ≤ 9223372036854775808

@@ -1,0 +1,280 @@
+// A filter fill (rule 11). `filter_fill` is a public call; the others are parts of it.
+ghost use mathlib.Core.Path.{_≡_};
+ghost use mathlib.Core.Bool.{_||_};
+ghost use lib.Dec.{eqb};
+ghost use Prim.Native.Nat.{_≤_, _+_};
+ghost use lib.IntN.{subℕ};
+ghost use Rattle.sizes.specs.Sizes.{most-attrs, most-filters, most-records};
+ghost use Rattle.rules.specs.Answers.{answer};
+ghost use Rattle.rules.specs.Boxes.{meet, to-local, empty-box};
+ghost use Rattle.cmd.specs.Answers.{number-of};
+ghost use Rattle.rect.specs.Rects.{box-of};
+ghost use Rattle.row.specs.Words.{words};
+ghost use Rattle.screen.specs.Screens.{counted};
+ghost use Rattle.step_filter.specs.Filter.{given, good-given, paint-from, attrs-of, lent, filter-number, after, filtered, Drawing};
+use cmd::Answer;
+use cmd::attrs::FilterPaint;
+use cmd::attrs::PaintFillAttrs;
+use cmd::attrs::put_filter_paint;
+use cmd::attrs::put_paint_attrs;
+use cmd::blend::Blend;
+use rect::Rect;
+use screen::Built;
+use screen::Screen;
+use screen::answer_of;
+use screen::judge_screen;
+use sizes::FILTER_TABLE;
+use sizes::HANDLE_END;
+use sizes::MOST_ATTRS;
+use sizes::MOST_FILTERS;
+use sizes::PAINT_TABLE;
+use step_rows::judge_rows;
+use step_rows::paint_rows;
+
+// Where a filter layer is drawn, and from where in its pixmap.
+pub struct Placement {
+    pub dest: Rect,
+    pub source_x: u32,
+    pub source_y: u32,
+}
+
+// Answer 4: what a filter fill is given.
+fn is_good_filter(placement: Placement, pixmap: u32, paint_count: u32) -> bool
+    ensures { λ r. ⌜ r ≡ good-given (given placement pixmap «paint_count») ⌝ }
+{
+    let dest = placement.dest;
+    if HANDLE_END <= pixmap {
+        return false;
+    }
+    if !dest.is_good_dest() {
+        return false;
+    }
+    if 32768 < placement.source_x {
+        return false;
+    }
+    if 32768 < placement.source_y {
+        return false;
+    }
+    paint_count <= 4096
+}
+
+// The dest box, made local and met with the clip box.
+fn filter_box(viewport: Rect, clip: Rect, dest: Rect) -> Rect
+    ensures { λ r. ⌜ box-of r ≡ meet (to-local (box-of viewport) (box-of dest)) (box-of clip) ⌝ }
+{
+    dest.relative_to_origin(viewport.x0, viewport.y0)
+        .intersect(clip)
+}
+
+// Source minus destination, exact.
+fn shift(source: u32, dest: u32) -> i32
+    requires { ⌜ (source ≤ 32768) × (dest ≤ 32768) ⌝ }
+    ensures { λ r. ⌜ r ≡ subℕ source dest ⌝ }
+{
+    (source as i32) - (dest as i32)
+}
+
+// Nothing is drawn without a pixmap, or in an empty box.
+fn draws_nothing(pixmap: u32, bbox: Rect) -> bool
+    ensures { λ r. ⌜ r ≡ (eqb pixmap 0 || empty-box (box-of bbox)) ⌝ }
+{
+    if pixmap == 0 {
+        return true;
+    }
+    bbox.is_empty()
+}
+
+// The paint that a filter fill adds. The dest box is the one given, not made local.
+fn filter_paint(dest: Rect, source_x: u32, source_y: u32, pixmap: u32) -> FilterPaint
+    requires { ⌜ («source_x» ≤ 32768) × («source_y» ≤ 32768) × (dest .x0 ≤ 32768) × (dest .y0 ≤ 32768) ⌝ }
+    ensures { λ r. ⌜ r ≡ paint-from dest «source_x» «source_y» pixmap ⌝ }
+{
+    FilterPaint {
+        pixmap,
+        shift_x: shift(source_x, dest.x0),
+        shift_y: shift(source_y, dest.y0),
+    }
+}
+
+// The attribute that it adds: default blend, no mask, thread 0.
+fn filter_attrs(screen: Screen, paint_count: u32) -> PaintFillAttrs
+    requires { ⌜ («paint_count» ≤ most-records) × (screen .«filter_paints» ≤ most-filters) ⌝ }
+    ensures { λ r. ⌜ r ≡ attrs-of screen «paint_count» ⌝ }
+{
+    let viewport = screen.viewport;
+    let blend = Blend { mix: 0, compose: 3 };
+    PaintFillAttrs {
+        paint: paint_count + screen.filter_paints,
+        blend,
+        mask: 0,
+        draw_id: screen.next_draw_id,
+        thread_idx: 0,
+        origin_x: viewport.x0,
+        origin_y: viewport.y0,
+    }
+}
+
+// The screen after a filter fill that took `more` of each: an id, an attribute, a filter paint.
+fn taken(screen: Screen, more: u32) -> Screen
+    requires { ⌜ (more ≤ 1) × (screen .«next_draw_id» ≤ 1048577) × (screen .«paint_attrs» ≤ most-attrs) × (screen .«filter_paints» ≤ most-filters) ⌝ }
+    ensures { λ r. ⌜ r ≡ counted screen (screen .«next_draw_id» + more) (screen .«paint_attrs» + more) (screen .«layer_attrs») (screen .«filter_paints» + more) ⌝ }
+{
+    let mut next = screen;
+    next.next_draw_id = screen.next_draw_id + more;
+    next.paint_attrs = screen.paint_attrs + more;
+    next.filter_paints = screen.filter_paints + more;
+    next.painting = false;
+    next
+}
+
+// 2, 1, 4, then 0 where nothing is drawn, 8, 9, 10, or 0.
+fn judge_filter(
+    screen: Screen,
+    rows: &[u32],
+    render: &[u32],
+    fills: &[u32],
+    paint_attrs: &[u32],
+    filter_paints: &[i32],
+    placement: Placement,
+    pixmap: u32,
+    paint_count: u32,
+) -> u32
+    ensures { λ r. ⌜ r ≡ filter-number (given placement pixmap «paint_count») (lent screen (words (now (rows .entry)) (now (render .entry)) (now (fills .entry))) (now («paint_attrs» .entry)) (now («filter_paints» .entry))) ⌝ }
+{
+    let n = judge_screen(screen, rows.len(), render.len(), fills.len());
+    if n != 0 {
+        return n;
+    }
+    if paint_attrs.len() != PAINT_TABLE {
+        return 4;
+    }
+    if filter_paints.len() != FILTER_TABLE {
+        return 4;
+    }
+    if !is_good_filter(placement, pixmap, paint_count) {
+        return 4;
+    }
+    let viewport = screen.viewport;
+    let clip = screen.clip_bbox;
+    let dest = placement.dest;
+    let bbox = filter_box(viewport, clip, dest);
+    if draws_nothing(pixmap, bbox) {
+        return 0;
+    }
+    let k = judge_rows(
+        screen,
+        rows,
+        (bbox.y0 / 4) as usize,
+        ((bbox.y1 + 3) / 4) as usize,
+    );
+    if k == 4 {
+        return 4;
+    }
+    if 1048577 <= screen.next_draw_id {
+        return 8;
+    }
+    if MOST_ATTRS <= screen.paint_attrs {
+        return 9;
+    }
+    if MOST_FILTERS <= screen.filter_paints {
+        return 9;
+    }
+    k
+}
+
+// A filter fill that was judged 0 and draws something.
+fn do_filter(
+    screen: Screen,
+    rows: &mut [u32],
+    render: &mut [u32],
+    fills: &mut [u32],
+    paint_attrs: &mut [u32],
+    filter_paints: &mut [i32],
+    placement: Placement,
+    pixmap: u32,
+    paint_count: u32,
+    bbox: Rect,
+) -> Screen
+    requires { ⌜ Drawing (given placement pixmap «paint_count») (lent screen (words (now rows) (now render) (now fills)) (now «paint_attrs») (now «filter_paints»)) bbox ⌝ }
+    ensures { λ r. ⌜ lent r (words (now (rows .exit)) (now (render .exit)) (now (fills .exit))) (now («paint_attrs» .exit)) (now («filter_paints» .exit))
+        ≡ after (given placement pixmap «paint_count») (lent screen (words (now (rows .entry)) (now (render .entry)) (now (fills .entry))) (now («paint_attrs» .entry)) (now («filter_paints» .entry))) ⌝ }
+{
+    let dest = placement.dest;
+    let paint = filter_paint(dest, placement.source_x, placement.source_y, pixmap);
+    let attrs = filter_attrs(screen, paint_count);
+    put_filter_paint(filter_paints, screen.filter_paints as usize, paint);
+    put_paint_attrs(paint_attrs, screen.paint_attrs as usize, attrs);
+    paint_rows(
+        screen,
+        rows,
+        render,
+        fills,
+        (bbox.y0 / 4) as usize,
+        ((bbox.y1 + 3) / 4) as usize,
+        screen.layers,
+        bbox.bbox_span(),
+        screen.paint_attrs,
+    );
+    taken(screen, 1)
+}
+
+// Rule 11: one id, one filter paint, one attribute, and a fill on each row of the box; or nothing.
+pub fn filter_fill(
+    screen: Screen,
+    rows: &mut [u32],
+    render: &mut [u32],
+    fills: &mut [u32],
+    paint_attrs: &mut [u32],
+    filter_paints: &mut [i32],
+    placement: Placement,
+    pixmap: u32,
+    paint_count: u32,
+) -> Built
+    ensures { λ r. ⌜ answer (number-of (r .answer)) (lent (r .screen) (words (now (rows .exit)) (now (render .exit)) (now (fills .exit))) (now («paint_attrs» .exit)) (now («filter_paints» .exit)))
+        ≡ filtered (given placement pixmap «paint_count») (lent screen (words (now (rows .entry)) (now (render .entry)) (now (fills .entry))) (now («paint_attrs» .entry)) (now («filter_paints» .entry))) ⌝ }
+{
+    let n = judge_filter(
+        screen,
+        rows,
+        render,
+        fills,
+        paint_attrs,
+        filter_paints,
+        placement,
+        pixmap,
+        paint_count,
+    );
+    if n != 0 {
+        return Built {
+            answer: answer_of(n),
+            screen,
+        };
+    }
+    let viewport = screen.viewport;
+    let clip = screen.clip_bbox;
+    let dest = placement.dest;
+    let bbox = filter_box(viewport, clip, dest);
+    if draws_nothing(pixmap, bbox) {
+        let same = taken(screen, 0);
+        return Built {
+            answer: Answer::Done,
+            screen: same,
+        };
+    }
+    let next = do_filter(
+        screen,
+        rows,
+        render,
+        fills,
+        paint_attrs,
+        filter_paints,
+        placement,
+        pixmap,
+        paint_count,
+        bbox,
+    );
+    Built {
+        answer: Answer::Done,
+        screen: next,
+    }
+}

@@ -1,0 +1,69 @@
+-- A run of rows: what is judged of their records, and something done on each.
+use Prim.Native.Nat.{ℕ, _≤_, _<_, _+_, _-_, _*_}
+use mathlib.Core.Bool.{Bool, cond}
+use mathlib.Core.List.{List, [], _∷_}
+use mathlib.Core.Option.{none}
+use lib.ListN.{getD, take, drop}
+use lib.Dec.{ltb}
+use Rattle.sizes.specs.Sizes.{most-layers, row-size, renders-at, levels-at}
+use Rattle.rules.specs.Lists.{every, some-of, change}
+use Rattle.rules.specs.Answers.{Done, BadRecord, FullRow}
+use Rattle.rules.specs.Boxes.{rows-of}
+use Rattle.row.specs.Words.{Words, Room}
+use Rattle.row.specs.Cmds.{Short}
+use Rattle.row_screen.specs.Arena.{nowhere}
+use Rattle.row_judge.specs.Building.{rows-at, Whole, good-row}
+use Rattle.rect.specs.Rects.{box-of}
+use Rattle.screen.specs.declared.Screen.{Screen}
+use Rattle.screen.specs.Screens.{frame-of}
+use Rattle.span.specs.Spans.{tiles}
+use Rattle.rules.specs.Plans as Plans
+use Rattle.rules.specs.Plans.{touch, paint}
+use Rattle.step_rows.specs.declared.Act.{Act}
+use Rattle.step_rows.specs.declared.Act.the-variants.{Touch, Paint}
+
+-- row r's record among all
+abbrev pub record-of : List ℕ → ℕ → List ℕ
+record-of ws r = take row-size (drop (r * row-size) ws)
+
+-- one more command, with what the row lacks of n open layers, passes c
+abbrev pub is-full : ℕ → ℕ → List ℕ → Bool
+is-full c n s = ltb c (getD s renders-at 0 + (n + 1 - getD s levels-at 0))
+
+-- 4 for a record, then 10
+abbrev pub row-number : ℕ → ℕ → ℕ → List ℕ → ℕ
+row-number c d n s = cond (good-row c d n s) (cond (is-full c n s) FullRow Done) BadRecord
+
+-- the same of the rows rs
+unfoldable pub band-number : ℕ → ℕ → ℕ → List ℕ → List ℕ → ℕ
+band-number c d n ws rs =
+    cond (every (λ (r : ℕ). good-row c d n (record-of ws r)) rs)
+    (cond (some-of (λ (r : ℕ). is-full c n (record-of ws r)) rs) FullRow Done) BadRecord
+
+-- f done on each of the rows rs
+unfoldable pub each : (Words → Words) → List ℕ → List Words → List Words
+each f [] ws = ws
+each f (r ∷ rs) ws = each f rs (change f r ws)
+
+-- the rules' act, and what it asks of its span
+abbrev pub act-of : Act → Plans.Act
+act-of Touch = touch
+act-of (Paint s i) = paint (tiles s) none i
+
+abbrev pub ShortAct : Act → Type 0
+ShortAct Touch = Unit
+ShortAct (Paint s i) = Short (tiles s)
+
+-- row r has room for f, which is done with n layers open
+pub record OnRow (s : Screen) (n : ℕ) (f : Words → Words) (r : ℕ) (w : Words) : Type 0 where
+  pub whole : Whole (frame-of s) w
+  pub layers : n ≤ most-layers
+  pub within : r < rows-of (box-of (s .viewport))
+  pub room : Room (getD (rows-at (frame-of s) w) r nowhere) (f (getD (rows-at (frame-of s) w) r nowhere))
+
+-- each of the rows a to b has
+pub record OnRows (s : Screen) (n : ℕ) (f : Words → Words) (a b : ℕ) (w : Words) : Type 0 where
+  pub whole : Whole (frame-of s) w
+  pub layers : n ≤ most-layers
+  pub within : b ≤ rows-of (box-of (s .viewport))
+  pub room : (i : ℕ) → a ≤ i → i < b → Room (getD (rows-at (frame-of s) w) i nowhere) (f (getD (rows-at (frame-of s) w) i nowhere))

@@ -1,0 +1,87 @@
+-- What the parts of a recording's text leave: one text after the other, each at the start of the bytes that are left.
+use Prim.Native.Nat.{ℕ, zero, suc, _+_, _*_, _≤_}
+use mathlib.Core.Path.{_≡_}
+use mathlib.Core.List.{List, _++_}
+use lib.ListN.{length, take, drop}
+use Rattle.sizes.specs.Sizes.{bucket-tiles, row-size, program-rows, program-buckets, program-room, program-records, program-render, program-fills, program-depth, program-painting, open-layer-table, opacity-count, paint-attr-table, layer-attr-table, filter-paint-table}
+use Rattle.rules.specs.Boxes.{rows-of, buckets-of}
+use Rattle.rect.specs.Rects.{box-of}
+use Rattle.screen.specs.declared.Screen.{Screen}
+use Rattle.screen.specs.Tables as screen
+use Rattle.paint_command.specs.Painting.{RowLent, lent}
+use Rattle.paint_screen.specs.Beginning.{canvas, beginning}
+use Rattle.paint_screen.specs.Stepping.{Attributes, attributes}
+use Rattle.text_row.specs.Dumped.{AttrTables, tables, row-dumped, attrs-dumped}
+
+-- how many bytes a part has written, the words that painting changes, the bytes
+pub record Part : Type 0 where
+  pub count : ℕ
+  pub depth : List ℕ
+  pub painting : List ℕ
+  pub list : List ℕ
+  pub bytes : List ℕ
+
+abbrev pub part : ℕ → List ℕ → List ℕ → List ℕ → List ℕ → Part
+part n d p l bs = record { count = n; depth = d; painting = p; list = l; bytes = bs }
+
+-- a part after n bytes that stand first in bs
+abbrev pub after : ℕ → List ℕ → Part → Part
+after n bs q = part (n + q .count) (q .depth) (q .painting) (q .list) (take n bs ++ q .bytes)
+
+-- k rows from row r on
+unfoldable pub rows-dumped : ℕ → ℕ → Screen → Attributes → RowLent → List ℕ → Part
+rows-dumped zero r s a l bs = part 0 (l .depth) (l .painting) (l .list) bs
+rows-dumped (suc k) r s a l bs =
+    let o = row-dumped s r a l bs in
+    after (o .answer .bytes) (o .bytes)
+    (rows-dumped k (suc r) s a (lent (l .state) (l .render) (l .fills) (o .depth) (o .painting) (o .list)) (drop (o .answer .bytes) (o .bytes)))
+
+-- the attributes, then the n rows once painting has begun
+unfoldable pub details-dumped : Screen → ℕ → AttrTables → RowLent → List ℕ → Part
+details-dumped s n t l bs =
+    let o = attrs-dumped s t bs in
+    let k = beginning (canvas s (l .depth) (l .painting)) .value in
+    after (o .answer .bytes) (o .bytes)
+    (rows-dumped n 0 (k .screen) (attributes (t .paints) (t .layers)) (lent (l .state) (l .render) (l .fills) (k .depth) (k .painting) (l .list))
+    (drop (o .answer .bytes) (o .bytes)))
+
+-- in tables for 32 rows of 32 buckets: a screen's own words stand first
+abbrev pub words-before : Screen → RowLent → RowLent
+words-before s l =
+    let n = rows-of (box-of (s .viewport)) in
+    lent (take (n * row-size) (l .state)) (take (n * (4 * program-room)) (l .render)) (take (n * (2 * program-room)) (l .fills)) (take (n * buckets-of bucket-tiles (box-of (s .viewport))) (l .depth))
+    (take (n * 2) (l .painting))
+    (l .list)
+
+abbrev pub in-front : Screen → RowLent → Part → Part
+in-front s l q =
+    let n = rows-of (box-of (s .viewport)) in
+    part (q .count) (q .depth ++ drop (n * buckets-of bucket-tiles (box-of (s .viewport))) (l .depth)) (q .painting ++ drop (n * 2) (l .painting)) (q .list) (q .bytes)
+
+unfoldable pub screen-dumped : Screen → AttrTables → RowLent → List ℕ → Part
+screen-dumped s t l bs = in-front s l (details-dumped s (rows-of (box-of (s .viewport))) t (words-before s l) bs)
+
+-- tables for 32 rows of 32 buckets, and a screen that has no more
+pub record Wide (s : Screen) (rows render fills depth painting : List ℕ) : Type 0 where
+  pub few : rows-of (box-of (s .viewport)) ≤ program-rows
+  pub narrow : buckets-of bucket-tiles (box-of (s .viewport)) ≤ program-buckets
+  pub rows-long : program-records ≤ length rows
+  pub render-long : program-render ≤ length render
+  pub fills-long : program-fills ≤ length fills
+  pub depth-long : program-depth ≤ length depth
+  pub painting-long : program-painting ≤ length painting
+
+-- the lengths of the programs' tables and list, and room for the longest text after the first line
+pub record Sized (t : screen.Tables) (list out : List ℕ) : Type 0 where
+  pub render : program-render ≡ length (t .render)
+  pub fills : program-fills ≡ length (t .fills)
+  pub depth : program-depth ≡ length (t .depth)
+  pub rows : program-records ≡ length (t .rows)
+  pub painting : program-painting ≡ length (t .painting)
+  pub layers : open-layer-table ≡ length (t .layers)
+  pub opacities : opacity-count ≡ length (t .opacities)
+  pub paint-attrs : paint-attr-table ≡ length (t .paint-attrs)
+  pub layer-attrs : layer-attr-table ≡ length (t .layer-attrs)
+  pub filter-paints : filter-paint-table ≡ length (t .filter-paints)
+  pub pieces : 13056 ≡ length list
+  pub room : 4682080 ≤ length out

@@ -1,0 +1,2 @@
+pub mod Rowdump
+pub mod Dumped

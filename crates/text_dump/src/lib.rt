@@ -1,0 +1,306 @@
+// What `rowdump` prints of a recording, from its number and its file's bytes to the text. Parts: where a function asks something, its callers
+// have seen to it.
+use paint_screen::begin::begin_painting;
+use screen::Screen;
+use sizes::PROGRAM_DEPTHS;
+use sizes::PROGRAM_RENDERS;
+use sizes::ROW;
+use text::put_byte;
+use text::put_text;
+use text_file::file_text;
+use text_programs::tables::depth_words;
+use text_programs::tables::fill_words;
+use text_programs::tables::filter_words;
+use text_programs::tables::layer_attr_words;
+use text_programs::tables::layer_words;
+use text_programs::tables::opacity_words;
+use text_programs::tables::painting_words;
+use text_programs::tables::piece_words;
+use text_programs::tables::render_words;
+use text_programs::tables::row_words;
+use text_row::attrs_text;
+use text_row::row_text;
+ghost use mathlib.Core.Path.{_≡_};
+ghost use Prim.Native.Nat.{_+_, _-_, _*_, _%_, _≤_};
+ghost use lib.ListN.{length};
+ghost use Rattle.rules.specs.Lines.{digits};
+ghost use Rattle.screen.specs.Tables.{tables as screen-tables};
+ghost use Rattle.text.specs.Texts.{text, far, Wrote};
+ghost use Rattle.paint_command.specs.Painting.{lent};
+ghost use Rattle.paint_screen.specs.Stepping.{attributes};
+ghost use Rattle.text_row.specs.Dumped.{tables};
+ghost use Rattle.text_programs.specs.Programs.{first};
+ghost use Rattle.text_dump.specs.Rowdump.{recording-line, file-lines-text, rowdump-text, Printed};
+ghost use Rattle.text_dump.specs.Dumped.{part, rows-dumped, details-dumped, screen-dumped, Wide, Sized};
+
+// The last decimal digit of a number, as a byte.
+fn digit(n: u64) -> u8
+    ensures { λ r. ⌜ r ≡ 48 + n % 10 ⌝ }
+{
+    (48 + n % 10) as u8
+}
+
+// A number in decimal, its last k digits at most.
+fn put_digits(out: &mut [u8], at: usize, n: u64, k: usize) -> usize
+    requires { ⌜ at + k ≤ far ⌝ }
+    ensures { λ r. ⌜ Wrote (digits k n) k (text (now (out .entry)) at) (text (now (out .exit)) r) ⌝ }
+{
+    if k == 0 {
+        return at;
+    }
+    if n < 10 {
+        return put_byte(out, at, digit(n));
+    }
+    let place = put_digits(out, at, n / 10, k - 1);
+    put_byte(out, place, digit(n))
+}
+
+// The line that a recording's text begins with.
+fn put_recording(out: &mut [u8], i: u64) -> usize
+    ensures { λ r. ⌜ Wrote (recording-line i) 31 (text (now (out .entry)) 0) (text (now (out .exit)) r) ⌝ }
+{
+    let a = put_text(out, 0, b"recording ");
+    let b = put_digits(out, a, i, 20);
+    put_byte(out, b, b'\n')
+}
+
+// The texts of the rows from row r to row n, one after the other, on a screen whose painting has begun.
+fn rows_text(
+    screen: Screen,
+    r: u32,
+    n: u32,
+    rows: &[u32],
+    render: &[u32],
+    fills: &[u32],
+    depth: &mut [u32],
+    painting: &mut [u32],
+    paint_attrs: &[u32],
+    layer_attrs: &[u32],
+    list: &mut [u32],
+    out: &mut [u8],
+) -> usize
+    ensures { λ q. ⌜ part q (now (depth .exit)) (now (painting .exit)) (now (list .exit)) (now (out .exit))
+        ≡ rows-dumped (n - r) r screen (attributes (now («paint_attrs» .entry)) (now («layer_attrs» .entry))) (lent (now (rows .entry)) (now (render .entry)) (now (fills .entry)) (now (depth .entry)) (now (painting .entry)) (now (list .entry))) (now (out .entry)) ⌝ }
+    ensures { λ q. ⌜ q ≤ length (now (out .entry)) ⌝ }
+{
+    if n <= r {
+        return 0;
+    }
+    let text = row_text(
+        screen,
+        r,
+        rows,
+        render,
+        fills,
+        depth,
+        painting,
+        paint_attrs,
+        layer_attrs,
+        list,
+        out,
+    );
+    let k = text.bytes;
+    let more = rows_text(
+        screen,
+        r + 1,
+        n,
+        rows,
+        render,
+        fills,
+        depth,
+        painting,
+        paint_attrs,
+        layer_attrs,
+        list,
+        &mut out[k..],
+    );
+    k + more
+}
+
+// The attributes and the painted rows of a screen of n rows, given its own words.
+fn details_text(
+    screen: Screen,
+    n: u32,
+    rows: &[u32],
+    render: &[u32],
+    fills: &[u32],
+    depth: &mut [u32],
+    painting: &mut [u32],
+    opacities: &[f32],
+    paint_attrs: &[u32],
+    layer_attrs: &[u32],
+    filter_paints: &[i32],
+    list: &mut [u32],
+    out: &mut [u8],
+) -> usize
+    ensures { λ r. ⌜ part r (now (depth .exit)) (now (painting .exit)) (now (list .exit)) (now (out .exit))
+        ≡ details-dumped screen n (tables (now («paint_attrs» .entry)) (now («layer_attrs» .entry)) (now (opacities .entry)) (now («filter_paints» .entry)))
+        (lent (now (rows .entry)) (now (render .entry)) (now (fills .entry)) (now (depth .entry)) (now (painting .entry)) (now (list .entry))) (now (out .entry)) ⌝ }
+    ensures { λ r. ⌜ r ≤ length (now (out .entry)) ⌝ }
+{
+    let text = attrs_text(
+        screen,
+        paint_attrs,
+        layer_attrs,
+        opacities,
+        filter_paints,
+        out,
+    );
+    let k = text.bytes;
+    let begun = begin_painting(screen, depth, painting);
+    let s = begun.screen;
+    let more = rows_text(
+        s,
+        0,
+        n,
+        rows,
+        render,
+        fills,
+        depth,
+        painting,
+        paint_attrs,
+        layer_attrs,
+        list,
+        &mut out[k..],
+    );
+    k + more
+}
+
+// The same, given tables for 32 rows of 32 buckets.
+fn screen_text(
+    screen: Screen,
+    rows: &[u32],
+    render: &[u32],
+    fills: &[u32],
+    depth: &mut [u32],
+    painting: &mut [u32],
+    opacities: &[f32],
+    paint_attrs: &[u32],
+    layer_attrs: &[u32],
+    filter_paints: &[i32],
+    list: &mut [u32],
+    out: &mut [u8],
+) -> usize
+    requires { ⌜ Wide screen (now rows) (now render) (now fills) (now depth) (now painting) ⌝ }
+    ensures { λ r. ⌜ part r (now (depth .exit)) (now (painting .exit)) (now (list .exit)) (now (out .exit))
+        ≡ screen-dumped screen (tables (now («paint_attrs» .entry)) (now («layer_attrs» .entry)) (now (opacities .entry)) (now («filter_paints» .entry)))
+        (lent (now (rows .entry)) (now (render .entry)) (now (fills .entry)) (now (depth .entry)) (now (painting .entry)) (now (list .entry))) (now (out .entry)) ⌝ }
+    ensures { λ r. ⌜ r ≤ length (now (out .entry)) ⌝ }
+{
+    let n = screen.rows();
+    let b = screen.buckets();
+    details_text(
+        screen,
+        n as u32,
+        &rows[..n * ROW],
+        &render[..n * PROGRAM_RENDERS],
+        &fills[..n * PROGRAM_DEPTHS],
+        &mut depth[..n * b],
+        &mut painting[..n * 2],
+        opacities,
+        paint_attrs,
+        layer_attrs,
+        filter_paints,
+        list,
+        out,
+    )
+}
+
+// The text of a recording after its first line, in tables that are lent.
+fn tables_text(
+    file: &[u8],
+    render: &mut [u32],
+    fills: &mut [u32],
+    depth: &mut [u32],
+    rows: &mut [u32],
+    painting: &mut [u32],
+    layers: &mut [u32],
+    opacities: &mut [f32],
+    paint_attrs: &mut [u32],
+    layer_attrs: &mut [u32],
+    filter_paints: &mut [i32],
+    list: &mut [u32],
+    out: &mut [u8],
+) -> usize
+    requires { ⌜ Sized (screen-tables (now render) (now fills) (now depth) (now rows) (now painting) (now layers) (now opacities) (now «paint_attrs») (now «layer_attrs») (now «filter_paints»)) (now list) (now out) ⌝ }
+    ensures { λ r. ⌜ Printed (file-lines-text (now (file .entry))) (now (out .entry)) r (now (out .exit)) ⌝ }
+{
+    let text = file_text(
+        file,
+        render,
+        fills,
+        depth,
+        rows,
+        painting,
+        layers,
+        opacities,
+        paint_attrs,
+        layer_attrs,
+        filter_paints,
+        out,
+    );
+    let k = text.bytes;
+    if text.number != 0 {
+        return k;
+    }
+    let screen = text.screen;
+    let more = screen_text(
+        screen,
+        rows,
+        render,
+        fills,
+        depth,
+        painting,
+        opacities,
+        paint_attrs,
+        layer_attrs,
+        filter_paints,
+        list,
+        &mut out[k..],
+    );
+    k + more
+}
+
+// The same, with the programs' tables.
+fn recording_text(file: &[u8], out: &mut [u8]) -> usize
+    requires { ⌜ 4682080 ≤ length (now out) ⌝ }
+    ensures { λ r. ⌜ Printed (file-lines-text (now (file .entry))) (now (out .entry)) r (now (out .exit)) ⌝ }
+{
+    let mut render = render_words();
+    let mut fills = fill_words();
+    let mut depth = depth_words();
+    let mut rows = row_words();
+    let mut painting = painting_words();
+    let mut layers = layer_words();
+    let mut opacities = opacity_words();
+    let mut paint_attrs = render_words();
+    let mut layer_attrs = layer_attr_words();
+    let mut filter_paints = filter_words();
+    let mut list = piece_words();
+    tables_text(
+        file,
+        &mut render,
+        &mut fills,
+        &mut depth,
+        &mut rows,
+        &mut painting,
+        &mut layers,
+        &mut opacities,
+        &mut paint_attrs,
+        &mut layer_attrs,
+        &mut filter_paints,
+        &mut list,
+        out,
+    )
+}
+
+// The text that `rowdump` prints of recording i, a file's bytes, put first; how long it is. The room is that of the longest text.
+pub fn rowdump_text(i: u64, file: &[u8], out: &mut [u8]) -> usize
+    requires { ⌜ 4682240 ≤ length (now out) ⌝ }
+    ensures { λ r. ⌜ r ≡ length (rowdump-text i (now (file .entry))) ⌝ }
+    ensures { λ r. ⌜ now (out .exit) ≡ first (rowdump-text i (now (file .entry))) (now (out .entry)) ⌝ }
+{
+    let k = put_recording(out, i);
+    let more = recording_text(file, &mut out[k..]);
+    k + more
+}

@@ -1,0 +1,381 @@
+// What `rowdump` prints of a screen after the lines of `rowlist`. `attrs_text` and `row_text` are public calls; the others are their parts.
+use paint_screen::step::paint_step;
+use paint_whole::paint_row;
+use screen::Screen;
+use sizes::FILTER_TABLE;
+use sizes::LAYER_TABLE;
+use sizes::MOST_ATTRS;
+use sizes::MOST_FILTERS;
+use sizes::OPACITIES;
+use sizes::PAINT_TABLE;
+use span::Alpha;
+use text::put_byte;
+use text::put_number;
+use text::put_text;
+use text_details::put_filter_paints;
+use text_details::put_layer_attrs;
+use text_details::put_paint_attrs;
+use text_lines::put_alpha;
+use text_screen::Listing;
+ghost use mathlib.Core.Path.{_≡_};
+ghost use mathlib.Core.Bool.{true, _&&_};
+ghost use mathlib.Core.List.{[]};
+ghost use Prim.Native.Nat.{_+_, _*_, _≤_};
+ghost use lib.ListN.{length};
+ghost use lib.Dec.{ltb};
+ghost use Rattle.sizes.specs.Sizes.{most-attrs, most-filters};
+ghost use Rattle.rules.specs.Lines.{alpha-bytes};
+ghost use Rattle.text_details.specs.Details.{painted};
+ghost use Rattle.span.specs.Spans.{alpha};
+ghost use Rattle.text.specs.Texts.{text, far, Wrote};
+ghost use Rattle.text_details.specs.Bytes.{detail-bytes, details-text, piece-bytes};
+ghost use Rattle.paint_command.specs.Painting.{lent};
+ghost use Rattle.paint_screen.specs.Stepping.{attributes};
+ghost use Rattle.text_screen.specs.Listed.{left};
+ghost use Rattle.text_row.specs.Pieces.{alpha-of, letter-of, piece-at, row-lines};
+ghost use Rattle.text_row.specs.Dumped.{pieces-written, stopped-out, stopped, row-out, row-dumped, tables, good-lengths, good-tables, attrs-room, attrs-text, attrs-dumped};
+
+// The alpha index that a piece's tag says it has.
+fn alpha_of(tag: u32, index: u32) -> Alpha
+    ensures { λ r. ⌜ alpha r ≡ alpha-of tag index ⌝ }
+{
+    if tag == 2 {
+        return Alpha::At(index);
+    }
+    if tag == 4 {
+        return Alpha::At(index);
+    }
+    Alpha::Solid
+}
+
+// What a p and an l have in common.
+fn put_piece_fields(
+    out: &mut [u8],
+    at: usize,
+    attribute: u32,
+    first: u32,
+    end: u32,
+    index: Alpha,
+    nesting: u32,
+) -> usize
+    requires { ⌜ at + 55 ≤ far ⌝ }
+    ensures { λ r. ⌜ Wrote (piece-bytes attribute first «end» (alpha-bytes (alpha index)) nesting) 55 (text (now (out .entry)) at) (text (now (out .exit)) r) ⌝ }
+{
+    let a = put_number(out, at, attribute);
+    let b = put_number(out, a, first);
+    let c = put_number(out, b, end);
+    let d = put_alpha(out, c, index);
+    put_number(out, d, nesting)
+}
+
+// p for a paint, l for a layer.
+fn letter(tag: u32) -> u8
+    ensures { λ r. ⌜ r ≡ letter-of tag ⌝ }
+{
+    if tag <= 2 {
+        return b'p';
+    }
+    b'l'
+}
+
+// The piece at place k of a list.
+fn put_piece(out: &mut [u8], at: usize, list: &[u32], k: usize) -> usize
+    requires { ⌜ (at + 64 ≤ far) × (6 * k + 6 ≤ length (now list)) ⌝ }
+    ensures { λ r. ⌜ Wrote (detail-bytes (piece-at (now (list .entry)) k)) 64 (text (now (out .entry)) at) (text (now (out .exit)) r) ⌝ }
+{
+    let i = 6 * k;
+    let tag = list[i];
+    let index = alpha_of(tag, list[i + 4]);
+    let a = put_byte(out, at, letter(tag));
+    let b = put_piece_fields(
+        out,
+        a,
+        list[i + 1],
+        list[i + 2],
+        list[i + 3],
+        index,
+        list[i + 5],
+    );
+    put_byte(out, b, b'\n')
+}
+
+// A row's number, and how many pieces it gave.
+fn put_painted(out: &mut [u8], at: usize, row: u32, n: u32) -> usize
+    requires { ⌜ at + 64 ≤ far ⌝ }
+    ensures { λ r. ⌜ Wrote (detail-bytes (painted row n)) 64 (text (now (out .entry)) at) (text (now (out .exit)) r) ⌝ }
+{
+    let a = put_text(out, at, b"painted");
+    let b = put_number(out, a, row);
+    let c = put_text(out, b, b" pieces");
+    let d = put_number(out, c, n);
+    put_byte(out, d, b'\n')
+}
+
+// A row with its first n pieces.
+fn put_pieces(out: &mut [u8], row: u32, list: &[u32], n: usize) -> usize
+    requires { ⌜ (6 * n ≤ length (now list)) × (n ≤ 65536) ⌝ }
+    ensures { λ r. ⌜ Wrote (details-text (row-lines row (now (list .entry)) n)) (64 * (1 + n)) (text (now (out .entry)) 0) (text (now (out .exit)) r) ⌝ }
+{
+    let mut place = put_painted(out, 0, row, n as u32);
+    let mut k = 0;
+    while k < n {
+        place = put_piece(out, place, list, k);
+        k += 1;
+    }
+    place
+}
+
+// Whether a row's text is longer than so many bytes: it is measured only where they are fewer than it can have at most.
+fn is_short_row(row: u32, list: &[u32], n: usize, room: usize) -> bool
+    requires { ⌜ (6 * n ≤ length (now list)) × (n ≤ 65536) ⌝ }
+    ensures { λ r. ⌜ r ≡ (ltb room (64 * (1 + n)) && ltb room (length (details-text (row-lines row (now (list .entry)) n)))) ⌝ }
+{
+    if 64 * (1 + n) <= room {
+        return false;
+    }
+    let mut none = [0u8; 0];
+    room < put_pieces(&mut none, row, list, n)
+}
+
+// The lines of a painted row, given its first n pieces.
+fn write_pieces(row: u32, list: &[u32], n: usize, out: &mut [u8]) -> Listing
+    requires { ⌜ 6 * n ≤ length (now list) ⌝ }
+    ensures { λ r. ⌜ left r (now (out .exit)) ≡ pieces-written row (now (list .entry)) n (now (out .entry)) ⌝ }
+{
+    if 65536 < n {
+        return Listing {
+            number: 14,
+            bytes: 0,
+        };
+    }
+    if is_short_row(row, list, n, out.len()) {
+        return Listing {
+            number: 14,
+            bytes: 0,
+        };
+    }
+    let bytes = put_pieces(out, row, list, n);
+    Listing { number: 0, bytes }
+}
+
+// The number of the step that a row stands at, which is refused: it is tried with no list.
+fn refused_at(
+    screen: Screen,
+    row: usize,
+    rows: &[u32],
+    render: &[u32],
+    fills: &[u32],
+    depth: &mut [u32],
+    painting: &mut [u32],
+    paint_attrs: &[u32],
+    layer_attrs: &[u32],
+) -> Listing
+    ensures { λ r. ⌜ stopped-out r (now (depth .exit)) (now (painting .exit))
+        ≡ stopped screen row (attributes (now («paint_attrs» .entry)) (now («layer_attrs» .entry))) (lent (now (rows .entry)) (now (render .entry)) (now (fills .entry)) (now (depth .entry)) (now (painting .entry)) []) ⌝ }
+{
+    let mut none = [0u32; 0];
+    let step = paint_step(
+        screen,
+        row,
+        rows,
+        render,
+        fills,
+        depth,
+        painting,
+        paint_attrs,
+        layer_attrs,
+        &mut none,
+    );
+    let answer = step.answer;
+    Listing {
+        number: answer.number(),
+        bytes: 0,
+    }
+}
+
+// The text of a row: painted to its end, its pieces in the list and as lines. The screen's painting has begun, and the row stands at its
+// first step, or the text is of the steps that are left.
+pub fn row_text(
+    screen: Screen,
+    row: u32,
+    rows: &[u32],
+    render: &[u32],
+    fills: &[u32],
+    depth: &mut [u32],
+    painting: &mut [u32],
+    paint_attrs: &[u32],
+    layer_attrs: &[u32],
+    list: &mut [u32],
+    out: &mut [u8],
+) -> Listing
+    ensures { λ r. ⌜ row-out r (now (depth .exit)) (now (painting .exit)) (now (list .exit)) (now (out .exit))
+        ≡ row-dumped screen row (attributes (now («paint_attrs» .entry)) (now («layer_attrs» .entry))) (lent (now (rows .entry)) (now (render .entry)) (now (fills .entry)) (now (depth .entry)) (now (painting .entry)) (now (list .entry))) (now (out .entry)) ⌝ }
+{
+    let done = paint_row(
+        screen,
+        row as usize,
+        rows,
+        render,
+        fills,
+        depth,
+        painting,
+        paint_attrs,
+        layer_attrs,
+        list,
+    );
+    let answer = done.answer;
+    let n = answer.number();
+    if n != 0 {
+        return Listing {
+            number: n,
+            bytes: 0,
+        };
+    }
+    if !done.finished {
+        return refused_at(
+            screen,
+            row as usize,
+            rows,
+            render,
+            fills,
+            depth,
+            painting,
+            paint_attrs,
+            layer_attrs,
+        );
+    }
+    write_pieces(row, list, done.pieces, out)
+}
+
+// Answer 4: counts within their limits, tables of their lengths.
+fn is_good_tables(
+    screen: Screen,
+    paints: usize,
+    layers: usize,
+    opacities: usize,
+    filters: usize,
+) -> bool
+    ensures { λ r. ⌜ r ≡ good-lengths screen paints layers opacities filters ⌝ }
+{
+    if MOST_ATTRS < screen.paint_attrs {
+        return false;
+    }
+    if MOST_ATTRS < screen.layer_attrs {
+        return false;
+    }
+    if MOST_FILTERS < screen.filter_paints {
+        return false;
+    }
+    if paints != PAINT_TABLE {
+        return false;
+    }
+    if layers != LAYER_TABLE {
+        return false;
+    }
+    if opacities != OPACITIES {
+        return false;
+    }
+    filters == FILTER_TABLE
+}
+
+// What the text of a screen's attributes has at most.
+fn attrs_room(screen: Screen) -> usize
+    requires { ⌜ (screen .«paint_attrs» ≤ most-attrs) × (screen .«layer_attrs» ≤ most-attrs) × (screen .«filter_paints» ≤ most-filters) ⌝ }
+    ensures { λ r. ⌜ r ≡ attrs-room screen ⌝ }
+{
+    let paints = screen.paint_attrs as usize;
+    let layers = screen.layer_attrs as usize;
+    let filters = screen.filter_paints as usize;
+    96 * (3 + (paints + (layers + filters)))
+}
+
+// The lines of tables that are judged.
+fn put_attrs(
+    out: &mut [u8],
+    screen: Screen,
+    paint_attrs: &[u32],
+    layer_attrs: &[u32],
+    opacities: &[f32],
+    filter_paints: &[i32],
+) -> usize
+    requires { ⌜ good-tables screen (tables (now «paint_attrs») (now «layer_attrs») (now opacities) (now «filter_paints»)) ≡ true ⌝ }
+    ensures { λ r. ⌜ Wrote (attrs-text screen (tables (now («paint_attrs» .entry)) (now («layer_attrs» .entry)) (now (opacities .entry)) (now («filter_paints» .entry)))) (attrs-room screen) (text (now (out .entry)) 0) (text (now (out .exit)) r) ⌝ }
+{
+    let a = put_paint_attrs(out, 0, paint_attrs, screen.paint_attrs);
+    let b = put_layer_attrs(out, a, layer_attrs, opacities, screen.layer_attrs);
+    put_filter_paints(out, b, filter_paints, screen.filter_paints)
+}
+
+// Whether that text is longer than so many bytes.
+fn is_short_attrs(
+    screen: Screen,
+    paint_attrs: &[u32],
+    layer_attrs: &[u32],
+    opacities: &[f32],
+    filter_paints: &[i32],
+    room: usize,
+) -> bool
+    requires { ⌜ good-tables screen (tables (now «paint_attrs») (now «layer_attrs») (now opacities) (now «filter_paints»)) ≡ true ⌝ }
+    ensures { λ r. ⌜ r ≡ (ltb room (attrs-room screen) && ltb room (length (attrs-text screen (tables (now («paint_attrs» .entry)) (now («layer_attrs» .entry)) (now (opacities .entry)) (now («filter_paints» .entry)))))) ⌝ }
+{
+    if attrs_room(screen) <= room {
+        return false;
+    }
+    let mut none = [0u8; 0];
+    room
+        < put_attrs(
+            &mut none,
+            screen,
+            paint_attrs,
+            layer_attrs,
+            opacities,
+            filter_paints,
+        )
+}
+
+// The text of a screen's attributes and filter paints.
+pub fn attrs_text(
+    screen: Screen,
+    paint_attrs: &[u32],
+    layer_attrs: &[u32],
+    opacities: &[f32],
+    filter_paints: &[i32],
+    out: &mut [u8],
+) -> Listing
+    ensures { λ r. ⌜ left r (now (out .exit)) ≡ attrs-dumped screen (tables (now («paint_attrs» .entry)) (now («layer_attrs» .entry)) (now (opacities .entry)) (now («filter_paints» .entry))) (now (out .entry)) ⌝ }
+{
+    if !is_good_tables(
+        screen,
+        paint_attrs.len(),
+        layer_attrs.len(),
+        opacities.len(),
+        filter_paints.len(),
+    ) {
+        return Listing {
+            number: 4,
+            bytes: 0,
+        };
+    }
+    if is_short_attrs(
+        screen,
+        paint_attrs,
+        layer_attrs,
+        opacities,
+        filter_paints,
+        out.len(),
+    ) {
+        return Listing {
+            number: 14,
+            bytes: 0,
+        };
+    }
+    let bytes = put_attrs(
+        out,
+        screen,
+        paint_attrs,
+        layer_attrs,
+        opacities,
+        filter_paints,
+    );
+    Listing { number: 0, bytes }
+}

@@ -1,6 +1,7 @@
 //! Times the original and the port on the same scenes, in one process.
 
 mod port;
+mod reads;
 mod scenes;
 mod timing;
 
@@ -12,6 +13,12 @@ use std::hint::black_box;
 use timing::Race;
 
 fn main() {
+    let only = std::env::args().nth(2).unwrap_or_default();
+    let wanted = |scene: &&scenes::Scene| scene.name.contains(&only);
+    if std::env::args().nth(1).as_deref() == Some("reads") {
+        scenes::all().iter().filter(wanted).for_each(reads::count);
+        return;
+    }
     let rounds = std::env::args()
         .nth(1)
         .and_then(|n| n.parse().ok())
@@ -20,11 +27,7 @@ fn main() {
         "{:<14} {:<10} {:>12} {:>12} {:>7}",
         "scene", "what", "original us", "port us", "ratio"
     );
-    let only = std::env::args().nth(2).unwrap_or_default();
-    for scene in scenes::all()
-        .iter()
-        .filter(|scene| scene.name.contains(&only))
-    {
+    for scene in scenes::all().iter().filter(wanted) {
         race(scene, rounds);
     }
 }

@@ -57,6 +57,10 @@ impl Port {
         }
     }
 
+    pub(crate) fn depth_words(&self) -> &[u32] {
+        self.bucketer.depth_words()
+    }
+
     /// Every row painted to its end by a call for each, its pieces handed to `give`.
     pub(crate) fn paint(&mut self, mut give: impl FnMut(&[Piece])) {
         self.bucketer.begin_painting().expect("closed layers");

@@ -878,6 +878,11 @@ impl CommandBucketer {
         self.width().div_ceil(128) as usize
     }
 
+    /// The depth words, row after row.
+    pub fn depth_words(&self) -> &[u32] {
+        &self.tables.depth
+    }
+
     pub fn next_draw_id(&self) -> u32 {
         self.state[NEXT_DRAW_ID]
     }

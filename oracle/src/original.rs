@@ -6,6 +6,7 @@ use crate::file::Recording;
 use crate::painting::{self, Piece};
 use crate::scene::{scene, Scene};
 use crate::steps::Step;
+use std::mem::size_of;
 
 /// A recording's screen, and what painting needs beside it.
 pub struct Original {
@@ -66,6 +67,14 @@ impl Original {
             painting::paint(&self.bucketer, row, true, &mut self.depth, &mut self.pieces);
             give(&self.pieces);
         }
+    }
+
+    /// The depth words. `DepthBuffer` is one vector, private to the original, and is read here as that vector.
+    pub fn depth_words(&self) -> &[u32] {
+        const { assert!(size_of::<DepthBuffer>() == size_of::<Vec<u32>>()) };
+        let words: &Vec<u32> = unsafe { &*std::ptr::from_ref(&self.depth).cast() };
+        assert_eq!(words.len(), usize::from(self.bucketer.width()).div_ceil(128));
+        words
     }
 
     /// Words that stand on the screen, as the port has them: commands, depth fills and attributes.

@@ -10,9 +10,9 @@ use borrow.Author.Tests.{le-leb, lt-leb, le-ltb, ltb-false, ne-eqb, eq-eqb}
 use Rattle.rules.specs.Answers.{Answer, answer}
 use Rattle.rules.specs.Spans.{Span, span, common, bad-range}
 use Rattle.rules.specs.Depth.{runs-in, runs, tiles-of, is-visible, listed, unset-runs, visible-runs, unset-answer, visible-answer, write-runs, write-answer, write-after, written}
-use Rattle.depth.specs.Listing.{RunsOut, numbers, listing, done, cut-runs, met-end, OutWrite, writing}
+use Rattle.depth.specs.Listing.{RunsOut, numbers, listing, done, cut-runs, open-runs, met-end, OutWrite, writing}
 use Rattle.depth.proofs.Skipping.{or-true}
-use Rattle.depth.proofs.Searching.{runs-few, runs-shorter, runs-end, runs-uncut, unset-visible}
+use Rattle.depth.proofs.Searching.{runs-few, runs-shorter, runs-end, unset-visible}
 
 -- the list's room, seen at a glance
 pub roomy : (p : ℕ → Bool) (bs : List ℕ) (lo hi n : ℕ) → (hi - lo + 1) / 2 ≤ n → false ≡ ltb n (length (runs-in p bs (span lo hi)))
@@ -136,7 +136,7 @@ module _ (bs : List ℕ) (id : ℕ) (r : Span) (l : List ℕ) where
     write-short q = rw (fine, unset-visible, ← q)
 
     pub write-done : (n : ℕ) (l′ bs′ : List ℕ) → false ≡ ltb (length l / 2) (length (runs-in (is-visible 0) bs r))
-        → done n l′ ≡ listing (cut-runs r 1 0 bs (r .first) (r .end)) l → bs′ ≡ written bs id r
+        → done n l′ ≡ listing (open-runs bs (r .first) (r .end)) l → bs′ ≡ written bs id r
         → record { listed = done n l′; depth = bs′ } ≡ writing bs id r l
     unfolding write-answer write-after write-runs
-    write-done n l′ bs′ q d m = rw (fine, unset-visible, ← q, d, m, runs-uncut (is-visible 0) bs (r .first) (r .end) h)
+    write-done n l′ bs′ q d m = rw (fine, unset-visible, ← q, d, m)

@@ -19,6 +19,11 @@ unfolding numbers
 length-numbers [] = refl
 length-numbers (r ∷ rs) = let h = length-numbers rs in omega arith
 
+-- runs that are listed as they are
+pub map-same : (rs : List Span) → map (λ (r : Span). r) rs ≡ rs
+map-same [] = refl
+map-same (r ∷ rs) = rw (map-same rs)
+
 -- a bucket's place in units of w is below what the last one's is
 pub scaled : (i hi w : ℕ) → i ≤ hi → hi * w < 4294967296 → i * w < 4294967296
 scaled i hi w h k = let m : i * w ≤ hi * w = mul-le-mul-right w h in omega arith

@@ -1,8 +1,8 @@
 -- The rules' runs, found from left to right. Assumes nothing.
-use mathlib.Core.Path.{_≡_, refl, sym, _∙_, fun-ext}
+use mathlib.Core.Path.{_≡_, refl, sym, ap, _∙_, fun-ext}
 use mathlib.Core.Bool.{Bool, true, false, cond}
-use mathlib.Core.List.{List, [], _∷_, map}
-use Prim.Native.Nat.{ℕ, zero, suc, _≤_, _<_, _+_, _-_, _*_, min, max}
+use mathlib.Core.List.{List, [], _∷_}
+use Prim.Native.Nat.{ℕ, zero, suc, _≤_, _<_, _+_, _-_, _*_, min}
 use native.Mathlib.Numerals.{add-one}
 use native.Mathlib.Omega.{arith}
 use lib.ListN.{length, getD, drop, length-take, length-drop}
@@ -10,8 +10,8 @@ use lib.Seq.{drop-cons, take-all}
 use lib.Dec.{leb, eqb}
 use borrow.Author.Tests.{eq-eqb, ne-eqb, lt-leb, leb-true, leb-false}
 use Rattle.rules.specs.Lists.{slice}
-use Rattle.rules.specs.Spans.{Span, span, common}
-use Rattle.rules.specs.Depth.{join-run, bucket-runs, runs-in, tiles-of, is-unset, is-visible}
+use Rattle.rules.specs.Spans.{Span, span}
+use Rattle.rules.specs.Depth.{join-run, bucket-runs, runs-in, is-unset, is-visible}
 
 -- a run open from i to j, before the runs from j on
 abbrev pub joined : ℕ → ℕ → List Span → List Span
@@ -67,6 +67,14 @@ one-less n i h = omega arith
 none-left : (n i : ℕ) → n ≤ i → n - i ≡ 0
 none-left n i h = omega arith
 
+-- v is what bucket i holds, if that is before hi: what a search carries from bucket to bucket
+abbrev pub Carried : List ℕ → ℕ → ℕ → ℕ → Type 0
+Carried bs hi i v = i < hi → v ≡ getD bs i 0
+
+-- a test of what is carried is a test of the bucket
+pub carried-test : (p : ℕ → Bool) (bs : List ℕ) (hi i v : ℕ) {t : Bool} → Carried bs hi i v → i < hi → p v ≡ t → p (getD bs i 0) ≡ t
+carried-test p bs hi i v k h e = sym (ap p (k h)) ∙ e
+
 module _ (p : ℕ → Bool) (bs : List ℕ) (hi : ℕ) where
   pub runs-end : (i : ℕ) → hi ≤ i → runs-in p bs (span i hi) ≡ []
   unfolding runs-in bucket-runs
@@ -109,6 +117,11 @@ module _ (p : ℕ → Bool) (bs : List ℕ) (hi : ℕ) where
     pub within : j ≤ hi
     pub run : runs-in p bs (span i hi) ≡ span i j ∷ runs-in p bs (span j hi)
 
+  -- .. with v to carry on
+  pub record Stopped (i j v : ℕ) : Type 0 where
+    pub ended : Ended i j
+    pub carried : Carried bs hi j v
+
   pub reach-first : hi ≤ length bs → (i : ℕ) → i < hi → p (getD bs i 0) ≡ true → Reached i (i + 1)
   reach-first fits i h e = record { past = omega arith; within = omega arith; so-far = runs-open fits i h e }
 
@@ -122,47 +135,11 @@ module _ (p : ℕ → Bool) (bs : List ℕ) (hi : ℕ) where
     pub reach-end : Reached i j → hi ≤ j → Ended i j
     reach-end r h = record { past = r .past; within = r .within; run = r .so-far ∙ run-end i j h }
 
--- every run lies from lo to hi
-abbrev Inside : ℕ → ℕ → List Span → Type 0
-Inside lo hi [] = Unit
-Inside lo hi (r ∷ rs) = (lo ≤ r .first) × (r .end ≤ hi) × Inside lo hi rs
+    pub stop-end : (v : ℕ) → Reached i j → hi ≤ j → Stopped i j v
+    stop-end v r h = record { ended = reach-end r h; carried = λ k. absurd (omega arith) }
 
-wider : (lo hi : ℕ) (rs : List Span) → Inside (suc lo) hi rs → Inside lo hi rs
-wider lo hi [] h = tt
-wider lo hi (r ∷ rs) h = (omega (arith, h .0), h .1, wider lo hi rs (h .2))
-
-join-inside : (i hi : ℕ) (rs : List Span) → suc i ≤ hi → Inside (suc i) hi rs → Inside i hi (join-run i rs)
-join-inside i hi [] h k = (omega arith, h, tt)
-join-inside i hi (r ∷ rs) h k = go (eqb (r .first) (suc i)) (wider i hi rs (k .2))
-  where
-    go : (t : Bool) → Inside i hi rs → Inside i hi (cond t (span i (r .end) ∷ rs) (span i (suc i) ∷ r ∷ rs))
-    go true w = (omega arith, k .1, w)
-    go false w = (omega arith, h, (omega (arith, k .0), k .1, w))
-
-inside : (p : ℕ → Bool) (i hi : ℕ) (bs : List ℕ) → i + length bs ≤ hi → Inside i hi (bucket-runs p i bs)
-unfolding bucket-runs
-inside p i hi [] h = tt
-inside p i hi (b ∷ bs) h = go (p b) (bucket-runs p (suc i) bs) (inside p (suc i) hi bs (omega arith))
-  where
-    go : (t : Bool) (rs : List Span) → Inside (suc i) hi rs → Inside i hi (cond t (join-run i rs) rs)
-    go true rs k = join-inside i hi rs (omega arith) k
-    go false rs k = wider i hi rs k
-
-low : (lo a : ℕ) → lo ≤ a → max lo (a * 1) ≡ a
-low lo a h = omega arith
-
-high : (hi b : ℕ) → b ≤ hi → min hi (b * 1) ≡ b
-high hi b h = omega arith
-
-uncut : (lo hi : ℕ) (rs : List Span) → Inside lo hi rs → map (λ (r : Span). common (span lo hi) (tiles-of 1 r)) rs ≡ rs
-uncut lo hi [] h = refl
-uncut lo hi (r ∷ rs) h = rw (low lo (r .first) (h .0), high hi (r .end) (h .1), uncut lo hi rs (h .2))
-
--- buckets cut to the range that was searched stay as they are
-pub runs-uncut : (p : ℕ → Bool) (bs : List ℕ) (lo hi : ℕ) → lo ≤ hi
-    → map (λ (r : Span). common (span lo hi) (tiles-of 1 r)) (runs-in p bs (span lo hi)) ≡ runs-in p bs (span lo hi)
-unfolding runs-in
-runs-uncut p bs lo hi h = uncut lo hi _ (inside p lo hi (slice lo hi bs) (simp (length-take, length-drop) (omega arith)))
+    pub stop-closed : Reached i j → j < hi → p (getD bs j 0) ≡ false → Stopped i j (getD bs j 0)
+    stop-closed r h e = record { ended = reach-closed r h e; carried = λ k. refl }
 
 -- 1 if the first run starts at i
 abbrev starts : ℕ → List Span → ℕ

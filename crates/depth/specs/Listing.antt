@@ -41,6 +41,10 @@ listing a l = record { number = a .number; count = length (a .value); list = ove
 abbrev pub cut-runs : Span → ℕ → ℕ → List ℕ → ℕ → ℕ → Answer (List Span)
 cut-runs s w id bs lo hi = answer Done (map (λ (r : Span). common s (tiles-of w r)) (runs-in (is-visible id) bs (span lo hi)))
 
+-- the unset runs of the buckets from lo to hi, as buckets
+abbrev pub open-runs : List ℕ → ℕ → ℕ → Answer (List Span)
+open-runs bs lo hi = answer Done (runs-in (is-visible 0) bs (span lo hi))
+
 -- where the search over a span's buckets ends, n buckets being there; at 0, so that it finds none, if the span is empty
 abbrev pub met-end : ℕ → Span → ℕ → ℕ
 met-end w s n = cond (ltb (s .first) (s .end)) (min ((s .end + (w - 1)) / w) n) 0

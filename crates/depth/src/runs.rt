@@ -14,7 +14,7 @@ ghost use Rattle.sizes.specs.Sizes.{bucket-tiles, tile-end};
 ghost use Rattle.rules.specs.Spans.{span};
 ghost use Rattle.rules.specs.Depth.{is-visible, runs-in, unset-answer, visible-answer, written};
 ghost use Rattle.span.specs.Spans.{tiles, buckets};
-ghost use Rattle.depth.specs.Listing.{out, out-write, done, cut-runs, listing, writing, met-end};
+ghost use Rattle.depth.specs.Listing.{out, out-write, done, cut-runs, open-runs, listing, writing, met-end};
 
 // Why nothing is listed, or how many runs are.
 pub enum Runs {
@@ -22,35 +22,45 @@ pub enum Runs {
     Listed(usize),
 }
 
-// How many runs of neighbouring buckets from lo to hi hold at most `ceiling`. A run ends at its first closed bucket.
+// How many runs of neighbouring buckets from lo to hi hold at most `ceiling`. A run ends at its first closed bucket, whose value goes back
+// to the outer search: each bucket is read once. `held` is what bucket `at` holds, if that is before hi.
 fn count_runs(depth: &[u32], lo: usize, hi: usize, ceiling: u32) -> usize
     requires { ⌜ hi ≤ length (now depth) ⌝ }
     ensures { λ r. ⌜ r ≡ length (runs-in (is-visible ceiling) (now (depth .entry)) (span lo hi)) ⌝ }
 {
+    if hi <= lo {
+        return 0;
+    }
     let mut at = lo;
+    let mut held = depth[lo];
     let mut count: usize = 0;
     while at < hi {
-        if ceiling < depth[at] {
-            at += 1;
-        } else {
+        if held <= ceiling {
             let mut next = at + 1;
             let stop = loop {
                 if hi <= next {
                     break next;
                 }
-                if ceiling < depth[next] {
+                held = depth[next];
+                if ceiling < held {
                     break next;
                 }
                 next += 1;
             };
             count += 1;
             at = stop;
+        } else {
+            at += 1;
+            if at < hi {
+                held = depth[at];
+            }
         }
     }
     count
 }
 
-// Writes those runs to the start of the list, in units of `width` and cut to first and end. It gives their number.
+// Writes those runs to the start of the list, in units of `width` and cut to first and end, by the same search: `value` is what bucket i
+// holds, if that is before hi. It gives their number.
 fn list_runs(
     depth: &[u32],
     lo: usize,
@@ -66,18 +76,21 @@ fn list_runs(
     requires { ⌜ length (runs-in (is-visible ceiling) (now depth) (span lo hi)) * 2 ≤ length (now list) ⌝ }
     ensures { λ r. ⌜ done r (now (list .exit)) ≡ listing (cut-runs (span first «end») width ceiling (now (depth .entry)) lo hi) (now (list .entry)) ⌝ }
 {
+    if hi <= lo {
+        return 0;
+    }
     let mut i = lo;
+    let mut value = depth[lo];
     let mut n: usize = 0;
     while i < hi {
-        if ceiling < depth[i] {
-            i += 1;
-        } else {
+        if value <= ceiling {
             let mut j = i + 1;
             let stop = loop {
                 if hi <= j {
                     break j;
                 }
-                if ceiling < depth[j] {
+                value = depth[j];
+                if ceiling < value {
                     break j;
                 }
                 j += 1;
@@ -87,6 +100,11 @@ fn list_runs(
             list[at + 1] = smaller(end, (stop * width) as u32);
             n += 1;
             i = stop;
+        } else {
+            i += 1;
+            if i < hi {
+                value = depth[i];
+            }
         }
     }
     n
@@ -154,18 +172,49 @@ pub fn unset_runs(depth: &[u32], span: TileSpan, list: &mut [u32]) -> Runs
     visible_runs(depth, span, 0, list)
 }
 
-// Stores the id in the buckets from lo to hi that hold 0.
-fn mark(depth: &mut [u32], lo: usize, hi: usize, draw_id: u32)
+// Writes the unset runs from lo to hi to the start of the list, as buckets, and stores the id over them, in the one pass that finds them:
+// no bucket is read twice. It gives their number.
+fn mark_runs(depth: &mut [u32], lo: usize, hi: usize, draw_id: u32, list: &mut [u32]) -> usize
     requires { ⌜ hi ≤ length (now depth) ⌝ }
+    requires { ⌜ hi < 4294967296 ⌝ }
+    requires { ⌜ length (runs-in (is-visible 0) (now depth) (span lo hi)) * 2 ≤ length (now list) ⌝ }
+    ensures { λ r. ⌜ done r (now (list .exit)) ≡ listing (open-runs (now (depth .entry)) lo hi) (now (list .entry)) ⌝ }
     ensures { λ _. ⌜ now (depth .exit) ≡ written (now (depth .entry)) «draw_id» (span lo hi) ⌝ }
 {
-    let mut i = lo;
-    while i < hi {
-        if depth[i] == 0 {
-            depth[i] = draw_id;
-        }
-        i += 1;
+    if hi <= lo {
+        return 0;
     }
+    let mut at = lo;
+    let mut found = depth[lo];
+    let mut n: usize = 0;
+    while at < hi {
+        if found == 0 {
+            depth[at] = draw_id;
+            let mut next = at + 1;
+            let stop = loop {
+                if hi <= next {
+                    break next;
+                }
+                found = depth[next];
+                if 0 < found {
+                    break next;
+                }
+                depth[next] = draw_id;
+                next += 1;
+            };
+            let k = n * 2;
+            list[k] = at as u32;
+            list[k + 1] = stop as u32;
+            n += 1;
+            at = stop;
+        } else {
+            at += 1;
+            if at < hi {
+                found = depth[at];
+            }
+        }
+    }
+    n
 }
 
 // The writing form: lists the unset runs of a bucket range as buckets, and stores the id there.
@@ -191,7 +240,6 @@ pub fn unset_runs_and_write(
     if is_short(depth, lo, hi, 0, list.len()) {
         return Runs::Refused(Answer::NoRoom);
     }
-    let count = list_runs(depth, lo, hi, 0, 1, range.first, range.end, list);
-    mark(depth, lo, hi, draw_id);
+    let count = mark_runs(depth, lo, hi, draw_id, list);
     Runs::Listed(count)
 }

@@ -91,14 +91,11 @@ fn is_apart(from: u32, to: u32, largest: u32, first: u32, end: u32, id: u32) -> 
     end <= from
 }
 
-// Every bucket from a to e holds at most the id.
+// Every bucket from a to e holds at most the id, as bucket a does: that one has been looked at, and is not read again.
 fn is_seen(depth: &[u32], a: usize, e: usize, id: u32) -> bool
-    requires { ⌜ (a < e) × (e ≤ length (now depth)) ⌝ }
+    requires { ⌜ (a < e) × (e ≤ length (now depth)) × (word (now depth) a ≤ id) ⌝ }
     ensures { λ r. ⌜ (r ≡ true → runs-in (is-visible id) (now (depth .entry)) (span a e) ≡ span a e ∷ []) ⌝ }
 {
-    if id < depth[a] {
-        return false;
-    }
     let mut i = a + 1;
     while i < e {
         if id < depth[i] {
@@ -109,12 +106,12 @@ fn is_seen(depth: &[u32], a: usize, e: usize, id: u32) -> bool
     true
 }
 
-// Every bucket from a to e holds more.
+// Every bucket from a to e holds more, as bucket a does: that one has been looked at, and is not read again.
 fn is_hidden(depth: &[u32], a: usize, e: usize, id: u32) -> bool
-    requires { ⌜ (a < e) × (e ≤ length (now depth)) ⌝ }
+    requires { ⌜ (a < e) × (e ≤ length (now depth)) × (id < word (now depth) a) ⌝ }
     ensures { λ r. ⌜ (r ≡ true → runs-in (is-visible id) (now (depth .entry)) (span a e) ≡ []) ⌝ }
 {
-    let mut i = a;
+    let mut i = a + 1;
     while i < e {
         if depth[i] <= id {
             return false;

@@ -1,65 +1,61 @@
--- So far the runs that stopped before bucket i stand in the list; the inner search has seen visible buckets only, from i on.
+-- Invariant: n runs stand in the list, those from i on are still to come, and `value` is what bucket i holds. In the inner loop: the run from i has come to j.
+-- Where that is left, its value is the run's end, and `value` is what the bucket there holds, if there is one.
 use mathlib.Core.Logic.{⊎-elim}
-use Prim.Native.Nat.{_<_, _-_, _+_, _*_}
+use mathlib.Core.Path.{refl}
+use Prim.Native.Nat.{_<_, _≤_, _-_, _+_, _*_}
 use native.Mathlib.Omega.{arith}
 use lib.ListN.{length, length-set}
 use borrow.Author.Needs.{needs}
 use borrow.Author.Tests.{le-leb, lt-leb}
 use Rattle.rules.specs.Spans.{Span, span, common}
 use Rattle.rules.specs.Depth.{is-visible, tiles-of}
-use Rattle.depth.proofs.Searching.{Reached, Ended, reach-first, reach-more, reach-closed, reach-end}
+use Rattle.depth.proofs.Searching.{Carried, carried-test, Reached, Stopped, reach-first, reach-more, stop-closed, stop-end}
 use Rattle.depth.proofs.Filling.{Filled, fill-first, fill-skip, fill-room, fill-more, fill-end, scaled}
 use Rattle.depth.proofs.runs.list_runs.Statement.{statement}
 use Rattle.depth.proofs.runs.list_runs.Tie as tie
 
 abbrev Inv-loop2 : tie.InvT-loop2
-Inv-loop2 depth lo hi ceiling width first end list i n j₀ j = Reached (is-visible ceiling) depth hi i j
+Inv-loop2 depth lo hi ceiling width first end list i value₀ n j₀ value j = Reached (is-visible ceiling) depth hi i j
 
 abbrev μ-loop2 : tie.MeasureT-loop2
-μ-loop2 depth lo hi ceiling width first end list i n j₀ j = hi - j
+μ-loop2 depth lo hi ceiling width first end list i value₀ n j₀ value j = hi - j
 
 abbrev Inv-loop : tie.InvT-loop
-Inv-loop depth lo hi ceiling width first end list₀ i₀ n₀ list i n = Filled (is-visible ceiling) depth lo hi (λ (r : Span). common (span first end) (tiles-of width r)) list₀ i n list
+Inv-loop depth lo hi ceiling width first end list₀ i₀ value₀ n₀ list i value n =
+    Filled (is-visible ceiling) depth lo hi (λ (r : Span). common (span first end) (tiles-of width r)) list₀ i n list × Carried depth hi i value
 
 abbrev μ-loop : tie.MeasureT-loop
-μ-loop depth lo hi ceiling width first end list₀ i₀ n₀ list i n = hi - i
+μ-loop depth lo hi ceiling width first end list₀ i₀ value₀ n₀ list i value n = hi - i
+
+returns : tie.Need-returns Inv-loop2 μ-loop2 Inv-loop μ-loop
+returns c = fill-end (is-visible _) _ _ _ _ _ _ _ _ (fill-first _ _ _ _ _ _) (c .before .before .before .pre .1 .1) (c .if1 .taken)
+
+mul-value : tie.Need-mul-value Inv-loop2 μ-loop2 Inv-loop μ-loop
+mul-value c = omega arith
+
+shared-slice-read-value : tie.Need-shared-slice-read-value Inv-loop2 μ-loop2 Inv-loop μ-loop
+shared-slice-read-value c = omega arith
 
 loop-holds : tie.Need-loop-holds Inv-loop2 μ-loop2 Inv-loop μ-loop
-loop-holds c = fill-first _ _ _ _ _ _
-
-mul-if1 : tie.Need-mul-if1 Inv-loop2 μ-loop2 Inv-loop μ-loop
-mul-if1 c = omega arith
-
-shared-slice-read-if1 : tie.Need-shared-slice-read-if1 Inv-loop2 μ-loop2 Inv-loop μ-loop
-shared-slice-read-if1 c = omega arith
-
-add-i : tie.Need-add-i Inv-loop2 μ-loop2 Inv-loop μ-loop
-add-i c = omega arith
-
-loop-less : tie.Need-loop-less Inv-loop2 μ-loop2 Inv-loop μ-loop
-loop-less c = omega arith
-
-loop-again : tie.Need-loop-again Inv-loop2 μ-loop2 Inv-loop μ-loop
-loop-again c =
-    let at-loop-test = c .before .before in
-    let at-loop = at-loop-test .before in
-    let at-pre = at-loop .before .before .before in
-    fill-skip (is-visible _) _ _ _ _ _ _ _ _ (at-loop .loop .inv) (at-pre .pre .0) (at-loop-test .loop-test .taken) (lt-leb _ _ (c .if1 .taken))
+loop-holds c = (fill-first _ _ _ _ _ _, λ h. refl)
 
 add-j : tie.Need-add-j Inv-loop2 μ-loop2 Inv-loop μ-loop
 add-j c = omega arith
 
 loop2-holds : tie.Need-loop2-holds Inv-loop2 μ-loop2 Inv-loop μ-loop
 loop2-holds c =
-    let at-loop-test = c .before .before in
-    let at-pre = at-loop-test .before .before .before .before in
-    reach-first (is-visible _) _ _ (at-pre .pre .0) _ (at-loop-test .loop-test .taken) (le-leb _ _ (c .if1 .left))
+    let at-loop = c .before .before in
+    let back = at-loop .before .before .before .before .before in
+    let in-range = c .before .loop-test .taken in
+    let entry = back in
+    reach-first (is-visible _) _ _ (entry .pre .0) _ in-range (carried-test (is-visible _) (entry .args .depth .now) _ _ _ (at-loop .loop .inv .1) in-range
+    (le-leb _ _ (c .if2 .taken)))
 
-mul-if3 : tie.Need-mul-if3 Inv-loop2 μ-loop2 Inv-loop μ-loop
-mul-if3 c = omega arith
+mul-value-2 : tie.Need-mul-value-2 Inv-loop2 μ-loop2 Inv-loop μ-loop
+mul-value-2 c = omega arith
 
-shared-slice-read-if3 : tie.Need-shared-slice-read-if3 Inv-loop2 μ-loop2 Inv-loop μ-loop
-shared-slice-read-if3 c = omega arith
+shared-slice-read-value-2 : tie.Need-shared-slice-read-value-2 Inv-loop2 μ-loop2 Inv-loop μ-loop
+shared-slice-read-value-2 c = omega arith
 
 add-j-2 : tie.Need-add-j-2 Inv-loop2 μ-loop2 Inv-loop μ-loop
 add-j-2 c = omega arith
@@ -69,102 +65,135 @@ loop2-less c = omega arith
 
 loop2-again : tie.Need-loop2-again Inv-loop2 μ-loop2 Inv-loop μ-loop
 loop2-again c =
-    let at-if2 = c .before .before in
-    let at-loop2 = at-if2 .before in
-    let at-pre = at-loop2 .before .before .before .before .before .before .before in
-    reach-more (is-visible _) _ _ (at-pre .pre .0) _ _ (at-loop2 .loop2 .inv) (at-if2 .if2 .left) (le-leb _ _ (c .if3 .left))
+    let at-search = c .before .before in
+    reach-more (is-visible _) _ _ (at-search .before .before .before .before .before .before .before .before .before .pre .0) _ _
+    (at-search .before .loop2 .inv) (at-search .if3 .left) (le-leb _ _ (c .if4 .left))
 
--- where the inner loop is left, by either way, its value is the run's end
-stopped : (c : tie.Joined2 Inv-loop2 μ-loop2 Inv-loop μ-loop) → Ended (is-visible (c .before .before .before .before .before .before .before .before .args .ceiling)) (c .before .before .before .before .before .before .before .before .args .depth .now) (c .before .before .before .before .before .before .before .before .args .hi) (c .before .before .before .before .before .loop .i) (c .if2 .stop)
+-- where the inner loop is left, by either way, its value is the run's end, and what was read last is carried on
+stopped : (c : tie.Joined3 Inv-loop2 μ-loop2 Inv-loop μ-loop) →
+    let at-loop = c .before .before .before .before in
+    let entry = at-loop .before .before .before .before .before in
+    Stopped (is-visible (entry .args .ceiling)) (entry .args .depth .now) (entry .args .hi) (at-loop .loop .i) (c .if3 .stop) (c .if3 .value)
 stopped c =
-    let at-loop2 = c .before in
-    let at-pre = at-loop2 .before .before .before .before .before .before .before in
+    let at-pre = c .before .before .before .before .before .before .before .before .before in
+    let reached = c .before .loop2 .inv in
     let fits = at-pre .pre .0 in
-    ⊎-elim (λ w. rw (w .1) (reach-end (is-visible _) _ _ fits _ _ (at-loop2 .loop2 .inv) (w .0 .taken))) (λ w. rw (w .3) (reach-closed (is-visible _) _ _ fits _
-    _ (at-loop2 .loop2 .inv) (w .0 .left) (lt-leb _ _ (w .2 .taken)))) (c .if2 .came)
+    ⊎-elim (λ w. rw (w .2) (stop-end (is-visible _) _ _ fits _ _ _ reached (w .0 .taken))) (λ w. rw (
+      w .3,
+      w .4,
+    ) (stop-closed (is-visible _) _ _ fits _ _ reached (w .0 .left) (lt-leb _ _ (w .2 .taken)))) (c .if3 .came)
 
 -- the run's two words are within the list
-room : (c : tie.Joined2 Inv-loop2 μ-loop2 Inv-loop μ-loop) → c .before .before .before .before .before .loop .n * 2 + 1 < length (c .before .before .before .before .before .loop .list)
+room : (c : tie.Joined3 Inv-loop2 μ-loop2 Inv-loop μ-loop) →
+    let at-loop = c .before .before .before .before .loop in at-loop .n * 2 + 1 < length (at-loop .list)
 room c =
-    let at-loop = c .before .before .before .before .before in
-    let at-pre = at-loop .before .before .before in
-    fill-room (is-visible _) _ _ _ _ _ _ _ _ (at-loop .loop .inv) (at-pre .pre .1 .1) _ (stopped c)
+    let at-loop = c .before .before .before .before in
+    fill-room (is-visible _) _ _ _ _ _ _ _ _ (at-loop .loop .inv .0) (at-loop .before .before .before .before .before .pre .1 .1) _ (stopped c .ended)
+
+-- a bucket's place in tiles is small
+low : (c : tie.Joined3 Inv-loop2 μ-loop2 Inv-loop μ-loop) →
+    let at-loop = c .before .before .before .before in at-loop .loop .i * at-loop .before .before .before .before .before .args .width < 4294967296
+low c =
+    let at-loop = c .before .before .before .before in
+    let entry = at-loop .before .before .before .before .before in
+    scaled (at-loop .loop .i) (entry .args .hi) (entry .args .width) (omega arith) (entry .pre .1 .0)
+
+high : (c : tie.Joined3 Inv-loop2 μ-loop2 Inv-loop μ-loop) → c .if3 .stop * c .before .before .before .before .before .before .before .before .before .args .width < 4294967296
+high c =
+    let back = c .before .before .before .before .before .before .before .before .before in
+    let entry = back in
+    scaled (c .if3 .stop) (entry .args .hi) (entry .args .width) (stopped c .ended .within) (entry .pre .1 .0)
 
 mul-at : tie.Need-mul-at Inv-loop2 μ-loop2 Inv-loop μ-loop
 mul-at c = omega arith
 
 mul-larger : tie.Need-mul-larger Inv-loop2 μ-loop2 Inv-loop μ-loop
-mul-larger c =
-    let at-loop = c .before .before .before .before .before in
-    let at-args = at-loop .before .before .before in
-    omega (arith, scaled (at-loop .loop .i) (at-args .args .hi) (at-args .args .width) (omega arith) (at-args .pre .1 .0))
+mul-larger c = omega (arith, low c)
 
 cast-larger : tie.Need-cast-larger Inv-loop2 μ-loop2 Inv-loop μ-loop
-cast-larger c =
-    let at-loop = c .before .before .before .before .before in
-    let at-args = at-loop .before .before .before in
-    omega (arith, scaled (at-loop .loop .i) (at-args .args .hi) (at-args .args .width) (omega arith) (at-args .pre .1 .0))
+cast-larger c = omega (arith, low c)
 
 larger-requires : tie.Need-larger-requires Inv-loop2 μ-loop2 Inv-loop μ-loop
 larger-requires c κs = search needs
 
 mul-list : tie.Need-mul-list Inv-loop2 μ-loop2 Inv-loop μ-loop
-mul-list c = omega (arith, room (c .before), c .before .before .before .before .before .before .loop .inv .kept)
+mul-list c = omega (arith, room (c .before), c .before .before .before .before .before .loop .inv .0 .kept)
 
 slice-write-list : tie.Need-slice-write-list Inv-loop2 μ-loop2 Inv-loop μ-loop
 slice-write-list c = omega (arith, room (c .before))
 
 mul-smaller : tie.Need-mul-smaller Inv-loop2 μ-loop2 Inv-loop μ-loop
-mul-smaller c =
-    let at-if2 = c .before .before in
-    let at-args = at-if2 .before .before .before .before .before .before .before .before in
-    omega (arith, scaled (at-if2 .if2 .stop) (at-args .args .hi) (at-args .args .width) (stopped (at-if2) .within) (at-args .pre .1 .0))
+mul-smaller c = omega (arith, high (c .before .before))
 
 cast-smaller : tie.Need-cast-smaller Inv-loop2 μ-loop2 Inv-loop μ-loop
-cast-smaller c =
-    let at-if2 = c .before .before in
-    let at-args = at-if2 .before .before .before .before .before .before .before .before in
-    omega (arith, scaled (at-if2 .if2 .stop) (at-args .args .hi) (at-args .args .width) (stopped (at-if2) .within) (at-args .pre .1 .0))
+cast-smaller c = omega (arith, high (c .before .before))
 
 smaller-requires : tie.Need-smaller-requires Inv-loop2 μ-loop2 Inv-loop μ-loop
 smaller-requires c κs = search needs
 
 add-list : tie.Need-add-list Inv-loop2 μ-loop2 Inv-loop μ-loop
-add-list c =
-    let back = c .before .before .before in
-    let at-loop = back .before .before .before .before .before in
-    omega (arith, room (back), at-loop .loop .inv .kept)
+add-list c = let at-stop = c .before .before .before in omega (arith, room at-stop, at-stop .before .before .before .before .loop .inv .0 .kept)
 
 mul-list-2 : tie.Need-mul-list-2 Inv-loop2 μ-loop2 Inv-loop μ-loop
-mul-list-2 c =
-    let back = c .before .before .before in
-    let at-loop = back .before .before .before .before .before in
-    omega (arith, room (back), at-loop .loop .inv .kept)
+mul-list-2 c = let at-stop = c .before .before .before in omega (arith, room at-stop, at-stop .before .before .before .before .loop .inv .0 .kept)
 
 slice-write-list-2 : tie.Need-slice-write-list-2 Inv-loop2 μ-loop2 Inv-loop μ-loop
 slice-write-list-2 c = simp length-set (room (c .before .before .before))
 
 add-n : tie.Need-add-n Inv-loop2 μ-loop2 Inv-loop μ-loop
-add-n c =
-    let back = c .before .before .before in
-    let at-loop = back .before .before .before .before .before in
-    omega (arith, room (back), at-loop .loop .inv .kept)
+add-n c = let at-stop = c .before .before .before in omega (arith, room at-stop, at-stop .before .before .before .before .loop .inv .0 .kept)
+
+loop-less : tie.Need-loop-less Inv-loop2 μ-loop2 Inv-loop μ-loop
+loop-less c = let run = stopped (c .before .before .before) .ended in omega (arith, run .past, run .within)
+
+loop-again : tie.Need-loop-again Inv-loop2 μ-loop2 Inv-loop μ-loop
+loop-again c =
+    let at-stop = c .before .before .before in (
+      fill-more (is-visible _) _ _ _ _ _ _ _ _ (at-stop .before .before .before .before .loop .inv .0) _ _ _ (stopped at-stop .ended) (c .before .before .larger .ensures) (c .smaller .ensures),
+      stopped at-stop .carried,
+    )
+
+add-i : tie.Need-add-i Inv-loop2 μ-loop2 Inv-loop μ-loop
+add-i c = omega arith
+
+mul-value-3 : tie.Need-mul-value-3 Inv-loop2 μ-loop2 Inv-loop μ-loop
+mul-value-3 c = omega arith
+
+shared-slice-read-value-3 : tie.Need-shared-slice-read-value-3 Inv-loop2 μ-loop2 Inv-loop μ-loop
+shared-slice-read-value-3 c = omega arith
 
 loop-less-2 : tie.Need-loop-less-2 Inv-loop2 μ-loop2 Inv-loop μ-loop
-loop-less-2 c = omega (arith, stopped (c .before .before .before) .past, stopped (c .before .before .before) .within)
+loop-less-2 c = omega arith
+
+-- a closed bucket starts no run
+passed : (c : tie.Else2 Inv-loop2 μ-loop2 Inv-loop μ-loop) →
+    let at-loop = c .before .before in
+    let entry = at-loop .before .before .before .before .before .args in
+    Filled (is-visible (entry .ceiling)) (entry .depth .now) (entry .lo) (entry .hi) (λ (r : Span). common (span (entry .first) (entry .«end»)) (tiles-of (entry .width) r)) (entry .list .now)
+    (at-loop .loop .i + 1) (at-loop .loop .n) (at-loop .loop .list)
+passed c =
+    let at-loop = c .before .before in
+    let back = at-loop .before .before .before .before .before in
+    let in-range = c .before .loop-test .taken in
+    let inv = at-loop .loop .inv in
+    let entry = back in
+    fill-skip (is-visible _) _ _ _ _ _ _ _ _ (inv .0) (entry .pre .0) in-range (carried-test (is-visible _) (entry .args .depth .now) _ _ _ (inv .1) in-range
+    (lt-leb _ _ (c .if2 .left)))
 
 loop-again-2 : tie.Need-loop-again-2 Inv-loop2 μ-loop2 Inv-loop μ-loop
-loop-again-2 c =
-    let at-larger = c .before .before in
-    let back = at-larger .before in
-    let at-loop = back .before .before .before .before .before in
-    fill-more (is-visible _) _ _ _ _ _ _ _ _ (at-loop .loop .inv) _ _ _ (stopped (back)) (at-larger .larger .ensures) (c .smaller .ensures)
+loop-again-2 c = (passed (c .before .before), λ h. refl)
+
+loop-less-3 : tie.Need-loop-less-3 Inv-loop2 μ-loop2 Inv-loop μ-loop
+loop-less-3 c = omega arith
+
+loop-again-3 : tie.Need-loop-again-3 Inv-loop2 μ-loop2 Inv-loop μ-loop
+loop-again-3 c = (passed (c .before), λ h. absurd (omega arith))
 
 same-length : tie.Need-same-length Inv-loop2 μ-loop2 Inv-loop μ-loop
-same-length c = c .before .loop .inv .kept
+same-length c = c .before .loop .inv .0 .kept
 
-returns : tie.Need-returns Inv-loop2 μ-loop2 Inv-loop μ-loop
-returns c = fill-end (is-visible _) _ _ _ _ _ _ _ _ (c .before .loop .inv) (c .before .before .before .before .pre .1 .1) (c .loop-test .left)
+returns-2 : tie.Need-returns-2 Inv-loop2 μ-loop2 Inv-loop μ-loop
+returns-2 c = fill-end (is-visible _) _ _ _ _ _ _ _ _ (c .before .loop .inv .0) (c .before .before .before .before .before .before .pre .1 .1) (c .loop-test .left)
 
 pub list-runs-spec : {M : Type 1} → statement M
 list-runs-spec =
@@ -174,16 +203,14 @@ list-runs-spec =
     μ-loop2
     Inv-loop
     μ-loop
+    returns
+    mul-value
+    shared-slice-read-value
     loop-holds
-    mul-if1
-    shared-slice-read-if1
-    add-i
-    loop-less
-    loop-again
     add-j
     loop2-holds
-    mul-if3
-    shared-slice-read-if3
+    mul-value-2
+    shared-slice-read-value-2
     add-j-2
     loop2-less
     loop2-again
@@ -200,7 +227,14 @@ list-runs-spec =
     mul-list-2
     slice-write-list-2
     add-n
+    loop-less
+    loop-again
+    add-i
+    mul-value-3
+    shared-slice-read-value-3
     loop-less-2
     loop-again-2
+    loop-less-3
+    loop-again-3
     same-length
-    returns)
+    returns-2)

@@ -1,3 +1,4 @@
+-- Each refusal is the rules' answer, in the order of the tests; past them the list has room for the runs, and one pass lists and writes them.
 use mathlib.Core.Path.{sym, _∙_}
 use native.Mathlib.Omega.{arith}
 use borrow.Author.Needs.{needs}
@@ -28,20 +29,13 @@ same-length c = search needs
 
 returns-4 : tie.Need-returns-4
 returns-4 c =
-    let at-if3 = c .before .before .before in
-    let at-if2 = at-if3 .before in
-    let at-if1 = at-if2 .before in
-    write-short _ _ _ _ (at-if1 .if1 .left) (at-if2 .if2 .left) (at-if3 .if3 .left) (sym (c .if4 .taken) ∙ c .before .is-short .ensures)
+    let looked = c .before .before .before in
+    write-short _ _ _ _ (looked .before .before .if1 .left) (looked .before .if2 .left) (looked .if3 .left) (sym (c .if4 .taken) ∙ c .before .is-short .ensures)
 
-list-runs-requires : tie.Need-list-runs-requires
-list-runs-requires c κs =
-    let at-if4 = c .before .before in
-    let at-is-short = at-if4 .before in
-    let at-if2 = at-is-short .before .before .before in
-    (at-if2 .if2 .left, (omega arith, room-for _ _ (sym (at-if4 .if4 .left) ∙ at-is-short .is-short .ensures)))
-
-mark-requires : tie.Need-mark-requires
-mark-requires c κs = search needs
+mark-runs-requires : tie.Need-mark-runs-requires
+mark-runs-requires c κs =
+    let judged = c .before .before in
+    (judged .before .before .before .before .if2 .left, (omega arith, room-for _ _ (sym (judged .if4 .left) ∙ judged .before .is-short .ensures)))
 
 same-length-2 : tie.Need-same-length-2
 same-length-2 c = search needs
@@ -51,15 +45,12 @@ same-length-3 c = search needs
 
 returns-5 : tie.Need-returns-5
 returns-5 c =
-    let at-mark = c .before .before in
-    let at-list-runs = at-mark .before .before .before .before in
-    let at-if4 = at-list-runs .before .before .before in
-    let at-is-short = at-if4 .before in
-    let at-if3 = at-is-short .before .before in
-    let at-if2 = at-if3 .before in
-    let at-if1 = at-if2 .before in
-    write-done _ _ _ _ (at-if1 .if1 .left) (at-if2 .if2 .left) (at-if3 .if3 .left) _ _ _ (sym (at-if4 .if4 .left) ∙ at-is-short .is-short .ensures)
-    (at-list-runs .list-runs .ensures) (at-mark .mark .ensures)
+    let back = c .before .before .before .before in
+    let marked = back in
+    let judged = marked .before .before .before in
+    let looked = judged .before .before .before in
+    write-done _ _ _ _ (looked .before .before .if1 .left) (looked .before .if2 .left) (looked .if3 .left) _ _ _ (sym (judged .if4 .left) ∙
+    judged .before .is-short .ensures) (marked .mark-runs .ensures .0) (marked .mark-runs .ensures .1)
 
 pub unset-runs-and-write-spec : {M : Type 1} → statement M
 unset-runs-and-write-spec =
@@ -73,8 +64,7 @@ unset-runs-and-write-spec =
     is-short-requires
     same-length
     returns-4
-    list-runs-requires
-    mark-requires
+    mark-runs-requires
     same-length-2
     same-length-3
     returns-5)

@@ -130,18 +130,17 @@ returns-6 c =
 
 is-seen-requires : tie.Need-is-seen-requires
 is-seen-requires c κs =
-    let at-wide3 = c .before .before .before in
-    let at-wide2 = at-wide3 .before in
-    let at-if4 = at-wide2 .before .before .before in
-    let at-wide = at-if4 .before in
-    let at-if1 = at-wide .before .before .before .before in (
-      (omega (arith, at-wide2 .wide2 .ensures, at-wide3 .wide3 .ensures, at-if1 .if1 .left)),
-      (omega (
+    let back = c .before .before .before in
+    let met = back in
+    let judged = met .before .before .before .before in (
+      omega (arith, met .before .wide2 .ensures, met .wide3 .ensures, judged .before .before .before .before .before .if1 .left),
+      omega (
         arith,
-        at-wide3 .wide3 .ensures,
-        at-wide .wide .ensures,
-        at-if4 .if4 .left,
-      )),
+        met .wide3 .ensures,
+        judged .before .wide .ensures,
+        judged .if4 .left,
+      ),
+      c .before .if6 .taken,
     )
 
 returns-7 : tie.Need-returns-7
@@ -217,18 +216,17 @@ returns-9 c =
 
 is-hidden-requires : tie.Need-is-hidden-requires
 is-hidden-requires c κs =
-    let at-wide3 = c .before .before .before in
-    let at-wide2 = at-wide3 .before in
-    let at-if4 = at-wide2 .before .before .before in
-    let at-wide = at-if4 .before in
-    let at-if1 = at-wide .before .before .before .before in (
-      (omega (arith, at-wide2 .wide2 .ensures, at-wide3 .wide3 .ensures, at-if1 .if1 .left)),
-      (omega (
+    let back = c .before .before .before in
+    let met = back in
+    let judged = met .before .before .before .before in (
+      omega (arith, met .before .wide2 .ensures, met .wide3 .ensures, judged .before .before .before .before .before .if1 .left),
+      omega (
         arith,
-        at-wide3 .wide3 .ensures,
-        at-wide .wide .ensures,
-        at-if4 .if4 .left,
-      )),
+        met .wide3 .ensures,
+        judged .before .wide .ensures,
+        judged .if4 .left,
+      ),
+      c .before .if6 .left,
     )
 
 returns-10 : tie.Need-returns-10

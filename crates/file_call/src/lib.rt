@@ -21,12 +21,7 @@ use screen::Screen;
 use screen::answer_of;
 use screen::reset;
 use sizes::MOST_LAYERS;
-
-fn wide(x: u32) -> usize
-    ensures { λ r. ⌜ r ≡ x ⌝ }
-{
-    x as usize
-}
+use sizes::wide;
 
 // A recording of good form, its viewport reset: the records are judged, then walked from the root, 16 layers deep.
 fn play(

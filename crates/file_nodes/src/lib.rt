@@ -23,13 +23,8 @@ use file_steps::walk_draws;
 use file_steps::walk_filter;
 use screen::Built;
 use screen::Screen;
+use sizes::wide;
 use step_push::push_layer;
-
-fn wide(x: u32) -> usize
-    ensures { λ r. ⌜ r ≡ x ⌝ }
-{
-    x as usize
-}
 
 // Nodes a to b, each its draws and then its layer, up to the first step that is refused. Layers in them may be nested `depth` deep.
 pub fn walk_nodes(

@@ -14,7 +14,7 @@ use Rattle.rect.specs.Rects.{box-of}
 use Rattle.screen.specs.declared.Screen.{Screen}
 use Rattle.screen.specs.Screens.{good-screen}
 use Rattle.screen.specs.Tables.{zeros}
-use Rattle.screen.proofs.Numbers.{and-left, and-right}
+use Rattle.rules.proofs.All.{and-left, and-right}
 use Rattle.screen.proofs.Laws.{Room, room, few-rows, few-buckets}
 use Rattle.paint_screen.specs.Judging.{count, wide, depth-long, rows-long, painting-long, judged, of-row, begin-number, paints-on, step-number, runs-number, skip-number}
 use Rattle.paint_screen.specs.Beginning.{Canvas, canvas, begun, beginning}

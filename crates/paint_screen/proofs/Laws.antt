@@ -21,7 +21,7 @@ use Rattle.depth.proofs.Once.{out-once}
 use Rattle.row_screen.proofs.Laws.{part-0, part-suc, less, head-0, tail-0, head-suc, tail-suc, part-long}
 use Rattle.screen.specs.declared.Screen.{Screen}
 use Rattle.screen.specs.declared.Built.{Built}
-use Rattle.screen.proofs.Numbers.{and-left, and-right}
+use Rattle.rules.proofs.All.{and-left, and-right}
 use Rattle.paint_command.specs.Painting.{attrs-at, RowLent, StepOut, out, painter-at, refused, settled, painted-row}
 use Rattle.paint_runs.specs.Summaries.{summary-at, Sound}
 use Rattle.paint_command.specs.Standing.{Stands, PainterReady, Holds}

@@ -15,7 +15,7 @@ use Rattle.rules.specs.Attributes.{Attrs}
 use Rattle.row_screen.proofs.Laws.{within, small}
 use Rattle.screen.specs.declared.Screen.{Screen}
 use Rattle.screen.specs.Screens.{good-screen}
-use Rattle.screen.proofs.Numbers.{and-left, and-right}
+use Rattle.rules.proofs.All.{and-left, and-right}
 use Rattle.paint_command.specs.declared.Painted.{Painted}
 use Rattle.paint_command.specs.Painting.{attrs-at, RowLent, lent, StepOut, out, refused, painted-row}
 use Rattle.paint_command.proofs.Laws.{done-or-kept}

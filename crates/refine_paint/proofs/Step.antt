@@ -18,10 +18,9 @@ use Rattle.rules.specs.Rows.{Row, fresh-row}
 use Rattle.rules.specs.Steps as rule
 use Rattle.rules.specs.Painting.{Painter, Painted, begin, paint-step}
 use Rattle.rules.specs.Plans.{Layer}
-use Rattle.rules_picture.proofs.Cases.{and-right}
 use Rattle.rules.specs.Calls as calls
 use Rattle.rules.specs.Calls.{paint-call, give, with-painter}
-use Rattle.rules.proofs.All.{All, nil, cons, neither, all-at}
+use Rattle.rules.proofs.All.{All, nil, cons, neither, all-at, and-right}
 use Rattle.row.specs.Words.{Words}
 use Rattle.row_screen.specs.Arena.{sizes, Long}
 use Rattle.row_screen.proofs.Laws.{part-0, part-suc, put-0, put-suc}

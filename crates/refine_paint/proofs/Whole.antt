@@ -13,8 +13,7 @@ use Rattle.rules.specs.Boxes.{buckets-of}
 use Rattle.rules.specs.Rows.{fresh-row}
 use Rattle.rules.specs.Painting.{Painter, Painted, begin, paint-step}
 use Rattle.rules.specs.Calls.{Canvas, paints-on, begin-call, paint-call, blank, with-painter}
-use Rattle.rules_picture.proofs.Cases.{and-right}
-use Rattle.rules.proofs.All.{All, nil, cons, all-replicate}
+use Rattle.rules.proofs.All.{All, nil, cons, all-replicate, and-right}
 use Rattle.refine_paint.specs.Painters.{Going}
 use Rattle.refine_paint.specs.Canvases.{WholeCanvas}
 use Rattle.refine_paint.proofs.Kept.{fine-at}

@@ -21,7 +21,8 @@ use Rattle.rules.specs.Painting.{paint-id}
 use Rattle.rules.specs.Plans.{Act, opaque, paint, draw-act}
 use Rattle.rules.specs.Steps.{ensure, put-part, do-act}
 use Rattle.rules.specs.Plain.{Told, whole-bucket, tell}
-use Rattle.rules_picture.proofs.Cases.{by, and-left, and-right, covers-yes}
+use Rattle.rules.proofs.All.{and-left, and-right}
+use Rattle.rules_picture.proofs.Cases.{by, covers-yes}
 use Rattle.rules_picture.proofs.Buckets.{from-bucket, from-bucket-before}
 use Rattle.rules_picture.proofs.Shown.{hides-of}
 use Rattle.rules_picture.proofs.Held.{stays}

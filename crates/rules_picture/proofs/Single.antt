@@ -13,9 +13,9 @@ use Rattle.rules.specs.Lists.{such, keep, join}
 use Rattle.rules.specs.Boxes.{Box, scene-tiles}
 use Rattle.rules.specs.Spans.{Span, span, covers, Stretch, common, when-some, meeting, cut-at, cut-when, cut-to}
 use Rattle.rules.specs.Segments.{Segment, good-segment, follows, ordered-after, ordered, Cut, localised, on-row, stretch-of, cut-in, cuts}
-use Rattle.rules.proofs.All.{All, nil, cons, both, never, all-map}
+use Rattle.rules.proofs.All.{All, nil, cons, both, never, all-map, and-left, and-right}
 use Rattle.rules.proofs.laws.Bounds.{good-facts}
-use Rattle.rules_picture.proofs.Cases.{by, and-left, and-right, covers-low, covers-high}
+use Rattle.rules_picture.proofs.Cases.{by, covers-low, covers-high}
 use Rattle.rules_picture.proofs.Listed.{such-append}
 
 -- s ends before t in its row, or is in an earlier row

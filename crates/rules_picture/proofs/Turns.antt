@@ -18,9 +18,9 @@ use Rattle.rules.specs.Rows.{Row, fresh-row}
 use Rattle.rules.specs.Steps.{Screen}
 use Rattle.rules.specs.Painting.{Piece, Painter, Painted, begin, paint-depth, paint-fill-runs, paint-command, paint-when, paint-step, paint-steps, paint-row}
 use Rattle.rules.specs.Calls.{paints-on, Canvas, blank, begin-call, painter-of, with-painter, paint-call}
-use Rattle.rules.proofs.All.{never}
+use Rattle.rules.proofs.All.{never, and-left, and-right}
 use Rattle.rules_picture.specs.Turns.{Turn, Gave, Turned, gave, turns, from, steps-of, said-finished, next-step, has-finished}
-use Rattle.rules_picture.proofs.Cases.{by, and-left, and-right}
+use Rattle.rules_picture.proofs.Cases.{by}
 
 -- One row alone.
 module _ (w : ℕ) (attrs : Attrs) where

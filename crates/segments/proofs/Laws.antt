@@ -13,6 +13,7 @@ use Rattle.rules.specs.Answers.{Done, BadRecord, BadOrder}
 use Rattle.rules.specs.Boxes.{Box, box, width, height, bounded, good-viewport, by-4, rows-of, scene-tiles}
 use Rattle.rules.specs.Spans.{span, Stretch, moved, cut-to}
 use Rattle.rules.specs.Segments.{Segment, good-segment, ordered, judge-segments, alpha-of, stretch-of, Cut, localised, on-row, cut-in, cuts}
+use Rattle.rules.proofs.All.{both}
 use Rattle.span.specs.declared.Alpha.{Alpha}
 use Rattle.span.specs.declared.Alpha.the-variants.{Solid, At}
 use Rattle.span.specs.Spans.{alpha, Moves}
@@ -63,10 +64,6 @@ module _ (ws : List ℕ) where
       sym
       (ap (take (b - a)) (drop-segs a (length ws / 5 - a) (length ws / 5) 0 a (omega arith) (omega arith))
       ∙ take-segs (b - a) (length ws / 5 - a) a (omega arith))
-
-both : (x y : Bool) → (x && y) ≡ true → (x ≡ true) × (y ≡ true)
-both true y p = (refl, p)
-both false y p = let z : _≡_ {A = ℕ} 0 1 = cc in absurd (omega arith)
 
 -- answer 4's bounds, as facts
 pub record Good (s : Segment) : Type 0 where

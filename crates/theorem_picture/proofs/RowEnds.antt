@@ -24,7 +24,8 @@ use Rattle.paint_whole.specs.Running.{one-more, run, most, standing, row-painte
 use Rattle.refine_paint.specs.Canvases.{given-out, WholeCanvas}
 use Rattle.refine_paint.proofs.Whole.{paint-whole}
 use Rattle.rules_picture.specs.Turns.{next-step}
-use Rattle.rules_picture.proofs.Cases.{by, and-right}
+use Rattle.rules.proofs.All.{and-right}
+use Rattle.rules_picture.proofs.Cases.{by}
 use Rattle.rules_picture.proofs.Turns.{step-counts, step-ended, late-ended, call-given, call-screen, call-paints, call-own}
 use Rattle.rules_picture.proofs.Finishes.{work}
 use Rattle.rules_picture.proofs.Picture.{built-on}

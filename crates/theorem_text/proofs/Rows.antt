@@ -30,7 +30,7 @@ use Rattle.text_row.specs.Dumped.{with-text, pieces-written, row-dumped}
 use Rattle.refine_paint.specs.Canvases.{WholeCanvas}
 use Rattle.rules_picture.specs.Turns.{Gave, from, steps-of, said-finished, turns, has-finished}
 use Rattle.refine_paint.proofs.Whole.{begin-whole}
-use Rattle.rules_picture.proofs.Cases.{and-left, and-right}
+use Rattle.rules.proofs.All.{and-left, and-right}
 use Rattle.rules_picture.proofs.Turns.{all-given, by-turns, said-so, next-at, turns-screen, turns-paints, call-other, begun-is, begun-paints, begun-painter}
 use Rattle.rules_picture.proofs.Picture.{built-on}
 use Rattle.theorem_picture.specs.Reached.{Reached, begin-at}

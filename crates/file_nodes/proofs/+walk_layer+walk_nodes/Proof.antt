@@ -27,7 +27,7 @@ use Rattle.file_read.proofs.props_at.Reads as props-at-reads
 use Rattle.file_steps.proofs.pop_at.Reads as pop-at-reads
 use Rattle.file_steps.proofs.walk_draws.Reads as walk-draws-reads
 use Rattle.file_steps.proofs.walk_filter.Reads as walk-filter-reads
-use Rattle.file_nodes.proofs.wide.Reads as wide-reads
+use Rattle.sizes.proofs.wide.Reads as wide-reads
 use Rattle.file_nodes.proofs.+walk_layer+walk_nodes.{statement}
 use Rattle.file_nodes.proofs.+walk_layer+walk_nodes.Tie.{close}
 

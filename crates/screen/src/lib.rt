@@ -39,9 +39,9 @@ pub struct Screen {
     pub painting: bool,
 }
 
-// What a call gives: its answer, and the screen afterwards.
+// What a call gives: its number, and the screen afterwards.
 pub struct Built {
-    pub answer: Answer,
+    pub number: u32,
     pub screen: Screen,
 }
 
@@ -324,7 +324,7 @@ pub fn reset(
     layer_attrs: &mut [u32],
     filter_paints: &mut [i32],
 ) -> Built
-    ensures { λ r. ⌜ answer (number-of (r .answer)) (lent (r .screen) (tables (now (render .exit)) (now (fills .exit)) (now (depth .exit)) (now (rows .exit)) (now (painting .exit)) (now (layers .exit)) (now (opacities .exit)) (now («paint_attrs» .exit)) (now («layer_attrs» .exit)) (now («filter_paints» .exit))))
+    ensures { λ r. ⌜ answer (r .number) (lent (r .screen) (tables (now (render .exit)) (now (fills .exit)) (now (depth .exit)) (now (rows .exit)) (now (painting .exit)) (now (layers .exit)) (now (opacities .exit)) (now («paint_attrs» .exit)) (now («layer_attrs» .exit)) (now («filter_paints» .exit))))
         ≡ reset-to viewport c d (lent screen (tables (now (render .entry)) (now (fills .entry)) (now (depth .entry)) (now (rows .entry)) (now (painting .entry)) (now (layers .entry)) (now (opacities .entry)) (now («paint_attrs» .entry)) (now («layer_attrs» .entry)) (now («filter_paints» .entry)))) ⌝ }
 {
     let lent = Lengths {
@@ -341,10 +341,7 @@ pub fn reset(
     };
     let n = judge_reset(viewport, c, d, lent);
     if n != 0 {
-        return Built {
-            answer: answer_of(n),
-            screen,
-        };
+        return Built { number: n, screen };
     }
     clear(render);
     clear(fills);
@@ -357,7 +354,7 @@ pub fn reset(
     clear(layer_attrs);
     clear_signed(filter_paints);
     Built {
-        answer: Answer::Done,
+        number: 0,
         screen: fresh(viewport, c, d),
     }
 }

@@ -1,7 +1,7 @@
 -- Small laws on numbers and tests.
 use mathlib.Core.Path.{_≡_, refl}
 use mathlib.Core.Bool.{Bool, true, false, _&&_, _||_}
-use Prim.Native.Nat.{ℕ, zero, suc, _≤_}
+use Prim.Native.Nat.{ℕ}
 use native.Mathlib.Omega.{arith}
 
 pub and-left : (x y : Bool) → (x && y) ≡ true → x ≡ true
@@ -19,12 +19,3 @@ or-left false y h = refl
 pub or-right : (x y : Bool) → (x || y) ≡ false → y ≡ false
 or-right true y h = let z : _≡_ {A = ℕ} 0 1 = cc in absurd (omega arith)
 or-right false y h = h
-
--- n is none of the first k numbers
-abbrev NoneOf : ℕ → ℕ → Type 0
-NoneOf n zero = Unit
-NoneOf n (suc k) = NoneOf n k × (n ≡ k → ⊥)
-
-pub past : (n k : ℕ) → NoneOf n k → k ≤ n
-past n zero t = omega arith
-past n (suc k) t = let h : k ≤ n = past n k (t .0) in omega (arith, t .1)

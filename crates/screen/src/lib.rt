@@ -6,12 +6,10 @@ ghost use Rattle.sizes.specs.Sizes.{bucket-tiles, most-rows};
 ghost use Rattle.rules.specs.Answers.{answer};
 ghost use Rattle.rules.specs.Boxes.{rows-of, buckets-of};
 ghost use Rattle.rules.specs.Walk.{good-room};
-ghost use Rattle.cmd.specs.Answers.{number-of};
 ghost use Rattle.rect.specs.Rects.{box-of};
 ghost use Rattle.screen.specs.Screens.{in-tiles, good-clip, good-screen, fresh-screen};
 ghost use Rattle.screen.specs.Judging.{good-rooms, judged, good-fixed, judged-reset};
 ghost use Rattle.screen.specs.Tables.{zeros, tables, lent, reset-to, float-0};
-use cmd::Answer;
 use rect::Rect;
 use sizes::BUCKET;
 use sizes::BUCKET_ROUND;
@@ -57,30 +55,6 @@ pub struct Lengths {
     pub paint_attrs: usize,
     pub layer_attrs: usize,
     pub filter_paints: usize,
-}
-
-// The answer of a number.
-pub fn answer_of(n: u32) -> Answer
-    requires { ⌜ n ≤ 14 ⌝ }
-    ensures { λ r. ⌜ number-of r ≡ n ⌝ }
-{
-    match n {
-        0 => Answer::Done,
-        1 => Answer::BadArena,
-        2 => Answer::BadViewport,
-        3 => Answer::BadForm,
-        4 => Answer::BadRecord,
-        5 => Answer::BadOrder,
-        6 => Answer::Deep,
-        7 => Answer::NoLayer,
-        8 => Answer::Ids,
-        9 => Answer::FullAttrs,
-        10 => Answer::FullRow,
-        11 => Answer::FullDepth,
-        12 => Answer::BadRun,
-        13 => Answer::Open,
-        _ => Answer::NoRoom,
-    }
 }
 
 // Room for C render commands, or for D depth fills.

@@ -64,9 +64,9 @@ fn put_step(done: Stepped, result: &mut [usize]) -> u32
     requires { ⌜ length (now result) ≡ 2 ⌝ }
     ensures { λ r. ⌜ answer r (now (result .exit)) ≡ step-result (now (result .entry)) (painted-of done) ⌝ }
 {
-    let n = done.number;
-    if n != 0 {
-        return n;
+    let number = done.number;
+    if number != 0 {
+        return number;
     }
     result[0] = one(done.finished);
     result[1] = done.pieces;

@@ -1,9 +1,7 @@
 // A painting step of one row of a screen.
 use crate::judge::judge_step;
-use cmd::Answer;
 use paint_command::step_row;
 use screen::Screen;
-use screen::answer_of;
 use sizes::ROW;
 ghost use mathlib.Core.Path.{_≡_};
 ghost use Rattle.paint_command.specs.Painting.{lent, out};
@@ -11,7 +9,7 @@ ghost use Rattle.paint_screen.specs.Stepping.{painted-of, attributes, St
 
 // finished: no step was left. pieces: how many stand in the list, six words each.
 pub struct Stepped {
-    pub answer: Answer,
+    pub number: u32,
     pub finished: bool,
     pub pieces: usize,
 }
@@ -54,7 +52,7 @@ fn step_part(
         list,
     );
     Stepped {
-        answer: answer_of(done.number),
+        number: done.number,
         finished: done.finished,
         pieces: done.pieces,
     }
@@ -89,7 +87,7 @@ pub fn paint_step(
     );
     if n != 0 {
         return Stepped {
-            answer: answer_of(n),
+            number: n,
             finished: false,
             pieces: 0,
         };

@@ -3,7 +3,6 @@ use crate::run::run_row;
 use paint_screen::judge::judge_step;
 use paint_screen::step::Stepped;
 use screen::Screen;
-use screen::answer_of;
 use sizes::ROW;
 ghost use mathlib.Core.Path.{_≡_};
 ghost use Rattle.paint_command.specs.Painting.{lent, out};
@@ -51,7 +50,7 @@ fn row_part(
         list,
     );
     Stepped {
-        answer: answer_of(done.number),
+        number: done.number,
         finished: done.finished,
         pieces: done.pieces,
     }
@@ -87,7 +86,7 @@ pub fn paint_row(
     );
     if n != 0 {
         return Stepped {
-            answer: answer_of(n),
+            number: n,
             finished: false,
             pieces: 0,
         };

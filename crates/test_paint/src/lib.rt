@@ -59,26 +59,13 @@ fn put_two(out: &mut [u32], at: usize, x: u32, y: u32) -> usize {
 
 // The number, how many runs, the list.
 fn put_runs(out: &mut [u32], at: usize, runs: Runs, list: &[u32]) -> usize {
-    match runs {
-        Runs::Refused(answer) => {
-            let head = [answer.number(), 0];
-            let place = copy(out, at, &head);
-            copy(out, place, list)
-        }
-        Runs::Listed(n) => {
-            let head = [0, narrow(n)];
-            let place = copy(out, at, &head);
-            copy(out, place, list)
-        }
-    }
+    let head = [runs.number, narrow(runs.count)];
+    let place = copy(out, at, &head);
+    copy(out, place, list)
 }
 
 fn put_skip(out: &mut [u32], at: usize, skip: Skip) -> usize {
-    match skip {
-        Skip::Refused(answer) => put_two(out, at, answer.number(), 0),
-        Skip::Yes => put_two(out, at, 0, 1),
-        Skip::No => put_two(out, at, 0, 0),
-    }
+    put_two(out, at, skip.number, flag(skip.yes))
 }
 
 // row, words of the list. The number, whether finished, how many pieces, the list.
@@ -111,8 +98,7 @@ fn do_paint(
         layer_attrs,
         &mut list[..n],
     );
-    let answer = done.answer;
-    let head = [answer.number(), flag(done.finished), narrow(done.pieces)];
+    let head = [done.number, flag(done.finished), narrow(done.pieces)];
     let place = copy(out, at, &head);
     copy(out, place, &list[..n])
 }
@@ -190,11 +176,10 @@ fn do_begin(
     painting: &mut [u32],
 ) -> Turn {
     let begun = begin_painting(screen, depth, painting);
-    let answer = begun.answer;
     let next = begun.screen;
     Turn {
         screen: next,
-        place: put(out, at, answer.number()),
+        place: put(out, at, begun.number),
     }
 }
 

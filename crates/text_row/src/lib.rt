@@ -186,9 +186,8 @@ fn refused_at(
         layer_attrs,
         &mut none,
     );
-    let answer = step.answer;
     Listing {
-        number: answer.number(),
+        number: step.number,
         bytes: 0,
     }
 }
@@ -223,8 +222,7 @@ pub fn row_text(
         layer_attrs,
         list,
     );
-    let answer = done.answer;
-    let n = answer.number();
+    let n = done.number;
     if n != 0 {
         return Listing {
             number: n,

@@ -21,7 +21,6 @@ use Rattle.file_nodes.proofs.+walk_layer+walk_nodes.Lts-walk_layer as w
 use Rattle.file_nodes.proofs.walk_nodes.Reads as walk-nodes
 use Rattle.file_nodes.proofs.walk_nodes.Kinds as walk-nodes-kinds
 use Rattle.file_nodes.proofs.+walk_layer+walk_nodes.Lts-walk_nodes as walk-nodes-lts
-use Rattle.cmd.proofs.Answer.number.Reads as number-reads
 use Rattle.step_push.proofs.push_layer.Reads as push-layer-reads
 use Rattle.file_read.proofs.props_at.Reads as props-at-reads
 use Rattle.file_steps.proofs.pop_at.Reads as pop-at-reads

@@ -3,7 +3,7 @@ use native.Mathlib.Omega.{arith}
 use Rattle.paint_command.specs.Painting.{lent}
 use Rattle.paint_screen.specs.Stepping.{Within, attributes}
 use Rattle.paint_screen.proofs.Parts.{part-length}
-use Rattle.paint_whole.proofs.Parts.{run-number, run-back}
+use Rattle.paint_whole.proofs.Parts.{run-back}
 use borrow.Author.Needs.{needs}
 use Rattle.paint_whole.proofs.row_part.Statement.{statement}
 use Rattle.paint_whole.proofs.row_part.Tie as tie
@@ -148,9 +148,6 @@ run-row-requires c κs =
       (at-args .pre .paint-table, at-args .pre .paints, at-args .pre .layer-table, at-args .pre .layers),
     )
 
-answer-of-requires : tie.Need-answer-of-requires
-answer-of-requires c κs = run-number _ _ _ _ _ _ (c .before .before .before .before .before .before .run-row .ensures)
-
 same-length : tie.Need-same-length
 same-length c = search needs
 
@@ -162,12 +159,12 @@ same-length-3 c = search needs
 
 returns : tie.Need-returns
 returns c =
-    let at-run-row = c .before .before .before .before .before .before .before in
+    let at-run-row = c .before .before .before .before .before .before in
     let at-buckets = at-run-row .before .before .before .before .before .before .before .before .before in
     let at-args = at-buckets .before .before .before .before .before .before .before .before .before in
     run-back (at-args .args .screen) (at-args .args .row) (attributes (at-args .args .paint-attrs .now) (at-args .args .layer-attrs .now)) (lent
     (at-args .args .rows .now) (at-args .args .render .now) (at-args .args .fills .now) (at-args .args .depth .now) (at-args .args .painting .now)
-    (at-args .args .list .now)) _ (at-buckets .buckets .ensures) _ _ _ _ _ (c .answer-of .ensures) (at-run-row .run-row .ensures)
+    (at-args .args .list .now)) _ (at-buckets .buckets .ensures) _ _ _ _ (at-run-row .run-row .ensures)
 
 pub row-part-spec : {M : Type 1} → statement M
 row-part-spec =
@@ -209,7 +206,6 @@ row-part-spec =
     part-run-row-start-5
     part-run-row-end-5
     run-row-requires
-    answer-of-requires
     same-length
     same-length-2
     same-length-3

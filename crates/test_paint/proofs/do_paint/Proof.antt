@@ -13,7 +13,6 @@ use Rattle.test_words.proofs.copy.Reads as copy-reads
 use Rattle.test_words.proofs.mark.Reads as mark-reads
 use Rattle.test_words.proofs.wide.Reads as wide-reads
 use Rattle.test_words.proofs.word.Reads as word-reads
-use Rattle.cmd.proofs.Answer.number.Reads as number-reads
 use Rattle.paint_screen.proofs.paint_step.Reads as paint-step-reads
 
 word-requires : tie.Need-word-requires
@@ -42,9 +41,6 @@ slice-aggregate-paint-step c = sym (length-take-le _ _ (omega arith))
 
 paint-step-requires : tie.Need-paint-step-requires
 paint-step-requires c κs = search needs
-
-number-requires : tie.Need-number-requires
-number-requires c κs = search needs
 
 flag-requires : tie.Need-flag-requires
 flag-requires c κs = search needs
@@ -95,7 +91,6 @@ do-paint-spec =
     slice-relend-prefix-paint-step
     slice-aggregate-paint-step
     paint-step-requires
-    number-requires
     flag-requires
     narrow-requires
     slice-aggregate-copy

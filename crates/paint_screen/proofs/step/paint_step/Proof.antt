@@ -1,4 +1,3 @@
-use Rattle.paint_screen.proofs.Judged.{small-step, below}
 use mathlib.Core.Path.{sym, _∙_}
 use Rattle.paint_command.specs.Painting.{lent}
 use Rattle.paint_screen.specs.Stepping.{attributes}
@@ -10,16 +9,13 @@ use Rattle.paint_screen.proofs.step.paint_step.Tie as tie
 judge-step-requires : tie.Need-judge-step-requires
 judge-step-requires c κs = search needs
 
-answer-of-requires : tie.Need-answer-of-requires
-answer-of-requires c κs = below _ _ (c .before .judge-step .ensures) (small-step _ _ _ _)
-
 returns : tie.Need-returns
 returns c =
-    let at-judge-step = c .before .before in
+    let at-judge-step = c .before in
     let at-args = at-judge-step .before .before .before .before .before .before .before .before .before in
     step-refused (at-args .args .screen) (at-args .args .row) (attributes (at-args .args .paint-attrs .now) (at-args .args .layer-attrs .now)) (lent
     (at-args .args .rows .now) (at-args .args .render .now) (at-args .args .fills .now) (at-args .args .depth .now) (at-args .args .painting .now)
-    (at-args .args .list .now)) _ (at-judge-step .judge-step .ensures) _ (c .answer-of .ensures) (c .before .if1 .taken)
+    (at-args .args .list .now)) _ (at-judge-step .judge-step .ensures) (c .if1 .taken)
 
 step-part-requires : tie.Need-step-part-requires
 step-part-requires c κs =
@@ -54,7 +50,6 @@ paint-step-spec =
     tie.close
     (tie.spec
     judge-step-requires
-    answer-of-requires
     returns
     step-part-requires
     same-length

@@ -2,7 +2,7 @@
 use native.Mathlib.Omega.{arith}
 use Rattle.paint_command.specs.Painting.{lent}
 use Rattle.paint_screen.specs.Stepping.{Within, attributes}
-use Rattle.paint_screen.proofs.Parts.{part-length, row-number, step-back}
+use Rattle.paint_screen.proofs.Parts.{part-length, step-back}
 use borrow.Author.Needs.{needs}
 use Rattle.paint_screen.proofs.step.step_part.Statement.{statement}
 use Rattle.paint_screen.proofs.step.step_part.Tie as tie
@@ -179,9 +179,6 @@ step-row-requires c κs =
       (at-args .pre .paint-table, at-args .pre .paints, at-args .pre .layer-table, at-args .pre .layers),
     )
 
-answer-of-requires : tie.Need-answer-of-requires
-answer-of-requires c κs = row-number _ _ _ _ _ _ (c .before .before .before .before .before .before .step-row .ensures)
-
 same-length : tie.Need-same-length
 same-length c = search needs
 
@@ -193,12 +190,12 @@ same-length-3 c = search needs
 
 returns : tie.Need-returns
 returns c =
-    let at-step-row = c .before .before .before .before .before .before .before in
+    let at-step-row = c .before .before .before .before .before .before in
     let at-buckets = at-step-row .before .before .before .before .before .before .before .before .before in
     let at-args = at-buckets .before .before .before .before .before .before .before .before .before in
     step-back (at-args .args .screen) (at-args .args .row) (attributes (at-args .args .paint-attrs .now) (at-args .args .layer-attrs .now)) (lent
     (at-args .args .rows .now) (at-args .args .render .now) (at-args .args .fills .now) (at-args .args .depth .now) (at-args .args .painting .now)
-    (at-args .args .list .now)) _ (at-buckets .buckets .ensures) _ _ _ _ _ (c .answer-of .ensures) (at-step-row .step-row .ensures)
+    (at-args .args .list .now)) _ (at-buckets .buckets .ensures) _ _ _ _ (at-step-row .step-row .ensures)
 
 pub step-part-spec : {M : Type 1} → statement M
 step-part-spec =
@@ -240,7 +237,6 @@ step-part-spec =
     part-step-row-start-5
     part-step-row-end-5
     step-row-requires
-    answer-of-requires
     same-length
     same-length-2
     same-length-3

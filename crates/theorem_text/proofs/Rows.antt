@@ -154,7 +154,7 @@ others i r d [] e k = refl
 others i r d (t ∷ ts) e k =
     let g = paint-call 32 (t .row) (length (t .list) / 6) k in
     let o : t .row ≡ r → ⊥ = λ q. d (sym (eqb-true (t .row) i (and-left _ _ e)) ∙ q) in
-    others i r d ts (and-right (eqb (t .row) i) _ e) (g .canvas) ∙ call-other 32 (t .row) (length (t .list) / 6) k r o
+    others i r d ts (and-right (eqb (t .row) i) _ e) (g .value .canvas) ∙ call-other 32 (t .row) (length (t .list) / 6) k r o
 
 -- Once painting has begun at reached words, every row does, ..
 pub begin-waits : {f : Frame} {xs : List Step} {l : ScreenLent} (h : Reached f xs l) → begin-at l .number ≡ Done → (r : ℕ) → r < rows-of (f .viewport)

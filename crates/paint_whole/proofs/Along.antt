@@ -8,15 +8,18 @@ use lib.ListN.{length, take, drop, set, take-append-drop, length-drop}
 use lib.Seq.{drop-drop}
 use borrow.Author.Tests.{lt-ltb, le-ltb}
 use Rattle.rules.specs.Attributes.{Attrs}
+use Rattle.rules.specs.Lists.{join}
+use Rattle.rules.specs.Spans.{Span}
 use Rattle.cmd.specs.Attrs.{words-at}
 use Rattle.cmd.proofs.Tables.{length-at}
 use Rattle.paint_runs.specs.Summaries.{summary-at}
 use Rattle.depth.specs.Listing.{over}
 use Rattle.paint_command.specs.Painting.{word, StepOut, out, listed, next-step, painted-row}
 use Rattle.paint_whole.specs.Running.{one-more, run, own-step}
-use Rattle.paint_whole.specs.Kinds.{step-to, Said, Calm, Onward, Place, place, stands, Reaches}
+use Rattle.paint_whole.specs.Kinds.{runs-met, run-words, step-to, Said, Calm, Onward, Place, place, stands, Reaches}
 use Rattle.paint_command.proofs.Judging.{two-both, two-same}
 use Rattle.paint_whole.proofs.Runs.{more}
+use Rattle.paint_whole.proofs.Putting.{length-runs}
 
 -- any step
 module _ (step : List ℕ → List ℕ → List ℕ → StepOut) (D : List ℕ) (d : ℕ) where
@@ -39,6 +42,18 @@ module _ (step : List ℕ → List ℕ → List ℕ → StepOut) (D : List ℕ) 
 
     pub reach-more : Reaches step D d a b′
     reach-more = record { after = omega (arith, z .after); onward = further; shallow = h; few = g; long = i ∙ z .long }
+
+  -- from a place to a second, and from there to a third
+  pub reach-both : (a b c : Place) → Reaches step D d a b → Reaches step D d b c → Reaches step D d a c
+  reach-both a b c z y = record { after = omega (arith, z .after, y .after); onward = further-on; shallow = y .shallow; few = y .few; long = y .long ∙ z .long }
+    where
+      further-on : (f k : ℕ) → c .at - a .at ≤ f → run step f k (stands D d a) ≡ run step (f - (c .at - a .at)) (k + (c .at - a .at)) (stands D d c)
+      further-on f k j =
+          let n : f - (b .at - a .at) - (c .at - b .at) ≡ f - (c .at - a .at) = omega (arith, z .after, y .after) in
+          let m : k + (b .at - a .at) + (c .at - b .at) ≡ k + (c .at - a .at) = omega (arith, z .after, y .after) in
+          z .onward f k (omega (arith, z .after, y .after))
+          ∙ y .onward (f - (b .at - a .at)) (k + (b .at - a .at)) (omega (arith, z .after, y .after))
+          ∙ rw (n, m)
 
 -- the steps of a row's commands
 module _ (a : Attrs) (s re fi D : List ℕ) (c : Calm s re fi) where
@@ -67,8 +82,8 @@ module _ (a : Attrs) (s re fi D : List ℕ) (c : Calm s re fi) where
           lt-ltb at (word s 0) h,
         )
 
-  module _ (start : Place) (at n m : ℕ) (l : List ℕ) (z : Reaches steps D d start (place at n m l)) (h : at < word s 0) (r : ℕ)
-      (q : Said a (summary-at s) D m (word re (4 * at)) (word re (4 * at + 1)) (word re (4 * at + 2)) (word re (4 * at + 3)) r) where
+  module _ (start : Place) (at n m : ℕ) (l : List ℕ) (z : Reaches steps D d start (place at n m l)) (h : at < word s 0) (r stop id : ℕ)
+      (q : Said a (summary-at s) D m (word re (4 * at)) (word re (4 * at + 1)) (word re (4 * at + 2)) (word re (4 * at + 3)) r stop id) where
     abbrev six : List ℕ
     six = word re (4 * at) ∷ word re (4 * at + 3) ∷ (word re (4 * at + 1) / 65536) ∷ (word re (4 * at + 1) % 65536) ∷ word re (4 * at + 2) ∷ m ∷ []
 
@@ -116,6 +131,28 @@ module _ (a : Attrs) (s re fi D : List ℕ) (c : Calm s re fi) where
       on-whole e l′ i =
           let k : length (words-at l (6 * n) six) ≡ length l = length-at l (6 * n) six (omega arith) in
           rw i (reach-more steps D d start (place at n m l) z (place (at + 1) (n + 1) m (words-at l (6 * n) six)) refl (piece-step e) (z .shallow) (rw k (omega arith)) k)
+
+    -- the pieces of a fill that is shown in part
+    abbrev found : List Span
+    found = runs-met D id (word re (4 * at + 1))
+
+    abbrev words : List ℕ
+    words = join (run-words (word re (4 * at)) (word re (4 * at + 3)) (word re (4 * at + 1)) (word re (4 * at + 2)) m) found
+
+    module _ (room : 6 * (n + length found) ≤ length l) where
+      words-long : length words ≡ 6 * length found
+      words-long = length-runs (word re (4 * at)) (word re (4 * at + 3)) (word re (4 * at + 1)) (word re (4 * at + 2)) m found
+
+      runs-step : 4 < r → one-more steps (stands D d (place at n m l)) ≡ stands D d (place (at + 1) (n + length found) m (words-at l (6 * n) words))
+      unfolding one-more
+      runs-step e =
+          let o = taken at m h (z .shallow) (drop (6 * n) l) ∙ q .partly e .pieces (d + at) ((d + at) ∷ m ∷ []) (drop (6 * n) l) (rw length-drop (omega arith)) in
+          rw (o, one-up, drop-drop (length words) (6 * n) l, append-assoc)
+
+      pub on-partly : 4 < r → (l′ : List ℕ) → l′ ≡ words-at l (6 * n) words → Reaches steps D d start (place (at + 1) (n + length found) m l′)
+      on-partly e l′ i =
+          let k : length (words-at l (6 * n) words) ≡ length l = length-at l (6 * n) words (rw words-long (omega arith)) in
+          rw i (reach-more steps D d start (place at n m l) z (place (at + 1) (n + length found) m (words-at l (6 * n) words)) refl (runs-step e) (z .shallow) (rw k (omega arith)) k)
 
 -- No step done.
 pub none-gone : (step : List ℕ → List ℕ → List ℕ → StepOut) (D P l : List ℕ) (n limit k j : ℕ) → 6 * n ≤ length l → (k ≡ 0) × (j ≡ n)

@@ -4,3 +4,4 @@ pub mod Looks
 pub mod Saying
 pub mod Along
 pub mod Laws
+pub mod Putting

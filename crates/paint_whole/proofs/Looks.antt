@@ -1,25 +1,32 @@
 -- What one look shows of a fill. Assumes nothing.
 use mathlib.Core.Path.{_≡_, refl, sym, ap, _∙_}
 use mathlib.Core.Bool.{Bool, true, false, _&&_, _||_, cond}
-use mathlib.Core.List.{List, [], _∷_}
+use mathlib.Core.List.{List, [], _∷_, map}
 use mathlib.Core.Option.{none, some}
 use Prim.Native.Nat.{ℕ, suc, _+_, _-_, _*_, _/_, _%_, _≤_, _<_, min, max}
 use native.Mathlib.Omega.{arith}
 use lib.ListN.{length, getD}
 use lib.Dec.{leb, ltb, eqb}
-use borrow.Author.Tests.{lt-ltb, le-leb, lt-leb, eq-eqb, ne-eqb}
-use Rattle.rules.specs.Spans.{Span, span}
-use Rattle.rules.specs.Depth.{Summary, can-skip, is-visible, runs-in, runs, visible-runs}
+use borrow.Author.Tests.{lt-ltb, le-leb, lt-leb, eq-eqb, ne-eqb, eqb-true, ltb-true}
+use Rattle.rules.specs.Spans.{Span, span, common}
+use Rattle.rules.specs.Depth.{Summary, can-skip, is-visible, runs-in, tiles-of, runs, visible-runs}
 use Rattle.cmd.specs.Reading.{word-span}
 use Rattle.cmd.proofs.Tests.{sum-test}
-use Rattle.depth.proofs.Searching.{runs-end, runs-closed, Reached, reach-first, reach-end}
+use Rattle.depth.proofs.Searching.{runs-end, runs-closed, Reached, reach-first, reach-closed, reach-end}
 use Rattle.paint_runs.specs.Summaries.{shown-runs}
-use Rattle.paint_whole.specs.Kinds.{summary-by, good-index, Fills, FillSaid}
+use Rattle.paint_whole.specs.Kinds.{summary-by, good-index, Fills, low-met, high-met, runs-met, SeenTo, HiddenTo, Looked, FillSaid}
 
 -- an alpha index
 module _ (t x n : ℕ) where
-  pub solid-index : t % 2 ≡ 1 → eqb x 0 ≡ good-index t x n
-  solid-index h = rw h
+  pub zero-index : x ≡ 0 → n ≤ 8192 → true ≡ good-index t x n
+  zero-index h g = go (eqb (t % 2) 1)
+    where
+      go : (b : Bool) → true ≡ cond b (eqb x 0) (ltb (x + 16 * n) 4294967296)
+      go true = sym (eq-eqb x 0 h)
+      go false = sym (lt-ltb (x + 16 * n) 4294967296 (omega arith))
+
+  pub solid-index : (x ≡ 0 → ⊥) → t % 2 ≡ 1 → false ≡ good-index t x n
+  solid-index g h = rw (h, ne-eqb x 0 g)
 
   pub alpha-index : (t % 2 ≡ 1 → ⊥) → n ≤ 8192 → leb x (4294967295 - 16 * n) ≡ good-index t x n
   alpha-index h g = rw (ne-eqb _ _ h) (sum-test x (16 * n) 4294967295 (omega arith))
@@ -43,38 +50,58 @@ module _ (a e n f g id : ℕ) where
     apart-left i = rw (lt-leb _ _ h, some-there, lt-leb _ _ i)
 
 -- buckets looked at one by one
-pub no-true : {P : Type 0} → false ≡ true → P
-no-true e = let z : _≡_ {A = ℕ} 0 1 = cc in absurd (omega arith)
-
 module _ (D : List ℕ) (id a e : ℕ) where
   -- all up to i hold at most the id
-  abbrev pub Seen : ℕ → Type 0
+  abbrev Seen : ℕ → Type 0
   Seen i = Reached (is-visible id) D e a i
 
-  pub seen-end : (i : ℕ) → e ≤ length D → Seen i → e ≤ i → runs-in (is-visible id) D (span a e) ≡ span a e ∷ []
-  seen-end i f r h =
-      let o = reach-end (is-visible id) D e f a i r h in
-      let s : i ≡ e = omega (arith, r .within) in
-      o .run ∙ rw (s, runs-end (is-visible id) D e e (omega arith))
-
-  -- all up to i hold more
+  -- .. or more
   pub record Hidden (i : ℕ) : Type 0 where
+    pub past : a < i
     pub within : i ≤ e
     pub rest : runs-in (is-visible id) D (span a e) ≡ runs-in (is-visible id) D (span i e)
 
-  pub hidden-on : (i : ℕ) → e ≤ length D → Hidden i → i < e → id < getD D i 0 → Hidden (i + 1)
-  hidden-on i f r h g = record { within = omega arith; rest = r .rest ∙ runs-closed (is-visible id) D e f i h (lt-leb _ _ g) }
+module _ (D : List ℕ) (id a e : ℕ) (f : e ≤ length D) where
+  pub seen-stop : (i : ℕ) → Seen D id a e i → i < e → id < getD D i 0 → SeenTo D id a e i
+  seen-stop i r h g =
+      let o = reach-closed (is-visible id) D e f a i r h (lt-leb _ _ g) in
+      record { past = omega (arith, r .past); within = r .within; found = o .run; other = λ z. lt-leb _ _ g }
 
-  pub hidden-end : (i : ℕ) → Hidden i → e ≤ i → runs-in (is-visible id) D (span a e) ≡ []
-  hidden-end i r h = r .rest ∙ runs-end (is-visible id) D e i h
+  pub seen-end : (i : ℕ) → Seen D id a e i → e ≤ i → SeenTo D id a e i
+  seen-end i r h =
+      record {
+        past = omega (arith, r .past);
+        within = r .within;
+        found = reach-end (is-visible id) D e f a i r h .run;
+        other = λ z. absurd (omega arith);
+      }
 
--- .. a single one
-module _ (D : List ℕ) (id a e : ℕ) (f : e ≤ length D) (h : a < e) (g : e ≤ a + 1) where
-  pub one-seen : getD D a 0 ≤ id → runs-in (is-visible id) D (span a e) ≡ span a e ∷ []
-  one-seen i = seen-end D id a e (a + 1) f (reach-first (is-visible id) D e f a h (le-leb _ _ i)) g
+  pub seen-all : (i : ℕ) → SeenTo D id a e i → e ≤ i → runs-in (is-visible id) D (span a e) ≡ span a e ∷ []
+  seen-all i r h = let s : i ≡ e = omega (arith, r .within) in r .found ∙ rw (s, runs-end (is-visible id) D e e (omega arith))
 
-  pub one-hidden : id < getD D a 0 → runs-in (is-visible id) D (span a e) ≡ []
-  one-hidden i = hidden-end D id a e (a + 1) (hidden-on D id a e a f (record { within = omega arith; rest = refl }) h i) g
+  pub hidden-first : a < e → id < getD D a 0 → Hidden D id a e (a + 1)
+  hidden-first h g = record { past = omega arith; within = omega arith; rest = runs-closed (is-visible id) D e f a h (lt-leb _ _ g) }
+
+  pub hidden-on : (i : ℕ) → Hidden D id a e i → i < e → id < getD D i 0 → Hidden D id a e (i + 1)
+  hidden-on i r h g =
+      record { past = omega (arith, r .past); within = omega arith; rest = r .rest ∙ runs-closed (is-visible id) D e f i h (lt-leb _ _ g) }
+
+  pub hidden-stop : (i : ℕ) → Hidden D id a e i → getD D i 0 ≤ id → HiddenTo D id a e i
+  hidden-stop i r g = record { past = r .past; within = r .within; found = r .rest; other = λ z. le-leb _ _ g }
+
+  pub hidden-end : (i : ℕ) → Hidden D id a e i → e ≤ i → HiddenTo D id a e i
+  hidden-end i r h = record { past = r .past; within = r .within; found = r .rest; other = λ z. absurd (omega arith) }
+
+  pub hidden-all : (i : ℕ) → HiddenTo D id a e i → e ≤ i → runs-in (is-visible id) D (span a e) ≡ []
+  hidden-all i r h = r .found ∙ runs-end (is-visible id) D e i h
+
+  -- .. a single one
+  module _ (h : a < e) (g : e ≤ a + 1) where
+    pub one-seen : getD D a 0 ≤ id → runs-in (is-visible id) D (span a e) ≡ span a e ∷ []
+    one-seen i = seen-all (a + 1) (seen-end (a + 1) (reach-first (is-visible id) D e f a h (le-leb _ _ i)) g) g
+
+    pub one-hidden : id < getD D a 0 → runs-in (is-visible id) D (span a e) ≡ []
+    one-hidden i = hidden-all (a + 1) (hidden-end (a + 1) (hidden-first h i) g) g
 
 -- the buckets that a fill meets, all open or all shut
 module _ (D : List ℕ) (id f g : ℕ) (h : f < g) where
@@ -93,6 +120,11 @@ module _ (D : List ℕ) (id f g : ℕ) (h : f < g) where
   unfolding visible-runs runs
   met-hidden e = rw (lt-ltb _ _ h, e)
 
+  -- .. or some of them
+  pub met-runs : visible-runs 32 D id (span f g) ≡ map (λ (r : Span). common (span f g) (tiles-of 32 r)) (runs-in (is-visible id) D (span (f / 32) ((g + 31) / 32)))
+  unfolding visible-runs runs
+  met-runs = rw (lt-ltb _ _ h)
+
 -- what is shown of a fill, by the summary or the depth words
 module _ (u : Summary) (D : List ℕ) (id : ℕ) (s : Span) (h : s .first < s .end) (g : s .end ≤ 32 * length D) where
   pub clear-whole : true ≡ can-skip u s id → shown-runs u D id s ≡ s ∷ []
@@ -106,16 +138,71 @@ module _ (u : Summary) (D : List ℕ) (id : ℕ) (s : Span) (h : s .first < s .e
 
 -- what is said
 module _ (u : Summary) (D : List ℕ) (id t w x : ℕ) where
-  pub none-said : FillSaid u D id t w x 0
+  pub none-said : FillSaid u D id t w x 0 0 0
   none-said =
-      record { low = omega arith; good = λ h. absurd (omega arith); whole = λ h. absurd (omega arith); hidden = λ h. absurd (omega arith) }
+      record {
+        no-push = λ h. omega arith;
+        no-pop = λ h. omega arith;
+        good = λ h. absurd (omega arith);
+        whole = λ h. absurd (omega arith);
+        hidden = λ h. absurd (omega arith);
+        partly = λ h. absurd (omega arith);
+      }
 
   module _ (h : w / 65536 < w % 65536) (g : w % 65536 ≤ 8192) (i : good-index t x (w % 65536 - w / 65536) ≡ true) where
     fills : Fills t w x
     fills = record { low = omega arith; high = g; index = i }
 
-    pub whole-said : shown-runs u D id (word-span w) ≡ word-span w ∷ [] → FillSaid u D id t w x 1
-    whole-said e = record { low = omega arith; good = λ z. fills; whole = λ z. e; hidden = λ z. absurd (omega arith) }
+    pub whole-said : shown-runs u D id (word-span w) ≡ word-span w ∷ [] → FillSaid u D id t w x 1 0 0
+    whole-said e =
+        record {
+          no-push = λ z. omega arith;
+          no-pop = λ z. omega arith;
+          good = λ z. fills;
+          whole = λ z. e;
+          hidden = λ z. absurd (omega arith);
+          partly = λ z. absurd (omega arith);
+        }
 
-    pub hidden-said : shown-runs u D id (word-span w) ≡ [] → FillSaid u D id t w x 2
-    hidden-said e = record { low = omega arith; good = λ z. fills; whole = λ z. absurd (omega arith); hidden = λ z. e }
+    pub hidden-said : shown-runs u D id (word-span w) ≡ [] → FillSaid u D id t w x 2 0 0
+    hidden-said e =
+        record {
+          no-push = λ z. omega arith;
+          no-pop = λ z. omega arith;
+          good = λ z. fills;
+          whole = λ z. absurd (omega arith);
+          hidden = λ z. e;
+          partly = λ z. absurd (omega arith);
+        }
+
+    -- of a fill that is shown in part, where the look stopped
+    module _ (e : can-skip u (word-span w) id ≡ false) (k : w % 65536 ≤ 32 * length D) (stop : ℕ) where
+      cut-runs : shown-runs u D id (word-span w) ≡ map (λ (r : Span). common (word-span w) (tiles-of 32 r)) (runs-met D id w)
+      cut-runs = searched u D id (word-span w) h k e _ (met-runs D id (w / 65536) (w % 65536) h)
+
+      part-said : (kind : ℕ) → 4 < kind → Looked D id w (eqb kind 5) stop → FillSaid u D id t w x kind stop id
+      part-said kind m r =
+          record {
+            no-push = λ z. omega arith;
+            no-pop = λ z. omega arith;
+            good = λ z. fills;
+            whole = λ z. absurd (omega arith);
+            hidden = λ z. absurd (omega arith);
+            partly = λ z. (cut-runs, r, refl);
+          }
+
+      pub seen-said : SeenTo D id (low-met w) (high-met w) stop → stop < high-met w → FillSaid u D id t w x 5 stop id
+      seen-said r m =
+          part-said 5 (omega arith) (record { past = r .past; within = m; fits = omega arith; found = r .found; other = r .other m })
+
+      pub unseen-said : HiddenTo D id (low-met w) (high-met w) stop → stop < high-met w → FillSaid u D id t w x 6 stop id
+      unseen-said r m =
+          part-said 6 (omega arith) (record { past = r .past; within = m; fits = omega arith; found = r .found; other = r .other m })
+
+-- a fill's alpha index can be moved over its width
+pub index-moves : (t w x n : ℕ) → Fills t w x → n ≤ w % 65536 - w / 65536 → x + 16 * n < 4294967296
+index-moves t w x n f h = go (eqb (t % 2) 1) (f .index)
+  where
+    go : (b : Bool) → cond b (eqb x 0) (ltb (x + 16 * (w % 65536 - w / 65536)) 4294967296) ≡ true → x + 16 * n < 4294967296
+    go true e = omega (arith, eqb-true x 0 e, f .high)
+    go false e = omega (arith, ltb-true (x + 16 * (w % 65536 - w / 65536)) 4294967296 e)

@@ -1,14 +1,15 @@
--- Commands whose step needs no search over the depth words, and runs of such commands.
+-- Commands that one look settles, and runs of such commands.
 use Prim.Native.Nat.{ℕ, _+_, _-_, _*_, _/_, _%_, _≤_, _<_}
 use mathlib.Core.Path.{_≡_}
-use mathlib.Core.Bool.{Bool, true, _&&_, cond}
-use mathlib.Core.List.{List, [], _∷_}
+use mathlib.Core.Bool.{Bool, true, false, _&&_, not, cond}
+use mathlib.Core.List.{List, [], _∷_, map}
 use mathlib.Core.Option.{none, some}
 use lib.ListN.{length, getD}
 use lib.Dec.{leb, ltb, eqb}
-use Rattle.sizes.specs.Sizes.{tile-end, tile-alphas, most-layers}
-use Rattle.rules.specs.Spans.{Span, span}
-use Rattle.rules.specs.Depth.{Summary}
+use Rattle.sizes.specs.Sizes.{bucket-tiles, tile-end, tile-alphas, most-layers}
+use Rattle.rules.specs.Lists.{join}
+use Rattle.rules.specs.Spans.{Span, span, common}
+use Rattle.rules.specs.Depth.{Summary, is-visible, runs-in, tiles-of}
 use Rattle.cmd.specs.Reading.{word-span, command-of}
 use Rattle.rules.specs.Attributes.{Attrs}
 use Rattle.depth.specs.Listing.{over}
@@ -35,25 +36,77 @@ pub record Fills (t w x : ℕ) : Type 0 where
   pub high : w % 65536 ≤ tile-end
   pub index : good-index t x (w % 65536 - w / 65536) ≡ true
 
--- what is said of a fill: 1 all of it is shown, 2 nothing of it; 0 says nothing
-pub record FillSaid (u : Summary) (D : List ℕ) (id t w x r : ℕ) : Type 0 where
-  pub low : r ≤ 2
-  pub good : 0 < r → Fills t w x
-  pub whole : r ≡ 1 → shown-runs u D id (word-span w) ≡ word-span w ∷ []
-  pub hidden : r ≡ 2 → shown-runs u D id (word-span w) ≡ []
+-- the first bucket that a span word's tiles meet, and the end of those, and the runs that the id shows of them
+abbrev pub low-met : ℕ → ℕ
+low-met w = w / 65536 / bucket-tiles
+
+abbrev pub high-met : ℕ → ℕ
+high-met w = (w % 65536 + (bucket-tiles - 1)) / bucket-tiles
+
+abbrev pub runs-met : List ℕ → ℕ → ℕ → List Span
+runs-met D id w = runs-in (is-visible id) D (span (low-met w) (high-met w))
+
+-- the buckets from a to r are shown for the id, and at r that ends, or at e
+pub record SeenTo (D : List ℕ) (id a e r : ℕ) : Type 0 where
+  pub past : a < r
+  pub within : r ≤ e
+  pub found : runs-in (is-visible id) D (span a e) ≡ span a r ∷ runs-in (is-visible id) D (span r e)
+  pub other : r < e → is-visible id (word D r) ≡ false
+
+-- .. are hidden
+pub record HiddenTo (D : List ℕ) (id a e r : ℕ) : Type 0 where
+  pub past : a < r
+  pub within : r ≤ e
+  pub found : runs-in (is-visible id) D (span a e) ≡ runs-in (is-visible id) D (span r e)
+  pub other : r < e → is-visible id (word D r) ≡ true
+
+-- the buckets that a fill meets, looked at up to `stop`: they are all seen or all hidden, and bucket `stop`, which is there, is not
+pub record Looked (D : List ℕ) (id w : ℕ) (seen : Bool) (stop : ℕ) : Type 0 where
+  pub past : low-met w < stop
+  pub within : stop < high-met w
+  pub fits : high-met w ≤ length D
+  pub found : runs-met D id w ≡ cond seen (span (low-met w) stop ∷ runs-in (is-visible id) D (span stop (high-met w))) (runs-in (is-visible id) D (span stop (high-met w)))
+  pub other : is-visible id (word D stop) ≡ not seen
+
+-- what is said of a fill: 1 all of it is shown, 2 nothing of it, 5 and 6 what the look has seen of one that is shown in part; 0 says nothing
+pub record FillSaid (u : Summary) (D : List ℕ) (id t w x kind stop j : ℕ) : Type 0 where
+  pub no-push : kind ≡ 3 → ⊥
+  pub no-pop : kind ≡ 4 → ⊥
+  pub good : 0 < kind → Fills t w x
+  pub whole : kind ≡ 1 → shown-runs u D id (word-span w) ≡ word-span w ∷ []
+  pub hidden : kind ≡ 2 → shown-runs u D id (word-span w) ≡ []
+  pub partly : 4 < kind → (shown-runs u D id (word-span w) ≡ map (λ (r : Span). common (word-span w) (tiles-of bucket-tiles r)) (runs-met D id w)) × Looked D id w (eqb kind 5) stop × (j ≡ id)
+
+-- an alpha index, so many tiles further; a solid fill has none
+abbrev pub moved-index : ℕ → ℕ → ℕ → ℕ
+moved-index t x n = cond (eqb (t % 2) 1) x (x + tile-alphas * n)
+
+-- the six words of a fill's run, cut to its tiles
+abbrev pub run-words : ℕ → ℕ → ℕ → ℕ → ℕ → Span → List ℕ
+run-words t i w x m r =
+    let c = common (word-span w) (tiles-of bucket-tiles r) in
+    t ∷ i ∷ c .first ∷ c .end ∷ moved-index t x (c .first - w / 65536) ∷ m ∷ []
 
 module _ (attrs : Attrs) (u : Summary) (D : List ℕ) (m t w x i : ℕ) where
   -- the step of four words at nesting m, after q steps
   abbrev pub step-to : ℕ → List ℕ → List ℕ → StepOut
   step-to q P l = settled (command-step attrs u (record { buckets = D; steps = q; nesting = m }) (command-of t w x i)) D P l
 
-  -- what is said of a command: 1 one piece with all of the fill, 2 no piece, 3 nesting up, 4 nesting down; 0 says nothing
-  pub record Said (r : ℕ) : Type 0 where
-    pub whole : r ≡ 1 → (q : ℕ) (P l : List ℕ) → 6 ≤ length l
+  -- a fill that is shown in part: what the look has seen of it, and its pieces
+  pub record PartSaid (seen : Bool) (stop id : ℕ) : Type 0 where
+    pub looked : Looked D id w seen stop
+    pub good : Fills t w x
+    pub pieces : (q : ℕ) (P l : List ℕ) → 6 * length (runs-met D id w) ≤ length l
+        → step-to q P l ≡ out (listed (length (runs-met D id w))) D ((q + 1) ∷ m ∷ []) (over (join (run-words t i w x m) (runs-met D id w)) l)
+
+  -- what is said of a command: 1 one piece with all of the fill, 2 no piece, 3 nesting up, 4 nesting down, 5 and 6 a fill that is shown in part; 0 says nothing
+  pub record Said (kind stop id : ℕ) : Type 0 where
+    pub whole : kind ≡ 1 → (q : ℕ) (P l : List ℕ) → 6 ≤ length l
         → step-to q P l ≡ out (listed 1) D ((q + 1) ∷ m ∷ []) (over (t ∷ i ∷ (w / 65536) ∷ (w % 65536) ∷ x ∷ m ∷ []) l)
-    pub hidden : r ≡ 2 → (q : ℕ) (P l : List ℕ) → step-to q P l ≡ out (listed 0) D ((q + 1) ∷ m ∷ []) l
-    pub pushed : r ≡ 3 → (m < most-layers) × ((q : ℕ) (P l : List ℕ) → step-to q P l ≡ out (listed 0) D ((q + 1) ∷ (m + 1) ∷ []) l)
-    pub popped : r ≡ 4 → (0 < m) × ((q : ℕ) (P l : List ℕ) → step-to q P l ≡ out (listed 0) D ((q + 1) ∷ (m - 1) ∷ []) l)
+    pub hidden : kind ≡ 2 → (q : ℕ) (P l : List ℕ) → step-to q P l ≡ out (listed 0) D ((q + 1) ∷ m ∷ []) l
+    pub pushed : kind ≡ 3 → (m < most-layers) × ((q : ℕ) (P l : List ℕ) → step-to q P l ≡ out (listed 0) D ((q + 1) ∷ (m + 1) ∷ []) l)
+    pub popped : kind ≡ 4 → (0 < m) × ((q : ℕ) (P l : List ℕ) → step-to q P l ≡ out (listed 0) D ((q + 1) ∷ (m - 1) ∷ []) l)
+    pub partly : 4 < kind → PartSaid (eqb kind 5) stop id
 
 -- a row's counts have room, and its summary is in order
 pub record Calm (s re fi : List ℕ) : Type 0 where

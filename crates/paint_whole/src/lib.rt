@@ -9,6 +9,7 @@ ghost use Rattle.paint_command.specs.Painting.{lent, out};
 ghost use Rattle.paint_screen.specs.Stepping.{painted-of, attributes, StepReady};
 ghost use Rattle.paint_whole.specs.Running.{row-run, row-painted};
 
+pub mod pieces;
 pub mod plain;
 pub mod run;
 

@@ -1,5 +1,8 @@
-// Commands whose step needs no search over the depth words: fills that one look shows to be visible or hidden whole, and buffers.
+// Commands that one look at their words and the depth words settles: fills and buffers.
 // Parts: where a function asks something, its callers have judged it.
+use crate::pieces::most_runs;
+use crate::pieces::put_fill;
+use crate::pieces::put_words;
 use paint_runs::is_good_summary;
 use sizes::BUCKET;
 use sizes::BUCKET_ROUND;
@@ -17,17 +20,17 @@ use sizes::TILE_ALPHAS;
 use sizes::TILE_END;
 ghost use mathlib.Core.Path.{_≡_};
 ghost use mathlib.Core.Bool.{true};
-ghost use mathlib.Core.List.{List, [], _∷_};
+ghost use mathlib.Core.List.{List};
 ghost use Prim.Native.Nat.{ℕ, _+_, _-_, _*_, _/_, _%_, _≤_, _<_};
 ghost use lib.ListN.{length};
 ghost use Rattle.sizes.specs.Sizes.{tile-end, most-layers, most-room, most-attrs, row-size, paint-attr-table, layer-attr-table};
 ghost use Rattle.rules.specs.Attributes.{Attrs};
 ghost use Rattle.rules.specs.Spans.{span};
-ghost use Rattle.rules.specs.Depth.{Summary, can-skip, is-visible, runs-in};
-ghost use Rattle.cmd.specs.Attrs.{words-at};
+ghost use Rattle.rules.specs.Depth.{Summary, can-skip};
+ghost use Rattle.paint_runs.specs.Summaries.{summary-at};
 ghost use Rattle.paint_command.specs.Painting.{word, given, attrs-at, out, listed};
 ghost use Rattle.paint_whole.specs.Running.{own-step};
-ghost use Rattle.paint_whole.specs.Kinds.{id-given, summary-by, good-index, FillSaid, Said, Calm, place, Reaches, Onward};
+ghost use Rattle.paint_whole.specs.Kinds.{id-given, summary-by, good-index, SeenTo, HiddenTo, FillSaid, Said, Calm, place, Reaches, Onward};
 
 fn wide(x: u32) -> usize
     ensures { λ r. ⌜ r ≡ x ⌝ }
@@ -71,11 +74,13 @@ fn is_good_index(tag: u32, alpha: u32, width: u32) -> bool
     requires { ⌜ width ≤ tile-end ⌝ }
     ensures { λ r. ⌜ r ≡ good-index tag alpha width ⌝ }
 {
-    if tag % 2 == 1 {
-        alpha == 0
-    } else {
-        alpha <= 4294967295 - TILE_ALPHAS * width
+    if alpha == 0 {
+        return true;
     }
+    if tag % 2 == 1 {
+        return false;
+    }
+    alpha <= 4294967295 - TILE_ALPHAS * width
 }
 
 // By the summary alone, nothing hides the tiles.
@@ -91,34 +96,43 @@ fn is_apart(from: u32, to: u32, largest: u32, first: u32, end: u32, id: u32) -> 
     end <= from
 }
 
-// Every bucket from a to e holds at most the id, as bucket a does: that one has been looked at, and is not read again.
-fn is_seen(depth: &[u32], a: usize, e: usize, id: u32) -> bool
+// Where the buckets from a on end that hold at most the id, as bucket a does: at e at the latest. Bucket a has been looked at, and is not
+// read again.
+fn seen_end(depth: &[u32], a: usize, e: usize, id: u32) -> usize
     requires { ⌜ (a < e) × (e ≤ length (now depth)) × (word (now depth) a ≤ id) ⌝ }
-    ensures { λ r. ⌜ (r ≡ true → runs-in (is-visible id) (now (depth .entry)) (span a e) ≡ span a e ∷ []) ⌝ }
+    ensures { λ r. ⌜ SeenTo (now (depth .entry)) id a e r ⌝ }
 {
     let mut i = a + 1;
     while i < e {
         if id < depth[i] {
-            return false;
+            return i;
         }
         i += 1;
     }
-    true
+    i
 }
 
-// Every bucket from a to e holds more, as bucket a does: that one has been looked at, and is not read again.
-fn is_hidden(depth: &[u32], a: usize, e: usize, id: u32) -> bool
+// The same of buckets that hold more, as bucket a does.
+fn hidden_end(depth: &[u32], a: usize, e: usize, id: u32) -> usize
     requires { ⌜ (a < e) × (e ≤ length (now depth)) × (id < word (now depth) a) ⌝ }
-    ensures { λ r. ⌜ (r ≡ true → runs-in (is-visible id) (now (depth .entry)) (span a e) ≡ []) ⌝ }
+    ensures { λ r. ⌜ HiddenTo (now (depth .entry)) id a e r ⌝ }
 {
     let mut i = a + 1;
     while i < e {
         if depth[i] <= id {
-            return false;
+            return i;
         }
         i += 1;
     }
-    true
+    i
+}
+
+// What one look shows of a command. kind: 0 nothing; of a fill that all of it is shown, 1, or nothing, 2; 3 nesting up, 4 nesting down;
+// of a fill with this id that it is shown up to bucket `stop`, which hides it, 5, or hidden up to bucket `stop`, which shows it, 6.
+struct Look {
+    kind: u32,
+    stop: usize,
+    id: u32,
 }
 
 // What one look shows of a fill's words.
@@ -131,50 +145,92 @@ fn fill_kind(
     to: u32,
     largest: u32,
     depth: &[u32],
-) -> u32
+) -> Look
     requires { ⌜ length (now depth) ≤ 65535 ⌝ }
-    ensures { λ r. ⌜ FillSaid (summary-by from to largest) (now (depth .entry)) id tag tiles alpha r ⌝ }
+    ensures { λ r. ⌜ FillSaid (summary-by from to largest) (now (depth .entry)) id tag tiles alpha (r .kind) (r .stop) (r .id) ⌝ }
 {
     let first = tiles / 65536;
     let end = tiles % 65536;
     if end <= first {
-        return 0;
+        return Look {
+            kind: 0,
+            stop: 0,
+            id: 0,
+        };
     }
     if TILE_END < end {
-        return 0;
+        return Look {
+            kind: 0,
+            stop: 0,
+            id: 0,
+        };
     }
     if !is_good_index(tag, alpha, end - first) {
-        return 0;
+        return Look {
+            kind: 0,
+            stop: 0,
+            id: 0,
+        };
     }
     if BUCKET_TILES * depth.len() < wide(end) {
-        return 0;
+        return Look {
+            kind: 0,
+            stop: 0,
+            id: 0,
+        };
     }
     if is_apart(from, to, largest, first, end, id) {
-        return 1;
+        return Look {
+            kind: 1,
+            stop: 0,
+            id: 0,
+        };
     }
     let a = wide(first / BUCKET);
     let e = wide((end + BUCKET_ROUND) / BUCKET);
     if depth[a] <= id {
         if e <= a + 1 {
-            return 1;
+            return Look {
+                kind: 1,
+                stop: 0,
+                id: 0,
+            };
         }
-        if is_seen(depth, a, e, id) {
-            return 1;
+        let stop = seen_end(depth, a, e, id);
+        if e <= stop {
+            return Look {
+                kind: 1,
+                stop: 0,
+                id: 0,
+            };
         }
-        return 0;
+        return Look { kind: 5, stop, id };
     }
     if e <= a + 1 {
-        return 2;
+        return Look {
+            kind: 2,
+            stop: 0,
+            id: 0,
+        };
     }
-    if is_hidden(depth, a, e, id) {
-        return 2;
+    let end_hidden = hidden_end(depth, a, e, id);
+    if e <= end_hidden {
+        return Look {
+            kind: 2,
+            stop: 0,
+            id: 0,
+        };
     }
-    0
+    Look {
+        kind: 6,
+        stop: end_hidden,
+        id,
+    }
 }
 
 // A buffer's words.
 fn buffer_kind(tag: u32, tiles: u32, alpha: u32, i: u32, nesting: u32) -> u32
-    ensures { λ r. ⌜ ((a : Attrs) (u : Summary) (D : List ℕ) → Said a u D nesting tag tiles alpha i r) ⌝ }
+    ensures { λ r. ⌜ ((a : Attrs) (u : Summary) (D : List ℕ) → Said a u D nesting tag tiles alpha i r 0 0) ⌝ }
 {
     if alpha != 0 {
         return 0;
@@ -226,46 +282,46 @@ fn kind_of(
     paints: u32,
     layer_attrs: &[u32],
     layers: u32,
-) -> u32
+) -> Look
     requires { ⌜ (length (now «paint_attrs») ≡ paint-attr-table) × (paints ≤ most-attrs) × (length (now «layer_attrs») ≡ layer-attr-table) × (layers ≤ most-attrs) × (length (now depth) ≤ 65535) ⌝ }
-    ensures { λ r. ⌜ Said (attrs-at (now («paint_attrs» .entry)) paints (now («layer_attrs» .entry)) layers) (summary-by from to largest) (now (depth .entry)) nesting tag tiles alpha i r ⌝ }
+    ensures { λ r. ⌜ Said (attrs-at (now («paint_attrs» .entry)) paints (now («layer_attrs» .entry)) layers) (summary-by from to largest) (now (depth .entry)) nesting tag tiles alpha i (r .kind) (r .stop) (r .id) ⌝ }
 {
     if 4 < tag {
-        return buffer_kind(tag, tiles, alpha, i, nesting);
+        let kind = buffer_kind(tag, tiles, alpha, i, nesting);
+        return Look {
+            kind,
+            stop: 0,
+            id: 0,
+        };
     }
     if tag == 0 {
-        return 0;
+        return Look {
+            kind: 0,
+            stop: 0,
+            id: 0,
+        };
     }
     let id = id_of(tag, i, paint_attrs, paints, layer_attrs, layers);
     if id == 0 {
-        return 0;
+        return Look {
+            kind: 0,
+            stop: 0,
+            id: 0,
+        };
     }
     fill_kind(tag, tiles, alpha, id, from, to, largest, depth)
 }
 
-// Six words at place k of the list.
-fn put_words(list: &mut [u32], k: usize, a: u32, b: u32, c: u32, d: u32, e: u32, f: u32)
-    requires { ⌜ 6 * k + 6 ≤ length (now list) ⌝ }
-    ensures { λ _. ⌜ now (list .exit) ≡ words-at (now (list .entry)) (6 * k) (a ∷ b ∷ c ∷ d ∷ e ∷ f ∷ []) ⌝ }
-{
-    let at = 6 * k;
-    list[at] = a;
-    list[at + 1] = b;
-    list[at + 2] = c;
-    list[at + 3] = d;
-    list[at + 4] = e;
-    list[at + 5] = f;
-}
-
-// Where a run of commands ended: the place of the next command, the pieces listed, the nesting.
+// Where a run of commands ended: the place of the next command, the pieces listed, the nesting, what the look showed of that command.
 struct Reached {
     at: usize,
     pieces: usize,
     nesting: u32,
+    look: Look,
 }
 
-// The commands from `start` on, up to `stop` or the first that one look does not settle.
-fn run_commands(
+// The commands from `start` on, up to `stop` or the first that is not shown or hidden whole.
+fn run_sure(
     state: &[u32],
     render: &[u32],
     fills: &[u32],
@@ -285,6 +341,7 @@ fn run_commands(
     requires { ⌜ (start ≤ stop) × (stop ≤ word (now state) 0) × (nesting ≤ most-layers) × (6 * pieces ≤ length (now list)) ⌝ }
     ensures { λ r. ⌜ Reaches (own-step (attrs-at (now («paint_attrs» .entry)) paints (now («layer_attrs» .entry)) layers) (now (state .entry)) (now (render .entry)) (now (fills .entry))) (now (depth .entry)) (word (now (state .entry)) 1) (place start pieces nesting (now (list .entry))) (place (r .at) (r .pieces) (r .nesting) (now (list .exit))) ⌝ }
     ensures { λ r. ⌜ r .at ≤ stop ⌝ }
+    ensures { λ r. ⌜ (4 < r .look .kind → (r .at < stop) × Said (attrs-at (now («paint_attrs» .entry)) paints (now («layer_attrs» .entry)) layers) (summary-at (now (state .entry))) (now (depth .entry)) (r .nesting) (word (now (render .entry)) (4 * r .at)) (word (now (render .entry)) (4 * r .at + 1)) (word (now (render .entry)) (4 * r .at + 2)) (word (now (render .entry)) (4 * r .at + 3)) (r .look .kind) (r .look .stop) (r .look .id)) ⌝ }
 {
     let from = state[FIRST];
     let to = state[END];
@@ -298,7 +355,7 @@ fn run_commands(
         let tiles = render[k + 1];
         let alpha = render[k + 2];
         let i = render[k + 3];
-        let kind = kind_of(
+        let look = kind_of(
             tag,
             tiles,
             alpha,
@@ -313,12 +370,18 @@ fn run_commands(
             layer_attrs,
             layers,
         );
+        let kind = look.kind;
         if kind == 1 {
             if list.len() < 6 * n + 6 {
                 return Reached {
                     at,
                     pieces: n,
                     nesting: level,
+                    look: Look {
+                        kind: 0,
+                        stop: 0,
+                        id: 0,
+                    },
                 };
             }
             put_words(list, n, tag, i, tiles / 65536, tiles % 65536, alpha, level);
@@ -344,12 +407,89 @@ fn run_commands(
             at,
             pieces: n,
             nesting: level,
+            look,
         };
     }
     Reached {
         at,
         pieces: n,
         nesting: level,
+        look: Look {
+            kind: 0,
+            stop: 0,
+            id: 0,
+        },
+    }
+}
+
+// The commands from `start` on, up to `stop` or the first that the looks do not settle. A fill that is shown in part is finished from where
+// its look stopped, if the list has room for any result.
+fn run_commands(
+    state: &[u32],
+    render: &[u32],
+    fills: &[u32],
+    depth: &[u32],
+    paint_attrs: &[u32],
+    paints: u32,
+    layer_attrs: &[u32],
+    layers: u32,
+    list: &mut [u32],
+    start: usize,
+    stop: usize,
+    pieces: usize,
+    nesting: u32,
+) -> Reached
+    requires { ⌜ (length (now «paint_attrs») ≡ paint-attr-table) × (paints ≤ most-attrs) × (length (now «layer_attrs») ≡ layer-attr-table) × (layers ≤ most-attrs) × (length (now depth) ≤ 65535) ⌝ }
+    requires { ⌜ (length (now state) ≡ row-size) × Calm (now state) (now render) (now fills) × (length (now render) ≤ 4 * most-room) ⌝ }
+    requires { ⌜ (start ≤ stop) × (stop ≤ word (now state) 0) × (nesting ≤ most-layers) × (6 * pieces ≤ length (now list)) ⌝ }
+    ensures { λ r. ⌜ Reaches (own-step (attrs-at (now («paint_attrs» .entry)) paints (now («layer_attrs» .entry)) layers) (now (state .entry)) (now (render .entry)) (now (fills .entry))) (now (depth .entry)) (word (now (state .entry)) 1) (place start pieces nesting (now (list .entry))) (place (r .at) (r .pieces) (r .nesting) (now (list .exit))) ⌝ }
+    ensures { λ r. ⌜ r .at ≤ stop ⌝ }
+{
+    let mut at = start;
+    let mut n = pieces;
+    let mut level = nesting;
+    loop {
+        let reached = run_sure(
+            state,
+            render,
+            fills,
+            depth,
+            paint_attrs,
+            paints,
+            layer_attrs,
+            layers,
+            list,
+            at,
+            stop,
+            n,
+            level,
+        );
+        let look = reached.look;
+        if look.kind < 5 {
+            return reached;
+        }
+        let next = reached.at;
+        let k = 4 * next;
+        let tiles = render[k + 1];
+        let so_far = reached.pieces;
+        if list.len() - 6 * so_far < 6 * most_runs(tiles) {
+            return reached;
+        }
+        level = reached.nesting;
+        n = put_fill(
+            depth,
+            look.kind == 5,
+            look.stop,
+            look.id,
+            list,
+            so_far,
+            render[k],
+            render[k + 3],
+            tiles,
+            render[k + 2],
+            level,
+        );
+        at = next + 1;
     }
 }
 

@@ -1,11 +1,11 @@
--- What is said of a fill is said only where the full step says the same: 1 whole, 2 hidden; 0 leaves it to the full step.
+-- What is said of a fill is said only where the full step says the same: 1 whole, 2 hidden, 5 and 6 how far the look came; 0 leaves it to the full step.
 use Prim.Native.Nat.{_/_, _%_}
 use mathlib.Core.Path.{sym, _∙_}
 use native.Mathlib.Omega.{arith}
 use borrow.Author.Tests.{not-false}
 use Rattle.cmd.specs.Reading.{word-span}
 use Rattle.paint_whole.specs.Kinds.{summary-by}
-use Rattle.paint_whole.proofs.Looks.{one-seen, one-hidden, met-seen, met-hidden, clear-whole, searched, none-said, whole-said, hidden-said}
+use Rattle.paint_whole.proofs.Looks.{seen-all, hidden-all, one-seen, one-hidden, met-seen, met-hidden, clear-whole, searched, none-said, whole-said, hidden-said, seen-said, unseen-said}
 use borrow.Author.Needs.{needs}
 use Rattle.paint_whole.proofs.plain.fill_kind.Statement.{statement}
 use Rattle.paint_whole.proofs.plain.fill_kind.Tie as tie
@@ -13,8 +13,6 @@ use Rattle.paint_whole.proofs.plain.fill_kind.Reads as reads
 use Rattle.paint_whole.proofs.plain.fill_kind.Lts as lts
 use Rattle.paint_whole.proofs.plain.is_apart.Reads as is-apart-reads
 use Rattle.paint_whole.proofs.plain.is_good_index.Reads as is-good-index-reads
-use Rattle.paint_whole.proofs.plain.is_hidden.Reads as is-hidden-reads
-use Rattle.paint_whole.proofs.plain.is_seen.Reads as is-seen-reads
 use Rattle.paint_whole.proofs.plain.wide.Reads as wide-reads
 
 returns : tie.Need-returns
@@ -128,8 +126,8 @@ returns-6 c =
       at-if1 .if1 .left,
     )) (c .if7 .taken) (c .before .if6 .taken)))))
 
-is-seen-requires : tie.Need-is-seen-requires
-is-seen-requires c κs =
+seen-end-requires : tie.Need-seen-end-requires
+seen-end-requires c κs =
     let back = c .before .before .before in
     let met = back in
     let judged = met .before .before .before .before in (
@@ -167,13 +165,33 @@ returns-7 c =
     (at-args .args .tiles / 65536) (at-args .args .tiles % 65536) (at-if1 .if1 .left) (rw (
       at-wide2 .wide2 .ensures,
       at-wide3 .wide3 .ensures,
-    ) at (c .before .is-seen .ensures (c .if8 .taken)))))
+    ) at (seen-all (at-args .args .depth .now) (at-args .args .id) (at-wide2 .wide2 .result) (at-wide3 .wide3 .result) (omega (
+      arith,
+      at-wide3 .wide3 .ensures,
+      at-wide .wide .ensures,
+      at-if4 .if4 .left,
+    )) _ (c .before .seen-end .ensures) (c .if8 .taken)))))
 
 returns-8 : tie.Need-returns-8
 returns-8 c =
-    let at-args = c .before .before .before .before .before .before .before .before .before .before .before .before .before .before .before .before in
-    none-said (summary-by (at-args .args .from) (at-args .args .to) (at-args .args .largest)) (at-args .args .depth .now) (at-args .args .id)
-    (at-args .args .tag) (at-args .args .tiles) (at-args .args .alpha)
+    let at-wide3 = c .before .before .before .before .before in
+    let at-wide2 = at-wide3 .before in
+    let at-if5 = at-wide2 .before in
+    let at-is-apart = at-if5 .before in
+    let at-if4 = at-is-apart .before in
+    let at-wide = at-if4 .before in
+    let at-if3 = at-wide .before in
+    let at-is-good-index = at-if3 .before in
+    let at-if2 = at-is-good-index .before in
+    let at-if1 = at-if2 .before in
+    let at-args = at-if1 .before .before in
+    seen-said (summary-by (at-args .args .from) (at-args .args .to) (at-args .args .largest)) (at-args .args .depth .now) (at-args .args .id)
+    (at-args .args .tag) (at-args .args .tiles) (at-args .args .alpha) (at-if1 .if1 .left) (at-if2 .if2 .left) (sym (at-is-good-index .is-good-index .ensures) ∙
+    not-false _ (at-if3 .if3 .left)) (sym (at-is-apart .is-apart .ensures) ∙ at-if5 .if5 .left) (omega (
+      arith,
+      at-wide .wide .ensures,
+      at-if4 .if4 .left,
+    )) _ (rw (at-wide2 .wide2 .ensures, at-wide3 .wide3 .ensures) at (c .before .seen-end .ensures)) (omega (arith, at-wide3 .wide3 .ensures, c .if8 .left))
 
 add-if9 : tie.Need-add-if9
 add-if9 c = search needs
@@ -214,8 +232,8 @@ returns-9 c =
       at-if1 .if1 .left,
     )) (c .if9 .taken) (c .before .if6 .left)))))
 
-is-hidden-requires : tie.Need-is-hidden-requires
-is-hidden-requires c κs =
+hidden-end-requires : tie.Need-hidden-end-requires
+hidden-end-requires c κs =
     let back = c .before .before .before in
     let met = back in
     let judged = met .before .before .before .before in (
@@ -253,13 +271,33 @@ returns-10 c =
     (at-args .args .tiles / 65536) (at-args .args .tiles % 65536) (at-if1 .if1 .left) (rw (
       at-wide2 .wide2 .ensures,
       at-wide3 .wide3 .ensures,
-    ) at (c .before .is-hidden .ensures (c .if10 .taken)))))
+    ) at (hidden-all (at-args .args .depth .now) (at-args .args .id) (at-wide2 .wide2 .result) (at-wide3 .wide3 .result) (omega (
+      arith,
+      at-wide3 .wide3 .ensures,
+      at-wide .wide .ensures,
+      at-if4 .if4 .left,
+    )) _ (c .before .hidden-end .ensures) (c .if10 .taken)))))
 
 returns-11 : tie.Need-returns-11
 returns-11 c =
-    let at-args = c .before .before .before .before .before .before .before .before .before .before .before .before .before .before .before .before in
-    none-said (summary-by (at-args .args .from) (at-args .args .to) (at-args .args .largest)) (at-args .args .depth .now) (at-args .args .id)
-    (at-args .args .tag) (at-args .args .tiles) (at-args .args .alpha)
+    let at-wide3 = c .before .before .before .before .before in
+    let at-wide2 = at-wide3 .before in
+    let at-if5 = at-wide2 .before in
+    let at-is-apart = at-if5 .before in
+    let at-if4 = at-is-apart .before in
+    let at-wide = at-if4 .before in
+    let at-if3 = at-wide .before in
+    let at-is-good-index = at-if3 .before in
+    let at-if2 = at-is-good-index .before in
+    let at-if1 = at-if2 .before in
+    let at-args = at-if1 .before .before in
+    unseen-said (summary-by (at-args .args .from) (at-args .args .to) (at-args .args .largest)) (at-args .args .depth .now) (at-args .args .id)
+    (at-args .args .tag) (at-args .args .tiles) (at-args .args .alpha) (at-if1 .if1 .left) (at-if2 .if2 .left) (sym (at-is-good-index .is-good-index .ensures) ∙
+    not-false _ (at-if3 .if3 .left)) (sym (at-is-apart .is-apart .ensures) ∙ at-if5 .if5 .left) (omega (
+      arith,
+      at-wide .wide .ensures,
+      at-if4 .if4 .left,
+    )) _ (rw (at-wide2 .wide2 .ensures, at-wide3 .wide3 .ensures) at (c .before .hidden-end .ensures)) (omega (arith, at-wide3 .wide3 .ensures, c .if10 .left))
 
 pub fill-kind-spec : {M : Type 1} → statement M
 fill-kind-spec =
@@ -282,11 +320,11 @@ fill-kind-spec =
     shared-slice-read-if6
     add-if7
     returns-6
-    is-seen-requires
+    seen-end-requires
     returns-7
     returns-8
     add-if9
     returns-9
-    is-hidden-requires
+    hidden-end-requires
     returns-10
     returns-11)

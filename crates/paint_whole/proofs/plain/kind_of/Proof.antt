@@ -48,7 +48,7 @@ returns-4 c =
     let at-args = at-if1 .before .before .before .before in
     said-fill (at-args .args .paint-attrs .now) (at-args .args .paints) (at-args .args .layer-attrs .now) (at-args .args .layers) (summary-by
     (at-args .args .from) (at-args .args .to) (at-args .args .largest)) (at-args .args .depth .now) (at-args .args .nesting) (at-args .args .tag)
-    (at-args .args .tiles) (at-args .args .alpha) (at-args .args .i) _ _ (c .before .if3 .left) (c .fill-kind .ensures) (omega (
+    (at-args .args .tiles) (at-args .args .alpha) (at-args .args .i) _ _ _ _ (c .before .if3 .left) (c .fill-kind .ensures) (omega (
       arith,
       at-if2 .if2 .left,
     )) (at-if1 .if1 .left) (at-id-of .id-of .ensures)

@@ -4,10 +4,10 @@ use native.Mathlib.Omega.{arith}
 use lib.ListN.{length-set}
 use Rattle.cmd.proofs.Tables.{stored}
 use borrow.Author.Needs.{needs}
-use Rattle.paint_whole.proofs.plain.put_words.Statement.{statement}
-use Rattle.paint_whole.proofs.plain.put_words.Tie as tie
-use Rattle.paint_whole.proofs.plain.put_words.Reads as reads
-use Rattle.paint_whole.proofs.plain.put_words.Lts as lts
+use Rattle.paint_whole.proofs.pieces.put_words.Statement.{statement}
+use Rattle.paint_whole.proofs.pieces.put_words.Tie as tie
+use Rattle.paint_whole.proofs.pieces.put_words.Reads as reads
+use Rattle.paint_whole.proofs.pieces.put_words.Lts as lts
 
 mul-at : tie.Need-mul-at
 mul-at c = search needs

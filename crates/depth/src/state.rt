@@ -68,19 +68,34 @@ impl DepthState {
             };
         }
         if self.max_draw_id <= draw_id {
-            return Skip { number: 0, yes: true };
+            return Skip {
+                number: 0,
+                yes: true,
+            };
         }
         let bounds = self.bounds;
         match bounds {
-            Bounds::Nothing => Skip { number: 0, yes: true },
+            Bounds::Nothing => Skip {
+                number: 0,
+                yes: true,
+            },
             Bounds::Tiles(known) => {
                 if known.end <= span.first {
-                    return Skip { number: 0, yes: true };
+                    return Skip {
+                        number: 0,
+                        yes: true,
+                    };
                 }
                 if span.end <= known.first {
-                    return Skip { number: 0, yes: true };
+                    return Skip {
+                        number: 0,
+                        yes: true,
+                    };
                 }
-                Skip { number: 0, yes: false }
+                Skip {
+                    number: 0,
+                    yes: false,
+                }
             }
         }
     }

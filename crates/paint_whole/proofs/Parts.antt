@@ -3,24 +3,27 @@ use mathlib.Core.Path.{_≡_, refl, sym, ap, _∙_}
 use mathlib.Core.Bool.{Bool, true, false, _&&_, not, cond}
 use mathlib.Core.Logic.{⊎-elim}
 use mathlib.Core.List.{List, _++_}
-use Prim.Native.Nat.{ℕ, zero, suc, _+_, _-_, _*_, _≤_, _<_}
+use mathlib.Core.Option.{Option, none, some}
+use Prim.Native.Nat.{ℕ, zero, suc, _+_, _-_, _*_, _/_, _≤_, _<_}
+use native.Mathlib.Nat.{zero-add}
 use native.Mathlib.Omega.{arith}
 use lib.ListN.{length, take, drop, take-append-drop, length-drop}
 use lib.Seq.{length-take-le, take-at, drop-at}
-use lib.Dec.{eqb}
+use lib.Dec.{ltb, eqb}
 use borrow.Author.Tests.{eq-eqb, ne-eqb}
 use borrow.Rule.Slice.PartMut.{putMid, put-same, take-put}
 use Rattle.rules.specs.Attributes.{Attrs}
+use Rattle.rules.specs.Painting as rules
 use Rattle.row_screen.proofs.Laws.{put-length}
 use Rattle.screen.specs.declared.Screen.{Screen}
 use Rattle.paint_command.specs.declared.Painted.{Painted}
-use Rattle.paint_command.specs.Painting.{attrs-at, RowLent, lent, StepOut, out, refused, painted-row}
+use Rattle.paint_command.specs.Painting.{attrs-at, RowLent, lent, StepOut, out, refused, left, settled, painted-row}
 use Rattle.paint_command.proofs.Laws.{done-or-kept, same-lengths}
 use Rattle.paint_screen.specs.Judging.{wide}
 use Rattle.paint_screen.specs.Stepping.{part, with-part, Within, Attributes, own, in-place, number, StepReady, row-step, stepped}
 use Rattle.paint_screen.proofs.Parts.{part-is, put-is, ready}
 use Rattle.paint_whole.specs.Running.{goes-on, ended, one-more, run, most, standing, own-step, own-run, row-run, call-step, row-painted}
-use Rattle.paint_whole.proofs.Runs.{stops}
+use Rattle.paint_whole.proofs.Runs.{stops, more}
 
 -- a number of document 01, if each step's is
 module _ (step : List ℕ → List ℕ → List ℕ → StepOut) (small : (d p l : List ℕ) → step d p l .answer .number ≤ 14) where
@@ -45,16 +48,16 @@ module _ (step : List ℕ → List ℕ → List ℕ → StepOut) (small : (d p l
 row-small : (a : Attrs) (w : RowLent) → painted-row a w .answer .number ≤ 14
 row-small a w = ⊎-elim (λ h. omega arith) (λ h. ⊎-elim (λ i. omega arith) (λ i. omega arith) (h .0)) (done-or-kept a w)
 
-pub run-number : (r : Painted) (d p l : List ℕ) (a : Attrs) (w : RowLent) → out r d p l ≡ own-run a w → r .number ≤ 14
+pub run-number : (f : ℕ) (r : Painted) (d p l : List ℕ) (a : Attrs) (w : RowLent) → out r d p l ≡ own-run f a w → r .number ≤ 14
 unfolding own-run
-run-number r d p l a w e =
-    let n : r .number ≡ own-run a w .answer .number = ap (λ (o : StepOut). o .answer .number) e in
-    rw n (small-run (own-step a (w .state) (w .render) (w .fills)) (λ x y z. row-small a (lent (w .state) (w .render) (w .fills) x y z)) most 0 (standing (w .depth) (w .painting) (w .list)) (omega arith))
+run-number f r d p l a w e =
+    let n : r .number ≡ own-run f a w .answer .number = ap (λ (o : StepOut). o .answer .number) e in
+    rw n (small-run (own-step a (w .state) (w .render) (w .fills)) (λ x y z. row-small a (lent (w .state) (w .render) (w .fills) x y z)) f 0 (standing (w .depth) (w .painting) (w .list)) (omega arith))
 
 -- the steps of the row's own parts, put back in their places
-module _ (s : Screen) (r : ℕ) (a : Attributes) (l : RowLent) (b : ℕ) (e : b ≡ wide s) (o : Painted) (d p t : List ℕ) where
+module _ (f : ℕ) (s : Screen) (r : ℕ) (a : Attributes) (l : RowLent) (b : ℕ) (e : b ≡ wide s) (o : Painted) (d p t : List ℕ) where
   pub run-back : (m : ℕ) → m ≡ o .number
-      → out o d p t ≡ own-run (attrs-at (a .paints) (s .«paint_attrs») (a .layers) (s .«layer_attrs»))
+      → out o d p t ≡ own-run f (attrs-at (a .paints) (s .«paint_attrs») (a .layers) (s .«layer_attrs»))
       (lent (take (r * 54 + 54 - r * 54) (drop (r * 54) (l .state)))
       (take (r * (4 * s .c) + 4 * s .c - r * (4 * s .c)) (drop (r * (4 * s .c)) (l .render)))
       (take (r * (2 * s .d) + 2 * s .d - r * (2 * s .d)) (drop (r * (2 * s .d)) (l .fills)))
@@ -63,10 +66,10 @@ module _ (s : Screen) (r : ℕ) (a : Attributes) (l : RowLent) (b : ℕ) (e : b 
       (l .list))
       → out (record { number = m; finished = o .finished; pieces = o .pieces }) (putMid (r * b) (r * b + b - r * b) (l .depth) d)
       (putMid (r * 2) (r * 2 + 2 - r * 2) (l .painting) p) t
-      ≡ row-run s r a l
+      ≡ row-run f s r a l
   unfolding row-run
   run-back m g h =
-      let i : out o d p t ≡ own-run (attrs-at (a .paints) (s .«paint_attrs») (a .layers) (s .«layer_attrs»)) (own s r l) =
+      let i : out o d p t ≡ own-run f (attrs-at (a .paints) (s .«paint_attrs») (a .layers) (s .«layer_attrs»)) (own s r l) =
       rw (part-is 54 r (l .state), part-is (4 * s .c) r (l .render), part-is (2 * s .d) r (l .fills), part-is b r (l .depth), part-is 2 r (l .painting), e) at h in
       rw (put-is b r (l .depth) d, put-is 2 r (l .painting) p, e, g) (ap (in-place s r l) i)
 
@@ -146,7 +149,7 @@ module _ (s : Screen) (r : ℕ) (a : Attributes) (l : RowLent) (z : number s r a
       go true = refl
       go false = refl
 
-  pub calls-are-run : row-painted s r a l ≡ row-run s r a l
+  pub calls-are-run : row-painted s r a l ≡ row-run most s r a l
   unfolding row-painted row-run own-run
   calls-are-run =
       let g = ready s r a l z in
@@ -170,5 +173,41 @@ module _ (s : Screen) (r : ℕ) (a : Attributes) (l : RowLent) (n : ℕ) (e : n 
       let i : goes-on (one-more step start .answer) ≡ false = rw (f, ne-eqb n 0 h) in
       rw p (sym (stops step most 0 start (omega arith) i ∙ rw f))
 
-  pub row-done : (o : StepOut) → n ≡ 0 → o ≡ row-run s r a l → o ≡ row-painted s r a l
+  pub row-done : (o : StepOut) → n ≡ 0 → o ≡ row-run most s r a l → o ≡ row-painted s r a l
   row-done o h p = p ∙ sym (calls-are-run s r a l (sym e ∙ h))
+
+-- a run of one step at most is the step
+abbrev again : StepOut → StepOut
+again o = out (record { number = o .answer .number; finished = o .answer .finished; pieces = o .answer .pieces }) (o .depth) (o .painting) (o .list)
+
+settled-again : (x : Option rules.Painted) (d p l : List ℕ) → again (settled x d p l) ≡ settled x d p l
+unfolding settled
+settled-again none d p l = refl
+settled-again (some o) d p l = go (ltb (length l / 6) (length (o .pieces)))
+  where
+    go : (b : Bool) → again (cond b (out (refused 14) d p l) (left o l)) ≡ cond b (out (refused 14) d p l) (left o l)
+    go true = refl
+    go false = refl
+
+row-again : (a : Attrs) (w : RowLent) → again (painted-row a w) ≡ painted-row a w
+unfolding painted-row
+row-again a w = settled-again _ _ _ _
+
+first-one : (step : List ℕ → List ℕ → List ℕ → StepOut) (d p l : List ℕ) → one-more step (standing d p l) ≡ again (step d p l)
+unfolding one-more
+first-one step d p l = rw zero-add
+
+one-run : (step : List ℕ → List ℕ → List ℕ → StepOut) (d p l : List ℕ) → run step 1 0 (standing d p l) ≡ again (step d p l)
+unfolding run
+one-run step d p l = go (goes-on (one-more step (standing d p l) .answer)) refl
+  where
+    go : (b : Bool) → goes-on (one-more step (standing d p l) .answer) ≡ b → run step 1 0 (standing d p l) ≡ again (step d p l)
+    go true e = more step 1 0 (standing d p l) (omega arith) e ∙ first-one step d p l
+    go false e = stops step 1 0 (standing d p l) (omega arith) e ∙ rw (first-one step d p l)
+
+pub step-is-run : (s : Screen) (r : ℕ) (a : Attributes) (l : RowLent) → row-run 1 s r a l ≡ row-step s r a l
+unfolding row-run own-run row-step
+step-is-run s r a l =
+    let b = attrs-at (a .paints) (s .«paint_attrs») (a .layers) (s .«layer_attrs») in
+    let w = own s r l in
+    ap (in-place s r l) (one-run (own-step b (w .state) (w .render) (w .fills)) (w .depth) (w .painting) (w .list) ∙ row-again b w)

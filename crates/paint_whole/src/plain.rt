@@ -29,7 +29,7 @@ ghost use Rattle.rules.specs.Spans.{span};
 ghost use Rattle.rules.specs.Depth.{Summary, can-skip};
 ghost use Rattle.paint_runs.specs.Summaries.{summary-at};
 ghost use Rattle.paint_command.specs.Painting.{word, given, attrs-at, out, listed};
-ghost use Rattle.paint_whole.specs.Running.{own-step};
+ghost use Rattle.paint_whole.specs.Running.{most, own-step};
 ghost use Rattle.paint_whole.specs.Kinds.{id-given, summary-by, good-index, SeenTo, HiddenTo, FillSaid, Said, Calm, place, Reaches, Onward};
 
 fn wide(x: u32) -> usize
@@ -528,7 +528,7 @@ pub fn run_plain(
 ) -> Gone
     requires { ⌜ (length (now state) ≡ row-size) × (length (now render) ≤ 4 * most-room) × (length (now fills) ≤ 2 * most-room) × (length (now depth) ≤ 65535) × (length (now painting) ≡ 2) ⌝ }
     requires { ⌜ (length (now «paint_attrs») ≡ paint-attr-table) × (paints ≤ most-attrs) × (length (now «layer_attrs») ≡ layer-attr-table) × (layers ≤ most-attrs) ⌝ }
-    requires { ⌜ (6 * pieces ≤ length (now list)) × (limit ≤ 2048) ⌝ }
+    requires { ⌜ (6 * pieces ≤ length (now list)) × (limit ≤ most) ⌝ }
     ensures { λ r. ⌜ Onward (own-step (attrs-at (now («paint_attrs» .entry)) paints (now («layer_attrs» .entry)) layers) (now (state .entry)) (now (render .entry)) (now (fills .entry))) (r .steps) (out (listed pieces) (now (depth .entry)) (now (painting .entry)) (now (list .entry))) (out (listed (r .pieces)) (now (depth .entry)) (now (painting .exit)) (now (list .exit))) ⌝ }
     ensures { λ r. ⌜ (r .steps ≤ limit) × (6 * r .pieces ≤ length (now (list .entry))) ⌝ }
 {

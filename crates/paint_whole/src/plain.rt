@@ -18,6 +18,7 @@ use sizes::PAINT_ATTR;
 use sizes::RENDERS;
 use sizes::TILE_ALPHAS;
 use sizes::TILE_END;
+use sizes::wide;
 ghost use mathlib.Core.Path.{_≡_};
 ghost use mathlib.Core.Bool.{true};
 ghost use mathlib.Core.List.{List};
@@ -31,12 +32,6 @@ ghost use Rattle.paint_runs.specs.Summaries.{summary-at};
 ghost use Rattle.paint_command.specs.Painting.{word, given, attrs-at, out, listed};
 ghost use Rattle.paint_whole.specs.Running.{most, own-step};
 ghost use Rattle.paint_whole.specs.Kinds.{id-given, summary-by, good-index, SeenTo, HiddenTo, FillSaid, Said, Calm, place, Reaches, Onward};
-
-fn wide(x: u32) -> usize
-    ensures { λ r. ⌜ r ≡ x ⌝ }
-{
-    x as usize
-}
 
 // The id if a draw can have taken it, else 0.
 fn taken(id: u32) -> u32

@@ -13,7 +13,7 @@ use Rattle.paint_whole.proofs.plain.sure_fill.Reads as reads
 use Rattle.paint_whole.proofs.plain.sure_fill.Lts as lts
 use Rattle.paint_whole.proofs.plain.is_apart.Reads as is-apart-reads
 use Rattle.paint_whole.proofs.plain.is_good_index.Reads as is-good-index-reads
-use Rattle.paint_whole.proofs.plain.wide.Reads as wide-reads
+use Rattle.sizes.proofs.wide.Reads as wide-reads
 
 returns : tie.Need-returns
 returns c =

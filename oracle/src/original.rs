@@ -73,7 +73,10 @@ impl Original {
     pub fn depth_words(&self) -> &[u32] {
         const { assert!(size_of::<DepthBuffer>() == size_of::<Vec<u32>>()) };
         let words: &Vec<u32> = unsafe { &*std::ptr::from_ref(&self.depth).cast() };
-        assert_eq!(words.len(), usize::from(self.bucketer.width()).div_ceil(128));
+        assert_eq!(
+            words.len(),
+            usize::from(self.bucketer.width()).div_ceil(128)
+        );
         words
     }
 

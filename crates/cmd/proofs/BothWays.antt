@@ -12,7 +12,7 @@ use Rattle.rules.specs.Spans.{Span}
 use Rattle.rules.specs.Commands.{Command, paint-fill, layer-fill, push-buf, pop-buf, DepthFill, span-word, command-words, depth-words}
 use Rattle.cmd.specs.Reading.{word-span, good-span-word, good-alpha, only-if, by-tag, command-of, depth-fill-of}
 use Rattle.cmd.specs.Good.{GoodSpan, GoodCommand, GoodDepthFill}
-use Rattle.cmd.proofs.Tests.{and-left, and-right, both}
+use Rattle.rules.proofs.All.{and-left, and-right, and-both}
 use Rattle.cmd.proofs.Commands.{tag-1, tag-2, tag-3, tag-4, tag-5, tag-6, tag-7}
 
 -- a span's word, there and back
@@ -33,7 +33,7 @@ pub good-word : (n : ℕ) (s : Span) → n < 65536 → GoodSpan n s → good-spa
 good-word n s h g =
     let e : s .end < 65536 = omega arith in
     rw (div-span (s .first) (s .end) e, mod-span (s .first) (s .end) e)
-    (both _ _ (le-leb _ _ (g .in-order)) (le-leb _ _ (g .in-limit)))
+    (and-both _ _ (le-leb _ _ (g .in-order)) (le-leb _ _ (g .in-limit)))
 
 pub good-span : (n s : ℕ) → good-span-word n s ≡ true → GoodSpan n (word-span s)
 good-span n s h =
@@ -54,11 +54,11 @@ module _ (s : Span) (g : GoodSpan 8192 s) where
   narrow = omega arith
 
   solid-back : (good-span-word 8192 (span-word s) && eqb 0 0) ≡ true
-  solid-back = both _ _ (good-word 8192 s (omega arith) g) refl
+  solid-back = and-both _ _ (good-word 8192 s (omega arith) g) refl
 
   alpha-back : (a : ℕ) → a + 16 * (s .end - s .first) < 4294967296
       → (good-span-word 8192 (span-word s) && good-alpha a (span-word s)) ≡ true
-  alpha-back a h = both _ _ (good-word 8192 s (omega arith) g) (good-index a s narrow h)
+  alpha-back a h = and-both _ _ (good-word 8192 s (omega arith) g) (good-index a s narrow h)
 
 -- reading back what the words say gives the same command
 pub reads-back : (k : Command) → GoodCommand k → read-list (command-words k) ≡ some k

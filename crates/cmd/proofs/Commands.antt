@@ -8,7 +8,8 @@ use lib.Dec.{leb, eqb}
 use borrow.Author.Tests.{leb-true, ne-eqb}
 use Rattle.rules.specs.Commands.{paint-fill, layer-fill, push-buf, pop-buf}
 use Rattle.cmd.specs.Reading.{word-span, good-span-word, good-alpha, only-if, command-of}
-use Rattle.cmd.proofs.Tests.{and-left, and-right, sum-test}
+use Rattle.rules.proofs.All.{and-left, and-right}
+use Rattle.cmd.proofs.Tests.{sum-test}
 
 -- a good word's numbers are in order, and end at the limit at the latest
 pub in-order : (n s : ℕ) → good-span-word n s ≡ true → s / 65536 ≤ s % 65536

@@ -1,21 +1,10 @@
--- Tests joined by "and".
+-- A test of a sum, made without the sum.
 use mathlib.Core.Path.{_≡_, refl, sym}
-use mathlib.Core.Bool.{Bool, true, false, _&&_}
+use mathlib.Core.Bool.{Bool, true, false}
 use Prim.Native.Nat.{ℕ, _≤_, _<_, _+_, _-_}
 use native.Mathlib.Omega.{arith}
 use lib.Dec.{leb, ltb}
 use borrow.Author.Tests.{lt-ltb, le-ltb, leb-true, leb-false}
-
-pub and-left : (x y : Bool) → (x && y) ≡ true → x ≡ true
-and-left true y h = refl
-and-left false y h = h
-
-pub and-right : (x y : Bool) → (x && y) ≡ true → y ≡ true
-and-right true y h = h
-and-right false y h = let z : _≡_ {A = ℕ} 0 1 = cc in absurd (omega arith)
-
-pub both : (x y : Bool) → x ≡ true → y ≡ true → (x && y) ≡ true
-both x y p q = rw (p, q)
 
 -- that a sum is below a limit, tested without the sum
 module _ (a x n : ℕ) (h : x ≤ n) where

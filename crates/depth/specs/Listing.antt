@@ -8,8 +8,6 @@ use Rattle.rules.specs.Answers.{Answer, answer, Done}
 use Rattle.rules.specs.Spans.{Span, span, common}
 use Rattle.rules.specs.Depth.{is-visible, runs-in, tiles-of, write-answer, write-after}
 use Rattle.depth.specs.declared.runs.Runs.{Runs}
-use Rattle.depth.specs.declared.runs.Runs.the-variants as runs
-use Rattle.depth.specs.Answers.{refusal}
 
 -- an answer, how many runs are listed, and the list's words
 pub record RunsOut : Type 0 where
@@ -18,8 +16,7 @@ pub record RunsOut : Type 0 where
   pub list : List ℕ
 
 abbrev pub out : Runs → List ℕ → RunsOut
-out (runs.Refused a) l = record { number = refusal a; count = 0; list = l }
-out (runs.Listed n) l = record { number = Done; count = n; list = l }
+out r l = record { number = r .number; count = r .count; list = l }
 
 abbrev pub done : ℕ → List ℕ → RunsOut
 done n l = record { number = Done; count = n; list = l }

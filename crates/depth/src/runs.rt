@@ -1,5 +1,4 @@
 // Runs of buckets in one row's depth words. The private functions are parts: their callers have judged the range and the room.
-use cmd::Answer;
 use sizes::BUCKET;
 use sizes::TILE_END;
 use span::BucketRange;
@@ -16,10 +15,10 @@ ghost use Rattle.rules.specs.Depth.{is-visible, runs-in, unset-answer, visible-
 ghost use Rattle.span.specs.Spans.{tiles, buckets};
 ghost use Rattle.depth.specs.Listing.{out, out-write, done, cut-runs, open-runs, listing, writing, met-end};
 
-// Why nothing is listed, or how many runs are.
-pub enum Runs {
-    Refused(Answer),
-    Listed(usize),
+// What a call over runs gives: its number, and how many runs are listed.
+pub struct Runs {
+    pub number: u32,
+    pub count: usize,
 }
 
 // How many runs of neighbouring buckets from lo to hi hold at most `ceiling`. A run ends at its first closed bucket, whose value goes back
@@ -143,17 +142,26 @@ pub fn visible_runs(depth: &[u32], span: TileSpan, draw_id: u32, list: &mut [u32
     ensures { λ r. ⌜ out r (now (list .exit)) ≡ listing (visible-answer bucket-tiles (now (depth .entry)) «draw_id» (tiles span) (length (now (list .entry)) / 2)) (now (list .entry)) ⌝ }
 {
     if span.end < span.first {
-        return Runs::Refused(Answer::BadRun);
+        return Runs {
+            number: 12,
+            count: 0,
+        };
     }
     if TILE_END < span.end {
-        return Runs::Refused(Answer::BadRun);
+        return Runs {
+            number: 12,
+            count: 0,
+        };
     }
     let lo = (span.first / BUCKET) as usize;
     let hi = met_end(span, depth.len());
     if is_short(depth, lo, hi, draw_id, list.len()) {
-        return Runs::Refused(Answer::NoRoom);
+        return Runs {
+            number: 14,
+            count: 0,
+        };
     }
-    Runs::Listed(list_runs(
+    let count = list_runs(
         depth,
         lo,
         hi,
@@ -162,7 +170,8 @@ pub fn visible_runs(depth: &[u32], span: TileSpan, draw_id: u32, list: &mut [u32
         span.first,
         span.end,
         list,
-    ))
+    );
+    Runs { number: 0, count }
 }
 
 // The runs of a span's tiles whose buckets hold 0: what is visible at id 0.
@@ -229,17 +238,32 @@ pub fn unset_runs_and_write(
     let lo = range.first as usize;
     let hi = range.end as usize;
     if hi < lo {
-        return Runs::Refused(Answer::BadRun);
+        return Runs {
+            number: 12,
+            count: 0,
+        };
     }
     if depth.len() < hi {
-        return Runs::Refused(Answer::BadRun);
+        return Runs {
+            number: 12,
+            count: 0,
+        };
     }
     if draw_id == 0 {
-        return Runs::Refused(Answer::BadRun);
+        return Runs {
+            number: 12,
+            count: 0,
+        };
     }
     if is_short(depth, lo, hi, 0, list.len()) {
-        return Runs::Refused(Answer::NoRoom);
+        return Runs {
+            number: 14,
+            count: 0,
+        };
     }
-    let count = mark_runs(depth, lo, hi, draw_id, list);
-    Runs::Listed(count)
+    let listed = mark_runs(depth, lo, hi, draw_id, list);
+    Runs {
+        number: 0,
+        count: listed,
+    }
 }

@@ -1,5 +1,4 @@
 // Rule 7: an opaque span is split into a depth fill of whole buckets and regular pieces beside it.
-use cmd::Answer;
 use sizes::BUCKET;
 use sizes::TILE_END;
 use span::BucketRange;
@@ -16,9 +15,9 @@ pub enum Edge {
     Tiles(TileSpan),
 }
 
-// Why a span is not split, the span itself where it covers no whole bucket, or a depth fill with its edges.
+// No range, which is answer 12; the span itself where it covers no whole bucket; or a depth fill with its edges.
 pub enum Split {
-    Refused(Answer),
+    Refused,
     Whole(TileSpan),
     Opaque {
         before: Edge,
@@ -34,10 +33,10 @@ pub fn split_opaque_span(span: TileSpan) -> Split
     let first = span.first;
     let end = span.end;
     if end < first {
-        return Split::Refused(Answer::BadRun);
+        return Split::Refused;
     }
     if TILE_END < end {
-        return Split::Refused(Answer::BadRun);
+        return Split::Refused;
     }
     let aligned_first = (first + (BUCKET - 1)) / BUCKET * BUCKET;
     let aligned_end = end / BUCKET * BUCKET;

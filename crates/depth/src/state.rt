@@ -1,5 +1,4 @@
 // A row's depth summary: the union of its depth fills' spans, and the largest of their ids.
-use cmd::Answer;
 use sizes::TILE_END;
 use span::TileSpan;
 use span::larger;
@@ -20,10 +19,10 @@ pub struct DepthState {
     pub max_draw_id: u32,
 }
 
-pub enum Skip {
-    Refused(Answer),
-    Yes,
-    No,
+// What `can_skip` gives: its number, and whether the draw need not look.
+pub struct Skip {
+    pub number: u32,
+    pub yes: bool,
 }
 
 impl DepthState {
@@ -57,25 +56,46 @@ impl DepthState {
         ensures { λ r. ⌜ skip-of r ≡ can-skip-answer (summary self) (tiles span) «draw_id» ⌝ }
     {
         if span.end < span.first {
-            return Skip::Refused(Answer::BadRun);
+            return Skip {
+                number: 12,
+                yes: false,
+            };
         }
         if TILE_END < span.end {
-            return Skip::Refused(Answer::BadRun);
+            return Skip {
+                number: 12,
+                yes: false,
+            };
         }
         if self.max_draw_id <= draw_id {
-            return Skip::Yes;
+            return Skip {
+                number: 0,
+                yes: true,
+            };
         }
         let bounds = self.bounds;
         match bounds {
-            Bounds::Nothing => Skip::Yes,
+            Bounds::Nothing => Skip {
+                number: 0,
+                yes: true,
+            },
             Bounds::Tiles(known) => {
                 if known.end <= span.first {
-                    return Skip::Yes;
+                    return Skip {
+                        number: 0,
+                        yes: true,
+                    };
                 }
                 if span.end <= known.first {
-                    return Skip::Yes;
+                    return Skip {
+                        number: 0,
+                        yes: true,
+                    };
                 }
-                Skip::No
+                Skip {
+                    number: 0,
+                    yes: false,
+                }
             }
         }
     }

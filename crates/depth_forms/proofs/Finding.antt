@@ -12,21 +12,12 @@ use Rattle.rules.specs.Spans.{Span, span, common, bad-range}
 use Rattle.rules.proofs.All.{both}
 use Rattle.rules.specs.Depth.{runs-in, runs, tiles-of, is-visible, listed, visible-runs, visible-answer}
 use Rattle.span.specs.declared.TileSpan.{TileSpan}
-use Rattle.cmd.specs.declared.Answer.{Answer}
-use Rattle.cmd.specs.declared.Answer.the-variants as case
 use Rattle.depth.specs.declared.runs.Runs.{Runs}
-use Rattle.depth.specs.declared.runs.Runs.the-variants as found
-use Rattle.depth.specs.Answers.{refusal}
 use Rattle.depth.specs.Listing as words
 use Rattle.depth.proofs.Searching.{runs-few}
-use Rattle.depth.proofs.Once.{refused-number}
 use Rattle.depth_forms.specs.Spans.{with-spans}
 use Rattle.depth_forms.specs.Listing.{out, listing, counted}
-use Rattle.depth_forms.proofs.Laws.{seen-refused, seen-listed, listed-fits}
-
--- a refusal is no answer of a done call
-refuses : (a : Answer) → refusal a ≡ 0 → ⊥
-refuses a e = let n = refused-number a 0 e (omega arith) in omega (arith, rw n at e)
+use Rattle.depth_forms.proofs.Laws.{seen, listed-fits}
 
 -- tiles end at 8,192, in 256 buckets, and two runs have a bucket between them
 pub few : (bs : List ℕ) (id : ℕ) (s : Span) → bad-range 8192 s ≡ false → length (visible-runs 32 bs id s) ≤ 128
@@ -74,61 +65,43 @@ in-room w bs id s n = go (bad-range 8192 s) (ltb n (length (visible-runs w bs id
     go false false e = ltb-false n (length rs) e
 
 -- from words with room for 128 runs to a list with room for n
-module _ (bs : List ℕ) (id : ℕ) (s : Span) (n : ℕ) (ws m : List ℕ) where
+module _ (bs : List ℕ) (id : ℕ) (s : Span) (n : ℕ) (ws m : List ℕ) (r : Runs) (h : words.out r m ≡ words.listing (visible-answer 32 bs id s 128) ws) where
   abbrev rs : List Span
   rs = visible-runs 32 bs id s
 
-  abbrev Roomy : Runs → Type 0
-  Roomy r = words.out r m ≡ words.listing (visible-answer 32 bs id s 128) ws
+  all : bad-range 8192 s ≡ false → words.out r m ≡ words.listing (rules.answer 0 rs) ws
+  unfolding visible-answer
+  all e = rw (e, le-ltb 128 (length rs) (few bs id s e)) at h
 
-  still : (a : Answer) → Roomy (found.Refused a) → words.out (found.Refused a) m ≡ words.listing (visible-answer 32 bs id s n) ws
-  unfolding visible-answer words.listing
-  still a h = go (bad-range 8192 s) refl
+  many : bad-range 8192 s ≡ false → r .count ≡ length rs
+  unfolding words.listing
+  many e = ap (λ (o : words.RunsOut). o .count) (all e)
+
+  pub found-short : n < r .count → words.out (record { number = 14; count = 0 }) ws ≡ words.listing (visible-answer 32 bs id s n) ws
+  unfolding visible-answer words.listing words.numbers
+  found-short g = go (bad-range 8192 s) refl
     where
-      go : (bad : Bool) → bad-range 8192 s ≡ bad → words.out (found.Refused a) m ≡ words.listing (listed bad n rs) ws
+      go : (bad : Bool) → bad-range 8192 s ≡ bad → words.out (record { number = 14; count = 0 }) ws ≡ words.listing (listed bad n rs) ws
+      go true e = absurd (omega (arith, ap (λ (o : words.RunsOut). o .count) (rw e at h)))
+      go false e = rw (lt-ltb n (length rs) (omega (arith, many e)))
+
+  pub found-kept : r .count ≤ n → words.out r m ≡ words.listing (visible-answer 32 bs id s n) ws
+  unfolding visible-answer
+  found-kept g = go (bad-range 8192 s) refl
+    where
+      go : (bad : Bool) → bad-range 8192 s ≡ bad → words.out r m ≡ words.listing (listed bad n rs) ws
       go true e = rw e at h
-      go false e = absurd (refuses a (ap (λ (o : words.RunsOut). o .number) (rw (e, le-ltb 128 (length rs) (few bs id s e)) at h)))
-
-  pub found-refused : (r : Runs) (a : Answer) → r ≡ found.Refused a → Roomy r → words.out (found.Refused a) m ≡ words.listing (visible-answer 32 bs id s n) ws
-  found-refused r a q h = still a (rw q at h)
-
-  module _ (k : ℕ) (h : Roomy (found.Listed k)) where
-    good : bad-range 8192 s ≡ false
-    unfolding visible-answer words.listing
-    good = go (bad-range 8192 s) refl
-      where
-        go : (bad : Bool) → bad-range 8192 s ≡ bad → bad ≡ false
-        go true e = absurd (omega (arith, ap (λ (o : words.RunsOut). o .number) (rw e at h)))
-        go false e = refl
-
-    all : words.out (found.Listed k) m ≡ words.listing (rules.answer 0 rs) ws
-    unfolding visible-answer
-    all = rw (good, le-ltb 128 (length rs) (few bs id s good)) at h
-
-    many : k ≡ length rs
-    unfolding words.listing
-    many = ap (λ (o : words.RunsOut). o .count) all
-
-    pub found-short : n < k → words.out (found.Refused case.NoRoom) ws ≡ words.listing (visible-answer 32 bs id s n) ws
-    unfolding visible-answer words.listing words.numbers
-    found-short g = rw (good, lt-ltb n (length rs) (omega (arith, many)))
-
-    pub found-listed : k ≤ n → words.out (found.Listed k) m ≡ words.listing (visible-answer 32 bs id s n) ws
-    unfolding visible-answer
-    found-listed g = rw (good, le-ltb n (length rs) (omega (arith, many))) all
+      go false e = rw (le-ltb n (length rs) (omega (arith, many e))) (all e)
 
 -- What is found is written: a result r and its count k, the words m, the lent list b.
-module _ (m ws : List ℕ) (x : rules.Answer (List Span)) (b : List TileSpan) (k : ℕ) (room : length (x .value) ≤ length b) where
-  pub found-fits : (r : Runs) → words.out r m ≡ words.listing x ws → k ≡ counted r → (k ≤ length b) × (k * 2 ≤ length m)
+module _ (m ws : List ℕ) (x : rules.Answer (List Span)) (b : List TileSpan) (k : ℕ) (room : length (x .value) ≤ length b) (r : Runs)
+    (e : words.out r m ≡ words.listing x ws) (c : k ≡ counted r) where
+  in-list : r .count ≤ length b
   unfolding words.listing
-  found-fits (found.Refused a) e c = (omega (arith, c), omega (arith, c))
-  found-fits (found.Listed n) e c =
-      let l : n ≡ length (x .value) = ap (λ (o : words.RunsOut). o .count) e in
-      (omega (arith, c, l), omega (arith, c, listed-fits (found.Listed n) m ws x e n refl))
+  in-list = let l : r .count ≡ length (x .value) = ap (λ (o : words.RunsOut). o .count) e in omega (arith, l)
 
-  pub found-written : (r : Runs) → words.out r m ≡ words.listing x ws → k ≡ counted r → out r (with-spans m k b) ≡ listing x b
-  unfolding words.listing with-spans
-  found-written (found.Refused a) e c = rw c (seen-refused (found.Refused a) m ws x e b a refl)
-  found-written (found.Listed n) e c =
-      let l : n ≡ length (x .value) = ap (λ (o : words.RunsOut). o .count) e in
-      rw c (seen-listed (found.Listed n) m ws x e b n refl (omega (arith, l)))
+  pub found-fits : (k ≤ length b) × (k * 2 ≤ length m)
+  found-fits = (omega (arith, c, in-list), omega (arith, c, listed-fits r m ws x e))
+
+  pub found-written : out r (with-spans m k b) ≡ listing x b
+  found-written = rw c (seen r m ws x e b in-list)

@@ -9,10 +9,7 @@ use lib.Seq.{set-at, take-suc, take-length, length-take-le, drop-cons}
 use Rattle.rules.specs.Answers as rules
 use Rattle.rules.specs.Spans.{Span, span}
 use Rattle.span.specs.declared.TileSpan.{TileSpan}
-use Rattle.cmd.specs.declared.Answer.{Answer}
 use Rattle.depth.specs.declared.runs.Runs.{Runs}
-use Rattle.depth.specs.declared.runs.Runs.the-variants as runs
-use Rattle.depth.specs.Answers.{refusal}
 use Rattle.depth.specs.Listing as words
 use Rattle.depth.specs.Listing.{numbers, over}
 use Rattle.depth.proofs.Filling.{length-numbers}
@@ -58,31 +55,18 @@ as-listed rs ws l h = written rs _ l (length rs) (omega arith) h ∙ rw (take-le
 
 -- What a caller of the form over tile numbers gives on, with a list of spans b.
 module _ (r : Runs) (m ws : List ℕ) (x : rules.Answer (List Span)) (e : words.out r m ≡ words.listing x ws) where
-  pub seen-refused : (b : List TileSpan) (a : Answer) → r ≡ runs.Refused a → out (runs.Refused a) b ≡ listing x b
-  unfolding words.listing listing
-  seen-refused b a q =
-      let n : refusal a ≡ x .number = ap (λ (o : words.RunsOut). o .number) (rw q at e) in
-      let c : 0 ≡ length (x .value) = ap (λ (o : words.RunsOut). o .count) (rw q at e) in
-      go (x .value) n c
-    where
-      go : (v : List Span) → refusal a ≡ x .number → 0 ≡ length v
-          → out (runs.Refused a) b ≡ record { number = x .number; count = length v; spans = map as-span v ++ drop (length v) b }
-      go [] n c = rw n
-      go (s ∷ v) n c = absurd (omega arith)
-
-  pub listed-fits : (n : ℕ) → r ≡ runs.Listed n → n * 2 ≤ length m
+  pub listed-fits : r .count * 2 ≤ length m
   unfolding words.listing
-  listed-fits n q =
-      let c : n ≡ length (x .value) = ap (λ (o : words.RunsOut). o .count) (rw q at e) in
-      let l : m ≡ over (numbers (x .value)) ws = ap (λ (o : words.RunsOut). o .list) (rw q at e) in
+  listed-fits =
+      let c : r .count ≡ length (x .value) = ap (λ (o : words.RunsOut). o .count) e in
+      let l : m ≡ over (numbers (x .value)) ws = ap (λ (o : words.RunsOut). o .list) e in
       omega (arith, c, ap length l, length-append (numbers (x .value)) (drop (length (numbers (x .value))) ws), length-numbers (x .value))
 
-  pub seen-listed : (b : List TileSpan) (n : ℕ) → r ≡ runs.Listed n → n ≤ length b → out (runs.Listed n) (with-spans m n b) ≡ listing x b
+  pub seen : (b : List TileSpan) → r .count ≤ length b → out r (with-spans m (r .count) b) ≡ listing x b
   unfolding words.listing listing
-  seen-listed b n q h =
-      let d : 0 ≡ x .number = ap (λ (o : words.RunsOut). o .number) (rw q at e) in
-      let c : n ≡ length (x .value) = ap (λ (o : words.RunsOut). o .count) (rw q at e) in
-      let l : m ≡ over (numbers (x .value)) ws = ap (λ (o : words.RunsOut). o .list) (rw q at e) in
+  seen b h =
+      let d : r .number ≡ x .number = ap (λ (o : words.RunsOut). o .number) e in
+      let c : r .count ≡ length (x .value) = ap (λ (o : words.RunsOut). o .count) e in
+      let l : m ≡ over (numbers (x .value)) ws = ap (λ (o : words.RunsOut). o .list) e in
       let g : length (x .value) ≤ length b = omega (arith, c) in
-      let w : with-spans m n b ≡ map as-span (x .value) ++ drop (length (x .value)) b = rw (l, c) (as-listed (x .value) ws b g) in
-      rw (w, ← d, ← c)
+      rw (l, c, d) (ap (λ (v : List TileSpan). record { number = x .number; count = length (x .value); spans = v }) (as-listed (x .value) ws b g))

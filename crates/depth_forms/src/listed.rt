@@ -1,6 +1,5 @@
 // A row's runs as spans in a lent list of any length: found over tile numbers in words of the call's own, written as spans.
 use crate::runs::write_runs;
-use cmd::Answer;
 use depth::Runs;
 use depth::visible_runs;
 use sizes::BUCKET_END;
@@ -13,7 +12,7 @@ ghost use Rattle.span.specs.Spans.{tiles};
 ghost use Rattle.depth.specs.Listing as words;
 ghost use Rattle.depth_forms.specs.Listing.{out, listing, counted};
 
-// Why nothing is listed, or how many runs are; their number in either case; and their tile numbers.
+// What the call gives, how many runs it lists, and their tile numbers.
 struct Found {
     runs: Runs,
     count: usize,
@@ -27,27 +26,19 @@ fn found_runs(depth: &[u32], span: TileSpan, draw_id: u32, room: usize) -> Found
 {
     let mut words = [0u32; BUCKET_END];
     let runs = visible_runs(depth, span, draw_id, &mut words);
-    match runs {
-        Runs::Refused(answer) => Found {
-            runs: Runs::Refused(answer),
+    let count = runs.count;
+    if room < count {
+        let short = Runs {
+            number: 14,
             count: 0,
-            words,
-        },
-        Runs::Listed(count) => {
-            if room < count {
-                return Found {
-                    runs: Runs::Refused(Answer::NoRoom),
-                    count: 0,
-                    words: [0u32; BUCKET_END],
-                };
-            }
-            Found {
-                runs: Runs::Listed(count),
-                count,
-                words,
-            }
-        }
+        };
+        return Found {
+            runs: short,
+            count: 0,
+            words: [0u32; BUCKET_END],
+        };
     }
+    Found { runs, count, words }
 }
 
 // The runs of a span's tiles whose buckets hold at most the id, as spans at the list's start; the entries after them stay. 14 where the

@@ -12,7 +12,7 @@ ghost use Rattle.span.specs.Spans.{tiles};
 ghost use Rattle.depth_forms.specs.Spans.{no-span};
 ghost use Rattle.depth_forms.specs.Listing.{out, listing};
 
-// Why nothing is listed, or how many spans are.
+// The number, how many runs are listed, and the spans.
 pub struct Visible {
     pub runs: Runs,
     pub spans: [TileSpan; MOST_RUNS],
@@ -24,20 +24,6 @@ pub fn visible_spans(depth: &[u32], span: TileSpan, draw_id: u32) -> Visible
 {
     let mut words = [0u32; 2 * MOST_RUNS];
     let runs = visible_runs(depth, span, draw_id, &mut words);
-    match runs {
-        Runs::Refused(answer) => {
-            let spans = [TileSpan { first: 0, end: 0 }; MOST_RUNS];
-            Visible {
-                runs: Runs::Refused(answer),
-                spans,
-            }
-        }
-        Runs::Listed(count) => {
-            let spans = runs_of(&words, count);
-            Visible {
-                runs: Runs::Listed(count),
-                spans,
-            }
-        }
-    }
+    let spans = runs_of(&words, runs.count);
+    Visible { runs, spans }
 }

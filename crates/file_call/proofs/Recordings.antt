@@ -1,15 +1,14 @@
 -- The recording call, from the form to the last step.
 use Prim.Native.Nat.{ℕ, _+_, _≤_}
-use native.Mathlib.Omega.{arith}
 use mathlib.Core.Path.{_≡_, refl, sym, ap, _∙_}
-use mathlib.Core.Bool.{Bool, true, false, not, cond}
-use mathlib.Core.List.{List, [], _∷_}
+use mathlib.Core.Bool.{Bool, true, false, cond}
+use mathlib.Core.List.{List}
 use mathlib.Core.Option.{none}
 use lib.ListN.{length, getD}
 use lib.Dec.{eqb}
 use borrow.Author.Tests.{eq-eqb, ne-eqb, eqb-true, eqb-false}
-use Rattle.rules.specs.Answers.{Answer, answer, first-of}
-use Rattle.rules.specs.Recording.{Recording, recording, shape, sections, good-records, good-order}
+use Rattle.rules.specs.Answers.{Answer, answer}
+use Rattle.rules.specs.Recording.{Recording, recording, shape, sections, good-records}
 use Rattle.rules.specs.Walk.{_then_, walk-all, walk-nodes, walk-layer}
 use Rattle.rect.specs.declared.Rect.{Rect}
 use Rattle.rect.specs.Rects.{box-of}
@@ -32,21 +31,13 @@ use Rattle.file_nodes.specs.Ready.{WalkReady}
 use Rattle.file_nodes.proofs.Places.{node-count}
 
 -- Records, then the walk.
-by-tests : (s t : Bool) → first-of ((not s, 4) ∷ (not t, 5) ∷ []) ≤ 14
-by-tests true true = omega arith
-by-tests true false = omega arith
-by-tests false t = omega arith
-
-pub an-answer : (r : Recording) (n : ℕ) → n ≡ judged r → n ≤ 14
-an-answer r n e = rw e (by-tests (good-records r) (good-order r))
-
 module _ (l : Layout) (ws : List ℕ) (f : Fits ws l) (n : ℕ) (e : n ≡ judged (recording (sections-at l ws))) where
   judged-here : n ≡ judged (file.recorded l ws)
   judged-here = rw (reads l ws f) at e
 
-  pub bad-records : (n ≡ 0 → ⊥) → (m : ℕ) → m ≡ n → (s : ScreenLent) → answer m s ≡ (judging (file.recorded l ws) then walk-all ScreenLent call-at (file.recorded l ws)) s
-  bad-records h m p s =
-      rw p (stopped (judging (file.recorded l ws)) (walk-all ScreenLent call-at (file.recorded l ws)) s n s (ap (λ (k : ℕ). answer k s) judged-here) h)
+  pub bad-records : (n ≡ 0 → ⊥) → (s : ScreenLent) → answer n s ≡ (judging (file.recorded l ws) then walk-all ScreenLent call-at (file.recorded l ws)) s
+  bad-records h s =
+      stopped (judging (file.recorded l ws)) (walk-all ScreenLent call-at (file.recorded l ws)) s n s (ap (λ (k : ℕ). answer k s) judged-here) h
 
   module _ (z : n ≡ 0) where
     good : good-records (file.recorded l ws) ≡ true
@@ -87,6 +78,21 @@ pub record Same (t u : Tables) : Type 0 where
   pub paint-attrs : length (t .paint-attrs) ≡ length (u .paint-attrs)
   pub layer-attrs : length (t .layer-attrs) ≡ length (u .layer-attrs)
   pub filter-paints : length (t .filter-paints) ≡ length (u .filter-paints)
+
+same-then : {t u x : Tables} → Same t u → Same u x → Same t x
+same-then e f =
+    record {
+      render = e .render ∙ f .render;
+      fills = e .fills ∙ f .fills;
+      depth = e .depth ∙ f .depth;
+      rows = e .rows ∙ f .rows;
+      painting = e .painting ∙ f .painting;
+      layers = e .layers ∙ f .layers;
+      opacities = e .opacities ∙ f .opacities;
+      paint-attrs = e .paint-attrs ∙ f .paint-attrs;
+      layer-attrs = e .layer-attrs ∙ f .layer-attrs;
+      filter-paints = e .filter-paints ∙ f .filter-paints;
+    }
 
 module _ {t u : Tables} (e : Same t u) where
   same-lengths : lengths t ≡ lengths u
@@ -144,7 +150,7 @@ module _ (l : Layout) (ws : List ℕ) (g : GoodForm ws l) (v : Rect) (b : box-of
     pub all-done : m ≡ 0 → answer m s ≡ recorded ws c d old
     all-done q = all-played (file.recorded l ws) a m s f q ∙ sym then-played
 
-    pub left-fresh : (m ≡ 0 → ⊥) → (u : Screen) → Same (s .tables) (old .tables) → (k : ℕ) (y : ScreenLent) → answer k y ≡ reset-to v c d (lent u (s .tables))
-        → answer m y ≡ recorded ws c d old
-    left-fresh q u p k y h =
-        rw (again v c d old n a e z (lent u (s .tables)) p k y h) (not-played (file.recorded l ws) a m s f q ∙ sym then-played)
+    pub left-fresh : (m ≡ 0 → ⊥) → (u : Screen) → Same (s .tables) (a .tables) → Same (a .tables) (old .tables) → (k : ℕ) (y : ScreenLent)
+        → answer k y ≡ reset-to v c d (lent u (s .tables)) → answer m y ≡ recorded ws c d old
+    left-fresh q u p o k y h =
+        rw (again v c d old n a e z (lent u (s .tables)) (same-then p o) k y h) (not-played (file.recorded l ws) a m s f q ∙ sym then-played)

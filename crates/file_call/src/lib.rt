@@ -2,14 +2,12 @@
 ghost use mathlib.Core.Path.{_≡_};
 ghost use Rattle.rules.specs.Answers.{answer};
 ghost use Rattle.rules.specs.Walk.{_then_, walk-all};
-ghost use Rattle.cmd.specs.Answers.{number-of};
 ghost use Rattle.row.specs.Words.{words};
 ghost use Rattle.screen.specs.Tables.{Tables, ScreenLent, tables, lent};
 ghost use Rattle.file_form.specs.Layouts.{Fits};
 ghost use Rattle.file_form.specs.Places as file;
 ghost use Rattle.file_steps.specs.Steps.{call-at, work, work-into};
 ghost use Rattle.file_call.specs.Recorded.{judging, recorded};
-use cmd::Answer;
 use file_form::Form;
 use file_form::Layout;
 use file_form::read_form;
@@ -18,15 +16,9 @@ use file_judge::judge_records;
 use file_nodes::walk_nodes;
 use screen::Built;
 use screen::Screen;
-use screen::answer_of;
 use screen::reset;
 use sizes::MOST_LAYERS;
-
-fn wide(x: u32) -> usize
-    ensures { λ r. ⌜ r ≡ x ⌝ }
-{
-    x as usize
-}
+use sizes::wide;
 
 // A recording of good form, its viewport reset: the records are judged, then walked from the root, 16 layers deep.
 fn play(
@@ -43,16 +35,13 @@ fn play(
     filter_paints: &mut [i32],
 ) -> Built
     requires { ⌜ Fits (now w) l ⌝ }
-    ensures { λ r. ⌜ ((t : Tables) → answer (number-of (r .answer)) (work-into t (work (r .screen) (words (now (rows .exit)) (now (render .exit)) (now (fills .exit))) (now (layers .exit)) (now (opacities .exit)) (now («paint_attrs» .exit)) (now («layer_attrs» .exit)) (now («filter_paints» .exit))))
+    ensures { λ r. ⌜ ((t : Tables) → answer (r .number) (work-into t (work (r .screen) (words (now (rows .exit)) (now (render .exit)) (now (fills .exit))) (now (layers .exit)) (now (opacities .exit)) (now («paint_attrs» .exit)) (now («layer_attrs» .exit)) (now («filter_paints» .exit))))
         ≡ (judging (file.recorded l (now (w .entry))) then walk-all ScreenLent call-at (file.recorded l (now (w .entry))))
         (work-into t (work screen (words (now (rows .entry)) (now (render .entry)) (now (fills .entry))) (now (layers .entry)) (now (opacities .entry)) (now («paint_attrs» .entry)) (now («layer_attrs» .entry)) (now («filter_paints» .entry))))) ⌝ }
 {
     let n = judge_records(w, l);
     if n != 0 {
-        return Built {
-            answer: answer_of(n),
-            screen,
-        };
+        return Built { number: n, screen };
     }
     let root = l.root;
     let at = root.at;
@@ -94,14 +83,11 @@ pub fn bucket_recording(
     layer_attrs: &mut [u32],
     filter_paints: &mut [i32],
 ) -> Built
-    ensures { λ r. ⌜ answer (number-of (r .answer)) (lent (r .screen) (tables (now (render .exit)) (now (fills .exit)) (now (depth .exit)) (now (rows .exit)) (now (painting .exit)) (now (layers .exit)) (now (opacities .exit)) (now («paint_attrs» .exit)) (now («layer_attrs» .exit)) (now («filter_paints» .exit))))
+    ensures { λ r. ⌜ answer (r .number) (lent (r .screen) (tables (now (render .exit)) (now (fills .exit)) (now (depth .exit)) (now (rows .exit)) (now (painting .exit)) (now (layers .exit)) (now (opacities .exit)) (now («paint_attrs» .exit)) (now («layer_attrs» .exit)) (now («filter_paints» .exit))))
         ≡ recorded (now (file .entry)) c d (lent screen (tables (now (render .entry)) (now (fills .entry)) (now (depth .entry)) (now (rows .entry)) (now (painting .entry)) (now (layers .entry)) (now (opacities .entry)) (now («paint_attrs» .entry)) (now («layer_attrs» .entry)) (now («filter_paints» .entry)))) ⌝ }
 {
     let Form::Good(l) = read_form(file) else {
-        return Built {
-            answer: Answer::BadForm,
-            screen,
-        };
+        return Built { number: 3, screen };
     };
     let viewport = box_at(file, 1);
     let started = reset(
@@ -120,8 +106,7 @@ pub fn bucket_recording(
         layer_attrs,
         filter_paints,
     );
-    let answer = started.answer;
-    if answer.number() != 0 {
+    if started.number != 0 {
         return started;
     }
     let begun = started.screen;
@@ -138,8 +123,7 @@ pub fn bucket_recording(
         layer_attrs,
         filter_paints,
     );
-    let last = played.answer;
-    if last.number() == 0 {
+    if played.number == 0 {
         return played;
     }
     let again = reset(
@@ -160,7 +144,7 @@ pub fn bucket_recording(
     );
     let blank = again.screen;
     Built {
-        answer: last,
+        number: played.number,
         screen: blank,
     }
 }

@@ -10,11 +10,8 @@ use lib.ListN.{length, getD, take, drop}
 use lib.Seq.{getD-take, getD-drop, drop-drop}
 use Rattle.rules.specs.Lists.{every, slice}
 use Rattle.rules.specs.Recording.{records}
+use Rattle.rules.proofs.All.{both}
 use Rattle.file_form.specs.Each.{each}
-
-pub both : (x y : Bool) → (x && y) ≡ true → (x ≡ true) × (y ≡ true)
-both true y p = (refl, p)
-both false y p = let z : _≡_ {A = ℕ} 0 1 = cc in absurd (omega arith)
 
 module _ {A : Type 0} (f : List ℕ → ℕ → A) (k : ℕ) (ws : List ℕ) where
   pub each-length : (p n : ℕ) → length (each f k ws p n) ≡ n

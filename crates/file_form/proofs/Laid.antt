@@ -19,7 +19,7 @@ use Rattle.file_form.specs.declared.Form.{Form}
 use Rattle.file_form.specs.declared.Form.the-variants as form
 use Rattle.file_form.specs.declared.Found.{Found}
 use Rattle.file_form.specs.declared.Found.the-variants as found
-use Rattle.file_form.proofs.Eaches.{both}
+use Rattle.rules.proofs.All.{both}
 use Rattle.file_form.specs.Layouts.{section-from, past, stands, found-if, section-at, laid, layout-of, layout, formed, form-of, cut, viewport, sections-at, Within, Fits}
 
 -- every section stands, and the words end there

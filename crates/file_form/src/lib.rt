@@ -5,6 +5,7 @@ ghost use lib.ListN.{length};
 ghost use Rattle.rules.specs.Recording.{good-count};
 ghost use Rattle.file_form.specs.Layouts.{section-at, form-of};
 ghost use Rattle.file_form.specs.Words.{word-from, filled, filled-with};
+use sizes::wide;
 
 // Its first record's place, and how many records it has.
 pub struct Section {
@@ -41,12 +42,6 @@ fn is_good_count(fixed: bool, n: u32) -> bool
         return n == 1;
     }
     n <= 4096
-}
-
-fn wide(x: u32) -> usize
-    ensures { λ r. ⌜ r ≡ x ⌝ }
-{
-    x as usize
 }
 
 // The section whose count stands at place at, of records of size words.

@@ -17,7 +17,8 @@ use Rattle.file_form.specs.declared.Layout.{Layout}
 use Rattle.file_form.specs.Each.{each}
 use Rattle.file_form.specs.Layouts.{Fits, sections-at}
 use Rattle.file_form.specs.Places.{paint-from, segment-from, draw-from, layer-from, node-from, recorded}
-use Rattle.file_form.proofs.Eaches.{both, each-length}
+use Rattle.rules.proofs.All.{both}
+use Rattle.file_form.proofs.Eaches.{each-length}
 use Rattle.file_form.proofs.Reading.{reads}
 use Rattle.file_judge.specs.Judging.{draw-fields, clip-fields, clip-part, filter-part, layer-fields, node-fields, draw-range, clip-range, draw-ordered, clip-ordered, judged}
 

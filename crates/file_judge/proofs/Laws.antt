@@ -15,7 +15,7 @@ use Rattle.rules.specs.Recording.{Recording, LayerRec, Node, recording, good-re
 use Rattle.segments.specs.Segs.{segs-of}
 use Rattle.file_form.specs.declared.Layout.{Layout}
 use Rattle.file_form.specs.Layouts.{Fits, sections-at}
-use Rattle.file_form.proofs.Eaches.{both}
+use Rattle.rules.proofs.All.{both}
 use Rattle.file_form.proofs.Reading.{segments-are}
 use Rattle.file_judge.specs.Judging.{judged}
 use Rattle.file_judge.proofs.Counted.{every-getD}

@@ -16,7 +16,7 @@ use Rattle.segments.specs.Segs.{seg-at, segs, segs-of}
 use Rattle.segments.proofs.Laws.{segs-first, segs-end, segs-slice}
 use Rattle.file_form.specs.Each.{each}
 use Rattle.file_form.specs.Places.{segment-from}
-use Rattle.file_form.proofs.Eaches.{both}
+use Rattle.rules.proofs.All.{both}
 
 -- the rest of a run over a list of segments says what the whole run says
 module _ (ws : List ℕ) (n : ℕ) where

@@ -18,7 +18,7 @@ use Rattle.file_form.specs.declared.Layout.{Layout}
 use Rattle.file_form.specs.Each.{each}
 use Rattle.file_form.specs.Layouts.{Fits, sections-at}
 use Rattle.file_form.specs.Places.{segment-from, draw-from, layer-from, recorded}
-use Rattle.file_form.proofs.Eaches.{both}
+use Rattle.rules.proofs.All.{both}
 use Rattle.file_form.proofs.Reading.{reads}
 use Rattle.file_judge.specs.Judging.{draw-fields, clip-fields, clip-part, filter-part, layer-fields, draw-range, clip-range, draw-ordered, clip-ordered}
 use Rattle.file_judge.proofs.Counted.{paints-good, segments-good, draws-good, layers-good, nodes-good, root-good, counted, all-counted}

@@ -23,12 +23,7 @@ use segments::judge_segments;
 use segments::segment_at;
 use sizes::HANDLE_END;
 use sizes::THREAD_END;
-
-fn wide(x: u32) -> usize
-    ensures { λ r. ⌜ r ≡ x ⌝ }
-{
-    x as usize
-}
+use sizes::wide;
 
 // Four words from a place on.
 pub fn box_at(w: &[u32], at: usize) -> Rect

@@ -13,7 +13,8 @@ use Rattle.rules.specs.Blends.{good-blend}
 use Rattle.rules.specs.Recording.{Recording, LayerRec, Node, good-layer-rec, good-clip-rec, zero-clip, zero-filter, layer-rec}
 use Rattle.file_form.specs.declared.Layout.{Layout}
 use Rattle.file_form.specs.Places.{recorded, layer-from, node-from}
-use Rattle.file_form.proofs.Eaches.{both, each-length, each-at}
+use Rattle.rules.proofs.All.{both}
+use Rattle.file_form.proofs.Eaches.{each-length, each-at}
 use Rattle.file_judge.proofs.Laws.{node-range-at, good-layer-at}
 use Rattle.file_nodes.specs.Ready.{WalkReady}
 

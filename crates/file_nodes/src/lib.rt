@@ -9,13 +9,11 @@ ghost use lib.ListN.{getD};
 ghost use Rattle.rules.specs.Answers.{answer};
 ghost use Rattle.rules.specs.Recording.{layer-rec};
 ghost use Rattle.rules.specs.Walk.{when, walk-layer, walk-nodes};
-ghost use Rattle.cmd.specs.Answers.{number-of};
 ghost use Rattle.row.specs.Words.{words};
 ghost use Rattle.screen.specs.Tables.{Tables, ScreenLent};
 ghost use Rattle.file_form.specs.Places as file;
 ghost use Rattle.file_steps.specs.Steps.{call-at, work, work-into};
 ghost use Rattle.file_nodes.specs.Ready.{WalkReady};
-use cmd::Answer;
 use file_form::Layout;
 use file_read::props_at;
 use file_steps::pop_at;
@@ -23,13 +21,8 @@ use file_steps::walk_draws;
 use file_steps::walk_filter;
 use screen::Built;
 use screen::Screen;
+use sizes::wide;
 use step_push::push_layer;
-
-fn wide(x: u32) -> usize
-    ensures { λ r. ⌜ r ≡ x ⌝ }
-{
-    x as usize
-}
 
 // Nodes a to b, each its draws and then its layer, up to the first step that is refused. Layers in them may be nested `depth` deep.
 pub fn walk_nodes(
@@ -49,7 +42,7 @@ pub fn walk_nodes(
     filter_paints: &mut [i32],
 ) -> Built
     requires { ⌜ WalkReady (now w) l × ((a ≤ b) × (b ≤ l .nodes .count)) ⌝ }
-    ensures { λ r. ⌜ ((t : Tables) → answer (number-of (r .answer)) (work-into t (work (r .screen) (words (now (rows .exit)) (now (render .exit)) (now (fills .exit))) (now (layers .exit)) (now (opacities .exit)) (now («paint_attrs» .exit)) (now («layer_attrs» .exit)) (now («filter_paints» .exit))))
+    ensures { λ r. ⌜ ((t : Tables) → answer (r .number) (work-into t (work (r .screen) (words (now (rows .exit)) (now (render .exit)) (now (fills .exit))) (now (layers .exit)) (now (opacities .exit)) (now («paint_attrs» .exit)) (now («layer_attrs» .exit)) (now («filter_paints» .exit))))
         ≡ walk-nodes ScreenLent call-at (file.recorded l (now (w .entry))) (walk-layer ScreenLent call-at (file.recorded l (now (w .entry))) depth) a b
         (work-into t (work screen (words (now (rows .entry)) (now (render .entry)) (now (fills .entry))) (now (layers .entry)) (now (opacities .entry)) (now («paint_attrs» .entry)) (now («layer_attrs» .entry)) (now («filter_paints» .entry))))) ⌝ }
 {
@@ -61,8 +54,7 @@ pub fn walk_nodes(
         let first = wide(w[at]);
         let end = wide(w[at + 1]);
         let drawn = walk_draws(current, w, l, first, end, rows, render, fills, paint_attrs);
-        let answer = drawn.answer;
-        if answer.number() != 0 {
+        if drawn.number != 0 {
             return drawn;
         }
         let over = drawn.screen;
@@ -81,15 +73,14 @@ pub fn walk_nodes(
             layer_attrs,
             filter_paints,
         );
-        let then = walked.answer;
-        if then.number() != 0 {
+        if walked.number != 0 {
             return walked;
         }
         current = walked.screen;
         i += 1;
     }
     Built {
-        answer: Answer::Done,
+        number: 0,
         screen: current,
     }
 }
@@ -112,15 +103,12 @@ pub fn walk_layer(
     filter_paints: &mut [i32],
 ) -> Built
     requires { ⌜ WalkReady (now w) l × (layer ≤ l .layers .count) ⌝ }
-    ensures { λ r. ⌜ ((t : Tables) → answer (number-of (r .answer)) (work-into t (work (r .screen) (words (now (rows .exit)) (now (render .exit)) (now (fills .exit))) (now (layers .exit)) (now (opacities .exit)) (now («paint_attrs» .exit)) (now («layer_attrs» .exit)) (now («filter_paints» .exit))))
+    ensures { λ r. ⌜ ((t : Tables) → answer (r .number) (work-into t (work (r .screen) (words (now (rows .exit)) (now (render .exit)) (now (fills .exit))) (now (layers .exit)) (now (opacities .exit)) (now («paint_attrs» .exit)) (now («layer_attrs» .exit)) (now («filter_paints» .exit))))
         ≡ when (not (eqb layer 0)) (walk-layer ScreenLent call-at (file.recorded l (now (w .entry))) depth (getD (file.recorded l (now (w .entry)) .layers) (layer - 1) (layer-rec [])))
         (work-into t (work screen (words (now (rows .entry)) (now (render .entry)) (now (fills .entry))) (now (layers .entry)) (now (opacities .entry)) (now («paint_attrs» .entry)) (now («layer_attrs» .entry)) (now («filter_paints» .entry))))) ⌝ }
 {
     if layer == 0 {
-        return Built {
-            answer: Answer::Done,
-            screen,
-        };
+        return Built { number: 0, screen };
     }
     let all = l.layers;
     let at = all.at + 22 * wide(layer - 1);
@@ -142,8 +130,7 @@ pub fn walk_layer(
     }
     let props = props_at(w, at);
     let pushed = push_layer(screen, rows, render, fills, layers, opacities, props);
-    let answer = pushed.answer;
-    if answer.number() != 0 {
+    if pushed.number != 0 {
         return pushed;
     }
     if depth == 0 {
@@ -168,8 +155,7 @@ pub fn walk_layer(
         layer_attrs,
         filter_paints,
     );
-    let then = walked.answer;
-    if then.number() != 0 {
+    if walked.number != 0 {
         return walked;
     }
     let over = walked.screen;

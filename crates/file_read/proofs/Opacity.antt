@@ -12,7 +12,7 @@ use lib.IntN.{ℤ, pos, negsuc}
 use borrow.Author.Tests.{le-ltb, lt-ltb, eq-eqb, ne-eqb, eqb-true}
 use lib.Ieee.{Float, nan, inf, fin, binary32, ofBits, toBits, ofFields, odd, span, climb, size, div, isNan, nanBits, eq, ne, up, down, low}
 use lib.Ieee.Bits.{nanBits-is, nanBits-above, toBits-ofBits}
-use Rattle.file_form.proofs.Eaches.{both}
+use Rattle.rules.proofs.All.{both}
 use Rattle.rules.specs.Inputs as rule
 use Rattle.rules.specs.Inputs.{needs-buffer}
 use Rattle.rules.specs.Lists.{is-none}

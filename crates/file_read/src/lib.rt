@@ -11,13 +11,8 @@ use file_judge::box_at;
 use screen_layers::Clip;
 use screen_layers::LayerClip;
 use screen_layers::LayerProps;
+use sizes::wide;
 use step_fill::Draw;
-
-fn wide(x: u32) -> usize
-    ensures { λ r. ⌜ r ≡ x ⌝ }
-{
-    x as usize
-}
 
 // The draw at a place.
 pub fn draw_at(w: &[u32], at: usize) -> Draw

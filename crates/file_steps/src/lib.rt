@@ -7,7 +7,6 @@ ghost use Rattle.rules.specs.Answers.{answer};
 ghost use Rattle.rules.specs.Lists.{join, slice};
 ghost use Rattle.rules.proofs.Words.{paint-words, segment-words};
 ghost use Rattle.rules.specs.Walk.{each, walk-filter};
-ghost use Rattle.cmd.specs.Answers.{number-of};
 ghost use Rattle.row.specs.Words.{words};
 ghost use Rattle.screen.specs.Tables.{Tables, ScreenLent};
 ghost use Rattle.file_form.specs.Layouts.{Fits};
@@ -20,7 +19,6 @@ ghost use Rattle.step_filter.specs.Filter as filter;
 ghost use Rattle.step_filter.specs.Filter.{given, filtered};
 ghost use Rattle.file_read.specs.Reading.{draw-in};
 ghost use Rattle.file_steps.specs.Steps.{placement-in, call-at, draw-step, fill-into, work, work-into};
-use cmd::Answer;
 use file_form::Layout;
 use file_judge::box_at;
 use file_read::draw_at;
@@ -59,7 +57,7 @@ fn fill_draw(
     paint_attrs: &mut [u32],
 ) -> Built
     requires { ⌜ Fits (now w) l × (i < l .draws .count) ⌝ }
-    ensures { λ r. ⌜ answer (number-of (r .answer)) (filling.lent (r .screen) (words (now (rows .exit)) (now (render .exit)) (now (fills .exit))) (now («paint_attrs» .exit)))
+    ensures { λ r. ⌜ answer (r .number) (filling.lent (r .screen) (words (now (rows .exit)) (now (render .exit)) (now (fills .exit))) (now («paint_attrs» .exit)))
         ≡ filled (filling.lent screen (words (now (rows .entry)) (now (render .entry)) (now (fills .entry))) (now («paint_attrs» .entry)))
         (join paint-words (recorded l (now (w .entry)) .paints)) (join segment-words (recorded l (now (w .entry)) .segments)) (draw-in (draw-from (now (w .entry)) (l .draws .at + 7 * i))) ⌝ }
 {
@@ -96,7 +94,7 @@ pub fn walk_draws(
     paint_attrs: &mut [u32],
 ) -> Built
     requires { ⌜ Fits (now w) l × ((a ≤ b) × (b ≤ l .draws .count)) ⌝ }
-    ensures { λ r. ⌜ ((t : Tables) → answer (number-of (r .answer)) (fill-into t (filling.lent (r .screen) (words (now (rows .exit)) (now (render .exit)) (now (fills .exit))) (now («paint_attrs» .exit))))
+    ensures { λ r. ⌜ ((t : Tables) → answer (r .number) (fill-into t (filling.lent (r .screen) (words (now (rows .exit)) (now (render .exit)) (now (fills .exit))) (now («paint_attrs» .exit))))
         ≡ each (draw-step (recorded l (now (w .entry)))) (slice a b (recorded l (now (w .entry)) .draws))
         (fill-into t (filling.lent screen (words (now (rows .entry)) (now (render .entry)) (now (fills .entry))) (now («paint_attrs» .entry))))) ⌝ }
 {
@@ -104,15 +102,14 @@ pub fn walk_draws(
     let mut i = a;
     while i < b {
         let filled = fill_draw(current, w, l, i, rows, render, fills, paint_attrs);
-        let answer = filled.answer;
-        if answer.number() != 0 {
+        if filled.number != 0 {
             return filled;
         }
         current = filled.screen;
         i += 1;
     }
     Built {
-        answer: Answer::Done,
+        number: 0,
         screen: current,
     }
 }
@@ -130,7 +127,7 @@ pub fn pop_at(
     layer_attrs: &mut [u32],
 ) -> Built
     requires { ⌜ Fits (now w) l ⌝ }
-    ensures { λ r. ⌜ pop.out (number-of (r .answer)) (r .screen) (pop.lent (words (now (rows .exit)) (now (render .exit)) (now (fills .exit))) (now (layers .exit)) (now (opacities .exit)) (now («layer_attrs» .exit)))
+    ensures { λ r. ⌜ pop.out (r .number) (r .screen) (pop.lent (words (now (rows .exit)) (now (render .exit)) (now (fills .exit))) (now (layers .exit)) (now (opacities .exit)) (now («layer_attrs» .exit)))
         ≡ popped screen (pop.lent (words (now (rows .entry)) (now (render .entry)) (now (fills .entry))) (now (layers .entry)) (now (opacities .entry)) (now («layer_attrs» .entry)))
         (join segment-words (recorded l (now (w .entry)) .segments)) ⌝ }
 {
@@ -162,7 +159,7 @@ fn filter_at(
     filter_paints: &mut [i32],
 ) -> Built
     requires { ⌜ Fits (now w) l × (at + 22 ≤ length (now w)) ⌝ }
-    ensures { λ r. ⌜ answer (number-of (r .answer)) (filter.lent (r .screen) (words (now (rows .exit)) (now (render .exit)) (now (fills .exit))) (now («paint_attrs» .exit)) (now («filter_paints» .exit)))
+    ensures { λ r. ⌜ answer (r .number) (filter.lent (r .screen) (words (now (rows .exit)) (now (render .exit)) (now (fills .exit))) (now («paint_attrs» .exit)) (now («filter_paints» .exit)))
         ≡ filtered (given (placement-in (filter-from (now (w .entry)) at)) (filter-from (now (w .entry)) at .pixmap) (length (recorded l (now (w .entry)) .paints)))
         (filter.lent screen (words (now (rows .entry)) (now (render .entry)) (now (fills .entry))) (now («paint_attrs» .entry)) (now («filter_paints» .entry))) ⌝ }
 {
@@ -197,7 +194,7 @@ pub fn walk_filter(
     filter_paints: &mut [i32],
 ) -> Built
     requires { ⌜ Fits (now w) l × (at + 22 ≤ length (now w)) ⌝ }
-    ensures { λ r. ⌜ ((t : Tables) → answer (number-of (r .answer)) (work-into t (work (r .screen) (words (now (rows .exit)) (now (render .exit)) (now (fills .exit))) (now (layers .exit)) (now (opacities .exit)) (now («paint_attrs» .exit)) (now («layer_attrs» .exit)) (now («filter_paints» .exit))))
+    ensures { λ r. ⌜ ((t : Tables) → answer (r .number) (work-into t (work (r .screen) (words (now (rows .exit)) (now (render .exit)) (now (fills .exit))) (now (layers .exit)) (now (opacities .exit)) (now («paint_attrs» .exit)) (now («layer_attrs» .exit)) (now («filter_paints» .exit))))
         ≡ walk-filter ScreenLent call-at (recorded l (now (w .entry))) (layer-from (now (w .entry)) at)
         (work-into t (work screen (words (now (rows .entry)) (now (render .entry)) (now (fills .entry))) (now (layers .entry)) (now (opacities .entry)) (now («paint_attrs» .entry)) (now («layer_attrs» .entry)) (now («filter_paints» .entry))))) ⌝ }
 {
@@ -216,8 +213,7 @@ pub fn walk_filter(
         );
     }
     let pushed = push_layer(screen, rows, render, fills, layers, opacities, props);
-    let answer = pushed.answer;
-    if answer.number() != 0 {
+    if pushed.number != 0 {
         return pushed;
     }
     let within = pushed.screen;
@@ -232,8 +228,7 @@ pub fn walk_filter(
         paint_attrs,
         filter_paints,
     );
-    let then = drawn.answer;
-    if then.number() != 0 {
+    if drawn.number != 0 {
         return drawn;
     }
     let over = drawn.screen;

@@ -14,7 +14,7 @@ use Rattle.rules.specs.Spans.{Span, bad-range}
 use Rattle.rules.specs.Split.{split-answer}
 use Rattle.rules.specs.Painting as rules
 use Rattle.rules.specs.Depth.{listed, unset-runs, visible-runs, write-runs, unset-answer, visible-answer, write-answer, write-after, written}
-use Rattle.cmd.proofs.Tests.{and-left}
+use Rattle.rules.proofs.All.{and-left}
 use Rattle.screen.specs.declared.Screen.{Screen}
 use Rattle.depth.specs.Listing.{numbers, listing, writing}
 use Rattle.paint_command.specs.Painting as paint

@@ -1,44 +1,31 @@
 -- Results in lent words of a fixed length.
-use mathlib.Core.Path.{_≡_, refl, sym, ap, _∙_}
-use mathlib.Core.Bool.{Bool, true, false, cond}
+use mathlib.Core.Path.{_≡_, refl, ap, _∙_}
 use mathlib.Core.List.{List, [], _∷_}
-use Prim.Native.Nat.{ℕ, _*_}
+use Prim.Native.Nat.{ℕ}
 use lib.ListN.{length, set}
 use lib.Dec.{eqb}
 use borrow.Author.Tests.{eq-eqb, ne-eqb}
 use Rattle.rules.specs.Answers.{Answer, answer, BadRecord}
 use Rattle.rules.specs.Spans.{Span}
 use Rattle.rules.specs.Split.{split-answer}
-use Rattle.cmd.specs.declared.Answer as cmd
-use Rattle.cmd.specs.Answers.{number-of}
 use Rattle.screen.specs.declared.Screen.{Screen}
 use Rattle.depth.specs.declared.runs.Runs.{Runs}
-use Rattle.depth.specs.declared.runs.Runs.the-variants as runs
 use Rattle.depth.specs.declared.split.Split.{Split}
 use Rattle.depth.specs.declared.state.Skip.{Skip}
-use Rattle.depth.specs.Answers.{refusal, skip-of, split-of}
-use Rattle.depth.specs.Listing.{RunsOut, out}
+use Rattle.depth.specs.Answers.{skip-of, split-of}
+use Rattle.depth.specs.Listing.{out}
 use Rattle.paint_command.specs.declared.Painted.{Painted}
 use Rattle.paint_command.specs.Painting as paint
 use Rattle.paint_screen.specs.declared.rows.Written.{Written}
 use Rattle.paint_screen.specs.Stepping.{Attributes, stepped}
 use Rattle.paint_whole.specs.Running.{row-painted}
-use Rattle.paint_screen.specs.Rows.{Wrote, wrote, unset-of, visible-of, write-of, skip-of-row}
+use Rattle.paint_screen.specs.Rows.{wrote, unset-of, visible-of, write-of, skip-of-row}
 use Rattle.host.specs.declared.painting.Slots.{Slots}
-use Rattle.host_screen.specs.declared.Held.{Held}
 use Rattle.host_screen.specs.declared.Held.the-variants as held
 use Rattle.host_screen.specs.State.{screen-words, screen-of}
-use Rattle.host.specs.Painting.{result, step-result, step-left, step-call, row-call, count-left, runs-left, unset-call, visible-call, write-left, write-call, skip-left, skip-call, slot-words, split-left, split-call}
+use Rattle.host.specs.Painting.{step-result, step-left, step-call, row-call, count-left, runs-left, unset-call, visible-call, write-left, write-call, skip-left, skip-call, slot-words, split-left, split-call}
 use Rattle.host.specs.Sizes.{fixed}
 use Rattle.host_screen.proofs.Lists.{by-length}
-
--- a refusal's number is not 0
-pub refused : (a : cmd.Answer) → eqb (refusal a) 0 ≡ false
-refused a = by (eqb (number-of a) 0) refl
-  where
-    by : (b : Bool) → eqb (number-of a) 0 ≡ b → eqb (refusal a) 0 ≡ false
-    by true e = rw e
-    by false e = rw (e, e)
 
 -- words stored over as many
 pub one-stored : (x : ℕ) (xs : List ℕ) → length xs ≡ 1 → set xs 0 x ≡ x ∷ []
@@ -63,8 +50,7 @@ sizes-stored a b c d e =
 
 -- the count of some runs, and their list
 listed : (o : Runs) (l n n' : List ℕ) (k : ℕ) → answer k n' ≡ count-left n (out o []) → answer k (l, n') ≡ runs-left n (out o l)
-listed (runs.Refused a) l n n' k e = ap (λ (x : Answer (List ℕ)). answer (x .number) (l, x .value)) e
-listed (runs.Listed m) l n n' k e = ap (λ (x : Answer (List ℕ)). answer (x .number) (l, x .value)) e
+listed o l n n' k e = ap (λ (x : Answer (List ℕ)). answer (x .number) (l, x .value)) e
 
 written : (o : Written) (d l n n' : List ℕ) (k : ℕ) → answer k n' ≡ count-left n (out (o .runs) []) → answer k (screen-words (o .screen), d, l, n') ≡ write-left n (wrote o l d)
 written o d l n n' k e = ap (λ (x : Answer (List ℕ × List ℕ)). answer (x .number) (screen-words (o .screen), d, x .value .0, x .value .1)) (listed (o .runs) l n n' k e)

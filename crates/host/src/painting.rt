@@ -3,7 +3,6 @@ use crate::border::refuse_begin;
 use crate::border::refuse_runs;
 use crate::border::refuse_skip;
 use crate::border::refuse_step;
-use cmd::Answer;
 use depth::Edge;
 use depth::Runs;
 use depth::Skip;
@@ -16,11 +15,11 @@ use host_screen::screen_of;
 use paint_screen::Stepped;
 use paint_screen::begin_painting;
 use paint_screen::can_skip;
-use paint_screen::paint_step;
 use paint_screen::unset_runs;
 use paint_screen::unset_runs_and_write;
 use paint_screen::visible_runs;
 use paint_whole::paint_row;
+use paint_whole::paint_step;
 use span::BucketRange;
 use span::TileSpan;
 ghost use mathlib.Core.Path.{_≡_};
@@ -30,7 +29,7 @@ ghost use Rattle.rules.specs.Answers.{answer};
 ghost use Rattle.rules.specs.Spans.{span};
 ghost use Rattle.rules.specs.Split.{buckets};
 ghost use Rattle.span.specs.Spans as spans;
-ghost use Rattle.depth.specs.Answers.{refusal, beside, skip-of, split-of};
+ghost use Rattle.depth.specs.Answers.{beside, skip-of, split-of};
 ghost use Rattle.depth.specs.Listing.{out};
 ghost use Rattle.paint_command.specs.Painting.{lent};
 ghost use Rattle.paint_screen.specs.Stepping.{painted-of, attributes};
@@ -65,10 +64,9 @@ fn put_step(done: Stepped, result: &mut [usize]) -> u32
     requires { ⌜ length (now result) ≡ 2 ⌝ }
     ensures { λ r. ⌜ answer r (now (result .exit)) ≡ step-result (now (result .entry)) (painted-of done) ⌝ }
 {
-    let answer = done.answer;
-    let n = answer.number();
-    if n != 0 {
-        return n;
+    let number = done.number;
+    if number != 0 {
+        return number;
     }
     result[0] = one(done.finished);
     result[1] = done.pieces;
@@ -168,26 +166,17 @@ pub extern "C" fn coarse_paint_row(
     put_step(done, result)
 }
 
-// The number of a refusal. `Done` refuses nothing: 15, as `depth` defines it.
-fn refusal(answer: Answer) -> u32
-    ensures { λ r. ⌜ r ≡ refusal answer ⌝ }
-{
-    let n = answer.number();
-    if n == 0 { 15 } else { n }
-}
-
 // The number of runs, where they are not refused.
 fn put_runs(runs: Runs, count: &mut [usize]) -> u32
     requires { ⌜ length (now count) ≡ 1 ⌝ }
     ensures { λ r. ⌜ answer r (now (count .exit)) ≡ count-left (now (count .entry)) (out runs []) ⌝ }
 {
-    match runs {
-        Runs::Refused(answer) => refusal(answer),
-        Runs::Listed(n) => {
-            count[0] = n;
-            0
-        }
+    let n = runs.number;
+    if n != 0 {
+        return n;
     }
+    count[0] = runs.count;
+    0
 }
 
 // The runs of the tiles first to end whose buckets hold 0; count: how many.
@@ -288,17 +277,16 @@ fn put_skip(skip: Skip, yes: &mut [u32]) -> u32
     requires { ⌜ length (now yes) ≡ 1 ⌝ }
     ensures { λ r. ⌜ answer r (now (yes .exit)) ≡ skip-left (now (yes .entry)) (skip-of skip) ⌝ }
 {
-    match skip {
-        Skip::Refused(answer) => refusal(answer),
-        Skip::Yes => {
-            yes[0] = 1;
-            0
-        }
-        Skip::No => {
-            yes[0] = 0;
-            0
-        }
+    let n = skip.number;
+    if n != 0 {
+        return n;
     }
+    if skip.yes {
+        yes[0] = 1;
+        return 0;
+    }
+    yes[0] = 0;
+    0
 }
 
 // A part of a split span: 1 for a regular piece or 2 for a depth fill, first, end; zeros for none.
@@ -396,7 +384,7 @@ fn put_split(parts: &mut [u32], split: Split) -> u32
     ensures { λ r. ⌜ answer r (now (parts .exit)) ≡ split-left (now (parts .entry)) (split-of split) ⌝ }
 {
     match split {
-        Split::Refused(answer) => refusal(answer),
+        Split::Refused => 12,
         Split::Whole(s) => {
             let slots = Slots {
                 a: regular(s),

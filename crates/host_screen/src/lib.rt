@@ -7,7 +7,6 @@ use sizes::STATE;
 ghost use mathlib.Core.Path.{_≡_};
 ghost use lib.ListN.{length};
 ghost use Rattle.sizes.specs.Sizes.{state-size};
-ghost use Rattle.cmd.specs.Answers.{number-of};
 ghost use Rattle.host_screen.specs.State.{bit, screen-words, screen-at, screen-of, before-4};
 
 // What a host's words stand for.
@@ -110,10 +109,9 @@ pub fn put_screen(state: &mut [u32], screen: Screen)
 // What a call gave: its screen's words, and its number.
 pub fn leave(state: &mut [u32], built: Built) -> u32
     requires { ⌜ length (now state) ≡ state-size ⌝ }
-    ensures { λ r. ⌜ (r ≡ number-of (built .answer)) × (now (state .exit) ≡ screen-words (built .screen)) ⌝ }
+    ensures { λ r. ⌜ (r ≡ built .number) × (now (state .exit) ≡ screen-words (built .screen)) ⌝ }
 {
-    let answer = built.answer;
     let screen = built.screen;
     put_screen(state, screen);
-    answer.number()
+    built.number
 }

@@ -21,10 +21,7 @@ use Rattle.span.specs.declared.BucketRange.{BucketRange}
 use Rattle.span.specs.declared.Alpha.{Alpha}
 use Rattle.span.specs.declared.Alpha.the-variants.{Solid}
 use Rattle.span.specs.Spans.{tiles, buckets, alpha, Moves}
-use Rattle.cmd.specs.declared.Answer.{Answer}
-use Rattle.cmd.specs.Answers.{number-of}
 use Rattle.depth.specs.declared.runs.Runs.{Runs}
-use Rattle.depth.specs.declared.runs.Runs.the-variants as answer
 use Rattle.depth.specs.Listing as depth
 use Rattle.paint_command.specs.declared.Painted.{Painted}
 use Rattle.paint_command.specs.declared.pieces.Brush.{Brush}
@@ -62,30 +59,30 @@ module _ (D P l ys : List ℕ) (u : Summary) (layer : Bool) (id i : ℕ) (t : Ti
   unfolding runs
   told = e ∙ rw (lent-room l)
 
-  pub fill-refused : (x : Answer) (n : ℕ) (p : Painted) → r ≡ answer.Refused x → n ≡ number-of x → p ≡ refused n
+  pub fill-refused : (p : Painted) → (r .number ≡ 0 → ⊥) → p ≡ refused (r .number)
       → out p D P (back l ys) ≡ settled (some (fill-shown no-attrs u layer id i (tiles t) (alpha a) (painter-at D P))) D P l
   unfolding fill-shown runs
-  fill-refused x n p q m o =
-      let w = when-refused runs l ys r told x q in
-      rw (o, m, w .0, w .1) (no-room D P l _ (rw length-map (w .2)))
+  fill-refused p q o =
+      let w = when-refused runs l ys r told q in
+      rw (o, w .0, w .1) (no-room D P l _ (rw length-map (w .2)))
 
-  module _ (n : ℕ) (q : r ≡ answer.Listed n) where
-    found : Listed runs l n (back l ys)
-    found = when-listed runs l ys r told n q
+  module _ (q : r .number ≡ 0) where
+    found : Listed runs l (r .count) (back l ys)
+    found = when-listed runs l ys r told q
 
     abbrev pub brush : Brush
     brush = record { layer = layer; «attrs_idx» = i; first = t .first; alpha = a; nesting = word P 1 }
 
     pub fill-ready : Moves a (t .end - t .first)
-        → (6 * n ≤ length (back l ys)) × ((k : ℕ) → k < n → Fits 1 brush (run-at (back l ys) k))
+        → (6 * r .count ≤ length (back l ys)) × ((k : ℕ) → k < r .count → Fits 1 brush (run-at (back l ys) k))
     unfolding runs
     fill-ready m = (
-      listed-room runs l n (back l ys) found,
-      listed-at runs l n (back l ys) found (Fits 1 brush) (shown-fits D id (tiles t) brush h g refl m u),
+      listed-room runs l (r .count) (back l ys) found,
+      listed-at runs l (r .count) (back l ys) found (Fits 1 brush) (shown-fits D id (tiles t) brush h g refl m u),
     )
 
-    pub fill-done : (p : Painted) (P′ l′ : List ℕ) → advanced p P′ ≡ advanced (listed n) ((word P 0 + 1) ∷ word P 1 ∷ [])
-        → l′ ≡ laid (map (piece 1 brush) (runs-at n (back l ys))) (back l ys)
+    pub fill-done : (p : Painted) (P′ l′ : List ℕ) → advanced p P′ ≡ advanced (listed (r .count)) ((word P 0 + 1) ∷ word P 1 ∷ [])
+        → l′ ≡ laid (map (piece 1 brush) (runs-at (r .count) (back l ys))) (back l ys)
         → out p D P′ l′
         ≡ settled (some (fill-shown no-attrs u layer id i (tiles t) (alpha a) (painter-at D P))) D P l
     unfolding fill-shown runs
@@ -93,13 +90,13 @@ module _ (D P l ys : List ℕ) (u : Summary) (layer : Bool) (id i : ℕ) (t : Ti
         let f : Span → Piece = fill-piece 32 no-attrs layer i (tiles t) (alpha a) (word P 1) in
         let same : map (piece 1 brush) runs ≡ map f runs = same-map (piece 1 brush) f (λ x. simp mul-one) runs in
         ap (λ (x : Advanced). out (x .answer) D (x .painting) l′) o
-        ∙ room D P l _ D ((word P 0 + 1) ∷ word P 1 ∷ []) l′ n
+        ∙ room D P l _ D ((word P 0 + 1) ∷ word P 1 ∷ []) l′ (r .count)
         (rw length-map (found .roomy))
         refl
         (found .many ∙ rw length-map)
         refl
         refl
-        (listed-spread runs l n (back l ys) found 1 brush l′ v ∙ ap (λ (x : List Piece). laid x l) same)
+        (listed-spread runs l (r .count) (back l ys) found 1 brush l′ v ∙ ap (λ (x : List Piece). laid x l) same)
 
 -- a depth fill's call over its buckets, which writes
 module _ (D P l ys D′ : List ℕ) (id i : ℕ) (b : BucketRange) (h : b .first ≤ b .end) (g : b .end ≤ length D) (k : 0 < id)
@@ -128,38 +125,38 @@ module _ (D P l ys D′ : List ℕ) (id i : ℕ) (b : BucketRange) (h : b .first
   abbrev pub marked : rules.Painted
   marked = gives (map (depth-piece 32 no-attrs i) (write-runs D (buckets b))) (written D id (buckets b)) (word P 0 + 1) (word P 1)
 
-  pub depth-refused : (x : Answer) (n : ℕ) (p : Painted) → r ≡ answer.Refused x → n ≡ number-of x → p ≡ refused n
+  pub depth-refused : (p : Painted) → (r .number ≡ 0 → ⊥) → p ≡ refused (r .number)
       → out p D′ P (back l ys) ≡ settled (some marked) D P l
   unfolding unset
-  depth-refused x n p q m u =
-      let w = when-refused unset l ys r told-write x q in
-      rw (u, m, w .0, w .1, after true (w .2)) (no-room D P l marked (rw length-map (w .2)))
+  depth-refused p q u =
+      let w = when-refused unset l ys r told-write q in
+      rw (u, w .0, w .1, after true (w .2)) (no-room D P l marked (rw length-map (w .2)))
 
-  module _ (n : ℕ) (q : r ≡ answer.Listed n) where
-    found-unset : Listed unset l n (back l ys)
-    found-unset = when-listed unset l ys r told-write n q
+  module _ (q : r .number ≡ 0) where
+    found-unset : Listed unset l (r .count) (back l ys)
+    found-unset = when-listed unset l ys r told-write q
 
     abbrev pub depth-brush : Brush
     depth-brush = record { layer = false; «attrs_idx» = i; first = 0; alpha = Solid; nesting = 0 }
 
     pub depth-ready : b .end ≤ 65535
-        → (6 * n ≤ length (back l ys)) × ((k : ℕ) → k < n → Fits 32 depth-brush (run-at (back l ys) k))
+        → (6 * r .count ≤ length (back l ys)) × ((k : ℕ) → k < r .count → Fits 32 depth-brush (run-at (back l ys) k))
     unfolding unset
     depth-ready m = (
-      listed-room unset l n (back l ys) found-unset,
-      listed-at unset l n (back l ys) found-unset (Fits 32 depth-brush) (depth-fits D (buckets b) depth-brush h m refl refl),
+      listed-room unset l (r .count) (back l ys) found-unset,
+      listed-at unset l (r .count) (back l ys) found-unset (Fits 32 depth-brush) (depth-fits D (buckets b) depth-brush h m refl refl),
     )
 
-    pub depth-done : (p : Painted) (P′ l′ : List ℕ) → advanced p P′ ≡ advanced (listed n) ((word P 0 + 1) ∷ word P 1 ∷ [])
-        → l′ ≡ laid (map (piece 32 depth-brush) (runs-at n (back l ys))) (back l ys)
+    pub depth-done : (p : Painted) (P′ l′ : List ℕ) → advanced p P′ ≡ advanced (listed (r .count)) ((word P 0 + 1) ∷ word P 1 ∷ [])
+        → l′ ≡ laid (map (piece 32 depth-brush) (runs-at (r .count) (back l ys))) (back l ys)
         → out p D′ P′ l′ ≡ settled (some marked) D P l
     unfolding unset
     depth-done p P′ l′ u v =
         ap (λ (x : Advanced). out (x .answer) D′ (x .painting) l′) u
-        ∙ room D P l marked D′ ((word P 0 + 1) ∷ word P 1 ∷ []) l′ n
+        ∙ room D P l marked D′ ((word P 0 + 1) ∷ word P 1 ∷ []) l′ (r .count)
         (rw length-map (found-unset .roomy))
         refl
         (found-unset .many ∙ rw length-map)
         (after false (found-unset .roomy))
         refl
-        (listed-spread unset l n (back l ys) found-unset 32 depth-brush l′ v)
+        (listed-spread unset l (r .count) (back l ys) found-unset 32 depth-brush l′ v)

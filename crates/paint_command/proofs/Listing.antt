@@ -14,14 +14,9 @@ use Rattle.rules.specs.Lists.{join}
 use Rattle.rules.specs.Spans.{Span, span}
 use Rattle.rules.specs.Depth as rule
 use Rattle.rules.specs.Painting.{Piece}
-use Rattle.cmd.specs.declared.Answer.{Answer}
-use Rattle.cmd.specs.Answers.{number-of}
 use Rattle.depth.specs.declared.runs.Runs.{Runs}
-use Rattle.depth.specs.declared.runs.Runs.the-variants as runs
-use Rattle.depth.specs.Answers.{refusal}
 use Rattle.depth.specs.Listing.{RunsOut, out, numbers, over, listing}
 use Rattle.depth.proofs.Filling.{length-numbers}
-use Rattle.depth.proofs.Once.{refused-number}
 use Rattle.paint_command.specs.declared.pieces.Brush.{Brush}
 use Rattle.paint_command.specs.Pieces.{piece-words, laid, run-at, runs-at}
 use Rattle.paint_command.proofs.Spreading.{length-pieces, piece}
@@ -117,29 +112,14 @@ module _ (rs : List Span) (l ys : List ℕ) where
   told : Bool → RunsOut
   told t = listing (rules.settle (cond t 14 0) [] rs) (lent l)
 
-  short : (a : Answer) → out (runs.Refused a) ys ≡ told true → (number-of a ≡ 14) × (back l ys ≡ l)
+  short : (r : Runs) → out r ys ≡ told true → (r .number ≡ 14) × (back l ys ≡ l)
   unfolding told listing numbers
-  short a e = (
-    refused-number a 14 (ap (λ (o : RunsOut). o .number) e) (omega arith),
-    ap (back l) (ap (λ (o : RunsOut). o .list) e) ∙ take-append-drop (2 * (length l / 6)) l,
-  )
+  short r e = (ap (λ (o : RunsOut). o .number) e, ap (back l) (ap (λ (o : RunsOut). o .list) e) ∙ take-append-drop (2 * (length l / 6)) l)
 
-  not-refused : (a : Answer) → out (runs.Refused a) ys ≡ told false → ⊥
+  full : (r : Runs) → out r ys ≡ told false → ltb (length l / 6) (length rs) ≡ false → Listed rs l (r .count) (back l ys)
   unfolding told listing
-  not-refused a e =
-      let q : refusal a ≡ 0 = ap (λ (o : RunsOut). o .number) e in
-      let n : number-of a ≡ 0 = refused-number a 0 q (omega arith) in
-      let z : _≡_ {A = ℕ} 15 0 = rw n at q in
-      omega arith
-
-  not-listed : (n : ℕ) → out (runs.Listed n) ys ≡ told true → ⊥
-  unfolding told listing
-  not-listed n e = let z : _≡_ {A = ℕ} 0 14 = ap (λ (o : RunsOut). o .number) e in omega arith
-
-  full : (n : ℕ) → out (runs.Listed n) ys ≡ told false → ltb (length l / 6) (length rs) ≡ false → Listed rs l n (back l ys)
-  unfolding told listing
-  full n e q =
-      let many : n ≡ length rs = ap (λ (o : RunsOut). o .count) e in
+  full r e q =
+      let many : r .count ≡ length rs = ap (λ (o : RunsOut). o .count) e in
       let room = ltb-false (length l / 6) (length rs) q in
       let fits : length (numbers rs) ≤ length (lent l) = rw (length-numbers rs, lent-length l) (omega arith) in
       record {
@@ -151,20 +131,20 @@ module _ (rs : List Span) (l ys : List ℕ) where
       }
 
   module _ (r : Runs) (h : out r ys ≡ listing (rule.listed false (length l / 6) rs) (lent l)) where
-    pub when-refused : (a : Answer) → r ≡ runs.Refused a → (number-of a ≡ 14) × (back l ys ≡ l) × (ltb (length l / 6) (length rs) ≡ true)
-    unfolding told
-    when-refused a q = go (ltb (length l / 6) (length rs)) refl (rw q at h)
+    pub when-refused : (r .number ≡ 0 → ⊥) → (r .number ≡ 14) × (back l ys ≡ l) × (ltb (length l / 6) (length rs) ≡ true)
+    unfolding told listing
+    when-refused q = go (ltb (length l / 6) (length rs)) refl h
       where
-        go : (t : Bool) → ltb (length l / 6) (length rs) ≡ t → out (runs.Refused a) ys ≡ listing (rules.settle (cond t 14 0) [] rs) (lent l)
-            → (number-of a ≡ 14) × (back l ys ≡ l) × (t ≡ true)
-        go true p e = let s = short a e in (s .0, s .1, refl)
-        go false p e = absurd (not-refused a e)
+        go : (t : Bool) → ltb (length l / 6) (length rs) ≡ t → out r ys ≡ listing (rules.settle (cond t 14 0) [] rs) (lent l)
+            → (r .number ≡ 14) × (back l ys ≡ l) × (t ≡ true)
+        go true p e = let s = short r e in (s .0, s .1, refl)
+        go false p e = absurd (q (ap (λ (o : RunsOut). o .number) e))
 
-    pub when-listed : (n : ℕ) → r ≡ runs.Listed n → Listed rs l n (back l ys)
+    pub when-listed : r .number ≡ 0 → Listed rs l (r .count) (back l ys)
     unfolding told
-    when-listed n q = go (ltb (length l / 6) (length rs)) refl (rw q at h)
+    when-listed q = go (ltb (length l / 6) (length rs)) refl h
       where
-        go : (t : Bool) → ltb (length l / 6) (length rs) ≡ t → out (runs.Listed n) ys ≡ listing (rules.settle (cond t 14 0) [] rs) (lent l)
-            → Listed rs l n (back l ys)
-        go true p e = absurd (not-listed n e)
-        go false p e = full n e p
+        go : (t : Bool) → ltb (length l / 6) (length rs) ≡ t → out r ys ≡ listing (rules.settle (cond t 14 0) [] rs) (lent l)
+            → Listed rs l (r .count) (back l ys)
+        go true p e = absurd (omega (arith, q, short r e .0))
+        go false p e = full r e p

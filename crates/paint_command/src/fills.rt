@@ -7,7 +7,6 @@ use crate::refused;
 use cmd::command::Fill;
 use cmd::depth_fill::DepthFill;
 use depth::DepthState;
-use depth::Runs;
 use depth::unset_runs_and_write;
 use paint_runs::shown_runs;
 use sizes::BUCKET;
@@ -39,21 +38,22 @@ pub fn paint_depth(
 {
     let room = list.len() / 6;
     let range = fill.buckets;
-    match unset_runs_and_write(depth, range, id, &mut list[..2 * room]) {
-        Runs::Refused(answer) => refused(answer.number()),
-        Runs::Listed(n) => {
-            let brush = Brush {
-                layer: false,
-                attrs_idx: fill.attrs_idx,
-                first: 0,
-                alpha: Alpha::Solid,
-                nesting: 0,
-            };
-            spread(list, n, BUCKET, brush);
-            let nesting = painting[1];
-            advance(painting, nesting, n)
-        }
+    let found = unset_runs_and_write(depth, range, id, &mut list[..2 * room]);
+    let number = found.number;
+    if number != 0 {
+        return refused(number);
     }
+    let n = found.count;
+    let brush = Brush {
+        layer: false,
+        attrs_idx: fill.attrs_idx,
+        first: 0,
+        alpha: Alpha::Solid,
+        nesting: 0,
+    };
+    spread(list, n, BUCKET, brush);
+    let nesting = painting[1];
+    advance(painting, nesting, n)
 }
 
 // A paint's or a layer's fill gives the runs that are shown for its attribute's id.
@@ -72,20 +72,21 @@ pub fn paint_fill(
 {
     let room = list.len() / 6;
     let span = fill.span;
-    match shown_runs(depth, sum, span, id, &mut list[..2 * room]) {
-        Runs::Refused(answer) => refused(answer.number()),
-        Runs::Listed(n) => {
-            let start = fill.alpha;
-            let nesting = painting[1];
-            let brush = Brush {
-                layer,
-                attrs_idx: fill.attrs_idx,
-                first: span.first,
-                alpha: start,
-                nesting,
-            };
-            spread(list, n, 1, brush);
-            advance(painting, nesting, n)
-        }
+    let found = shown_runs(depth, sum, span, id, &mut list[..2 * room]);
+    let number = found.number;
+    if number != 0 {
+        return refused(number);
     }
+    let n = found.count;
+    let start = fill.alpha;
+    let nesting = painting[1];
+    let brush = Brush {
+        layer,
+        attrs_idx: fill.attrs_idx,
+        first: span.first,
+        alpha: start,
+        nesting,
+    };
+    spread(list, n, 1, brush);
+    advance(painting, nesting, n)
 }

@@ -9,8 +9,7 @@ use borrow.Author.Tests.{le-leb, le-ltb, lt-ltb}
 use Rattle.rules.specs.Answers.{Answer, answer}
 use Rattle.rules.specs.Spans.{Span}
 use Rattle.rules.specs.Depth.{Summary, can-skip, can-skip-answer, listed, visible-answer}
-use Rattle.cmd.specs.declared.Answer.the-variants as cmd
-use Rattle.depth.specs.declared.runs.Runs.the-variants as runs
+use Rattle.depth.specs.declared.runs.Runs.{Runs}
 use Rattle.depth.specs.declared.state.Skip.{Skip}
 use Rattle.depth.specs.Answers.{skip-of}
 use Rattle.depth.specs.Listing.{RunsOut, numbers, listing}
@@ -18,24 +17,28 @@ use Rattle.paint_runs.specs.Summaries.{listing-out, whole-run, is-clear,
 
 -- what the call says, it says of the definition
 pub skip-said : (u : Summary) (s : Span) (id : ℕ) (x : Skip) → s .first ≤ s .end → s .end ≤ 8192 → skip-of x ≡ can-skip-answer u s id
-    → can-skip u s id ≡ skip-of x .value
+    → can-skip u s id ≡ x .yes
 unfolding can-skip-answer
 skip-said u s id x h g e =
     let f : skip-of x ≡ answer 0 (can-skip u s id) = e ∙ rw (le-leb _ _ h, le-leb _ _ g) in
     sym (ap (λ (a : Answer Bool). a .value) f)
 
+-- n runs, or why none is listed
+abbrev pub runs : ℕ → ℕ → Runs
+runs k n = record { number = k; count = n }
+
 module _ (s : Span) where
-  pub whole-none : (l : List ℕ) → s .end ≤ s .first → listing-out (runs.Listed 0) l ≡ listing (listed false (length l / 2) (whole-run s)) l
+  pub whole-none : (l : List ℕ) → s .end ≤ s .first → listing-out (runs 0 0) l ≡ listing (listed false (length l / 2) (whole-run s)) l
   unfolding listing numbers
   whole-none l h = rw (le-ltb _ _ h, le-ltb (length l / 2) 0 (omega arith))
 
   module _ (h : s .first < s .end) where
-    pub whole-short : (l : List ℕ) → length l < 2 → listing-out (runs.Refused cmd.NoRoom) l ≡ listing (listed false (length l / 2) (whole-run s)) l
+    pub whole-short : (l : List ℕ) → length l < 2 → listing-out (runs 14 0) l ≡ listing (listed false (length l / 2) (whole-run s)) l
     unfolding listing numbers
     whole-short l g = rw (lt-ltb _ _ h, lt-ltb (length l / 2) 1 (omega arith))
 
     pub whole-one : (l : List ℕ) → 2 ≤ length l
-        → listing-out (runs.Listed 1) (set (set l 0 (s .first)) 1 (s .end)) ≡ listing (listed false (length l / 2) (whole-run s)) l
+        → listing-out (runs 0 1) (set (set l 0 (s .first)) 1 (s .end)) ≡ listing (listed false (length l / 2) (whole-run s)) l
     unfolding listing numbers
     whole-one [] g = absurd (omega arith)
     whole-one (a ∷ []) g = absurd (omega arith)

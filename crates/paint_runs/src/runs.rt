@@ -1,8 +1,6 @@
 // The runs of a fill. `shown_runs` is a part: its callers have judged the span.
-use cmd::Answer;
 use depth::DepthState;
 use depth::Runs;
-use depth::Skip;
 use depth::visible_runs;
 use sizes::BUCKET_TILES;
 use span::TileSpan;
@@ -22,11 +20,11 @@ fn is_clear(sum: DepthState, span: TileSpan, id: u32, buckets: usize) -> bool
     requires { ⌜ (span .first ≤ span .«end») × (span .«end» ≤ tile-end) × (buckets ≤ 65535) ⌝ }
     ensures { λ r. ⌜ r ≡ is-clear (summary sum) buckets id (tiles span) ⌝ }
 {
-    match sum.can_skip(span, id) {
-        Skip::Yes => (span.end as usize) <= BUCKET_TILES * buckets,
-        Skip::No => false,
-        Skip::Refused(_) => false,
+    let skip = sum.can_skip(span, id);
+    if skip.yes {
+        return (span.end as usize) <= BUCKET_TILES * buckets;
     }
+    false
 }
 
 // The span as its one run.
@@ -34,14 +32,23 @@ fn list_whole(span: TileSpan, list: &mut [u32]) -> Runs
     ensures { λ r. ⌜ listing-out r (now (list .exit)) ≡ listing (listed false (length (now (list .entry)) / 2) (whole-run (tiles span))) (now (list .entry)) ⌝ }
 {
     if span.end <= span.first {
-        return Runs::Listed(0);
+        return Runs {
+            number: 0,
+            count: 0,
+        };
     }
     if list.len() < 2 {
-        return Runs::Refused(Answer::NoRoom);
+        return Runs {
+            number: 14,
+            count: 0,
+        };
     }
     list[0] = span.first;
     list[1] = span.end;
-    Runs::Listed(1)
+    Runs {
+        number: 0,
+        count: 1,
+    }
 }
 
 // The runs of a fill, whole where the summary says so: only else are the depth words searched.

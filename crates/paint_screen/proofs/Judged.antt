@@ -14,59 +14,10 @@ use Rattle.rect.specs.Rects.{box-of}
 use Rattle.screen.specs.declared.Screen.{Screen}
 use Rattle.screen.specs.Screens.{good-screen}
 use Rattle.screen.specs.Tables.{zeros}
-use Rattle.screen.proofs.Numbers.{and-left, and-right}
+use Rattle.rules.proofs.All.{and-left, and-right}
 use Rattle.screen.proofs.Laws.{Room, room, few-rows, few-buckets}
 use Rattle.paint_screen.specs.Judging.{count, wide, depth-long, rows-long, painting-long, judged, of-row, begin-number, paints-on, step-number, runs-number, skip-number}
 use Rattle.paint_screen.specs.Beginning.{Canvas, canvas, begun, beginning}
-
--- Every number is one of document 01's.
-at-most-4 : (x y z : Bool) → first-of ((x, 2) ∷ (y, 1) ∷ (z, 4) ∷ []) ≤ 4
-at-most-4 true y z = omega arith
-at-most-4 false true z = omega arith
-at-most-4 false false true = omega arith
-at-most-4 false false false = omega arith
-
-one-of : (n k : ℕ) (x y : Bool) → n ≤ 13 → k ≤ 13 → cond x (cond y 0 k) n ≤ 13
-one-of n k true true h g = omega arith
-one-of n k true false h g = g
-one-of n k false y h g = h
-
-one-or : (n k : ℕ) (x y : Bool) → n ≤ 13 → k ≤ 13 → cond x (cond y k 0) n ≤ 13
-one-or n k true true h g = g
-one-or n k true false h g = omega arith
-one-or n k false y h g = h
-
-pub below : (n m : ℕ) → n ≡ m → m ≤ 13 → n ≤ 14
-below n m e h = omega arith
-
-module _ (s : Screen) where
-  small : (a t : Bool) → judged s a t ≤ 13
-  unfolding judged
-  small a t =
-      let h : first-of ((not (good-viewport (box-of (s .viewport))), 2) ∷ (not (good-room (s .c) && good-room (s .d) && a), 1) ∷ (not (t && good-screen s), 4) ∷ []) ≤ 4 =
-      at-most-4 (not (good-viewport (box-of (s .viewport)))) (not (good-room (s .c) && good-room (s .d) && a)) (not (t && good-screen s)) in
-      omega arith
-
-  small-row : (n r : ℕ) → n ≤ 13 → of-row n s r ≤ 13
-  small-row n r h = one-or n 12 (eqb n 0) (leb (count s) r) h (omega arith)
-
-  pub small-begin : (depth painting : ℕ) → begin-number s depth painting ≤ 13
-  unfolding begin-number
-  small-begin depth painting =
-      let n = judged s (depth-long s depth) (painting-long s painting) in one-of n 13 (eqb n 0) (eqb (s .layers) 0) (small _ _) (omega arith)
-
-  pub small-step : (r : ℕ) (a t : Bool) → step-number s r a t ≤ 13
-  unfolding step-number
-  small-step r a t =
-      let n = of-row (judged s a t) s r in one-of n 13 (eqb n 0) (paints-on s) (small-row _ r (small a t)) (omega arith)
-
-  pub small-runs : (r depth : ℕ) → runs-number s r depth ≤ 13
-  unfolding runs-number
-  small-runs r depth = small-row _ r (small _ _)
-
-  pub small-skip : (r rows : ℕ) → skip-number s r rows ≤ 13
-  unfolding skip-number
-  small-skip r rows = small-row _ r (small _ _)
 
 -- What each way through a judge gives.
 module _ (s : Screen) (depth painting n : ℕ) (t : Bool) (m : ℕ) (e : t ≡ depth-long s depth) (f : m ≡ count s) (g : n ≡ judged s t (eqb painting (m * 2))) where
@@ -189,9 +140,9 @@ module _ (s : Screen) (r : ℕ) where
 
 -- Beginning.
 module _ (k : Canvas) (n : ℕ) (e : n ≡ begin-number (k .screen) (length (k .depth)) (length (k .painting))) where
-  pub not-begun : (m : ℕ) → m ≡ n → (n ≡ 0 → ⊥) → answer m k ≡ beginning k
+  pub not-begun : (n ≡ 0 → ⊥) → answer n k ≡ beginning k
   unfolding beginning
-  not-begun m p h = rw (← e, ne-eqb n 0 h, p)
+  not-begun h = rw (← e, ne-eqb n 0 h)
 
   pub begun-now : n ≡ 0 → (s : Screen) (d q : List ℕ) → s ≡ begun true (k .screen) → d ≡ zeros 0 (k .depth) → q ≡ zeros 0 (k .painting)
       → answer 0 (canvas s d q) ≡ beginning k

@@ -2,7 +2,7 @@
 use mathlib.Core.Path.{_≡_, refl, sym, ap, _∙_}
 use mathlib.Core.Bool.{Bool, true, false, _&&_, cond}
 use mathlib.Core.Option.{some}
-use mathlib.Core.List.{List, []}
+use mathlib.Core.List.{List}
 use Prim.Native.Nat.{ℕ, zero, suc, _<_, _*_}
 use native.Mathlib.Omega.{arith}
 use lib.ListN.{length, drop}
@@ -13,15 +13,11 @@ use Rattle.rules.specs.Answers.{answer}
 use Rattle.rules.specs.Attributes.{Attrs}
 use Rattle.rules.specs.Rows.{Row}
 use Rattle.rules.specs.Painting.{paint-step}
-use Rattle.cmd.specs.declared.Answer.{Answer}
-use Rattle.cmd.specs.Answers.{number-of}
-use Rattle.depth.specs.declared.runs.Runs.the-variants as runs
-use Rattle.depth.specs.Listing as depth
 use Rattle.depth.proofs.Once.{out-once}
 use Rattle.row_screen.proofs.Laws.{part-0, part-suc, less, head-0, tail-0, head-suc, tail-suc, part-long}
 use Rattle.screen.specs.declared.Screen.{Screen}
 use Rattle.screen.specs.declared.Built.{Built}
-use Rattle.screen.proofs.Numbers.{and-left, and-right}
+use Rattle.rules.proofs.All.{and-left, and-right}
 use Rattle.paint_command.specs.Painting.{attrs-at, RowLent, StepOut, out, painter-at, refused, settled, painted-row}
 use Rattle.paint_runs.specs.Summaries.{summary-at, Sound}
 use Rattle.paint_command.specs.Standing.{Stands, PainterReady, Holds}
@@ -35,16 +31,11 @@ use Rattle.paint_screen.specs.Rows.{Wrote, wrote}
 use Rattle.paint_screen.proofs.Judged.{step-there}
 
 -- One result.
-pub number-once : (a b : Answer) → number-of a ≡ number-of b → a ≡ b
-number-once a b e =
-    let h : runs.Refused a ≡ runs.Refused b = out-once (runs.Refused a) (runs.Refused b) [] [] (rw e) .0 in
-    cc
-
 pub begin-once : (r q : Built) (d e p o : List ℕ)
-    → answer (number-of (r .answer)) (canvas (r .screen) d p) ≡ answer (number-of (q .answer)) (canvas (q .screen) e o)
+    → answer (r .number) (canvas (r .screen) d p) ≡ answer (q .number) (canvas (q .screen) e o)
     → (r ≡ q) × (d ≡ e) × (p ≡ o)
 begin-once r q d e p o h =
-    let n : r .answer ≡ q .answer = number-once _ _ (ap (λ (x : rules.Answer Canvas). x .number) h) in
+    let n : r .number ≡ q .number = ap (λ (x : rules.Answer Canvas). x .number) h in
     let s : r .screen ≡ q .screen = ap (λ (x : rules.Answer Canvas). x .value .screen) h in (
       rw (n, s),
       ap (λ (x : rules.Answer Canvas). x .value .depth) h,
@@ -53,7 +44,7 @@ begin-once r q d e p o h =
 
 pub step-once : (r q : Stepped) (d e p o l m : List ℕ) → out (painted-of r) d p l ≡ out (painted-of q) e o m → (r ≡ q) × (d ≡ e) × (p ≡ o) × (l ≡ m)
 step-once r q d e p o l m h =
-    let n : r .answer ≡ q .answer = number-once _ _ (ap (λ (x : StepOut). x .answer .number) h) in
+    let n : r .number ≡ q .number = ap (λ (x : StepOut). x .answer .number) h in
     let f : r .finished ≡ q .finished = ap (λ (x : StepOut). x .answer .finished) h in
     let k : r .pieces ≡ q .pieces = ap (λ (x : StepOut). x .answer .pieces) h in
     (rw (n, f, k), ap (λ (x : StepOut). x .depth) h, ap (λ (x : StepOut). x .painting) h, ap (λ (x : StepOut). x .list) h)

@@ -8,7 +8,6 @@ use lib.Dec.{eqb}
 use borrow.Rule.Slice.PartMut.{putMid}
 use Rattle.sizes.specs.Sizes.{most-room, most-attrs, row-size, paint-attr-table, layer-attr-table}
 use Rattle.rules.specs.Answers.{Done}
-use Rattle.cmd.specs.Answers.{number-of}
 use Rattle.screen.specs.declared.Screen.{Screen}
 use Rattle.paint_command.specs.declared.Painted.{Painted}
 use Rattle.paint_command.specs.Painting.{attrs-at, RowLent, lent, StepOut, out, refused, painted-row}
@@ -28,9 +27,9 @@ pub record Within (k r : ℕ) (xs : List ℕ) : Type 0 where
   pub near : r * k ≤ 2097152
   pub short : k ≤ 4096
 
--- an answer in document 01's number
+-- what a call gives, as painting a row gives it
 abbrev pub painted-of : Stepped → Painted
-painted-of r = record { number = number-of (r .answer); finished = r .finished; pieces = r .pieces }
+painted-of r = record { number = r .number; finished = r .finished; pieces = r .pieces }
 
 -- the attribute tables
 pub record Attributes : Type 0 where

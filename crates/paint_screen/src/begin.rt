@@ -1,13 +1,10 @@
 // Beginning to paint.
 use crate::judge::judge_begin;
-use cmd::Answer;
 use screen::Built;
 use screen::Screen;
-use screen::answer_of;
 use screen::clear;
 ghost use mathlib.Core.Path.{_≡_};
 ghost use Rattle.rules.specs.Answers.{answer};
-ghost use Rattle.cmd.specs.Answers.{number-of};
 ghost use Rattle.paint_screen.specs.Beginning.{canvas, begun, beginning};
 
 // The screen with painting begun, or ended.
@@ -21,19 +18,16 @@ pub fn with_painting(screen: Screen, painting: bool) -> Screen
 
 // Clears the depth words and sets every row to its first step, at nesting 0.
 pub fn begin_painting(screen: Screen, depth: &mut [u32], painting: &mut [u32]) -> Built
-    ensures { λ r. ⌜ answer (number-of (r .answer)) (canvas (r .screen) (now (depth .exit)) (now (painting .exit))) ≡ beginning (canvas screen (now (depth .entry)) (now (painting .entry))) ⌝ }
+    ensures { λ r. ⌜ answer (r .number) (canvas (r .screen) (now (depth .exit)) (now (painting .exit))) ≡ beginning (canvas screen (now (depth .entry)) (now (painting .entry))) ⌝ }
 {
     let n = judge_begin(screen, depth.len(), painting.len());
     if n != 0 {
-        return Built {
-            answer: answer_of(n),
-            screen,
-        };
+        return Built { number: n, screen };
     }
     clear(depth);
     clear(painting);
     Built {
-        answer: Answer::Done,
+        number: 0,
         screen: with_painting(screen, true),
     }
 }

@@ -2,13 +2,11 @@
 use crate::begin::with_painting;
 use crate::judge::judge_runs;
 use crate::judge::judge_skip;
-use cmd::Answer;
 use depth::Runs;
 use depth::Skip;
 use paint_runs::is_good_summary;
 use paint_runs::summary_of;
 use screen::Screen;
-use screen::answer_of;
 use sizes::ROW;
 use span::BucketRange;
 use span::TileSpan;
@@ -38,7 +36,10 @@ pub fn unset_runs(
 {
     let n = judge_runs(screen, row, depth.len());
     if n != 0 {
-        return Runs::Refused(answer_of(n));
+        return Runs {
+            number: n,
+            count: 0,
+        };
     }
     let b = screen.buckets();
     let at = row * b;
@@ -58,7 +59,10 @@ pub fn visible_runs(
 {
     let n = judge_runs(screen, row, depth.len());
     if n != 0 {
-        return Runs::Refused(answer_of(n));
+        return Runs {
+            number: n,
+            count: 0,
+        };
     }
     let b = screen.buckets();
     let at = row * b;
@@ -78,23 +82,21 @@ pub fn unset_runs_and_write(
 {
     let n = judge_runs(screen, row, depth.len());
     if n != 0 {
-        return Written {
-            runs: Runs::Refused(answer_of(n)),
-            screen,
+        let none = Runs {
+            number: n,
+            count: 0,
         };
+        return Written { runs: none, screen };
     }
     let b = screen.buckets();
     let at = row * b;
     let runs = depth::unset_runs_and_write(&mut depth[at..at + b], range, draw_id, list);
-    match runs {
-        Runs::Refused(answer) => Written {
-            runs: Runs::Refused(answer),
-            screen,
-        },
-        Runs::Listed(count) => Written {
-            runs: Runs::Listed(count),
-            screen: with_painting(screen, false),
-        },
+    if runs.number != 0 {
+        return Written { runs, screen };
+    }
+    Written {
+        runs,
+        screen: with_painting(screen, false),
     }
 }
 
@@ -104,7 +106,10 @@ fn skip_by(state: &[u32], span: TileSpan, draw_id: u32) -> Skip
     ensures { λ r. ⌜ skip-of r ≡ record-skip (now (state .entry)) (tiles span) «draw_id» ⌝ }
 {
     if !is_good_summary(state) {
-        return Skip::Refused(Answer::BadRecord);
+        return Skip {
+            number: 4,
+            yes: false,
+        };
     }
     let summary = summary_of(state);
     summary.can_skip(span, draw_id)
@@ -116,7 +121,10 @@ pub fn can_skip(screen: Screen, row: usize, rows: &[u32], span: TileSpan, draw_i
 {
     let n = judge_skip(screen, row, rows.len());
     if n != 0 {
-        return Skip::Refused(answer_of(n));
+        return Skip {
+            number: n,
+            yes: false,
+        };
     }
     let at = row * ROW;
     skip_by(&rows[at..at + ROW], span, draw_id)

@@ -18,7 +18,7 @@ use Rattle.rules.specs.Attributes.{Attrs}
 use Rattle.rules.specs.Painting as rules
 use Rattle.rules.specs.Painting.{Painter, paint-id, layer-id, fill-piece, paint-command}
 use Rattle.depth.specs.Listing.{over}
-use Rattle.cmd.proofs.Tests.{and-left, both}
+use Rattle.rules.proofs.All.{and-left, and-both}
 use Rattle.cmd.proofs.Commands.{tag-1, tag-2, tag-3, tag-4, tag-5, tag-6, tag-7}
 use Rattle.paint_runs.specs.Summaries.{shown-runs}
 use Rattle.paint_command.specs.Pieces.{tag-of, index-of, piece-words}
@@ -156,7 +156,7 @@ four (suc (suc (suc (suc (suc t))))) h g = absurd (omega arith)
 
 module _ (t w x : ℕ) (f : Fills t w x) where
   good-word : good-span-word 8192 w ≡ true
-  good-word = both _ _ (le-leb _ _ (f .low)) (le-leb _ _ (f .high))
+  good-word = and-both _ _ (le-leb _ _ (f .low)) (le-leb _ _ (f .high))
 
   solid : t % 2 ≡ 1 → x ≡ 0
   solid e = let i : good-index t x (w % 65536 - w / 65536) ≡ true = f .index in eqb-true x 0 (rw e at i)
@@ -185,13 +185,13 @@ module _ (ps : List ℕ) (paints : ℕ) (ls : List ℕ) (layers : ℕ) (u : Summ
     said-1 e =
         from-fill attrs u D m t w x i false none id r stop j f
         (λ h. let k = f .good h in let z = solid t w x k (rw e) in
-        (paint-step none (sym (tag-1 t w x i true e (both _ _ (good-word t w x k) (eq-eqb _ _ z)))), sym e, sym z))
+        (paint-step none (sym (tag-1 t w x i true e (and-both _ _ (good-word t w x k) (eq-eqb _ _ z)))), sym e, sym z))
 
     said-2 : t ≡ 2 → Said attrs u D m t w x i r stop j
     said-2 e =
         from-fill attrs u D m t w x i false (some x) id r stop j f
         (λ h. let k = f .good h in
-        (paint-step (some x) (sym (tag-2 t w x i true e (both _ _ (good-word t w x k) (alpha t w x k (rw e))))), sym e, refl))
+        (paint-step (some x) (sym (tag-2 t w x i true e (and-both _ _ (good-word t w x k) (alpha t w x k (rw e))))), sym e, refl))
 
   -- of a layer
   module _ (g : id ≡ given (ltb i layers) (word ls (6 * i + 3))) where
@@ -210,13 +210,13 @@ module _ (ps : List ℕ) (paints : ℕ) (ls : List ℕ) (layers : ℕ) (u : Summ
     said-3 e =
         from-fill attrs u D m t w x i true none id r stop j f
         (λ h. let k = f .good h in let z = solid t w x k (rw e) in
-        (layer-step none (sym (tag-3 t w x i true e (both _ _ (good-word t w x k) (eq-eqb _ _ z)))), sym e, sym z))
+        (layer-step none (sym (tag-3 t w x i true e (and-both _ _ (good-word t w x k) (eq-eqb _ _ z)))), sym e, sym z))
 
     said-4 : t ≡ 4 → Said attrs u D m t w x i r stop j
     said-4 e =
         from-fill attrs u D m t w x i true (some x) id r stop j f
         (λ h. let k = f .good h in
-        (layer-step (some x) (sym (tag-4 t w x i true e (both _ _ (good-word t w x k) (alpha t w x k (rw e))))), sym e, refl))
+        (layer-step (some x) (sym (tag-4 t w x i true e (and-both _ _ (good-word t w x k) (alpha t w x k (rw e))))), sym e, refl))
 
   pub said-fill : 0 < t → t ≤ 4 → id ≡ id-given ps paints ls layers t i → Said attrs u D m t w x i r stop j
   said-fill h k g = go (four t h k)

@@ -23,7 +23,7 @@ use Rattle.screen.proofs.Laws.{few-rows}
 use Rattle.file_steps.specs.Steps.{call-at}
 use Rattle.file_judge.specs.Judging.{judged}
 use Rattle.file_call.specs.Recorded.{or-fresh, played, recorded-in, of-sections, recorded}
-use Rattle.refine_steps.proofs.Alike.{settle-number}
+use Rattle.rules.proofs.laws.Answers.{settle-number}
 use Rattle.refine_steps.proofs.Refined.{Refines, reset-refines, step-refines}
 use Rattle.refine_steps.proofs.Walks.{Both, Follow, walk-follows}
 use Rattle.refine_file.specs.Played.{place, unaltered, made, Plays}

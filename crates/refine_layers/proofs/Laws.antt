@@ -126,7 +126,7 @@ module _ (s : State) (n : Nested (s .layers)) where
   unfolding draw-puts
   draws-in e i id nil = nil
   draws-in e i id (cons {x = k} h hs) =
-      cons (inside (on (draw-act e i id (k .tiles) (k .alpha)) (k .row)) (in-all (k .row) (box-of s) (s .layers) (clip-under (s .frame .viewport) (s .layers)) n h)) (draws-in e i id hs)
+      cons (inside (on (draw-act e i id (k .stretch .tiles) (k .stretch .alpha)) (k .row)) (in-all (k .row) (box-of s) (s .layers) (clip-under (s .frame .viewport) (s .layers)) n h)) (draws-in e i id hs)
 
   fill-in : (ps : List Paint) (ss : List Segment) (d : Draw) → All (PutIn (s .layers)) (plan-fill ps ss d s .puts)
   unfolding plan-fill
@@ -248,7 +248,7 @@ touched-has w n i (suc k) (r ∷ rs) h e =
 closes-in : (i : ℕ) (ts : List ℕ) (ks : List Cut) → All Closes (close-puts i ts ks)
 unfolding close-puts
 closes-in i ts [] = nil
-closes-in i ts (k ∷ ks) = all-if (some-of (eqb (k .row)) ts) (cons (closed (k .tiles) (k .alpha) i (k .row)) (closes-in i ts ks)) (closes-in i ts ks)
+closes-in i ts (k ∷ ks) = all-if (some-of (eqb (k .row)) ts) (cons (closed (k .stretch .tiles) (k .stretch .alpha) i (k .row)) (closes-in i ts ks)) (closes-in i ts ks)
 
 closing-in : (c : Option Clip) (v own parent : Box) (i : ℕ) (ss : List Segment) (ts : List ℕ) → All Closes (closing c v own parent i ss ts)
 unfolding closing

@@ -27,9 +27,9 @@ use Rattle.refine_paint.proofs.Attributes.{Extends, same-attrs, paint-e
 
 -- what is left of a good segment: in order, its alpha index can be moved over it, it ends within w tiles
 record FairCut (w : ℕ) (k : Cut) : Type 0 where
-  pub tiles : GoodSpan 8192 (k .tiles)
-  pub alpha : GoodAlpha (k .tiles) (k .alpha)
-  pub near : k .tiles .end ≤ w
+  pub tiles : GoodSpan 8192 (k .stretch .tiles)
+  pub alpha : GoodAlpha (k .stretch .tiles) (k .stretch .alpha)
+  pub near : k .stretch .tiles .end ≤ w
 
 data Left (b : Span) : Option Stretch → Type 0 where
   nothing : Left b none
@@ -118,14 +118,14 @@ module _ (a : Attrs) (w : ℕ) where
   draws-fair : (e : Bool) (i id : ℕ) → good-paint a i ≡ true → paint-id a i ≡ id → {ks : List Cut} → All (FairCut w) ks → All (FairPut a wide) (draw-puts e i id ks)
   unfolding draw-puts
   draws-fair e i id p q nil = nil
-  draws-fair e i id p q (cons {x = k} h hs) = cons (draw-fair e i id (k .row) (k .tiles) (k .alpha) p q (h .tiles) (h .alpha) (h .near)) (draws-fair e i id p q hs)
+  draws-fair e i id p q (cons {x = k} h hs) = cons (draw-fair e i id (k .row) (k .stretch .tiles) (k .stretch .alpha) p q (h .tiles) (h .alpha) (h .near)) (draws-fair e i id p q hs)
 
   closes-fair : (i : ℕ) → good-layer a i ≡ true → (ts : List ℕ) {ks : List Cut} → All (FairCut w) ks → All (FairPut a wide) (close-puts i ts ks)
   unfolding close-puts
   closes-fair i p ts nil = nil
   closes-fair i p ts (cons {x = k} h hs) =
       all-if (some-of (eqb (k .row)) ts)
-      (cons {x = on (close (k .tiles) (k .alpha) i) (k .row)} (record { act = record { good = (h .tiles, h .alpha); attributed = p } }) (closes-fair i p ts hs)) (closes-fair i p ts hs)
+      (cons {x = on (close (k .stretch .tiles) (k .stretch .alpha) i) (k .row)} (record { act = record { good = (h .tiles, h .alpha); attributed = p } }) (closes-fair i p ts hs)) (closes-fair i p ts hs)
 
 module _ (s : State) (f : Framed s) (g : good-viewport (s .frame .viewport) ≡ true) (one : 1 ≤ s .next) where
   abbrev v : Box

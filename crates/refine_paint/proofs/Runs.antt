@@ -7,13 +7,13 @@ use Prim.Native.Nat.{ℕ, _/_, _≤_, _<_}
 use native.Mathlib.Omega.{arith}
 use lib.Dec.{leb, ltb, eqb}
 use lib.ListN.{length, getD, length-set}
-use borrow.Author.Tests.{eq-eqb, le-leb, leb-false}
+use borrow.Author.Tests.{eq-eqb, eqb-true, le-leb, leb-false}
 use Rattle.rules.specs.Lists.{is-empty}
 use Rattle.rules.specs.Answers.{Answer, answer, settle, first-of, Done, BadRun, NoRoom}
 use Rattle.rules.specs.Boxes.{buckets-of}
 use Rattle.rules.specs.Spans.{Span, span, bad-range}
 use Rattle.rules.specs.Commands.{DepthFill}
-use Rattle.rules.specs.Depth.{apart, can-skip, can-skip-answer, listed, unset-runs, visible-runs, write-runs, unset-answer, visible-answer, write-answer, write-after, written}
+use Rattle.rules.specs.Depth.{apart, can-skip, can-skip-answer, write-runs, unset-answer, visible-answer, write-answer, write-after, written}
 use Rattle.rules.specs.Attributes.{Attrs}
 use Rattle.rules.specs.Rows.{Row, fresh-row}
 use Rattle.rules.specs.Steps as rule
@@ -21,6 +21,7 @@ use Rattle.rules.specs.Painting.{Painter, begin, no-fill}
 use Rattle.rules.specs.Calls as calls
 use Rattle.rules.specs.Calls.{unset-call, visible-call, write-call, can-skip-call, with-painter}
 use Rattle.rules.proofs.All.{never, all-at}
+use Rattle.rules.proofs.laws.Answers.{settle-kept}
 use Rattle.row.specs.Words.{Words}
 use Rattle.depth.specs.Listing.{listing, writing}
 use Rattle.refine_row.specs.Encode.{encode, state-of, Fine}
@@ -36,24 +37,12 @@ use Rattle.paint_screen.specs.Stepping.{part, with-part}
 use Rattle.paint_screen.specs.Rows.{Wrote, or-runs, unset-of, visible-of, write-in-place, write-of, record-skip, skip-of-row}
 use Rattle.rules_picture.proofs.Newest.{written-length}
 use Rattle.refine_paint.specs.Fair.{Fair}
-use Rattle.refine_paint.specs.Canvases.{buckets-in, standing-in, depth-of, painting-of, WholeCanvas, listed-of, wrote-of}
+use Rattle.refine_paint.specs.Canvases.{buckets-in, standing-in, depth-of, painting-of, WholeCanvas, wrote-of}
 use Rattle.refine_paint.proofs.Kept.{fine-at, own-words, row-stands}
 use Rattle.refine_paint.proofs.Painters.{summary-same, taken}
 use Rattle.refine_paint.proofs.Begin.{judged-0, all-standing, depth-long}
 use Rattle.refine_paint.proofs.Step.{part-join, put-join, set-same}
 use Rattle.refine_paint.proofs.Whole.{all-set}
-
--- what is refused gives z
-abbrev or-nothing : {A : Type 0} → A → Answer A → Answer A
-or-nothing z a = answer (a .number) (cond (eqb (a .number) Done) (a .value) z)
-
-listed-only : (b : Bool) (n : ℕ) (rs : List Span) → or-nothing [] (listed b n rs) ≡ listed b n rs
-listed-only b n rs = go b (ltb n (length rs))
-  where
-    go : (b t : Bool) → or-nothing [] (settle (first-of ((b, BadRun) ∷ (t, NoRoom) ∷ [])) [] rs) ≡ settle (first-of ((b, BadRun) ∷ (t, NoRoom) ∷ [])) [] rs
-    go true t = refl
-    go false true = refl
-    go false false = refl
 
 -- the summary of a row's words answers as the row's own
 module _ (a : Attrs) (n : ℕ) (r : Row) (o : Fine r) (h : Fair a n r) (t : Span) (id : ℕ) where
@@ -112,22 +101,22 @@ module _ (k : calls.Canvas) (w : WholeCanvas k) (i : ℕ) where
   own-depth e = part-join buckets-in n (w .wide) i (begin 0) (there e)
 
   -- runs that are only read
-  module _ (f : List ℕ → Answer (List Span)) (only : (bs : List ℕ) → or-nothing [] (f bs) ≡ f bs) (l : List ℕ) where
-    by-runs : listing (or-runs (runs-number here i (length depth)) (f (part n i depth))) l ≡ listed-of (calls.of-row (leb (length (s .rows)) i) [] (f (p .buckets)) k k) l
+  module _ (f : List ℕ → Answer (List Span)) (l : List ℕ) where
+    by-runs : listing (or-runs (runs-number here i (length depth)) (f (part n i depth))) l ≡ listing (calls.of-row (leb (length (s .rows)) i) [] (f (p .buckets))) l
     by-runs = rw runs-judged (go (leb (length (s .rows)) i) refl)
       where
-        go : (b : Bool) → leb (length (s .rows)) i ≡ b → listing (or-runs (cond b BadRun Done) (f (part n i depth))) l ≡ listed-of (calls.of-row b [] (f (p .buckets)) k k) l
+        go : (b : Bool) → leb (length (s .rows)) i ≡ b → listing (or-runs (cond b BadRun Done) (f (part n i depth))) l ≡ listing (calls.of-row b [] (f (p .buckets))) l
         go true e = refl
-        go false e = rw (own-depth e) (ap (λ (a : Answer (List Span)). listing a l) (sym (only (p .buckets))))
+        go false e = rw (own-depth e)
 
   -- The calls at the words: the rules' numbers and runs, 12 and 14 among them.
-  pub unset-by : (t : Span) (l : List ℕ) → unset-of here i depth t l ≡ listed-of (unset-call 32 i (length l / 2) t k) l
-  unfolding unset-of unset-call unset-answer
-  unset-by t l = by-runs (λ bs. unset-answer 32 bs t (length l / 2)) (λ bs. listed-only (bad-range 8192 t) (length l / 2) (unset-runs 32 bs t)) l
+  pub unset-by : (t : Span) (l : List ℕ) → unset-of here i depth t l ≡ listing (unset-call 32 i (length l / 2) t k) l
+  unfolding unset-of unset-call
+  unset-by t l = by-runs (λ bs. unset-answer 32 bs t (length l / 2)) l
 
-  pub visible-by : (id : ℕ) (t : Span) (l : List ℕ) → visible-of here i depth t id l ≡ listed-of (visible-call 32 id i (length l / 2) t k) l
-  unfolding visible-of visible-call visible-answer
-  visible-by id t l = by-runs (λ bs. visible-answer 32 bs id t (length l / 2)) (λ bs. listed-only (bad-range 8192 t) (length l / 2) (visible-runs 32 bs id t)) l
+  pub visible-by : (id : ℕ) (t : Span) (l : List ℕ) → visible-of here i depth t id l ≡ listing (visible-call 32 id i (length l / 2) t k) l
+  unfolding visible-of visible-call
+  visible-by id t l = by-runs (λ bs. visible-answer 32 bs id t (length l / 2)) l
 
   module _ (id : ℕ) (t : Span) (m : ℕ) where
     abbrev wrote-answer : Answer (List Span)
@@ -149,39 +138,50 @@ module _ (k : calls.Canvas) (w : WholeCanvas k) (i : ℕ) where
         go true = written-length (p .buckets) id t
         go false = refl
 
-    only-written : or-nothing [] wrote-answer ≡ wrote-answer
+    refused-none : eqb (wrote-answer .number) Done ≡ false → wrote-answer .value ≡ []
     unfolding write-answer
-    only-written = listed-only (bad-range (length (p .buckets)) t || eqb id 0) m (write-runs (p .buckets) t)
+    refused-none = settle-kept (first-of ((bad-range (length (p .buckets)) t || eqb id 0, BadRun) ∷ (ltb m (length (write-runs (p .buckets) t)), NoRoom) ∷ [])) [] (write-runs (p .buckets) t)
+
+    -- what the call gives in a row that is there, done or not; and in any
+    abbrev settled : Bool → Answer (calls.Given (List Span))
+    settled b = cond b (answer Done (calls.given (wrote-answer .value) (with-painter 32 k false i q))) (answer (wrote-answer .number) (calls.given [] k))
+
+    abbrev written-on : Bool → Answer (calls.Given (List Span))
+    written-on missing = let a = calls.of-row missing [] wrote-answer in settle (a .number) (calls.given [] k) (calls.given (a .value) (with-painter 32 k false i q))
 
     -- no painter's steps and nesting change
-    pub same-standing : painting-of (write-call 32 id i m t k .canvas .painters) ≡ painting-of (k .painters)
+    pub same-standing : painting-of (write-call 32 id i m t k .value .canvas .painters) ≡ painting-of (k .painters)
     unfolding write-call
     same-standing = go (leb (length (s .rows)) i) refl
       where
-        changed : leb (length (s .rows)) i ≡ false → (b : Bool) → painting-of (cond b (with-painter 32 k false i q) k .painters) ≡ painting-of (k .painters)
+        changed : leb (length (s .rows)) i ≡ false → (b : Bool) → painting-of (settled b .value .canvas .painters) ≡ painting-of (k .painters)
         changed e false = refl
         changed e true =
             sym (put-join standing-in 2 (all-standing (k .painters)) i q (there e))
             ∙ put-join standing-in 2 (all-standing (k .painters)) i p (there e)
             ∙ ap painting-of (set-same (k .painters) i (begin 0) (there e))
 
-        go : (b : Bool) → leb (length (s .rows)) i ≡ b → painting-of (calls.of-row b [] wrote-answer k (with-painter 32 k false i q) .canvas .painters) ≡ painting-of (k .painters)
+        go : (b : Bool) → leb (length (s .rows)) i ≡ b → painting-of (written-on b .value .canvas .painters) ≡ painting-of (k .painters)
         go true e = refl
         go false e = changed e (eqb (wrote-answer .number) Done)
 
-    pub same-screen : write-call 32 id i m t k .canvas .screen ≡ s
+    pub same-screen : write-call 32 id i m t k .value .canvas .screen ≡ s
     unfolding write-call
-    same-screen = go (eqb (cond (leb (length (s .rows)) i) BadRun (wrote-answer .number)) Done)
+    same-screen = go (leb (length (s .rows)) i)
       where
-        go : (b : Bool) → cond b (with-painter 32 k false i q) k .screen ≡ s
-        go true = refl
-        go false = refl
+        there-same : (b : Bool) → settled b .value .canvas .screen ≡ s
+        there-same true = refl
+        there-same false = refl
 
-    pub write-whole : WholeCanvas (write-call 32 id i m t k .canvas)
+        go : (b : Bool) → written-on b .value .canvas .screen ≡ s
+        go true = refl
+        go false = there-same (eqb (wrote-answer .number) Done)
+
+    pub write-whole : WholeCanvas (write-call 32 id i m t k .value .canvas)
     unfolding write-call
     write-whole = go (leb (length (s .rows)) i) refl
       where
-        changed : leb (length (s .rows)) i ≡ false → (b : Bool) → WholeCanvas (cond b (with-painter 32 k false i q) k)
+        changed : leb (length (s .rows)) i ≡ false → (b : Bool) → WholeCanvas (settled b .value .canvas)
         changed e false = w
         changed e true =
             record {
@@ -193,7 +193,7 @@ module _ (k : calls.Canvas) (w : WholeCanvas k) (i : ℕ) where
               going = λ z. never (sym z);
             }
 
-        go : (b : Bool) → leb (length (s .rows)) i ≡ b → WholeCanvas (calls.of-row b [] wrote-answer k (with-painter 32 k false i q) .canvas)
+        go : (b : Bool) → leb (length (s .rows)) i ≡ b → WholeCanvas (written-on b .value .canvas)
         go true e = w
         go false e = changed e (eqb (wrote-answer .number) Done)
 
@@ -204,20 +204,15 @@ module _ (k : calls.Canvas) (w : WholeCanvas k) (i : ℕ) where
     abbrev a : Answer (List Span)
     a = write-answer (p .buckets) id t m
 
-    abbrev after : calls.Canvas
-    after = with-painter 32 k false i (q id t m)
-
     place : leb (length (s .rows)) i ≡ false → (b : Bool) → eqb (a .number) Done ≡ b
         → _≡_ {A = Wrote} (record { listed = listing a l; screen = cond b (begun false here) here; depth = with-part n i depth (write-after (p .buckets) id t m) })
-        (record {
-          listed = listing (answer (a .number) (cond b (a .value) [])) l;
-          screen = screen-of (cond b after k .screen .state) (cond b after k .begun);
-          depth = depth-of (cond b after k .painters);
-        })
-    place e true u = rw (put-join buckets-in n (w .wide) i (q id t m) (there e))
+        (wrote-of (settled id t m b) l)
+    place e true u =
+        let y : listing a l ≡ listing (answer Done (a .value)) l = ap (λ (j : ℕ). listing (answer j (a .value)) l) (eqb-true (a .number) Done u) in
+        rw (put-join buckets-in n (w .wide) i (q id t m) (there e), y)
     place e false u =
         let z : with-part n i depth (p .buckets) ≡ depth = put-join buckets-in n (w .wide) i p (there e) ∙ ap depth-of (set-same (k .painters) i (begin 0) (there e)) in
-        let y : listing (answer (a .number) []) l ≡ listing a l = ap (λ (x : Answer (List Span)). listing x l) (rw u at (only-written id t m)) in
+        let y : listing a l ≡ listing (answer (a .number) []) l = ap (λ (rs : List Span). listing (answer (a .number) rs) l) (refused-none id t m u) in
         rw (kept id t m u, z, y)
 
     pub write-by : write-of here i depth id t l ≡ wrote-of (write-call 32 id i (length l / 2) t k) l
@@ -226,7 +221,7 @@ module _ (k : calls.Canvas) (w : WholeCanvas k) (i : ℕ) where
       where
         go : (b : Bool) → leb (length (s .rows)) i ≡ b
             → cond (eqb (cond b BadRun Done) Done) (write-in-place here i depth (writing (part n i depth) id t l)) (record { listed = listing (answer (cond b BadRun Done) []) l; screen = here; depth = depth })
-            ≡ wrote-of (calls.of-row b [] a k after) l
+            ≡ wrote-of (written-on id t m b) l
         go true e = refl
         go false e = rw (own-depth e) (place e (eqb (a .number) Done) refl)
 
@@ -237,35 +232,31 @@ module _ (k : calls.Canvas) (w : WholeCanvas k) (i : ℕ) where
   unfolding encode
   own-state h = ap (λ (x : Words). x .state) (own-words s i h)
 
-  pub skip-by : (t : Span) (id : ℕ) → skip-of-row here i (rows-of s .state) t id ≡ answer (can-skip-call 32 i t id k .number) (can-skip-call 32 i t id k .value)
+  pub skip-by : (t : Span) (id : ℕ) → skip-of-row here i (rows-of s .state) t id ≡ can-skip-call 32 i t id k
   unfolding skip-of-row can-skip-call can-skip-answer
   skip-by t id = rw skip-judged (go (leb (length (s .rows)) i) refl)
     where
-      only : (b : Bool) (x : Bool) → cond b (answer BadRun false) (answer Done x) ≡ or-nothing false (cond b (answer BadRun false) (answer Done x))
-      only true x = refl
-      only false x = refl
-
       go : (b : Bool) → leb (length (s .rows)) i ≡ b
           → cond (eqb (cond b BadRun Done) Done) (record-skip (part 54 i (rows-of s .state)) t id) (answer (cond b BadRun Done) false)
-          ≡ answer (calls.of-row b false (can-skip-answer (r .depth) t id) k k .number) (calls.of-row b false (can-skip-answer (r .depth) t id) k k .value)
+          ≡ calls.of-row b false (can-skip-answer (r .depth) t id)
       go true e = refl
       go false e =
           let h : i < length (s .rows) = leb-false _ _ e in
           let g : good-summary (part 54 i (rows-of s .state)) ≡ true = row-stands s i h (w .sound) (w .fair) .summary in
           let f : good-summary (state-of r) ≡ true = rw (own-state h) at g in
-          rw (own-state h, f, skip-same (s .state .attrs) n r (fine-at (w .sound .built .fine) i) (w .fair i) t id) (only (bad-range 8192 t) (can-skip (r .depth) t id))
+          rw (own-state h, f, skip-same (s .state .attrs) n r (fine-at (w .sound .built .fine) i) (w .fair i) t id)
 
   -- While painting goes on, no depth word hides a tile of a span for which `can_skip` says yes.
   pub skip-clear : k .begun ≡ true → (t : Span) (id : ℕ) → can-skip-call 32 i t id k .value ≡ true → (x : ℕ) → t .first ≤ x → x < t .end → getD (part n i depth) (x / 32) 0 ≤ id
   unfolding can-skip-call can-skip-answer
   skip-clear b t id y x lo hi = go (leb (length (s .rows)) i) refl y
     where
-      tested : i < length (s .rows) → (c : Bool) → or-nothing false (cond c (answer BadRun false) (answer Done (can-skip (r .depth) t id))) .value ≡ true → getD (p .buckets) (x / 32) 0 ≤ id
+      tested : i < length (s .rows) → (c : Bool) → cond c (answer BadRun false) (answer Done (can-skip (r .depth) t id)) .value ≡ true → getD (p .buckets) (x / 32) 0 ≤ id
       tested h true q = never (sym q)
       tested h false q =
           passes (summary-at (state-of r)) (p .buckets) (w .going b i h .sound) id t
           (skip-same (s .state .attrs) n r (fine-at (w .sound .built .fine) i) (w .fair i) t id ∙ q) (x / 32) (omega arith) (omega arith) (omega arith)
 
-      go : (c : Bool) → leb (length (s .rows)) i ≡ c → calls.of-row c false (can-skip-answer (r .depth) t id) k k .value ≡ true → getD (part n i depth) (x / 32) 0 ≤ id
+      go : (c : Bool) → leb (length (s .rows)) i ≡ c → calls.of-row c false (can-skip-answer (r .depth) t id) .value ≡ true → getD (part n i depth) (x / 32) 0 ≤ id
       go true e q = never (sym q)
       go false e q = rw (own-depth e) (tested (leb-false _ _ e) (bad-range 8192 t) q)

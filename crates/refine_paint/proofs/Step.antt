@@ -10,7 +10,7 @@ use lib.ListN.{length, getD, set}
 use lib.Seq.{take-at, drop-at}
 use borrow.Author.Tests.{ne-eqb, eq-eqb, lt-leb, leb-false, ltb-false}
 use Rattle.rules.specs.Lists.{join, is-empty}
-use Rattle.rules.specs.Answers.{Done, BadRun, Open, NoRoom}
+use Rattle.rules.specs.Answers.{settle, Done, BadRun, Open, NoRoom}
 use Rattle.rules.specs.Boxes.{buckets-of}
 use Rattle.rules.specs.Boxes as boxes
 use Rattle.screen.specs.Attributes.{paint-attr-words}
@@ -18,10 +18,9 @@ use Rattle.rules.specs.Rows.{Row, fresh-row}
 use Rattle.rules.specs.Steps as rule
 use Rattle.rules.specs.Painting.{Painter, Painted, begin, paint-step}
 use Rattle.rules.specs.Plans.{Layer}
-use Rattle.rules_picture.proofs.Cases.{and-right}
 use Rattle.rules.specs.Calls as calls
-use Rattle.rules.specs.Calls.{paint-call, give, with-painter}
-use Rattle.rules.proofs.All.{All, nil, cons, neither, all-at}
+use Rattle.rules.specs.Calls.{paint-call, given, with-painter}
+use Rattle.rules.proofs.All.{All, nil, cons, neither, all-at, and-right}
 use Rattle.row.specs.Words.{Words}
 use Rattle.row_screen.specs.Arena.{sizes, Long}
 use Rattle.row_screen.proofs.Laws.{part-0, part-suc, put-0, put-suc}
@@ -170,7 +169,11 @@ module _ (k : calls.Canvas) (w : WholeCanvas k) (i : ℕ) (l : List ℕ) where
 
         go : (u : Bool)
             → in-place (screen-of (s .state) true) i (words-of k l) (cond u (out (refused NoRoom) (p .buckets) (standing-in p) l) (left o l))
-            ≡ given-out (give (cond u NoRoom Done) (record { finished = false; pieces = []; painter = p }) o (record { screen = s; begun = true; painters = k .painters }) (with-painter 32 k true i (o .painter))) l
+            ≡ given-out
+            (settle (cond u NoRoom Done)
+            (given (record { finished = false; pieces = []; painter = p }) (record { screen = s; begun = true; painters = k .painters }))
+            (given o (with-painter 32 k true i (o .painter))))
+            l
         go true = rw (kept buckets-in n (w .wide), kept standing-in 2 (all-standing (k .painters)))
         go false = rw (put-join buckets-in n (w .wide) i (o .painter) there, put-join standing-in 2 (all-standing (k .painters)) i (o .painter) there)
 

@@ -12,9 +12,8 @@ use Rattle.rules.specs.Answers.{settle, first-of, Done, BadRun, Open, NoRoom}
 use Rattle.rules.specs.Boxes.{buckets-of}
 use Rattle.rules.specs.Rows.{fresh-row}
 use Rattle.rules.specs.Painting.{Painter, Painted, begin, paint-step}
-use Rattle.rules.specs.Calls.{Canvas, paints-on, begin-call, paint-call, blank, with-painter}
-use Rattle.rules_picture.proofs.Cases.{and-right}
-use Rattle.rules.proofs.All.{All, nil, cons, all-replicate}
+use Rattle.rules.specs.Calls.{Canvas, paints-on, given, begin-call, paint-call, blank, with-painter}
+use Rattle.rules.proofs.All.{All, nil, cons, all-replicate, and-right}
 use Rattle.refine_paint.specs.Painters.{Going}
 use Rattle.refine_paint.specs.Canvases.{WholeCanvas}
 use Rattle.refine_paint.proofs.Kept.{fine-at}
@@ -74,12 +73,16 @@ module _ (k : Canvas) (w : WholeCanvas k) where
         go g j l true e = rw (eqb-true j i e, getD-set-same (k .painters) i (o .painter) (begin 0) there) g
         go g j l false e = rw (getD-set-other (k .painters) i j (o .painter) (begin 0) (eqb-false j i e)) (w .going b j l)
 
-    pub paint-whole : (m : ℕ) → WholeCanvas (paint-call 32 i m k .canvas)
+    pub paint-whole : (m : ℕ) → WholeCanvas (paint-call 32 i m k .value .canvas)
     unfolding paint-call
     paint-whole m = go (leb (length (k .screen .rows)) i) (paints-on k) (ltb m (length (o .pieces))) refl refl
       where
         go : (t b u : Bool) → leb (length (k .screen .rows)) i ≡ t → paints-on k ≡ b
-            → WholeCanvas (cond (eqb (first-of ((t, BadRun) ∷ (not b, Open) ∷ (u, NoRoom) ∷ [])) Done) (with-painter 32 k (k .begun) i (o .painter)) k)
+            → WholeCanvas
+            (settle (first-of ((t, BadRun) ∷ (not b, Open) ∷ (u, NoRoom) ∷ []))
+            (given (record { finished = false; pieces = []; painter = getD (k .painters) i (begin 0) }) k)
+            (given o (with-painter 32 k (k .begun) i (o .painter)))
+            .value .canvas)
         go true b u e f = w
         go false false u e f = w
         go false true true e f = w

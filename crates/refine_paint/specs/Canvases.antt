@@ -6,7 +6,7 @@ use mathlib.Core.List.{List, [], _∷_}
 use lib.ListN.{length, getD}
 use Rattle.sizes.specs.Sizes.{bucket-tiles, paint-attr-table, layer-attr-table}
 use Rattle.rules.specs.Lists.{join, is-empty}
-use Rattle.rules.specs.Answers.{answer}
+use Rattle.rules.specs.Answers.{Answer, answer}
 use Rattle.rules.specs.Boxes.{buckets-of}
 use Rattle.rules.specs.Spans.{Span}
 use Rattle.rules.specs.Rows.{Row, fresh-row}
@@ -17,7 +17,6 @@ use Rattle.rules.specs.Calls as rule
 use Rattle.rules.proofs.All.{All}
 use Rattle.refine_steps.specs.Sound.{Sound}
 use Rattle.refine_steps.specs.Lent.{screen-of, table, attr-words, rows-of}
-use Rattle.depth.specs.Listing as depth
 use Rattle.depth.specs.Listing.{listing}
 use Rattle.paint_command.specs.Pieces.{laid}
 use Rattle.paint_command.specs.Painting.{RowLent, lent, StepOut, out}
@@ -55,21 +54,17 @@ pub record WholeCanvas (k : rule.Canvas) : Type 0 where
       → Going (buckets-of bucket-tiles (k .screen .state .frame .viewport)) (getD (k .screen .rows) i fresh-row) (getD (k .painters) i (begin 0))
 
 -- what a painting step of the rules gives, as words: the answer, the depth and painting words, the list
-abbrev pub given-out : rule.Given Painted → List ℕ → StepOut
+abbrev pub given-out : Answer (rule.Given Painted) → List ℕ → StepOut
 given-out g l =
-    out (record { number = g .number; finished = g .value .finished; pieces = length (g .value .pieces) })
-    (depth-of (g .canvas .painters))
-    (painting-of (g .canvas .painters))
-    (laid (g .value .pieces) l)
+    let o = g .value .result in
+    let k = g .value .canvas in
+    out (record { number = g .number; finished = o .finished; pieces = length (o .pieces) }) (depth-of (k .painters)) (painting-of (k .painters)) (laid (o .pieces) l)
 
--- what runs of the rules give, as words: the answer and the list
-abbrev pub listed-of : rule.Given (List Span) → List ℕ → depth.RunsOut
-listed-of g l = listing (answer (g .number) (g .value)) l
-
--- .. and where they write, the screen and the depth words
-abbrev pub wrote-of : rule.Given (List Span) → List ℕ → Wrote
+-- what a writing run of the rules gives, as words: the answer and the list, the screen and the depth words
+abbrev pub wrote-of : Answer (rule.Given (List Span)) → List ℕ → Wrote
 wrote-of g l =
-    record { listed = listed-of g l; screen = screen-of (g .canvas .screen .state) (g .canvas .begun); depth = depth-of (g .canvas .painters) }
+    let k = g .value .canvas in
+    record { listed = listing (answer (g .number) (g .value .result)) l; screen = screen-of (k .screen .state) (k .begun); depth = depth-of (k .painters) }
 
 -- the attribute tables, and the words of the rows, of their painting, and of a list
 abbrev pub attributes-of : Screen Row → Attributes

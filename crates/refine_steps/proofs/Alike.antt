@@ -1,20 +1,19 @@
 -- A plan made from the screen's numbers does what the rules' plan does. Assumes nothing.
 use mathlib.Core.Path.{_≡_, refl, sym, ap, _∙_}
-use mathlib.Core.Bool.{Bool, true, false, cond}
+use mathlib.Core.Bool.{Bool, true, false}
 use mathlib.Core.List.{List, [], _∷_, _++_, map}
 use Prim.Native.Nat.{ℕ}
-use lib.Dec.{eqb}
 use lib.ListN.{length, drop, replicate, length-append, length-replicate}
 use lib.Seq.{drop-at}
-use borrow.Author.Tests.{eqb-true}
 use Rattle.rules.specs.Lists.{is-empty}
-use Rattle.rules.specs.Answers.{Answer, answer, settle, Done}
+use Rattle.rules.specs.Answers.{Answer, Done}
 use Rattle.rules.specs.Boxes.{Box}
 use Rattle.rules.specs.Rows.{Row, row-ops}
 use Rattle.rules.specs.Plans.{Layer, State, Plan, clip-box, box-of}
 use Rattle.rules.specs.Steps as rule
 use Rattle.rules.specs.Steps.{done, refusal, perform}
-use Rattle.rules.proofs.All.{All, never}
+use Rattle.rules.proofs.All.{All}
+use Rattle.rules.proofs.laws.Answers.{settle-number, settle-done}
 use Rattle.rules.proofs.laws.Bounds.{BoundedSpan}
 use Rattle.rules.proofs.laws.Maps.{PutOk, screen-by, answer-by, follows-perform}
 use Rattle.row.specs.Words.{Words, word-ops}
@@ -71,25 +70,6 @@ module _ (s : State) (b : Bool) where
   pub empty-same : is-empty (state-of (screen-of s b) .layers) ≡ is-empty (s .layers)
   unfolding state-of
   empty-same = empty-as _ (s .layers)
-
--- an answer's number and value
-module _ {S : Type 0} (n : ℕ) (s t : S) where
-  pub settle-number : settle n s t .number ≡ n
-  settle-number = go (eqb n Done) refl
-    where
-      go : (c : Bool) → eqb n Done ≡ c → cond c (answer Done t) (answer n s) .number ≡ n
-      go true e = sym (eqb-true n Done e)
-      go false e = refl
-
-  pub settle-done : n ≡ Done → settle n s t .value ≡ t
-  settle-done e = rw e
-
-  pub settle-kept : eqb (settle n s t .number) Done ≡ false → settle n s t .value ≡ s
-  settle-kept = go (eqb n Done)
-    where
-      go : (c : Bool) → eqb (cond c (answer Done t) (answer n s) .number) Done ≡ false → cond c (answer Done t) (answer n s) .value ≡ s
-      go true e = never e
-      go false e = refl
 
 -- x: a state with the screen's frame
 module _ (s : rule.Screen Row) (h : Sound s) (x : State) (f : x .frame ≡ s .state .frame) (p q : Plan) (a : Alike (s .state) p q) (o : q .refused ≡ Done → All (PutOk BoundedSpan) (q .puts)) where

@@ -33,7 +33,7 @@ use Rattle.refine_steps.proofs.Acts.{PutFine, puts-sane}
 
 -- what is left of a good segment is in order
 pub record CutFine (k : Cut) : Type 0 where
-  pub tiles : Ordered (k .tiles)
+  pub tiles : Ordered (k .stretch .tiles)
 
 data Left : Option Stretch → Type 0 where
   nothing : Left none
@@ -90,7 +90,7 @@ draw-fine false i id r (some a) g h = record { act = paints h; id = omega arith 
 draws-fine : (e : Bool) (i id : ℕ) → id ≤ 1048576 → {ks : List Cut} → All CutFine ks → All PutFine (draw-puts e i id ks)
 unfolding draw-puts
 draws-fine e i id g nil = nil
-draws-fine e i id g (cons {x = k} h hs) = cons (draw-fine e i id (k .row) (k .alpha) g (h .tiles)) (draws-fine e i id g hs)
+draws-fine e i id g (cons {x = k} h hs) = cons (draw-fine e i id (k .row) (k .stretch .alpha) g (h .tiles)) (draws-fine e i id g hs)
 
 closes-fine : (i : ℕ) (ts : List ℕ) {ks : List Cut} → All CutFine ks → All PutFine (close-puts i ts ks)
 unfolding close-puts

@@ -18,14 +18,13 @@ use Rattle.rules.specs.Recording.{Recording, shape, sections, recording, box-at
 use Rattle.rules.specs.Walk.{Place, Arenas, needed, good-arenas, frame-of, judge-records, walk-all, play-records, play}
 use Rattle.rules.specs.Lines as rules
 use Rattle.rules.specs.Lines.{refused, answer-lines, rowlist-place, rowlist-screen, rowlist-words, words-of, rowlist, line-bytes}
-use Rattle.rules.proofs.All.{never}
+use Rattle.rules.proofs.All.{never, and-left, and-right}
 use Rattle.row.specs.Words.{words}
 use Rattle.screen.specs.Screens.{frame, rect-of}
 use Rattle.screen.specs.declared.Screen as declared
 use Rattle.screen.specs.Judging.{good-tables, good-fixed, arenas, judged-reset}
 use Rattle.screen.specs.Tables.{Tables, lengths, ScreenLent, lent}
 use Rattle.screen.proofs.Laws.{few-buckets}
-use Rattle.screen.proofs.Numbers.{and-left, and-right}
 use Rattle.refine_steps.specs.Sound.{Fitting}
 use Rattle.refine_steps.proofs.Refined.{Refines}
 use Rattle.refine_steps.proofs.Reset.{fresh-sound}

@@ -11,6 +11,7 @@ use sizes::LEVEL;
 use sizes::LEVEL_BASE;
 use sizes::LEVELS;
 use sizes::RENDERS;
+use sizes::wide;
 use span::Alpha;
 use span::TileSpan;
 use span::larger;
@@ -26,12 +27,6 @@ ghost use Rattle.span.specs.Spans.{tiles, buckets};
 ghost use Rattle.span.specs.Spans as spans;
 ghost use Rattle.row.specs.Cmds.{Short};
 ghost use Rattle.row.specs.Words.{words, put4, hull-word, include-span, put-command, put-buf, end-buf, put-depth, Room, Ends};
-
-pub fn wide(x: u32) -> usize
-    ensures { λ r. ⌜ r ≡ x ⌝ }
-{
-    x as usize
-}
 
 // The span word of a union that grows; the tag 6 says that there is one already.
 fn hull_word(tag: u32, span: u32, first: u32, end: u32) -> u32

@@ -19,12 +19,11 @@ use Rattle.rules.proofs.All.{All, nil, cons, head, tail, all-if, all-keep}
 use Rattle.span.specs.Spans.{tiles, buckets as bucket-span}
 use Rattle.span.specs.declared.TileSpan.{TileSpan}
 use Rattle.span.specs.declared.BucketRange.{BucketRange}
-use Rattle.cmd.specs.declared.Answer as Answers
 use Rattle.depth.specs.declared.split.Edge.{Edge}
 use Rattle.depth.specs.declared.split.Edge.the-variants.{Absent, Tiles}
 use Rattle.depth.specs.declared.split.Split.{Split}
 use Rattle.depth.specs.declared.split.Split.the-variants.{Refused, Whole, Opaque}
-use Rattle.depth.specs.Answers.{refusal, beside, split-of}
+use Rattle.depth.specs.Answers.{beside, split-of}
 use Rattle.row.specs.Cmds.{Short}
 use Rattle.row.specs.Words.{Words, word, put-command, put-buf, end-buf, put-depth, word-ops, Room, Grown}
 use Rattle.row.proofs.Laws.{cmd-grown, cmd-levels, buf-grown, buf-levels, fill-grown, fill-levels, end-grown, end-levels, grown-refl, grown-trans, room-first, room-rest}
@@ -164,26 +163,26 @@ split-some s =
     some-parts (leb b a) (ltb (s .first) a) (ltb b (s .end)) (regular s) (regular (span (s .first) a)) (buckets (span (a / 32) (b / 32))) (regular (span b (s .end)))
 
 -- a span that is refused starts after its end
-backwards : (s : Span) → s .end ≤ 8192 → (n : ℕ) (b c : Bool) → leb (s .first) (s .end) ≡ b → leb (s .end) 8192 ≡ c
-    → answer n [] ≡ cond (not (b && c)) (answer 12 []) (answer 0 (split 32 s)) → s .end ≤ s .first
-backwards s h n false c p q e = omega (arith, leb-false (s .first) (s .end) p)
-backwards s h n true false p q e = absurd (omega (arith, leb-false (s .end) 8192 q))
-backwards s h n true true p q e =
+backwards : (s : Span) → s .end ≤ 8192 → (b c : Bool) → leb (s .first) (s .end) ≡ b → leb (s .end) 8192 ≡ c
+    → answer 12 [] ≡ cond (not (b && c)) (answer 12 []) (answer 0 (split 32 s)) → s .end ≤ s .first
+backwards s h false c p q e = omega (arith, leb-false (s .first) (s .end) p)
+backwards s h true false p q e = absurd (omega (arith, leb-false (s .end) 8192 q))
+backwards s h true true p q e =
     let z : _≡_ {A = ℕ} 0 (length (split 32 s)) = ap (λ (x : Answer (List Part)). length (x .value)) e in
     absurd (omega (arith, split-some s))
 
-refused-back : (s : Span) → s .end ≤ 8192 → (n : ℕ) → answer n [] ≡ split-answer 32 s → s .end ≤ s .first
+refused-back : (s : Span) → s .end ≤ 8192 → answer 12 [] ≡ split-answer 32 s → s .end ≤ s .first
 unfolding split-answer
-refused-back s h n e = backwards s h n _ _ refl refl e
+refused-back s h e = backwards s h _ _ refl refl e
 
 -- by what the code finds of a span's split: its parts are short, they come to the whole, and each has room
 module _ (i id : ℕ) (s : Span) (h : Short s) (w : Words) (o : Room w (parted i id s w)) {r : Split} (e : split-of r ≡ split-answer 32 s) where
-  pub refused-is : (n : Answers.Answer) → r ≡ Refused n → parted i id s w ≡ put-command (paint-fill s none i) w
+  pub refused-is : r ≡ Refused → parted i id s w ≡ put-command (paint-fill s none i) w
   unfolding split
-  refused-is n t = rw (le-leb (lowered 32 (s .end)) (raised 32 (s .first)) (omega (arith, refused-back s (h .1) (refusal n) (ap split-of (sym t) ∙ e))))
+  refused-is t = rw (le-leb (lowered 32 (s .end)) (raised 32 (s .first)) (omega (arith, refused-back s (h .1) (ap split-of (sym t) ∙ e))))
 
-  pub refused-asks : (n : Answers.Answer) → r ≡ Refused n → Short s × Room w (put-command (paint-fill s none i) w)
-  refused-asks n t = (h, rw (refused-is n t) at o)
+  pub refused-asks : r ≡ Refused → Short s × Room w (put-command (paint-fill s none i) w)
+  refused-asks t = (h, rw (refused-is t) at o)
 
   module _ (u : TileSpan) (t : r ≡ Whole u) where
     only : split 32 s ≡ regular (tiles u) ∷ []

@@ -58,7 +58,7 @@ fn push_opaque(
 {
     let split = split_opaque_span(span);
     match split {
-        Split::Refused(_) => {
+        Split::Refused => {
             push_paint(state, render, fills, span, Alpha::Solid, attrs_idx);
         }
         Split::Whole(whole) => {

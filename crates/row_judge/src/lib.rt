@@ -4,7 +4,6 @@ ghost use Prim.Native.Nat.{_≤_};
 ghost use lib.ListN.{length};
 ghost use Rattle.sizes.specs.Sizes.{most-layers, row-size};
 ghost use Rattle.row_judge.specs.Building.{good-union, good-row};
-use row::wide;
 use sizes::DEPTHS;
 use sizes::END;
 use sizes::FIRST;
@@ -15,6 +14,7 @@ use sizes::LEVEL_BASE;
 use sizes::LEVELS;
 use sizes::RENDERS;
 use sizes::TILE_END;
+use sizes::wide;
 
 // The tag and the span word of an open buffer's union.
 fn is_good_union(tag: u32, span: u32) -> bool

@@ -1,4 +1,4 @@
--- A fact of each element of a list. Assumes nothing.
+-- Tests joined by "and" and "or", and a fact of each element of a list. Assumes nothing.
 use mathlib.Core.Path.{_≡_, refl, sym, ap}
 use mathlib.Core.Bool.{Bool, true, false, _&&_, _||_, cond}
 use mathlib.Core.List.{List, [], _∷_, _++_, map}
@@ -19,9 +19,24 @@ pub both : (a b : Bool) → (a && b) ≡ true → (a ≡ true) × (b ≡ true)
 both true b p = (refl, p)
 both false b p = never (sym p)
 
+pub and-left : (a b : Bool) → (a && b) ≡ true → a ≡ true
+and-left a b p = both a b p .0
+
+pub and-right : (a b : Bool) → (a && b) ≡ true → b ≡ true
+and-right a b p = both a b p .1
+
+pub and-both : (a b : Bool) → a ≡ true → b ≡ true → (a && b) ≡ true
+and-both a b p q = rw (p, q)
+
 pub neither : (a b : Bool) → (a || b) ≡ false → (a ≡ false) × (b ≡ false)
 neither false b p = (refl, p)
 neither true b p = never p
+
+pub or-left : (a b : Bool) → (a || b) ≡ false → a ≡ false
+or-left a b p = neither a b p .0
+
+pub or-right : (a b : Bool) → (a || b) ≡ false → b ≡ false
+or-right a b p = neither a b p .1
 
 module _ {A : Type 0} {P : A → Type 0} where
   pub head : {x : A} {xs : List A} → All P (x ∷ xs) → P x

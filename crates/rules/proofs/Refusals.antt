@@ -20,7 +20,7 @@ use Rattle.rules.specs.Plans.{Frame, Layer, Step, a-fill, a-push, a-pop,
 use Rattle.rules.proofs.Words.{file}
 use Rattle.rules.specs.Painting.{begin}
 use Rattle.rules.specs.Walk.{needed}
-use Rattle.rules.specs.Calls.{Canvas, fresh-canvas, reset-call, step-call, record-call, begin-call, paint-call, unset-call, visible-call, write-call, can-skip-call}
+use Rattle.rules.specs.Calls.{Canvas, given, fresh-canvas, reset-call, step-call, record-call, begin-call, paint-call, unset-call, visible-call, write-call, can-skip-call}
 use Rattle.rules.proofs.Samples.{solid, alpha, opaque-paint, draw, blend, clip, full, filter, node, rec, minus}
 use Rattle.rules.proofs.Computing.{computing}
 
@@ -97,7 +97,7 @@ painting = begins (after (fills (solid 0 0 64 ∷ []) 1) start)
 
 -- bucket 0 holds id 9 after a direct writing run
 abbrev nine : Canvas
-nine = write-call 32 9 0 2 (span 0 1) start .canvas
+nine = write-call 32 9 0 2 (span 0 1) start .value .canvas
 
 -- a recording of one row and two buckets at C = D = 1, and its words
 abbrev recorded : List ℕ → Canvas → Answer Canvas
@@ -183,8 +183,7 @@ answers =
     ∷ paint-call 32 0 9 painting .number is Done
     ∷ paint-call 32 0 9 (record { screen = clip-open 0 0 .screen; begun = true; painters = painting .painters }) .number is Open
     ∷ paint-call 32 0 9 (after (fills [] 0) painting) .number is Open
-    ∷ paint-call 32 0 9 (write-call 32 1 0 9 (span 0 1) painting .canvas) .number is Open
-    ∷ paint-call 32 0 9 (unset-call 32 0 9 (span 0 1) painting .canvas) .number is Done
+    ∷ paint-call 32 0 9 (write-call 32 1 0 9 (span 0 1) painting .value .canvas) .number is Open
     -- .. a done recording and one refused for its records end painting, one refused for its form does not
     ∷ paint-call 32 0 9 (recorded a-file painting .value) .number is Open
     ∷ paint-call 32 0 9 (recorded (file (rec (box 0 0 256 4) [] [] [] [] 1 0)) painting .value) .number is Open
@@ -224,19 +223,18 @@ recorded-clears = refl
 
 -- What is refused gives nothing and leaves the canvas as it was.
 pub paint-refused :
-    paint-call 32 0 0 painting ≡
-    record { number = NoRoom; value = record { finished = false; pieces = []; painter = begin 2 }; canvas = painting }
+    paint-call 32 0 0 painting ≡ answer NoRoom (given (record { finished = false; pieces = []; painter = begin 2 }) painting)
 unfolding computing
 paint-refused = refl
 
-pub write-refused : write-call 32 1 0 0 (span 0 2) start ≡ record { number = NoRoom; value = []; canvas = start }
+pub write-refused : write-call 32 1 0 0 (span 0 2) start ≡ answer NoRoom (given [] start)
 unfolding computing
 write-refused = refl
 
-pub runs-refused : visible-call 32 9 0 0 (span 31 32) nine ≡ record { number = NoRoom; value = []; canvas = nine }
+pub runs-refused : visible-call 32 9 0 0 (span 31 32) nine ≡ answer NoRoom []
 unfolding computing
 runs-refused = refl
 
-pub skip-refused : can-skip-call 32 1 (span 0 1) 1 start ≡ record { number = BadRun; value = false; canvas = start }
+pub skip-refused : can-skip-call 32 1 (span 0 1) 1 start ≡ answer BadRun false
 unfolding computing
 skip-refused = refl

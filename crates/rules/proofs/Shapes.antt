@@ -3,7 +3,7 @@ use mathlib.Core.Path.{_≡_, refl}
 use mathlib.Core.List.{[], _∷_, map}
 use mathlib.Core.Option.{none, some}
 use Rattle.rules.specs.Boxes.{box, width, height, meet, to-local, whole, rows-of, buckets-of, rows-in, span-of, scene-tiles}
-use Rattle.rules.specs.Spans.{span, hull, meeting}
+use Rattle.rules.specs.Spans.{span, hull, meeting, solid-tiles}
 use Rattle.rules.specs.Split.{regular, buckets, split}
 use Rattle.rules.specs.Segments.{cuts}
 use Rattle.rules.specs.Depth.{unset-runs, visible-runs, write-runs, written, write-after}
@@ -65,10 +65,10 @@ meetings = refl
 pub cut-tiles :
     cuts (box 40 80 100 100) (box 4 8 16 20)
     (alpha 21 0 99 7 ∷ alpha 22 5 13 7 ∷ alpha 22 13 99 7 ∷ solid 23 12 13 ∷ solid 23 14 15 ∷ solid 24 5 11 ∷ solid 24 0 99 ∷ solid 25 0 99 ∷ []) ≡
-    record { row = 2; tiles = span 1 3; alpha = some 103 }
-    ∷ record { row = 2; tiles = span 3 4; alpha = some 7 }
-    ∷ record { row = 3; tiles = span 2 3; alpha = none }
-    ∷ record { row = 4; tiles = span 1 4; alpha = none }
+    record { row = 2; stretch = record { tiles = span 1 3; alpha = some 103 } }
+    ∷ record { row = 2; stretch = record { tiles = span 3 4; alpha = some 7 } }
+    ∷ record { row = 3; stretch = solid-tiles (span 2 3) }
+    ∷ record { row = 4; stretch = solid-tiles (span 1 4) }
     ∷ []
 unfolding computing
 cut-tiles = refl

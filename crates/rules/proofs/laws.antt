@@ -1,4 +1,5 @@
 -- Laws of the rules that other crates cite.
+pub mod Answers
 pub mod Changes
 pub mod Maps
 pub mod Bounds

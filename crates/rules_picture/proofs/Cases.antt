@@ -6,6 +6,7 @@ use mathlib.Core.Bool.{Bool, true, false, _&&_}
 use lib.Dec.{leb, ltb}
 use borrow.Author.Tests.{leb-true, ltb-true, le-leb, lt-ltb}
 use Rattle.rules.specs.Spans.{Span, covers}
+use Rattle.rules.proofs.All.{and-left, and-right, and-both}
 
 pub by : {C : Type 0} (b : Bool) → (b ≡ true → C) → (b ≡ false → C) → C
 by true y n = y refl
@@ -20,18 +21,6 @@ same-test false false f g = refl
 pub not-passed : (a : Bool) → (a ≡ true → ⊥) → a ≡ false
 not-passed true f = absurd (f refl)
 not-passed false f = refl
-
-pub and-both : (a b : Bool) → a ≡ true → b ≡ true → (a && b) ≡ true
-and-both a b p q = rw (p, q)
-
-pub and-left : (a b : Bool) → (a && b) ≡ true → a ≡ true
-and-left true b e = refl
-and-left false b e = e
-
-pub and-right : (a b : Bool) → (a && b) ≡ true → b ≡ true
-and-right true b e = e
-and-right false true e = refl
-and-right false false e = e
 
 pub and-missed : (a b : Bool) → a ≡ true → (a && b) ≡ false → b ≡ false
 and-missed a b p n = rw p at n

@@ -21,7 +21,8 @@ use Rattle.rules.specs.Painting.{paint-id}
 use Rattle.rules.specs.Plans.{Act, opaque, paint, draw-act}
 use Rattle.rules.specs.Steps.{ensure, put-part, do-act}
 use Rattle.rules.specs.Plain.{Told, whole-bucket, tell}
-use Rattle.rules_picture.proofs.Cases.{by, and-left, and-right, covers-yes}
+use Rattle.rules.proofs.All.{and-left, and-right}
+use Rattle.rules_picture.proofs.Cases.{by, covers-yes}
 use Rattle.rules_picture.proofs.Buckets.{from-bucket, from-bucket-before}
 use Rattle.rules_picture.proofs.Shown.{hides-of}
 use Rattle.rules_picture.proofs.Held.{stays}
@@ -84,13 +85,13 @@ module _ (w : ℕ) (attrs : Attrs) (t : ℕ) where
     cut-told l i n id e k = tell w v row t l i n id e (k ∷ [])
 
     pub told-cons : (l : Bool) (i n id : ℕ) (e : Bool) (k : Cut) (ks : List Cut) → tell w v row t l i n id e (k ∷ ks) ≡ cut-told l i n id e k ++ tell w v row t l i n id e ks
-    told-cons l i n id e k ks = by (covers (k .tiles) t) (λ y. rw y) (λ m. rw m)
+    told-cons l i n id e k ks = by (covers (k .stretch .tiles) t) (λ y. rw y) (λ m. rw m)
 
     -- one cut, drawn with n layers open
     pub cut-adds : 0 < w → (e : Bool) (i id n : ℕ) → paint-id attrs i ≡ id → 0 < id → (e ≡ true → n ≡ 0) → (j : ℕ) (x : Span) (a : Option ℕ) (r : Row) → Sound r → length (r .levels) ≤ n
         → Adds w attrs t
-        (such stays (cut-told false i n id e (record { row = j; tiles = x; alpha = a })))
-        (such hides-of (cut-told false i n id e (record { row = j; tiles = x; alpha = a })))
+        (such stays (cut-told false i n id e (record { row = j; stretch = record { tiles = x; alpha = a } })))
+        (such hides-of (cut-told false i n id e (record { row = j; stretch = record { tiles = x; alpha = a } })))
         n r (do-act Row row-ops w n (draw-act e i id x a) r)
     unfolding draw-act
     cut-adds pos true i id n q num z j x none r s h =

@@ -37,7 +37,7 @@ module _ (w : ℕ) where
   -- n such steps of row r
   unfoldable pub solo : ℕ → ℕ → Canvas → List Turn
   solo r zero k = []
-  solo r (suc n) k = next-turn k r ∷ solo r n (paint-call w r (next-turn k r .room) k .canvas)
+  solo r (suc n) k = next-turn k r ∷ solo r n (paint-call w r (next-turn k r .room) k .value .canvas)
 
   -- the rows before n, one after the other, each to its end
   unfoldable pub in-order : ℕ → Canvas → List Turn
@@ -55,14 +55,14 @@ module _ (w : ℕ) where
   solo-steps zero r k h b = refl
   solo-steps (suc n) r k h b =
       let m = length (next-step w k r .pieces) in
-      let c = paint-call w r m k .canvas in
+      let c = paint-call w r m k .value .canvas in
       let there : r < length (c .screen .rows) = rw (call-screen w r m k) h in
       rw (eq-eqb r r refl, eq-eqb (paint-call w r m k .number) Done (next-done k r h b)) (ap suc (solo-steps n r c there (call-paints w r m k ∙ b)))
 
   pub turns-append : (ts us : List Turn) (k : Canvas) → turns w (ts ++ us) k .canvas ≡ turns w us (turns w ts k .canvas) .canvas
   unfolding turns
   turns-append [] us k = refl
-  turns-append (t ∷ ts) us k = turns-append ts us (paint-call w (t .row) (t .room) k .canvas)
+  turns-append (t ∷ ts) us k = turns-append ts us (paint-call w (t .row) (t .room) k .value .canvas)
 
   order-finishes : (n : ℕ) (k : Canvas) → n ≤ length (k .screen .rows) → length (k .painters) ≡ length (k .screen .rows) → paints-on k ≡ true
       → (r : ℕ) → r < n → has-finished w (turns w (in-order n k) k .canvas) r ≡ true

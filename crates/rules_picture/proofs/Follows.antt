@@ -21,10 +21,10 @@ use Rattle.rules.specs.Painting.{paint-id, layer-id}
 use Rattle.rules.specs.Plans.{Layer, State, Act, Put, Plan, on, touch, eligible, box-of, draw-puts, with-paint, plan-fill, layer-box, touches-all, plan-push}
 use Rattle.rules.specs.Steps.{Screen, do-puts, done}
 use Rattle.rules.specs.Plain.{Told, OpenLayer, Story, touch-all, box-now, here, tell, tell-fill, tell-push, in-rows}
-use Rattle.rules.proofs.All.{never}
+use Rattle.rules.proofs.All.{never, and-left}
 use Rattle.rules.proofs.laws.Changes.{puts-length}
 use Rattle.rules.proofs.laws.Bounds.{judged-facts}
-use Rattle.rules_picture.proofs.Cases.{by, and-left}
+use Rattle.rules_picture.proofs.Cases.{by}
 use Rattle.rules_picture.proofs.Acts.{acts-at, do-acts, row-by-row}
 use Rattle.rules_picture.proofs.Acted.{adds-none}
 use Rattle.rules_picture.proofs.Shape.{touched-layers}

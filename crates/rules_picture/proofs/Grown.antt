@@ -41,7 +41,7 @@ module _ (w : ℕ) (attrs : Attrs) (t : ℕ) (v : Box) (row : ℕ) where
   -- rules 3, 4, 6, 7 and 11: the cuts ks drawn, with attribute i and the next id
   pub draw-grows : 0 < w → {ts : List Told} {id : ℕ} {ls : List OpenLayer} {r : Row} → Grown ts id ls r → 0 < id
       → (e : Bool) (i : ℕ) → paint-id attrs i ≡ id → (e ≡ true → length ls ≡ 0)
-      → (ks : List Cut) → Single (such (λ (k : Cut). covers (k .tiles) t) ks)
+      → (ks : List Cut) → Single (such (λ (k : Cut). covers (k .stretch .tiles) t) ks)
       → Grown (ts ++ tell w v row t false i (length ls) id e ks) (id + 1) (touch-all (not (is-empty ks)) ls) (do-acts Row row-ops w (length ls) (map (cut-act e i id) ks) r)
   draw-grows pos {ts} {id} {ls} {r} g num e i q z ks s =
       let a = draws-add w attrs t v row pos e i id (length ls) q num z ks r (g .holds .sound) (shape-most (g .shape)) in
@@ -68,22 +68,22 @@ module _ (w : ℕ) (attrs : Attrs) (t : ℕ) (v : Box) (row : ℕ) where
       }
 
   abbrev pub close-act : ℕ → Cut → Act
-  close-act i k = close (k .tiles) (k .alpha) i
+  close-act i k = close (k .stretch .tiles) (k .stretch .alpha) i
 
   closes-add : (n m i id : ℕ) → layer-id attrs i ≡ id → (ks : List Cut) (r : Row) → Sound r → length (r .levels) ≡ m
       → Adds w attrs t (such stays (tell w v row t true i m id false ks)) (such hides-of (tell w v row t true i m id false ks)) m r (do-acts Row row-ops w n (map (close-act i) ks) r)
   unfolding do-acts
   closes-add n m i id q [] r s h = rw h at (adds-none w attrs t r s)
   closes-add n m i id q (k ∷ ks) r s h =
-      let a = rw q at (act-close w attrs t n m (k .tiles) (k .alpha) i r s h) in
+      let a = rw q at (act-close w attrs t n m (k .stretch .tiles) (k .stretch .alpha) i r s h) in
       let b = closes-add n m i id q ks (do-act Row row-ops w n (close-act i k) r) (a .sound) (a .levels) in
       let c = adds-both w attrs t a b in
-      by (covers (k .tiles) t) (λ y. rw y (rw y at c)) (λ o. rw o (rw o at c))
+      by (covers (k .stretch .tiles) t) (λ y. rw y (rw y at c)) (λ o. rw o (rw o at c))
 
   -- rules 9 and 10: the innermost layer is closed by the cuts ks, in a row touched for it
   pub close-grows : {ts : List Told} {id : ℕ} {l : OpenLayer} {ls : List OpenLayer} {r : Row} → Grown ts id (l ∷ ls) r → 0 < id → l .touched ≡ true
       → (n i : ℕ) → layer-id attrs i ≡ id
-      → (ks : List Cut) → Single (such (λ (k : Cut). covers (k .tiles) t) ks)
+      → (ks : List Cut) → Single (such (λ (k : Cut). covers (k .stretch .tiles) t) ks)
       → Grown (ts ++ tell w v row t true i (suc (length ls)) id false ks) (id + 1) ls (do-acts Row row-ops w n (map (close-act i) ks ++ (pop ∷ [])) r)
   unfolding do-acts
   close-grows {ts} {id} {l} {ls} {r} g num y n i q ks s =

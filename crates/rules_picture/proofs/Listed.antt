@@ -26,7 +26,7 @@ use Rattle.rules_picture.proofs.Acted.{Sound, Adds, adds-none, adds-bot
 use Rattle.rules_picture.proofs.Drawn.{cut-told, told-cons, cut-adds}
 
 abbrev pub cut-act : Bool → ℕ → ℕ → Cut → Act
-cut-act e i id k = draw-act e i id (k .tiles) (k .alpha)
+cut-act e i id k = draw-act e i id (k .stretch .tiles) (k .stretch .alpha)
 
 abbrev pub in-row : ℕ → Cut → Bool
 in-row row k = eqb (k .row) row
@@ -74,7 +74,7 @@ module _ (w : ℕ) (attrs : Attrs) (t : ℕ) (v : Box) (row : ℕ) where
   unfolding do-acts
   draws-add pos e i id n q num z [] r s h = adds-none w attrs t r s
   draws-add pos e i id n q num z (k ∷ ks) r s h =
-      let a = cut-adds w attrs t v row pos e i id n q num z (k .row) (k .tiles) (k .alpha) r s h in
+      let a = cut-adds w attrs t v row pos e i id n q num z (k .row) (k .stretch .tiles) (k .stretch .alpha) r s h in
       let m : length (do-act Row row-ops w n (cut-act e i id k) r .levels) ≡ n = a .levels in
       let b = draws-add pos e i id n q num z ks (do-act Row row-ops w n (cut-act e i id k) r) (a .sound) (omega arith) in
       let c = adds-both w attrs t a b in

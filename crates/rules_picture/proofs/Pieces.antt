@@ -14,7 +14,8 @@ use Rattle.rules.specs.Commands.{DepthFill}
 use Rattle.rules.specs.Attributes.{Attrs}
 use Rattle.rules.specs.Depth.{runs-in, runs, buckets-met, tiles-of, is-visible, is-unset, visible-runs, write-runs}
 use Rattle.rules.specs.Painting.{Piece, Entry, entry-of, received, fill-piece, depth-piece}
-use Rattle.rules_picture.proofs.Cases.{by, same-test, and-both, and-left, and-right, and-missed, covers-yes, covers-low, covers-high, covers-no}
+use Rattle.rules.proofs.All.{and-both, and-left, and-right}
+use Rattle.rules_picture.proofs.Cases.{by, same-test, and-missed, covers-yes, covers-low, covers-high, covers-no}
 use Rattle.rules_picture.proofs.Buckets.{from-bucket, to-bucket, from-bucket-before, to-bucket-before, touched-first, touched-end}
 use Rattle.rules_picture.proofs.Runs.{hits, range-hit}
 

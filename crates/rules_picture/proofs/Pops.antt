@@ -69,7 +69,7 @@ module _ (w n : ℕ) where
       (λ m. rw m ih)
 
 -- the closing fills on a row: all of them in a touched row, and none in any other
-close-acts : (i row : ℕ) (js : List ℕ) (ks : List Cut) → acts-at row (close-puts i js ks) ≡ cond (some-of (eqb row) js) (map (λ (k : Cut). close (k .tiles) (k .alpha) i) (such (in-row row) ks)) []
+close-acts : (i row : ℕ) (js : List ℕ) (ks : List Cut) → acts-at row (close-puts i js ks) ≡ cond (some-of (eqb row) js) (map (λ (k : Cut). close (k .stretch .tiles) (k .stretch .alpha) i) (such (in-row row) ks)) []
 unfolding close-puts
 close-acts i row js [] = by (some-of (eqb row) js) (λ y. rw y) (λ n. rw n)
 close-acts i row js (k ∷ ks) = by (eqb (k .row) row)
@@ -93,7 +93,7 @@ module _ (w : ℕ) (attrs : Attrs) (t : ℕ) (v : Box) (row : ℕ) where
   closing-acts (some c) own ls i ss js r = close-acts i row js (cuts v (box-now v ls) (clip-segments (some c) ss))
 
   closers-single : (c : Option Clip) (own : Box) (ls : List OpenLayer) (ss : List Segment) → judge-segments (not (clip-fits c ss)) (clip-segments c ss) ≡ Done
-      → Single (such (λ (k : Cut). covers (k .tiles) t) (closers w v row t c own ls ss))
+      → Single (such (λ (k : Cut). covers (k .stretch .tiles) t) (closers w v row t c own ls ss))
   closers-single none own ls ss j = by (covers (span-of own) t) (λ y. rw y (one _)) (λ n. rw n nothing)
   closers-single (some c) own ls ss j =
       let (_, good, ord) = judged-facts (not (clip-fits (some c) ss)) (clip-segments (some c) ss) j in
@@ -106,7 +106,7 @@ module _ (w : ℕ) (attrs : Attrs) (t : ℕ) (v : Box) (row : ℕ) where
 
   -- the row after the acts of a pop, by whether it is touched
   pop-grows : {ts : List Told} {id : ℕ} (l : OpenLayer) (ls : List OpenLayer) {r : Row} → Grown w attrs t v row ts id (l ∷ ls) r → 0 < id
-      → (n i : ℕ) → layer-id attrs i ≡ id → (ks : List Cut) → Single (such (λ (k : Cut). covers (k .tiles) t) ks)
+      → (n i : ℕ) → layer-id attrs i ≡ id → (ks : List Cut) → Single (such (λ (k : Cut). covers (k .stretch .tiles) t) ks)
       → (b : Bool) → l .touched ≡ b
       → Grown w attrs t v row (ts ++ cond b (tell w v row t true i (suc (length ls)) id false ks) []) (id + 1) ls
       (do-acts Row row-ops w n (cond b (map (close-act w attrs t v row i) ks) [] ++ keep b pop []) r)

@@ -10,7 +10,7 @@ use lib.Dec.{eqb, leb}
 use Rattle.rules.specs.Lists.{such, keep, is-empty, some-of}
 use Rattle.rules.specs.Answers.{Done, BadRecord}
 use Rattle.rules.specs.Boxes.{Box, rows-in, span-of}
-use Rattle.rules.specs.Spans.{Span, covers}
+use Rattle.rules.specs.Spans.{Span, covers, solid-tiles}
 use Rattle.rules.specs.Segments.{Cut}
 use Rattle.rules.specs.Inputs.{Props, Filter, good-filter}
 use Rattle.rules.specs.Attributes.{Attrs}
@@ -62,16 +62,16 @@ module _ (w : ℕ) (attrs : Attrs) (t : ℕ) (v : Box) (row : ℕ) where
         grown = rw (f .view, f .opened, length-map) (rw same at g);
       }
 
-  cut-single : (b : Box) (c : Bool) → Single (such (λ (k : Cut). covers (k .tiles) t) (cond c (record { row = row; tiles = span-of b; alpha = none } ∷ []) []))
+  cut-single : (b : Box) (c : Bool) → Single (such (λ (k : Cut). covers (k .stretch .tiles) t) (cond c (record { row = row; stretch = solid-tiles (span-of b) } ∷ []) []))
   cut-single b true = by (covers (span-of b) t) (λ y. rw y (one _)) (λ n. rw n nothing)
   cut-single b false = nothing
 
-  cut-acts : (b : Box) (i id : ℕ) (c : Bool) → map (cut-act false i id) (cond c (record { row = row; tiles = span-of b; alpha = none } ∷ []) []) ≡ keep c (paint (span-of b) none i) []
+  cut-acts : (b : Box) (i id : ℕ) (c : Bool) → map (cut-act false i id) (cond c (record { row = row; stretch = solid-tiles (span-of b) } ∷ []) []) ≡ keep c (paint (span-of b) none i) []
   unfolding draw-act
   cut-acts b i id true = refl
   cut-acts b i id false = refl
 
-  cut-some : (b : Box) (c : Bool) → not (is-empty {A = Cut} (cond c (record { row = row; tiles = span-of b; alpha = none } ∷ []) [])) ≡ c
+  cut-some : (b : Box) (c : Bool) → not (is-empty {A = Cut} (cond c (record { row = row; stretch = solid-tiles (span-of b) } ∷ []) [])) ≡ c
   cut-some b true = refl
   cut-some b false = refl
 
@@ -84,14 +84,14 @@ module _ (w : ℕ) (attrs : Attrs) (t : ℕ) (v : Box) (row : ℕ) where
         paints = o .paints + 1;
         layers = o .layers;
         open-layers = touch-all (in-rows w v row t b) (o .open-layers);
-        told = o .told ++ tell w v row t false (o .paints) (length (o .open-layers)) (o .next) false (cond (in-rows w v row t b) (record { row = row; tiles = span-of b; alpha = none } ∷ []) []);
+        told = o .told ++ tell w v row t false (o .paints) (length (o .open-layers)) (o .next) false (cond (in-rows w v row t b) (record { row = row; stretch = solid-tiles (span-of b) } ∷ []) []);
       })
       (done Row row-ops w (plan-filter-in b n q (s .state)) s)
   unfolding done plan-filter-in filter-puts
   filter-in pos n q b o s f l =
       let st = s .state in
       let c = in-rows w v row t b in
-      let ks : List Cut = cond c (record { row = row; tiles = span-of b; alpha = none } ∷ []) [] in
+      let ks : List Cut = cond c (record { row = row; stretch = solid-tiles (span-of b) } ∷ []) [] in
       let id = ap (paint-id attrs) (sym (f .paints)) ∙ new-paint w attrs t v row (st .attrs .paints) _ (l .paints-more) (l .paints) ∙ f .next in
       let g = draw-grows w attrs t v row pos (f .grown) (f .first) false (o .paints) id (λ y. never (sym y)) ks (cut-single b c) in
       let puts = map (on (paint (span-of b) none (o .paints))) (rows-in b) in

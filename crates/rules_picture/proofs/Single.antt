@@ -11,11 +11,11 @@ use lib.Dec.{leb, ltb, eqb}
 use borrow.Author.Tests.{leb-true, ltb-true, eqb-true}
 use Rattle.rules.specs.Lists.{such, keep, join}
 use Rattle.rules.specs.Boxes.{Box, scene-tiles}
-use Rattle.rules.specs.Spans.{Span, span, covers, Stretch, common, when-some, meeting, cut-at, cut-when, cut-to}
+use Rattle.rules.specs.Spans.{Span, span, covers, Stretch, shifted, common, when-some, meeting, cut-at, cut-when, cut-to}
 use Rattle.rules.specs.Segments.{Segment, good-segment, follows, ordered-after, ordered, Cut, localised, on-row, stretch-of, cut-in, cuts}
-use Rattle.rules.proofs.All.{All, nil, cons, both, never, all-map}
+use Rattle.rules.proofs.All.{All, nil, cons, both, never, all-map, and-left, and-right}
 use Rattle.rules.proofs.laws.Bounds.{good-facts}
-use Rattle.rules_picture.proofs.Cases.{by, and-left, and-right, covers-low, covers-high}
+use Rattle.rules_picture.proofs.Cases.{by, covers-low, covers-high}
 use Rattle.rules_picture.proofs.Listed.{such-append}
 
 -- s ends before t in its row, or is in an earlier row
@@ -63,7 +63,7 @@ module _ (v c : Box) (row t : ℕ) where
 
   -- the cuts that cover the tile
   abbrev pub there : List Cut → List Cut
-  there ks = such (λ (k : Cut). covers (k .tiles) t) (such (λ (k : Cut). eqb (k .row) row) ks)
+  there ks = such (λ (k : Cut). covers (k .stretch .tiles) t) (such (λ (k : Cut). eqb (k .row) row) ks)
 
   data Here (s : Segment) : List Cut → Type 0 where
     missed : Here s []
@@ -71,12 +71,12 @@ module _ (v c : Box) (row t : ℕ) where
 
   -- what is left of the span, made local
   here-span : (s : Segment) (k : Cut) → s .row - v .y0 / 4 ≡ k .row → v .y0 / 4 ≤ s .row
-      → (k .tiles .first ≤ t → t < k .tiles .end → (s .first ≤ t + v .x0 / 4) × (t + v .x0 / 4 < s .end)) → Here s (there (k ∷ []))
+      → (k .stretch .tiles .first ≤ t → t < k .stretch .tiles .end → (s .first ≤ t + v .x0 / 4) × (t + v .x0 / 4 < s .end)) → Here s (there (k ∷ []))
   here-span s k e low f = by (eqb (k .row) row)
-      (λ y. by (covers (k .tiles) t)
+      (λ y. by (covers (k .stretch .tiles) t)
       (λ z.
       let q = eqb-true (k .row) row y in
-      let g = f (covers-low (k .tiles) t z) (covers-high (k .tiles) t z) in
+      let g = f (covers-low (k .stretch .tiles) t z) (covers-high (k .stretch .tiles) t z) in
       rw (y, z) (hit _ (record { in-row = omega arith; from = g .0; to = g .1 })))
       (λ z. rw (y, z) missed))
       (λ n. rw n missed)
@@ -93,7 +93,7 @@ module _ (v c : Box) (row t : ℕ) where
       (λ z.
       rw (y, z)
       (here-span s
-      (record { row = s .row - v .y0 / 4; tiles = span (m .first - v .x0 / 4) (m .end - v .x0 / 4); alpha = cut-at (stretch-of s) m .alpha })
+      (record { row = s .row - v .y0 / 4; stretch = shifted (v .x0 / 4) (cut-at (stretch-of s) m) })
       refl (omega arith) (λ p q. (omega arith, omega arith))))
       (λ n. rw (y, n) missed))
       (λ n. rw n missed)
@@ -107,8 +107,8 @@ module _ (v c : Box) (row t : ℕ) where
 
   there-join : (f : Segment → List Cut) (s : Segment) (ss : List Segment) → there (join f (s ∷ ss)) ≡ there (f s) ++ there (join f ss)
   there-join f s ss =
-      ap (such (λ (k : Cut). covers (k .tiles) t)) (such-append (λ (k : Cut). eqb (k .row) row) (f s) (join f ss))
-      ∙ such-append (λ (k : Cut). covers (k .tiles) t) (such (λ (k : Cut). eqb (k .row) row) (f s)) (such (λ (k : Cut). eqb (k .row) row) (join f ss))
+      ap (such (λ (k : Cut). covers (k .stretch .tiles) t)) (such-append (λ (k : Cut). eqb (k .row) row) (f s) (join f ss))
+      ∙ such-append (λ (k : Cut). covers (k .stretch .tiles) t) (such (λ (k : Cut). eqb (k .row) row) (f s)) (such (λ (k : Cut). eqb (k .row) row) (join f ss))
 
   none-later : (s : Segment) → At s → {ss : List Segment} → All (Before s) ss → there (join (cut-in v (scene-tiles v c)) ss) ≡ []
   none-later s a nil = refl

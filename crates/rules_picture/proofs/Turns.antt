@@ -3,24 +3,25 @@ use Prim.Native.Nat.{ℕ, zero, suc, _+_, _-_, _≤_, _<_}
 use native.Mathlib.Nat.{sub-zero}
 use native.Mathlib.Omega.{arith}
 use mathlib.Core.Path.{_≡_, refl, sym, _∙_, ap}
-use mathlib.Core.Bool.{Bool, true, false, _&&_, _||_, cond}
+use mathlib.Core.Bool.{Bool, true, false, _&&_, _||_, not, cond}
 use mathlib.Core.List.{List, [], _∷_, _++_}
 use lib.ListN.{length, getD, length-set, length-replicate, getD-replicate}
 use lib.Seq.{getD-set-same, getD-set-other}
 use lib.Dec.{ltb, eqb}
 use borrow.Author.Tests.{ltb-true, ltb-false, le-ltb, eqb-true, eqb-false}
 use Rattle.rules.specs.Lists.{is-empty}
-use Rattle.rules.specs.Answers.{Done, Open}
+use Rattle.rules.specs.Answers.{first-of, Done, BadRun, Open, NoRoom}
 use Rattle.rules.specs.Boxes.{buckets-of}
 use Rattle.rules.specs.Commands.{Command, paint-fill, layer-fill, push-buf, pop-buf}
 use Rattle.rules.specs.Attributes.{Attrs}
 use Rattle.rules.specs.Rows.{Row, fresh-row}
 use Rattle.rules.specs.Steps.{Screen}
 use Rattle.rules.specs.Painting.{Piece, Painter, Painted, begin, paint-depth, paint-fill-runs, paint-command, paint-when, paint-step, paint-steps, paint-row}
-use Rattle.rules.specs.Calls.{paints-on, Canvas, blank, begin-call, painter-of, with-painter, paint-call}
-use Rattle.rules.proofs.All.{never}
+use Rattle.rules.specs.Calls.{paints-on, Canvas, blank, begin-call, painter-of, no-row, with-painter, Given, given, paint-call}
+use Rattle.rules.proofs.All.{never, and-left, and-right}
+use Rattle.rules.proofs.laws.Answers.{settle-number, settle-done, settle-kept}
 use Rattle.rules_picture.specs.Turns.{Turn, Gave, Turned, gave, turns, from, steps-of, said-finished, next-step, has-finished}
-use Rattle.rules_picture.proofs.Cases.{by, and-left, and-right}
+use Rattle.rules_picture.proofs.Cases.{by}
 
 -- One row alone.
 module _ (w : ℕ) (attrs : Attrs) where
@@ -124,42 +125,56 @@ module _ (w : ℕ) (attrs : Attrs) where
 
 -- One call.
 module _ (w i n : ℕ) (k : Canvas) where
+  -- its number, what it gives refused, and what done
+  abbrev number-of : ℕ
+  number-of = first-of ((no-row w k i, BadRun) ∷ (not (paints-on k), Open) ∷ (ltb n (length (next-step w k i .pieces)), NoRoom) ∷ [])
+
+  abbrev kept : Given Painted
+  kept = given (record { finished = false; pieces = []; painter = painter-of w k i }) k
+
+  abbrev stepped : Given Painted
+  stepped = given (next-step w k i) (with-painter w k (k .begun) i (next-step w k i .painter))
+
   -- a refused call gives nothing and leaves the canvas as it was
   pub call-refused : eqb (paint-call w i n k .number) Done ≡ false
-      → (paint-call w i n k .canvas ≡ k) × (paint-call w i n k .value .pieces ≡ []) × (paint-call w i n k .value .finished ≡ false)
+      → (paint-call w i n k .value .canvas ≡ k) × (paint-call w i n k .value .result .pieces ≡ []) × (paint-call w i n k .value .result .finished ≡ false)
   unfolding paint-call
-  call-refused e = (rw e, rw e, rw e)
+  call-refused e =
+      let g = settle-kept number-of kept stepped e in
+      (ap (λ (x : Given Painted). x .canvas) g, ap (λ (x : Given Painted). x .result .pieces) g, ap (λ (x : Given Painted). x .result .finished) g)
 
   -- a done call gives the row's next step, and puts its painter in the place of row i's
   pub call-given : eqb (paint-call w i n k .number) Done ≡ true
-      → (paint-call w i n k .value ≡ next-step w k i) × (paint-call w i n k .canvas ≡ with-painter w k (k .begun) i (next-step w k i .painter))
+      → (paint-call w i n k .value .result ≡ next-step w k i) × (paint-call w i n k .value .canvas ≡ with-painter w k (k .begun) i (next-step w k i .painter))
   unfolding paint-call
-  call-given e = (rw e, rw e)
+  call-given e =
+      let g = settle-done number-of kept stepped (sym (settle-number number-of kept stepped) ∙ eqb-true _ Done e) in
+      (ap (λ (x : Given Painted). x .result) g, ap (λ (x : Given Painted). x .canvas) g)
 
   -- the screen stays, and so does what has begun
-  pub call-screen : paint-call w i n k .canvas .screen ≡ k .screen
+  pub call-screen : paint-call w i n k .value .canvas .screen ≡ k .screen
   call-screen = by (eqb (paint-call w i n k .number) Done)
       (λ y. ap (λ (c : Canvas). c .screen) (call-given y .1))
       (λ m. ap (λ (c : Canvas). c .screen) (call-refused m .0))
 
-  pub call-begun : paint-call w i n k .canvas .begun ≡ k .begun
+  pub call-begun : paint-call w i n k .value .canvas .begun ≡ k .begun
   call-begun = by (eqb (paint-call w i n k .number) Done)
       (λ y. ap (λ (c : Canvas). c .begun) (call-given y .1))
       (λ m. ap (λ (c : Canvas). c .begun) (call-refused m .0))
 
-  pub call-count : length (paint-call w i n k .canvas .painters) ≡ length (k .painters)
+  pub call-count : length (paint-call w i n k .value .canvas .painters) ≡ length (k .painters)
   call-count = by (eqb (paint-call w i n k .number) Done)
       (λ y. ap (λ (c : Canvas). length (c .painters)) (call-given y .1) ∙ length-set (k .painters) i (next-step w k i .painter))
       (λ m. ap (λ (c : Canvas). length (c .painters)) (call-refused m .0))
 
   -- the painter of any other row stays
-  pub call-other : (r : ℕ) → (i ≡ r → ⊥) → painter-of w (paint-call w i n k .canvas) r ≡ painter-of w k r
+  pub call-other : (r : ℕ) → (i ≡ r → ⊥) → painter-of w (paint-call w i n k .value .canvas) r ≡ painter-of w k r
   call-other r h = by (eqb (paint-call w i n k .number) Done)
       (λ y. ap (λ (c : Canvas). painter-of w c r) (call-given y .1) ∙ getD-set-other (k .painters) i r (next-step w k i .painter) (begin 0) (λ e. h (sym e)))
       (λ m. ap (λ (c : Canvas). painter-of w c r) (call-refused m .0))
 
   pub call-own : i < length (k .painters) → eqb (paint-call w i n k .number) Done ≡ true
-      → painter-of w (paint-call w i n k .canvas) i ≡ next-step w k i .painter
+      → painter-of w (paint-call w i n k .value .canvas) i ≡ next-step w k i .painter
   call-own h y = ap (λ (c : Canvas). painter-of w c i) (call-given y .1) ∙ getD-set-same (k .painters) i (next-step w k i .painter) (begin 0) h
 
 -- Any schedule.
@@ -167,25 +182,25 @@ module _ (w : ℕ) where
   pub turns-screen : (ts : List Turn) (k : Canvas) → turns w ts k .canvas .screen ≡ k .screen
   unfolding turns
   turns-screen [] k = refl
-  turns-screen (t ∷ ts) k = turns-screen ts (paint-call w (t .row) (t .room) k .canvas) ∙ call-screen w (t .row) (t .room) k
+  turns-screen (t ∷ ts) k = turns-screen ts (paint-call w (t .row) (t .room) k .value .canvas) ∙ call-screen w (t .row) (t .room) k
 
-  pub call-paints : (i n : ℕ) (k : Canvas) → paints-on (paint-call w i n k .canvas) ≡ paints-on k
+  pub call-paints : (i n : ℕ) (k : Canvas) → paints-on (paint-call w i n k .value .canvas) ≡ paints-on k
   call-paints i n k = rw (call-screen w i n k, call-begun w i n k)
 
   pub turns-paints : (ts : List Turn) (k : Canvas) → paints-on (turns w ts k .canvas) ≡ paints-on k
   unfolding turns
   turns-paints [] k = refl
-  turns-paints (t ∷ ts) k = turns-paints ts (paint-call w (t .row) (t .room) k .canvas) ∙ call-paints (t .row) (t .room) k
+  turns-paints (t ∷ ts) k = turns-paints ts (paint-call w (t .row) (t .room) k .value .canvas) ∙ call-paints (t .row) (t .room) k
 
   pub turns-begun : (ts : List Turn) (k : Canvas) → turns w ts k .canvas .begun ≡ k .begun
   unfolding turns
   turns-begun [] k = refl
-  turns-begun (t ∷ ts) k = turns-begun ts (paint-call w (t .row) (t .room) k .canvas) ∙ call-begun w (t .row) (t .room) k
+  turns-begun (t ∷ ts) k = turns-begun ts (paint-call w (t .row) (t .room) k .value .canvas) ∙ call-begun w (t .row) (t .room) k
 
   pub turns-count : (ts : List Turn) (k : Canvas) → length (turns w ts k .canvas .painters) ≡ length (k .painters)
   unfolding turns
   turns-count [] k = refl
-  turns-count (t ∷ ts) k = turns-count ts (paint-call w (t .row) (t .room) k .canvas) ∙ call-count w (t .row) (t .room) k
+  turns-count (t ∷ ts) k = turns-count ts (paint-call w (t .row) (t .room) k .value .canvas) ∙ call-count w (t .row) (t .room) k
 
   -- On the screen s, row r, whose painter was p, has given what it gives alone in as many steps as its done calls, and stands there.
   pub record Alone (s : Screen Row) (r : ℕ) (p : Painter) (o : Turned) : Type 0 where
@@ -211,32 +226,32 @@ module _ (w : ℕ) where
 
   own-turn : (t : Turn) (ts : List Turn) (k : Canvas) (s : Screen Row) (r : ℕ) (p : Painter) → k .screen ≡ s → r < length (k .painters) → painter-of w k r ≡ p
       → t .row ≡ r → eqb (t .row) r ≡ true → eqb (paint-call w (t .row) (t .room) k .number) Done ≡ true
-      → ((q : Painter) → painter-of w (paint-call w (t .row) (t .room) k .canvas) r ≡ q → Alone s r q (turns w ts (paint-call w (t .row) (t .room) k .canvas)))
+      → ((q : Painter) → painter-of w (paint-call w (t .row) (t .room) k .value .canvas) r ≡ q → Alone s r q (turns w ts (paint-call w (t .row) (t .room) k .value .canvas)))
       → Alone s r p (turns w (t ∷ ts) k)
   unfolding turns
   own-turn t ts k s r p e h q i y d rest =
       let n = next-at k s r p e q in
       let g = paint-call w (t .row) (t .room) k in
-      let v : g .value ≡ paint-step w (s .state .attrs) (getD (s .rows) r fresh-row) p = call-given w (t .row) (t .room) k d .0 ∙ ap (next-step w k) i ∙ n in
+      let v : g .value .result ≡ paint-step w (s .state .attrs) (getD (s .rows) r fresh-row) p = call-given w (t .row) (t .room) k d .0 ∙ ap (next-step w k) i ∙ n in
       let there : t .row < length (k .painters) = rw i h in
-      let m : painter-of w (g .canvas) r ≡ paint-step w (s .state .attrs) (getD (s .rows) r fresh-row) p .painter =
-      ap (painter-of w (g .canvas)) (sym i) ∙ call-own w (t .row) (t .room) k there d ∙ ap (λ (j : ℕ). next-step w k j .painter) i ∙ ap (λ (o : Painted). o .painter) n in
-      own-first s r p (turns w ts (g .canvas)) (gave (t .row) g) y d (ap (λ (o : Painted). o .pieces) v) (rest _ m)
+      let m : painter-of w (g .value .canvas) r ≡ paint-step w (s .state .attrs) (getD (s .rows) r fresh-row) p .painter =
+      ap (painter-of w (g .value .canvas)) (sym i) ∙ call-own w (t .row) (t .room) k there d ∙ ap (λ (j : ℕ). next-step w k j .painter) i ∙ ap (λ (o : Painted). o .painter) n in
+      own-first s r p (turns w ts (g .value .canvas)) (gave (t .row) g) y d (ap (λ (o : Painted). o .pieces) v) (rest _ m)
 
   pub by-turns : (ts : List Turn) (k : Canvas) (s : Screen Row) (r : ℕ) (p : Painter) → k .screen ≡ s → r < length (k .painters) → painter-of w k r ≡ p → Alone s r p (turns w ts k)
   unfolding turns
   by-turns [] k s r p e h q = record { pieces = unfold from steps-of paint-steps in refl; painter = unfold steps-of painter-on in q }
   by-turns (t ∷ ts) k s r p e h q =
       let g = paint-call w (t .row) (t .room) k in
-      let rest : (x : Painter) → painter-of w (g .canvas) r ≡ x → Alone s r x (turns w ts (g .canvas)) =
-      λ x m. by-turns ts (g .canvas) s r x (call-screen w (t .row) (t .room) k ∙ e) (rw (call-count w (t .row) (t .room) k) h) m in
+      let rest : (x : Painter) → painter-of w (g .value .canvas) r ≡ x → Alone s r x (turns w ts (g .value .canvas)) =
+      λ x m. by-turns ts (g .value .canvas) s r x (call-screen w (t .row) (t .room) k ∙ e) (rw (call-count w (t .row) (t .room) k) h) m in
       by (eqb (t .row) r)
       (λ y. by (eqb (g .number) Done)
       (λ d. own-turn t ts k s r p e h q (eqb-true (t .row) r y) y d rest)
       (λ d.
       let (c, z, f) = call-refused w (t .row) (t .room) k d in
-      other-first s r p (turns w ts (g .canvas)) (gave (t .row) g) (rw (y, d)) (rw y z) (rest p (ap (λ (x : Canvas). painter-of w x r) c ∙ q))))
-      (λ n. other-first s r p (turns w ts (g .canvas)) (gave (t .row) g) (rw n) (rw n) (rest p (call-other w (t .row) (t .room) k r (eqb-false (t .row) r n) ∙ q)))
+      other-first s r p (turns w ts (g .value .canvas)) (gave (t .row) g) (rw (y, d)) (rw y z) (rest p (ap (λ (x : Canvas). painter-of w x r) c ∙ q))))
+      (λ n. other-first s r p (turns w ts (g .value .canvas)) (gave (t .row) g) (rw n) (rw n) (rest p (call-other w (t .row) (t .room) k r (eqb-false (t .row) r n) ∙ q)))
 
   -- a row that has finished stays finished
   pub stays-finished : (ts : List Turn) (k : Canvas) (r : ℕ) → r < length (k .painters) → has-finished w k r ≡ true → has-finished w (turns w ts k .canvas) r ≡ true
@@ -248,19 +263,19 @@ module _ (w : ℕ) where
       ap (λ (o : Painted). o .finished) (next-at (turns w ts k .canvas) (k .screen) r (painter-of w k r) (turns-screen ts k) still) ∙ e
 
   -- a call that said finished shows that the row has finished
-  said-by : (t : Turn) (k : Canvas) (r : ℕ) → r < length (k .painters) → t .row ≡ r → paint-call w (t .row) (t .room) k .value .finished ≡ true
-      → has-finished w (paint-call w (t .row) (t .room) k .canvas) r ≡ true
+  said-by : (t : Turn) (k : Canvas) (r : ℕ) → r < length (k .painters) → t .row ≡ r → paint-call w (t .row) (t .room) k .value .result .finished ≡ true
+      → has-finished w (paint-call w (t .row) (t .room) k .value .canvas) r ≡ true
   unfolding has-finished
   said-by t k r h i e = by (eqb (paint-call w (t .row) (t .room) k .number) Done)
       (λ d.
       let g = paint-call w (t .row) (t .room) k in
-      let v : g .value ≡ next-step w k r = call-given w (t .row) (t .room) k d .0 ∙ ap (next-step w k) i in
+      let v : g .value .result ≡ next-step w k r = call-given w (t .row) (t .room) k d .0 ∙ ap (next-step w k) i in
       let f : next-step w k r .finished ≡ true = sym (ap (λ (o : Painted). o .finished) v) ∙ e in
       let there : t .row < length (k .painters) = rw i h in
-      let m : painter-of w (g .canvas) r ≡ painter-of w k r =
-      ap (painter-of w (g .canvas)) (sym i) ∙ call-own w (t .row) (t .room) k there d ∙ ap (λ (j : ℕ). next-step w k j .painter) i
+      let m : painter-of w (g .value .canvas) r ≡ painter-of w k r =
+      ap (painter-of w (g .value .canvas)) (sym i) ∙ call-own w (t .row) (t .room) k there d ∙ ap (λ (j : ℕ). next-step w k j .painter) i
       ∙ ap (λ (o : Painted). o .painter) (step-ended w (k .screen .state .attrs) (getD (k .screen .rows) r fresh-row) (painter-of w k r) f) in
-      ap (λ (o : Painted). o .finished) (next-at (g .canvas) (k .screen) r (painter-of w k r) (call-screen w (t .row) (t .room) k) m) ∙ f)
+      ap (λ (o : Painted). o .finished) (next-at (g .value .canvas) (k .screen) r (painter-of w k r) (call-screen w (t .row) (t .room) k) m) ∙ f)
       (λ d. never (sym e ∙ call-refused w (t .row) (t .room) k d .2))
 
   pub said-so : (ts : List Turn) (k : Canvas) (r : ℕ) → r < length (k .painters) → said-finished r (turns w ts k .log) ≡ true → has-finished w (turns w ts k .canvas) r ≡ true
@@ -268,10 +283,10 @@ module _ (w : ℕ) where
   said-so [] k r h e = never (sym e)
   said-so (t ∷ ts) k r h e =
       let g = paint-call w (t .row) (t .room) k in
-      let there : r < length (g .canvas .painters) = rw (call-count w (t .row) (t .room) k) h in
-      by (eqb (t .row) r && g .value .finished)
-      (λ y. stays-finished ts (g .canvas) r there (said-by t k r h (eqb-true (t .row) r (and-left _ _ y)) (and-right (eqb (t .row) r) _ y)))
-      (λ n. said-so ts (g .canvas) r there (rw n at e))
+      let there : r < length (g .value .canvas .painters) = rw (call-count w (t .row) (t .room) k) h in
+      by (eqb (t .row) r && g .value .result .finished)
+      (λ y. stays-finished ts (g .value .canvas) r there (said-by t k r h (eqb-true (t .row) r (and-left _ _ y)) (and-right (eqb (t .row) r) _ y)))
+      (λ n. said-so ts (g .value .canvas) r there (rw n at e))
 
   -- begun: every row at its first step
   pub begun-is : (k : Canvas) → begin-call w k .number ≡ Done → begin-call w k .value ≡ record { screen = k .screen; begun = true; painters = blank w (k .screen) }

@@ -6,7 +6,7 @@ use mathlib.Core.List.{List, [], _∷_, _++_}
 use lib.ListN.{length, getD}
 use lib.Dec.{eqb}
 use Rattle.rules.specs.Lists.{some-of, such}
-use Rattle.rules.specs.Answers.{Done}
+use Rattle.rules.specs.Answers.{Answer, Done}
 use Rattle.rules.specs.Boxes.{width, rows-of}
 use Rattle.rules.specs.Rows.{fresh-row}
 use Rattle.rules.specs.Plans.{Frame, Step}
@@ -33,15 +33,15 @@ pub record Turned : Type 0 where
   pub canvas : Canvas
   pub log : List Gave
 
-abbrev pub gave : ℕ → Given Painted → Gave
-gave r g = record { row = r; number = g .number; finished = g .value .finished; pieces = g .value .pieces }
+abbrev pub gave : ℕ → Answer (Given Painted) → Gave
+gave r g = record { row = r; number = g .number; finished = g .value .result .finished; pieces = g .value .result .pieces }
 
 -- the calls one after the other, each done or refused
 unfoldable pub turns : ℕ → List Turn → Canvas → Turned
 turns w [] k = record { canvas = k; log = [] }
 turns w (t ∷ ts) k =
     let g = paint-call w (t .row) (t .room) k in
-    let rest = turns w ts (g .canvas) in
+    let rest = turns w ts (g .value .canvas) in
     record { canvas = rest .canvas; log = gave (t .row) g ∷ rest .log }
 
 -- the pieces that the calls of row r gave, in order

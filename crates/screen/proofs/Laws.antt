@@ -19,7 +19,7 @@ use Rattle.rect.specs.Rects.{box-of, same-box}
 use Rattle.rect.proofs.Boxes.{View, view}
 use Rattle.screen.specs.declared.Screen.{Screen}
 use Rattle.screen.specs.Screens.{frame, in-tiles, good-clip, good-counts, good-screen, some-paint, some-layer, some-filter, layer-in, state-of, screen-after, counted, fresh-screen}
-use Rattle.screen.proofs.Numbers.{and-left, and-right, or-left, or-right}
+use Rattle.rules.proofs.All.{and-left, and-right, or-left, or-right}
 
 pub record Room (n : ℕ) : Type 0 where
   pub some : 1 ≤ n

@@ -15,7 +15,7 @@ use Rattle.screen.specs.declared.Screen.{Screen}
 use Rattle.screen.specs.declared.Lengths.{Lengths}
 use Rattle.screen.specs.Screens.{frame, good-screen, fresh-screen}
 use Rattle.screen.specs.Judging.{good-rooms, judged, good-fixed, good-tables, arenas, judged-reset}
-use Rattle.screen.proofs.Numbers.{and-left, and-right}
+use Rattle.rules.proofs.All.{and-left, and-right}
 use Rattle.screen.proofs.Laws.{Room, room, fresh-good}
 use Rattle.screen.proofs.Judged.{good}
 

@@ -6,12 +6,10 @@ ghost use Rattle.sizes.specs.Sizes.{bucket-tiles, most-rows};
 ghost use Rattle.rules.specs.Answers.{answer};
 ghost use Rattle.rules.specs.Boxes.{rows-of, buckets-of};
 ghost use Rattle.rules.specs.Walk.{good-room};
-ghost use Rattle.cmd.specs.Answers.{number-of};
 ghost use Rattle.rect.specs.Rects.{box-of};
 ghost use Rattle.screen.specs.Screens.{in-tiles, good-clip, good-screen, fresh-screen};
 ghost use Rattle.screen.specs.Judging.{good-rooms, judged, good-fixed, judged-reset};
 ghost use Rattle.screen.specs.Tables.{zeros, tables, lent, reset-to, float-0};
-use cmd::Answer;
 use rect::Rect;
 use sizes::BUCKET;
 use sizes::BUCKET_ROUND;
@@ -39,9 +37,9 @@ pub struct Screen {
     pub painting: bool,
 }
 
-// What a call gives: its answer, and the screen afterwards.
+// What a call gives: its number, and the screen afterwards.
 pub struct Built {
-    pub answer: Answer,
+    pub number: u32,
     pub screen: Screen,
 }
 
@@ -57,30 +55,6 @@ pub struct Lengths {
     pub paint_attrs: usize,
     pub layer_attrs: usize,
     pub filter_paints: usize,
-}
-
-// The answer of a number.
-pub fn answer_of(n: u32) -> Answer
-    requires { ⌜ n ≤ 14 ⌝ }
-    ensures { λ r. ⌜ number-of r ≡ n ⌝ }
-{
-    match n {
-        0 => Answer::Done,
-        1 => Answer::BadArena,
-        2 => Answer::BadViewport,
-        3 => Answer::BadForm,
-        4 => Answer::BadRecord,
-        5 => Answer::BadOrder,
-        6 => Answer::Deep,
-        7 => Answer::NoLayer,
-        8 => Answer::Ids,
-        9 => Answer::FullAttrs,
-        10 => Answer::FullRow,
-        11 => Answer::FullDepth,
-        12 => Answer::BadRun,
-        13 => Answer::Open,
-        _ => Answer::NoRoom,
-    }
 }
 
 // Room for C render commands, or for D depth fills.
@@ -324,7 +298,7 @@ pub fn reset(
     layer_attrs: &mut [u32],
     filter_paints: &mut [i32],
 ) -> Built
-    ensures { λ r. ⌜ answer (number-of (r .answer)) (lent (r .screen) (tables (now (render .exit)) (now (fills .exit)) (now (depth .exit)) (now (rows .exit)) (now (painting .exit)) (now (layers .exit)) (now (opacities .exit)) (now («paint_attrs» .exit)) (now («layer_attrs» .exit)) (now («filter_paints» .exit))))
+    ensures { λ r. ⌜ answer (r .number) (lent (r .screen) (tables (now (render .exit)) (now (fills .exit)) (now (depth .exit)) (now (rows .exit)) (now (painting .exit)) (now (layers .exit)) (now (opacities .exit)) (now («paint_attrs» .exit)) (now («layer_attrs» .exit)) (now («filter_paints» .exit))))
         ≡ reset-to viewport c d (lent screen (tables (now (render .entry)) (now (fills .entry)) (now (depth .entry)) (now (rows .entry)) (now (painting .entry)) (now (layers .entry)) (now (opacities .entry)) (now («paint_attrs» .entry)) (now («layer_attrs» .entry)) (now («filter_paints» .entry)))) ⌝ }
 {
     let lent = Lengths {
@@ -341,10 +315,7 @@ pub fn reset(
     };
     let n = judge_reset(viewport, c, d, lent);
     if n != 0 {
-        return Built {
-            answer: answer_of(n),
-            screen,
-        };
+        return Built { number: n, screen };
     }
     clear(render);
     clear(fills);
@@ -357,7 +328,7 @@ pub fn reset(
     clear(layer_attrs);
     clear_signed(filter_paints);
     Built {
-        answer: Answer::Done,
+        number: 0,
         screen: fresh(viewport, c, d),
     }
 }

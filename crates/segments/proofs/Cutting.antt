@@ -8,7 +8,7 @@ use native.Mathlib.Omega.{arith}
 use lib.Dec.{ltb}
 use borrow.Author.Tests.{lt-ltb, le-ltb, le-leb, lt-leb, ltb-true}
 use Rattle.rules.specs.Boxes.{Box}
-use Rattle.rules.specs.Spans.{Span, span, common, meeting, Stretch, moved, cut-at, cut-when, cut-to}
+use Rattle.rules.specs.Spans.{Span, span, common, meeting, Stretch, moved, shifted, cut-at, cut-when, cut-to}
 use Rattle.rules.specs.Segments.{Segment, stretch-of, cut-in}
 
 -- what is left of the stretch s inside the span b
@@ -60,7 +60,6 @@ module _ (v b : Box) (s : Segment) where
     beside e = rw (le-leb (b .y0) (s .row) h, lt-ltb (s .row) (b .y1) g, ← e)
 
     pub across : (k : Stretch) → some k ≡ cut-to (span (b .x0) (b .x1)) (stretch-of s)
-        → record { row = s .row - v .y0 / 4; tiles = span (k .tiles .first - v .x0 / 4) (k .tiles .end - v .x0 / 4); alpha = k .alpha } ∷ []
-        ≡ cut-in v b s
+        → record { row = s .row - v .y0 / 4; stretch = shifted (v .x0 / 4) k } ∷ [] ≡ cut-in v b s
     unfolding cut-in
     across k e = rw (le-leb (b .y0) (s .row) h, lt-ltb (s .row) (b .y1) g, ← e)

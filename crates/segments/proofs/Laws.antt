@@ -11,8 +11,9 @@ use borrow.Author.Tests.{leb-true, ltb-true, eqb-true}
 use Rattle.rules.specs.Lists.{every, slice}
 use Rattle.rules.specs.Answers.{Done, BadRecord, BadOrder}
 use Rattle.rules.specs.Boxes.{Box, box, width, height, bounded, good-viewport, by-4, rows-of, scene-tiles}
-use Rattle.rules.specs.Spans.{span, Stretch, moved, cut-to}
+use Rattle.rules.specs.Spans.{span, Stretch, moved, shifted, cut-to}
 use Rattle.rules.specs.Segments.{Segment, good-segment, ordered, judge-segments, alpha-of, stretch-of, Cut, localised, on-row, cut-in, cuts}
+use Rattle.rules.proofs.All.{both}
 use Rattle.span.specs.declared.Alpha.{Alpha}
 use Rattle.span.specs.declared.Alpha.the-variants.{Solid, At}
 use Rattle.span.specs.Spans.{alpha, Moves}
@@ -63,10 +64,6 @@ module _ (ws : List ℕ) where
       sym
       (ap (take (b - a)) (drop-segs a (length ws / 5 - a) (length ws / 5) 0 a (omega arith) (omega arith))
       ∙ take-segs (b - a) (length ws / 5 - a) a (omega arith))
-
-both : (x y : Bool) → (x && y) ≡ true → (x ≡ true) × (y ≡ true)
-both true y p = (refl, p)
-both false y p = let z : _≡_ {A = ℕ} 0 1 = cc in absurd (omega arith)
 
 -- answer 4's bounds, as facts
 pub record Good (s : Segment) : Type 0 where
@@ -172,10 +169,10 @@ index-moves (At a) n p = p
 -- a cut segment: its row and its tiles lie in the scene tiles b, seen from the origin of v
 pub record Landed (v b : Box) (k : Cut) : Type 0 where
   pub row : k .row < b .y1 - v .y0 / 4
-  pub order : k .tiles .first < k .tiles .end
-  pub ends : k .tiles .end ≤ 8192
-  pub right : k .tiles .end ≤ b .x1 - v .x0 / 4
-  pub index : Index (k .alpha) (k .tiles .end - k .tiles .first)
+  pub order : k .stretch .tiles .first < k .stretch .tiles .end
+  pub ends : k .stretch .tiles .end ≤ 8192
+  pub right : k .stretch .tiles .end ≤ b .x1 - v .x0 / 4
+  pub index : Index (k .stretch .alpha) (k .stretch .tiles .end - k .stretch .tiles .first)
 
 index-at : (t : Bool) (a n : ℕ) → a + 16 * n < 4294967296 → Index (cond t none (some a)) n
 index-at true a n h = tt
@@ -191,7 +188,7 @@ index-cut (some n) a b x y h i j p = omega arith
 
 module _ (v b : Box) (s : Segment) (k : Cut) (g : Good s) (o : Starts v b) where
   landed-at : (j : Stretch) → b .y0 ≤ s .row → s .row < b .y1 → Left (span (b .x0) (b .x1)) (stretch-of s) j
-      → Landed v b (record { row = s .row - v .y0 / 4; tiles = span (j .tiles .first - v .x0 / 4) (j .tiles .end - v .x0 / 4); alpha = j .alpha })
+      → Landed v b (record { row = s .row - v .y0 / 4; stretch = shifted (v .x0 / 4) j })
   landed-at j h i l =
       let e : j .tiles .end - v .x0 / 4 - (j .tiles .first - v .x0 / 4) ≡ j .tiles .end - j .tiles .first = omega arith in
       record {
@@ -211,7 +208,7 @@ module _ (v b : Box) (s : Segment) (k : Cut) (g : Good s) (o : Starts v b) where
   by-rows true q (some j) p e =
       let h = both (leb (b .y0) (s .row)) (ltb (s .row) (b .y1)) q in
       let l = left-in (span (b .x0) (b .x1)) (stretch-of s) j p in
-      let i : k ≡ record { row = s .row - v .y0 / 4; tiles = span (j .tiles .first - v .x0 / 4) (j .tiles .end - v .x0 / 4); alpha = j .alpha } = cc in
+      let i : k ≡ record { row = s .row - v .y0 / 4; stretch = shifted (v .x0 / 4) j } = cc in
       rw i (landed-at j (leb-true _ _ (h .0)) (ltb-true _ _ (h .1)) l)
   by-rows true q none p e = none-left e
   by-rows false q m p e = none-left e
@@ -226,7 +223,7 @@ landed v b s k g o e = by-cut v b s k (good-facts s g) o e
 -- a cut segment on the screen of the viewport v
 pub record OnScreen (v : Box) (k : Cut) : Type 0 where
   pub row : k .row < rows-of v
-  pub right : k .tiles .end ≤ width v / 4
+  pub right : k .stretch .tiles .end ≤ width v / 4
 
 landed-on : (v c : Box) (k : Cut) → View v → c .x1 ≤ width v → c .y1 ≤ height v → Landed v (scene-tiles v c) k → OnScreen v k
 unfolding scene-tiles

@@ -6,7 +6,7 @@ use lib.ListN.{length, getD}
 use Rattle.rules.specs.Boxes.{Box, box, scene-tiles}
 use Rattle.rules.specs.Segments as rule
 use Rattle.rules.specs.Segments.{Cut}
-use Rattle.span.specs.Spans.{tiles, alpha}
+use Rattle.span.specs.Spans.{stretch}
 use Rattle.segments.specs.declared.Segment.{Segment}
 use Rattle.segments.specs.declared.Scene.{Scene}
 use Rattle.segments.specs.declared.Placed.{Placed}
@@ -44,7 +44,7 @@ bounds s = box (s .columns .first) (s .rows .first) (s .columns .end) (s .rows .
 -- what is left of a segment: nothing or one
 abbrev pub placed-of : Placed → List Cut
 placed-of Nothing = []
-placed-of (On r s) = record { row = r; tiles = tiles (s .tiles); alpha = alpha (s .alpha) } ∷ []
+placed-of (On r s) = record { row = r; stretch = stretch s } ∷ []
 
 -- the scene tiles b begin at or after the origin of v
 pub record Starts (v b : Box) : Type 0 where

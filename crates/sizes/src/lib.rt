@@ -181,3 +181,10 @@ fn tied_programs() -> [usize; 8]
         PROGRAM_PAINTING,
     ]
 }
+
+// A word as a place or a length.
+pub fn wide(x: u32) -> usize
+    ensures { λ r. ⌜ r ≡ x ⌝ }
+{
+    x as usize
+}

@@ -1,6 +1,6 @@
 -- What a fill's number 0 gives, and what a done fill leaves. Assumes nothing.
 use mathlib.Core.Path.{_≡_, refl, sym, ap, _∙_}
-use mathlib.Core.Bool.{Bool, true, false, _&&_, not, cond}
+use mathlib.Core.Bool.{Bool, true, false, cond}
 use mathlib.Core.List.{List, [], _∷_, append-nil}
 use Prim.Native.Nat.{ℕ, _+_, _-_, _*_, _≤_, _<_}
 use native.Mathlib.Omega.{arith}
@@ -8,14 +8,14 @@ use lib.Dec.{ltb, eqb}
 use lib.ListN.{length, drop, take-append-drop}
 use lib.Seq.{drop-at, drop-length}
 use borrow.Author.Tests.{eqb-true, eqb-false, ne-eqb, ltb-true, ltb-false}
-use Rattle.rules.specs.Lists.{join, every}
+use Rattle.rules.specs.Lists.{join}
 use Rattle.rules.specs.Answers.{answer, Done, BadRecord, first-of}
-use Rattle.rules.specs.Boxes.{good-viewport, rows-of}
-use Rattle.rules.specs.Segments.{Segment, good-segment, ordered, judge-segments}
-use Rattle.rules.specs.Inputs.{good-fill, draw-segments}
+use Rattle.rules.specs.Boxes.{rows-of}
+use Rattle.rules.specs.Segments.{judge-segments}
+use Rattle.rules.specs.Inputs.{good-fill}
 use Rattle.rules.specs.Attributes.{attrs-full}
 use Rattle.screen.specs.Attributes.{paint-attr-words}
-use Rattle.rules.specs.Plans.{Plan, draw-puts, plan-fill}
+use Rattle.rules.specs.Plans.{Plan, draw-puts}
 use Rattle.rules.proofs.All.{never}
 use Rattle.rules.specs.Steps as steps
 use Rattle.rules.specs.Steps.{do-puts, done, passes, refusal}
@@ -27,8 +27,8 @@ use Rattle.row_screen.proofs.Laws.{lay-cut}
 use Rattle.row_judge.specs.Building.{rows-at, screen-at, good-rows, step-number}
 use Rattle.rect.specs.Rects.{box-of}
 use Rattle.screen.specs.declared.Screen.{Screen}
-use Rattle.screen.specs.Screens.{good-screen, frame-of, state-of, screen-after, counted}
-use Rattle.screen.specs.Judging.{good-rooms, judged}
+use Rattle.screen.specs.Screens.{frame-of, state-of, screen-after, counted}
+use Rattle.screen.specs.Judging.{judged}
 use Rattle.screen.proofs.Laws.{few-rows, same-layers, paint-count, layer-attr-count, filter-count}
 use Rattle.segments.specs.Segs as segs
 use Rattle.segments.specs.Segs.{segs-of}
@@ -39,70 +39,15 @@ use Rattle.step_fill_judge.specs.Tallies.{cuts-of}
 use Rattle.step_fill_judge.proofs.Rising.{rising}
 use Rattle.step_fill_judge.proofs.Judged.{all-landed, roomy-judged}
 use Rattle.step_fill.specs.declared.Draw.{Draw}
-use Rattle.step_fill.specs.Fills.{draw-of, paints-of, job-of, Passing, FillLent, lent, fill-plan, good-lists, first-number, first-of-lent, fill-number, fill-done, filled}
+use Rattle.step_fill.specs.Fills.{draw-of, paints-of, job-of, Passing, FillLent, lent, fill-plan, first-of-lent, fill-number, fill-done, filled}
 use Rattle.step_fill.proofs.Inputs.{GoodDraw, draw-facts}
 use Rattle.step_fill.proofs.Planned.{state-frame, state-next, plan-layers, plan-next, refused-bad, refused-are, puts-are, rows-are, attrs-same, attrs-more, full-attrs, paints-more, filters-same}
 use Rattle.step_fill.proofs.Numbers.{passing, long, rowed, good-are}
 
--- every number is an answer's
-if-small : (b : Bool) (x : ℕ) {y : ℕ} → x ≤ 14 → y ≤ 14 → cond b x y ≤ 14
-if-small true x p q = p
-if-small false x p q = q
-
-zero-small : 0 ≤ 14
-zero-small = omega arith
-
-four-small : 4 ≤ 14
-four-small = omega arith
-
-judged-small : (s : Screen) (rows render fills : ℕ) → judged s rows render fills ≤ 14
-unfolding judged
-judged-small s rows render fills =
-    let n = rows-of (box-of (s .viewport)) in
-    if-small (not (good-viewport (box-of (s .viewport)))) 2 (omega arith)
-    (if-small (not (good-rooms n (s .c) (s .d) render fills)) 1 (omega arith) (if-small (not (eqb rows (n * 54) && good-screen s)) 4 (omega arith) zero-small))
-
-segments-small : (bad : Bool) (xs : List Segment) → judge-segments bad xs ≤ 14
-unfolding judge-segments
-segments-small bad xs =
-    if-small bad 4 (omega arith) (if-small (not (every good-segment xs)) 4 (omega arith) (if-small (not (ordered xs)) 5 (omega arith) zero-small))
-
-refusal-small : (p : Plan) (t : steps.Screen Words) → p .refused ≤ 14 → refusal Words word-ops 32 p t ≤ 14
-unfolding refusal
-refusal-small p t h =
-    let c = t .state .frame .c in
-    let d = t .state .frame .d in
-    if-small (eqb (p .refused) Done) _
-    (if-small (ltb 16 (length (p .layers))) 6 (omega arith)
-    (if-small (ltb 1048577 (p .next)) 8 (omega arith)
-    (if-small (attrs-full (p .attrs)) 9 (omega arith)
-    (if-small (passes Words word-ops 32 (word 0) c (p .puts) (t .rows)) 10 (omega arith) (if-small (passes Words word-ops 32 (word 1) d (p .puts) (t .rows)) 11 (omega arith) zero-small)))))
-    h
-
 module _ (l : FillLent) (ps ss : List ℕ) (d : Draw) where
-  first-small : first-of-lent l ps ss ≤ 14
-  unfolding first-number
-  first-small =
-      let n = judged (l .screen) (length (l .words .state)) (length (l .words .render)) (length (l .words .fills)) in
-      let g = good-lists (length (l .paint-attrs)) (length ps) (length ss) in
-      if-small (eqb n Done) (cond g Done BadRecord) (if-small g 0 zero-small four-small) (judged-small (l .screen) (length (l .words .state)) (length (l .words .render)) (length (l .words .fills)))
-
-  own-small : fill-plan (l .screen) ps ss d .refused ≤ 14
-  unfolding plan-fill
-  own-small = segments-small (not (good-fill (paints-of ps) (segs-of ss) (draw-of d))) (draw-segments (segs-of ss) (draw-of d))
-
-  pub is-answer : {n : ℕ} → n ≡ fill-number l ps ss d → n ≤ 14
-  unfolding fill-number step-number
-  is-answer e =
-      let p = fill-plan (l .screen) ps ss d in
-      let t = screen-at (state-of (l .screen)) (l .words) in
-      let r = refusal Words word-ops 32 p (done Words word-ops 32 p t) in
-      let g = good-rows (frame-of (l .screen)) (l .screen .layers) (p .puts) (t .rows) in
-      rw e (if-small (eqb (first-of-lent l ps ss) Done) (cond g r BadRecord) (if-small g r (refusal-small p (done Words word-ops 32 p t) own-small) four-small) first-small)
-
   -- what is refused alters nothing
-  pub refused : {n a : ℕ} → n ≡ fill-number l ps ss d → (n ≡ 0 → ⊥) → a ≡ n → answer a l ≡ filled l ps ss d
-  refused {n} e h p = rw (p, ← e, ne-eqb n 0 h)
+  pub refused : {n : ℕ} → n ≡ fill-number l ps ss d → (n ≡ 0 → ⊥) → answer n l ≡ filled l ps ss d
+  refused {n} e h = rw (← e, ne-eqb n 0 h)
 
 -- the number 0
 said-no : (f : ℕ) (g : Bool) (r : ℕ) → cond (eqb f Done) (cond g r BadRecord) f ≡ 0 → (f ≡ 0) × (g ≡ true) × (r ≡ 0)

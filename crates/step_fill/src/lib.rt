@@ -1,11 +1,9 @@
 // A fill (rules 3 to 7): judged, then done. `fill` is a public call.
-use cmd::Answer;
 use cmd::attrs::PaintFillAttrs;
 use cmd::attrs::put_paint_attrs;
 use cmd::blend::Blend;
 use screen::Built;
 use screen::Screen;
-use screen::answer_of;
 use screen::judge_screen;
 use segments::scene_of;
 use sizes::LAST_ID;
@@ -22,7 +20,6 @@ ghost use Rattle.sizes.specs.Sizes.{most-attrs, last-id};
 ghost use Rattle.rules.specs.Answers.{answer};
 ghost use Rattle.rules.specs.Inputs.{good-draw, good-fill, draw-paint};
 ghost use Rattle.rules.specs.Plans.{eligible};
-ghost use Rattle.cmd.specs.Answers.{number-of};
 ghost use Rattle.row.specs.Words.{words};
 ghost use Rattle.screen.specs.Screens.{counted};
 ghost use Rattle.segments.specs.Segs.{segs-of};
@@ -225,7 +222,7 @@ pub fn fill(
     segments: &[u32],
     draw: Draw,
 ) -> Built
-    ensures { λ r. ⌜ answer (number-of (r .answer)) (lent (r .screen) (words (now (rows .exit)) (now (render .exit)) (now (fills .exit))) (now («paint_attrs» .exit)))
+    ensures { λ r. ⌜ answer (r .number) (lent (r .screen) (words (now (rows .exit)) (now (render .exit)) (now (fills .exit))) (now («paint_attrs» .exit)))
         ≡ filled (lent screen (words (now (rows .entry)) (now (render .entry)) (now (fills .entry))) (now («paint_attrs» .entry))) (now (paints .entry)) (now (segments .entry)) draw ⌝ }
 {
     let n = judge_fill(
@@ -239,16 +236,13 @@ pub fn fill(
         draw,
     );
     if n != 0 {
-        return Built {
-            answer: answer_of(n),
-            screen,
-        };
+        return Built { number: n, screen };
     }
     let start = draw.start;
     let end = draw.end;
     if start == end {
         return Built {
-            answer: Answer::Done,
+            number: 0,
             screen: taken(screen, 0),
         };
     }
@@ -267,7 +261,7 @@ pub fn fill(
     put_paint_attrs(paint_attrs, screen.paint_attrs as usize, attrs);
     fill_rows(rows, render, fills, segments, start, end, job);
     Built {
-        answer: Answer::Done,
+        number: 0,
         screen: taken(screen, 1),
     }
 }

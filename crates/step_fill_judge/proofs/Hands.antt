@@ -117,15 +117,15 @@ module _ (j : Job) (rows : List ℕ) (h : Hand) (ok : Bool) (t : Tally) (o : Hol
 
   -- one more cut segment, on a row whose record is good
   module _ (k : Cut) (b : k .row ≤ 8191) (g : good-row (j .c) (j .d) (j .layers) (record-at rows (k .row)) ≡ true) where
-    more-held : Holds j rows (stretched j (turned-to j (record-at rows (k .row)) h (k .row)) (k .tiles) (k .alpha)) ok (tallied j (record-at rows (k .row)) t k)
+    more-held : Holds j rows (stretched j (turned-to j (record-at rows (k .row)) h (k .row)) (k .stretch .tiles) (k .stretch .alpha)) ok (tallied j (record-at rows (k .row)) t k)
     unfolding stretched
     more-held =
         let u = turned-is (k .row) b g in
         rw (← turned j (record-at rows (k .row)) t k (known t (record-at rows (k .row)) (k .row)) refl (u .levels))
         (record {
           row = u .row;
-          renders = ap (λ (x : ℕ). x + added (j .eligible) (k .tiles) (k .alpha) .renders) (u .renders);
-          depths = ap (λ (x : ℕ). x + added (j .eligible) (k .tiles) (k .alpha) .depths) (u .depths);
+          renders = ap (λ (x : ℕ). x + added (j .eligible) (k .stretch .tiles) (k .stretch .alpha) .renders) (u .renders);
+          depths = ap (λ (x : ℕ). x + added (j .eligible) (k .stretch .tiles) (k .stretch .alpha) .depths) (u .depths);
           code = rw (u .renders, u .depths, u .code, o .code) (noted-is ok (t .full) (t .deep) _ _);
           levels = λ z. refl;
           good = λ z. g;
@@ -138,7 +138,7 @@ module _ (j : Job) (rows : List ℕ) (h : Hand) (ok : Bool) (t : Tally) (o : Hol
   bad-cuts (k ∷ []) l b e = took-bad j rows t (k ∷ []) k refl (go (eqb (turned-to j (record-at rows (k .row)) h (k .row) .code) 4) refl e)
     where
       go : (x : Bool) → eqb (turned-to j (record-at rows (k .row)) h (k .row) .code) 4 ≡ x
-          → cond x (turned-to j (record-at rows (k .row)) h (k .row)) (stretched j (turned-to j (record-at rows (k .row)) h (k .row)) (k .tiles) (k .alpha)) .code ≡ 4
+          → cond x (turned-to j (record-at rows (k .row)) h (k .row)) (stretched j (turned-to j (record-at rows (k .row)) h (k .row)) (k .stretch .tiles) (k .stretch .alpha)) .code ≡ 4
           → good-row (j .c) (j .d) (j .layers) (record-at rows (k .row)) ≡ false
       go true p e = bad-turned (k .row) (b k refl) e
       go false p e =
@@ -163,8 +163,8 @@ module _ (j : Job) (rows : List ℕ) (h : Hand) (ok : Bool) (t : Tally) (o : Hol
   held-cuts (k ∷ []) l b n = go (eqb (turned-to j (record-at rows (k .row)) h (k .row) .code) 4) refl n
     where
       go : (x : Bool) → eqb (turned-to j (record-at rows (k .row)) h (k .row) .code) 4 ≡ x
-          → (cond x (turned-to j (record-at rows (k .row)) h (k .row)) (stretched j (turned-to j (record-at rows (k .row)) h (k .row)) (k .tiles) (k .alpha)) .code ≡ 4 → ⊥)
-          → Held j rows ok t (k ∷ []) (cond x (turned-to j (record-at rows (k .row)) h (k .row)) (stretched j (turned-to j (record-at rows (k .row)) h (k .row)) (k .tiles) (k .alpha)))
+          → (cond x (turned-to j (record-at rows (k .row)) h (k .row)) (stretched j (turned-to j (record-at rows (k .row)) h (k .row)) (k .stretch .tiles) (k .stretch .alpha)) .code ≡ 4 → ⊥)
+          → Held j rows ok t (k ∷ []) (cond x (turned-to j (record-at rows (k .row)) h (k .row)) (stretched j (turned-to j (record-at rows (k .row)) h (k .row)) (k .stretch .tiles) (k .stretch .alpha)))
       go true p n = absurd (n (eqb-true _ 4 p))
       go false p n =
           let g = good-turned j rows h ok t o (k .row) (b k refl) (eqb-false _ 4 p) in
@@ -182,7 +182,7 @@ module _ (j : Job) (rows : List ℕ) (h : Hand) {ks : List Cut} where
     unfolding hand-cuts
     took-four c = rw (← e, ← p, eq-eqb (u .code) 4 c)
 
-    pub took-one : {w : Hand} → (u .code ≡ 4 → ⊥) → w ≡ stretched j u (k .tiles) (k .alpha) → w ≡ hand-cuts j rows h ks
+    pub took-one : {w : Hand} → (u .code ≡ 4 → ⊥) → w ≡ stretched j u (k .stretch .tiles) (k .stretch .alpha) → w ≡ hand-cuts j rows h ks
     unfolding hand-cuts
     took-one c q = rw (← e, ← p, ne-eqb (u .code) 4 c, q)
 

@@ -39,7 +39,7 @@ abbrev pub flags : Tally → ℕ
 flags t = cond (t .full) 10 (cond (t .deep) 11 0)
 
 -- a fill's act on counts
-act-ok : (e : Bool) (i id : ℕ) (k : Cut) (a : Option ℕ) → ActOk any (draw-act e i id (k .tiles) a)
+act-ok : (e : Bool) (i id : ℕ) (k : Cut) (a : Option ℕ) → ActOk any (draw-act e i id (k .stretch .tiles) a)
 unfolding draw-act
 act-ok true i id k none = splits tt
 act-ok true i id k (some x) = paints tt
@@ -66,35 +66,35 @@ Fine n us k = (k .row < n) × Sane (getD us (k .row) nowhere)
 module _ (j : Job) (n : ℕ) (rows : List ℕ) (m : j .layers ≤ 16) where
   module _ (t : Tally) (us : List Words) (r : ℕ) (k : Cut) (l : length us ≡ n) (h : r ≤ k .row) (f : Fine n us k) (o : Knows n rows t us r) where
     -- the row after its act
-    after-act : getD (change (draws j (k .tiles) (k .alpha)) (k .row) us) (k .row) nowhere ≡ draws j (k .tiles) (k .alpha) (getD us (k .row) nowhere)
-    after-act = change-same (draws j (k .tiles) (k .alpha)) (k .row) us nowhere (rw l (f .0))
+    after-act : getD (change (draws j (k .stretch .tiles) (k .stretch .alpha)) (k .row) us) (k .row) nowhere ≡ draws j (k .stretch .tiles) (k .stretch .alpha) (getD us (k .row) nowhere)
+    after-act = change-same (draws j (k .stretch .tiles) (k .stretch .alpha)) (k .row) us nowhere (rw l (f .0))
 
-    turn-counts : drawn-counts j k (known t (record-at rows (k .row)) (k .row)) ≡ count (getD (change (draws j (k .tiles) (k .alpha)) (k .row) us) (k .row) nowhere)
+    turn-counts : drawn-counts j k (known t (record-at rows (k .row)) (k .row)) ≡ count (getD (change (draws j (k .stretch .tiles) (k .stretch .alpha)) (k .row) us) (k .row) nowhere)
     turn-counts =
         ap (drawn-counts j k) (o .knows (k .row) h (f .0))
-        ∙ sym (follows-act (counted 32) (j .layers) m (act-ok (j .eligible) (j .attr) (j .id) k (k .alpha)) (getD us (k .row) nowhere) (f .1) .0)
+        ∙ sym (follows-act (counted 32) (j .layers) m (act-ok (j .eligible) (j .attr) (j .id) k (k .stretch .alpha)) (getD us (k .row) nowhere) (f .1) .0)
         ∙ ap count (sym after-act)
 
-    turn-is : tallied j (record-at rows (k .row)) t k ≡ tally-of j t (k .row) (count (getD (change (draws j (k .tiles) (k .alpha)) (k .row) us) (k .row) nowhere))
+    turn-is : tallied j (record-at rows (k .row)) t k ≡ tally-of j t (k .row) (count (getD (change (draws j (k .stretch .tiles) (k .stretch .alpha)) (k .row) us) (k .row) nowhere))
     unfolding tallied
     turn-is = ap (tally-of j t (k .row)) turn-counts
 
-    same-row : (x : ℕ) → (k .row ≡ x → ⊥) → getD (change (draws j (k .tiles) (k .alpha)) (k .row) us) x nowhere ≡ getD us x nowhere
-    same-row x g = change-else (draws j (k .tiles) (k .alpha)) (k .row) x us nowhere g
+    same-row : (x : ℕ) → (k .row ≡ x → ⊥) → getD (change (draws j (k .stretch .tiles) (k .stretch .alpha)) (k .row) us) x nowhere ≡ getD us x nowhere
+    same-row x g = change-else (draws j (k .stretch .tiles) (k .stretch .alpha)) (k .row) x us nowhere g
 
     loads : (x : ℕ) → (t .row ≡ x → ⊥) → r ≤ x → x < n → stored (record-at rows x) ≡ count (getD us x nowhere)
     unfolding known
     loads x g p q = rw (ne-eqb (t .row) x g) at (o .knows x p q)
 
     knows-at : (x : ℕ) → k .row ≤ x → x < n → (b : Bool) → eqb (k .row) x ≡ b
-        → cond b (count (getD (change (draws j (k .tiles) (k .alpha)) (k .row) us) (k .row) nowhere)) (stored (record-at rows x)) ≡ count (getD (change (draws j (k .tiles) (k .alpha)) (k .row) us) x nowhere)
-    knows-at x p q true e = ap (λ (y : ℕ). count (getD (change (draws j (k .tiles) (k .alpha)) (k .row) us) y nowhere)) (eqb-true (k .row) x e)
+        → cond b (count (getD (change (draws j (k .stretch .tiles) (k .stretch .alpha)) (k .row) us) (k .row) nowhere)) (stored (record-at rows x)) ≡ count (getD (change (draws j (k .stretch .tiles) (k .stretch .alpha)) (k .row) us) x nowhere)
+    knows-at x p q true e = ap (λ (y : ℕ). count (getD (change (draws j (k .stretch .tiles) (k .stretch .alpha)) (k .row) us) y nowhere)) (eqb-true (k .row) x e)
     knows-at x p q false e =
         let g : k .row ≡ x → ⊥ = eqb-false (k .row) x e in
         let y : r < x = omega (arith, g) in
         loads x (o .past x y q) (omega arith) q ∙ ap count (sym (same-row x g))
 
-    next-knows : Knows n rows (tally-of j t (k .row) (count (getD (change (draws j (k .tiles) (k .alpha)) (k .row) us) (k .row) nowhere))) (change (draws j (k .tiles) (k .alpha)) (k .row) us) (k .row)
+    next-knows : Knows n rows (tally-of j t (k .row) (count (getD (change (draws j (k .stretch .tiles) (k .stretch .alpha)) (k .row) us) (k .row) nowhere))) (change (draws j (k .stretch .tiles) (k .stretch .alpha)) (k .row) us) (k .row)
     unfolding known
     next-knows = record { knows = λ x p q. knows-at x p q (eqb (k .row) x) refl; past = λ x p q e. omega arith }
 
@@ -104,9 +104,9 @@ module _ (j : Job) (n : ℕ) (rows : List ℕ) (m : j .layers ≤ 16) where
   unfolding draw-puts
   goes [] t us r l a b o = (or-none (t .full), or-none (t .deep))
   goes (k ∷ ks) t us r l (then h a) (cons f b) o =
-      let vs = change (draws j (k .tiles) (k .alpha)) (k .row) us in
-      let p : Put = on (draw-act (j .eligible) (j .attr) (j .id) (k .tiles) (k .alpha)) (k .row) in
-      let g = goes ks (tally-of j t (k .row) (count (getD vs (k .row) nowhere))) vs (k .row) (change-length (draws j (k .tiles) (k .alpha)) (k .row) us ∙ l) a
+      let vs = change (draws j (k .stretch .tiles) (k .stretch .alpha)) (k .row) us in
+      let p : Put = on (draw-act (j .eligible) (j .attr) (j .id) (k .stretch .tiles) (k .stretch .alpha)) (k .row) in
+      let g = goes ks (tally-of j t (k .row) (count (getD vs (k .row) nowhere))) vs (k .row) (change-length (draws j (k .stretch .tiles) (k .stretch .alpha)) (k .row) us ∙ l) a
       (all-map (λ q s. (s .0, sane-after j p us (q .row) m (s .1))) b) (next-knows t us r k l h f o) in
       let e : run j rows t (k ∷ ks) ≡ run j rows (tally-of j t (k .row) (count (getD vs (k .row) nowhere))) ks = ap (λ (u : Tally). run j rows u ks) (turn-is t us r k l h f o) in (
         ap (λ (u : Tally). u .full) e ∙ g .0 ∙ or-assoc (t .full) (ltb (j .c) (word 0 (getD vs (k .row) nowhere))) (running j (word 0) (j .c) (puts-of j ks) vs),

@@ -168,16 +168,16 @@ module _ (j : Job) (s : List ℕ) (t : Tally) where
   module _ (k : Cut) (c : Counts) (e : c ≡ known t s (k .row)) (h : c .levels ≤ j .layers) where
     pub turned : record {
       row = k .row;
-      renders = c .renders + (j .layers - c .levels) + added (j .eligible) (k .tiles) (k .alpha) .renders;
-      depths = c .depths + added (j .eligible) (k .tiles) (k .alpha) .depths;
+      renders = c .renders + (j .layers - c .levels) + added (j .eligible) (k .stretch .tiles) (k .stretch .alpha) .renders;
+      depths = c .depths + added (j .eligible) (k .stretch .tiles) (k .stretch .alpha) .depths;
       levels = j .layers;
-      full = t .full || ltb (j .c) (c .renders + (j .layers - c .levels) + added (j .eligible) (k .tiles) (k .alpha) .renders);
-      deep = t .deep || ltb (j .d) (c .depths + added (j .eligible) (k .tiles) (k .alpha) .depths);
+      full = t .full || ltb (j .c) (c .renders + (j .layers - c .levels) + added (j .eligible) (k .stretch .tiles) (k .stretch .alpha) .renders);
+      deep = t .deep || ltb (j .d) (c .depths + added (j .eligible) (k .stretch .tiles) (k .stretch .alpha) .depths);
     } ≡ tallied j s t k
     unfolding tallied
     turned =
         let l : c .levels + (j .layers - c .levels) ≡ j .layers = omega arith in
-        rw (← e, counts-drawn (j .layers) (j .attr) (j .id) (k .tiles) c (j .eligible) (k .alpha), l)
+        rw (← e, counts-drawn (j .layers) (j .attr) (j .id) (k .stretch .tiles) c (j .eligible) (k .stretch .alpha), l)
 
   -- the counts at hand stay small
   fits-turned : (k : Cut) (i : ℕ) → Fits j i t → j .c ≤ 1024 → j .d ≤ 1024 → j .layers ≤ 16 → good-row (j .c) (j .d) (j .layers) s ≡ true → Fits j (i + 1) (tallied j s t k)
@@ -186,8 +186,8 @@ module _ (j : Job) (s : List ℕ) (t : Tally) where
       rw (← turned k (known t s (k .row)) refl (o .0))
       (record {
         levels = omega arith;
-        renders = omega (arith, o .1, few-commands (j .eligible) (k .tiles) (k .alpha));
-        depths = omega (arith, o .2, few-depths (j .eligible) (k .tiles) (k .alpha));
+        renders = omega (arith, o .1, few-commands (j .eligible) (k .stretch .tiles) (k .stretch .alpha));
+        depths = omega (arith, o .2, few-depths (j .eligible) (k .stretch .tiles) (k .stretch .alpha));
       })
 
 -- one cut segment, and then more
@@ -259,7 +259,7 @@ module _ (j : Job) (rows : List ℕ) (t u : Tally) (i : ℕ) (f : Fits j i t) (c
 
 -- what is left of a good segment lies on a row
 pub lands : (j : Job) (n : ℕ) (rows : List ℕ) (g : Segment) (k : Cut) → Rowed j n rows → good-segment g ≡ true → k ∷ [] ≡ cut-in (origin (j .scene)) (bounds (j .scene)) g
-    → (k .row < n) × (k .tiles .first ≤ 8192) × (k .tiles .end ≤ 8192)
+    → (k .row < n) × (k .stretch .tiles .first ≤ 8192) × (k .stretch .tiles .end ≤ 8192)
 lands j n rows g k o t e =
     let l = landed (origin (j .scene)) (bounds (j .scene)) g k t (o .starts) e in
     (omega (arith, l .row, o .bottom), omega (arith, l .order, l .ends), l .ends)

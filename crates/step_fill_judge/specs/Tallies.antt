@@ -46,7 +46,7 @@ known t s r = cond (eqb (t .row) r) (counts (t .renders) (t .depths) (t .levels)
 
 -- a cut segment's act, on counts
 abbrev pub drawn-counts : Job → Cut → count.Counts → count.Counts
-drawn-counts j k c = do-act count.Counts count-ops bucket-tiles (j .layers) (draw-act (j .eligible) (j .attr) (j .id) (k .tiles) (k .alpha)) c
+drawn-counts j k c = do-act count.Counts count-ops bucket-tiles (j .layers) (draw-act (j .eligible) (j .attr) (j .id) (k .stretch .tiles) (k .stretch .alpha)) c
 
 abbrev pub tally-of : Job → Tally → ℕ → count.Counts → Tally
 tally-of j t r c =
@@ -127,7 +127,7 @@ unfoldable pub hand-cuts : Job → List ℕ → Hand → List Cut → Hand
 hand-cuts j rows h [] = h
 hand-cuts j rows h (k ∷ ks) =
     let u = turned-to j (record-at rows (k .row)) h (k .row) in
-    let more = hand-cuts j rows (stretched j u (k .tiles) (k .alpha)) ks in
+    let more = hand-cuts j rows (stretched j u (k .stretch .tiles) (k .stretch .alpha)) ks in
     cond (eqb (u .code) BadRecord) u more
 
 -- counts that can grow by one stretch

@@ -1,5 +1,4 @@
 // Judging a fill's segments and the rows that they come to (answers 4, 5, 10 and 11), in one pass, before anything is done. Parts.
-use row::wide;
 use row_judge::is_good_row;
 use row_screen::part;
 use segments::NO_SEGMENT;
@@ -14,6 +13,7 @@ use sizes::LEVELS;
 use sizes::RENDERS;
 use sizes::ROW;
 use sizes::TILE_END;
+use sizes::wide;
 use span::Alpha;
 use span::Stretch;
 use step_fill_rows::Job;

@@ -49,16 +49,16 @@ module _ (j : Job) (g : Segment) (rs : List Words) where
   one-none e = rw (← e)
 
   module _ (k : Cut) (e : k ∷ [] ≡ cut-in (origin (j .scene)) (bounds (j .scene)) g) where
-    pub one-some : done j (puts-of j (cut-in (origin (j .scene)) (bounds (j .scene)) g)) rs ≡ change (draws j (k .tiles) (k .alpha)) (k .row) rs
+    pub one-some : done j (puts-of j (cut-in (origin (j .scene)) (bounds (j .scene)) g)) rs ≡ change (draws j (k .stretch .tiles) (k .stretch .alpha)) (k .row) rs
     unfolding do-puts draw-puts
     one-some = rw (← e)
 
-    room-of : Roomy (on (draw-act (j .eligible) (j .attr) (j .id) (k .tiles) (k .alpha)) (k .row) ∷ []) rs (change (draws j (k .tiles) (k .alpha)) (k .row) rs)
-        → k .row < length rs → Room (getD rs (k .row) nowhere) (draws j (k .tiles) (k .alpha) (getD rs (k .row) nowhere))
-    room-of (one-more r m) h = rw (change-same (draws j (k .tiles) (k .alpha)) (k .row) rs nowhere h) at r
+    room-of : Roomy (on (draw-act (j .eligible) (j .attr) (j .id) (k .stretch .tiles) (k .stretch .alpha)) (k .row) ∷ []) rs (change (draws j (k .stretch .tiles) (k .stretch .alpha)) (k .row) rs)
+        → k .row < length rs → Room (getD rs (k .row) nowhere) (draws j (k .stretch .tiles) (k .stretch .alpha) (getD rs (k .row) nowhere))
+    room-of (one-more r m) h = rw (change-same (draws j (k .stretch .tiles) (k .stretch .alpha)) (k .row) rs nowhere h) at r
 
     pub one-room : k .row < length rs → Roomy (puts-of j (cut-in (origin (j .scene)) (bounds (j .scene)) g)) rs (done j (puts-of j (cut-in (origin (j .scene)) (bounds (j .scene)) g)) rs)
-        → Room (getD rs (k .row) nowhere) (draws j (k .tiles) (k .alpha) (getD rs (k .row) nowhere))
+        → Room (getD rs (k .row) nowhere) (draws j (k .stretch .tiles) (k .stretch .alpha) (getD rs (k .row) nowhere))
     unfolding draw-puts
     one-room h m = room-of (rw (one-some, ← e) at m) h
 
@@ -69,7 +69,7 @@ placed-at s e a b = rw (← e, ← b) a
 -- what is left of a good segment lies on a row, which has room for it
 pub on-its-row : (j : Job) (n : ℕ) (w : Words) (g : Segment) (k : Cut) → Fits j n w → k ∷ [] ≡ cut-in (origin (j .scene)) (bounds (j .scene)) g → good-segment g ≡ true
     → Roomy (puts-of j (cut-in (origin (j .scene)) (bounds (j .scene)) g)) (cut (sizes (j .c) (j .d)) n w) (done j (puts-of j (cut-in (origin (j .scene)) (bounds (j .scene)) g)) (cut (sizes (j .c) (j .d)) n w))
-    → Fits j n w × (k .row < n) × Short (k .tiles) × Room (getD (cut (sizes (j .c) (j .d)) n w) (k .row) nowhere) (draws j (k .tiles) (k .alpha) (getD (cut (sizes (j .c) (j .d)) n w) (k .row) nowhere))
+    → Fits j n w × (k .row < n) × Short (k .stretch .tiles) × Room (getD (cut (sizes (j .c) (j .d)) n w) (k .row) nowhere) (draws j (k .stretch .tiles) (k .stretch .alpha) (getD (cut (sizes (j .c) (j .d)) n w) (k .row) nowhere))
 on-its-row j n w g k o e t m =
     let l = landed (origin (j .scene)) (bounds (j .scene)) g k t (o .starts) e in
     let h : k .row < n = omega (arith, l .row, o .bottom) in
@@ -91,7 +91,7 @@ roomy-by f (one-more {p = p} r a) = one-more (f (p .row) r) (roomy-by f a)
 puts-join : (j : Job) (ks ls : List Cut) → puts-of j (ks ++ ls) ≡ puts-of j ks ++ puts-of j ls
 unfolding draw-puts
 puts-join j [] ls = refl
-puts-join j (k ∷ ks) ls = ap (λ (t : List Put). on (draw-act (j .eligible) (j .attr) (j .id) (k .tiles) (k .alpha)) (k .row) ∷ t) (puts-join j ks ls)
+puts-join j (k ∷ ks) ls = ap (λ (t : List Put). on (draw-act (j .eligible) (j .attr) (j .id) (k .stretch .tiles) (k .stretch .alpha)) (k .row) ∷ t) (puts-join j ks ls)
 
 module _ (j : Job) (m : j .layers ≤ 16) where
   done-append : (ps qs : List Put) (rs : List Words) → done j (ps ++ qs) rs ≡ done j qs (done j ps rs)

@@ -1,6 +1,6 @@
 -- A filter fill's number and what it leaves, way by way through the code. Assumes nothing.
 use mathlib.Core.Path.{_≡_, refl, sym, ap, _∙_}
-use mathlib.Core.Bool.{Bool, true, false, _&&_, _||_, not, cond}
+use mathlib.Core.Bool.{Bool, true, false, _&&_, _||_, cond}
 use mathlib.Core.List.{List, [], _∷_, map, append-nil}
 use mathlib.Core.Option.{none}
 use Prim.Native.Nat.{ℕ, zero, suc, _+_, _-_, _*_, _/_, _≤_, _<_}
@@ -23,7 +23,7 @@ use Rattle.rules.specs.Steps.{do-puts, done, refusal}
 use Rattle.rules.proofs.All.{both, neither}
 use Rattle.rules.proofs.laws.Bounds.{dest-facts}
 use Rattle.cmd.specs.Attrs.{words-at, put-paint, put-filter}
-use Rattle.row.specs.Words.{Words, words, word-ops}
+use Rattle.row.specs.Words.{Words, word-ops}
 use Rattle.row.specs.Cmds.{Short}
 use Rattle.row_screen.specs.Arena.{sizes, lay}
 use Rattle.row_screen.proofs.Laws.{lay-cut}
@@ -40,8 +40,8 @@ use Rattle.screen.proofs.Passed.{Passed, passed}
 use Rattle.step_rows.specs.Band.{band-number, each, OnRows}
 use Rattle.step_rows.proofs.Laws.{puts-each}
 use Rattle.step_rows.proofs.Numbers.{band-answer, band-step, band-room, paint-adds, run-told}
-use Rattle.step_rows.proofs.Passing.{passed-whole, rows-within, judged-small, if-small, step-small, decide, surely, below}
-use Rattle.step_filter.specs.Filter.{FilterGiven, given, filter-of, good-given, paint-from, attrs-of, FilterLent, lent, plan-of, first-number, filter-number, filter-paint-words, after, filtered, own-box}
+use Rattle.step_rows.proofs.Passing.{passed-whole, rows-within, decide, surely, below}
+use Rattle.step_filter.specs.Filter.{FilterGiven, filter-of, good-given, paint-from, attrs-of, FilterLent, lent, plan-of, filter-number, filter-paint-words, after, filtered, own-box}
 
 frame-is : (s : Screen) → state-of s .frame ≡ frame-of s
 unfolding state-of
@@ -467,35 +467,9 @@ paint-asked g s w ps fs q d b t e f =
 
 -- the call
 module _ (g : FilterGiven) (l : FilterLent) where
-  plan-small : (a b : Bool) (x : Box) → cond a (still 4 (state-of (l .screen))) (cond b (still 0 (state-of (l .screen))) (plan-filter-in x (g .count) (filter-of g) (state-of (l .screen)))) .refused ≤ 14
-  unfolding plan-filter-in
-  plan-small true b x = omega arith
-  plan-small false true x = omega arith
-  plan-small false false x = omega arith
-
-  refused-small : plan-of g (l .screen) .refused ≤ 14
-  unfolding plan-filter
-  refused-small =
-      let b = plans.filter-box (state-of (l .screen) .frame .viewport) (plans.box-of (state-of (l .screen))) (filter-of g) in
-      plan-small (not (good-given g)) (draws-nothing (filter-of g) b) b
-
-  first-small : first-number l ≤ 14
-  first-small =
-      let s = l .screen in
-      let n = judged s (length (l .words .state)) (length (l .words .render)) (length (l .words .fills)) in
-      let t = eqb (length (l .paint-attrs)) 8192 && eqb (length (l .filter-paints)) 1024 in
-      if-small (eqb n 0) (cond t 0 4) n (if-small t 0 4 (omega arith) (omega arith)) (judged-small s (length (l .words .state)) (length (l .words .render)) (length (l .words .fills)))
-
-  pub small : filter-number g l ≤ 14
-  unfolding filter-number
-  small =
-      let s = l .screen in
-      step-small (first-number l) (good-rows (frame-of s) (s .layers) (plan-of g s .puts) (rows-at (frame-of s) (l .words))) (plan-of g s)
-      (screen-at (state-of s) (l .words)) first-small refused-small
-
-  pub refused-is : (n m : ℕ) → m ≡ n → n ≡ filter-number g l → (n ≡ 0 → ⊥) → answer m l ≡ filtered g l
+  pub refused-is : (n : ℕ) → n ≡ filter-number g l → (n ≡ 0 → ⊥) → answer n l ≡ filtered g l
   unfolding filtered
-  refused-is n m e f h = rw (e, ← f, ne-eqb n 0 h)
+  refused-is n e h = rw (← e, ne-eqb n 0 h)
 
   pub done-is : (t : FilterLent) → filter-number g l ≡ 0 → t ≡ after g l → answer 0 t ≡ filtered g l
   unfolding filtered

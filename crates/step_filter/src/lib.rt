@@ -7,12 +7,10 @@ ghost use lib.IntN.{subℕ};
 ghost use Rattle.sizes.specs.Sizes.{most-attrs, most-filters, most-records};
 ghost use Rattle.rules.specs.Answers.{answer};
 ghost use Rattle.rules.specs.Boxes.{meet, to-local, empty-box};
-ghost use Rattle.cmd.specs.Answers.{number-of};
 ghost use Rattle.rect.specs.Rects.{box-of};
 ghost use Rattle.row.specs.Words.{words};
 ghost use Rattle.screen.specs.Screens.{counted};
 ghost use Rattle.step_filter.specs.Filter.{given, good-given, paint-from, attrs-of, lent, filter-number, after, filtered, Drawing};
-use cmd::Answer;
 use cmd::attrs::FilterPaint;
 use cmd::attrs::PaintFillAttrs;
 use cmd::attrs::put_filter_paint;
@@ -21,7 +19,6 @@ use cmd::blend::Blend;
 use rect::Rect;
 use screen::Built;
 use screen::Screen;
-use screen::answer_of;
 use screen::judge_screen;
 use sizes::FILTER_TABLE;
 use sizes::HANDLE_END;
@@ -230,7 +227,7 @@ pub fn filter_fill(
     pixmap: u32,
     paint_count: u32,
 ) -> Built
-    ensures { λ r. ⌜ answer (number-of (r .answer)) (lent (r .screen) (words (now (rows .exit)) (now (render .exit)) (now (fills .exit))) (now («paint_attrs» .exit)) (now («filter_paints» .exit)))
+    ensures { λ r. ⌜ answer (r .number) (lent (r .screen) (words (now (rows .exit)) (now (render .exit)) (now (fills .exit))) (now («paint_attrs» .exit)) (now («filter_paints» .exit)))
         ≡ filtered (given placement pixmap «paint_count») (lent screen (words (now (rows .entry)) (now (render .entry)) (now (fills .entry))) (now («paint_attrs» .entry)) (now («filter_paints» .entry))) ⌝ }
 {
     let n = judge_filter(
@@ -245,10 +242,7 @@ pub fn filter_fill(
         paint_count,
     );
     if n != 0 {
-        return Built {
-            answer: answer_of(n),
-            screen,
-        };
+        return Built { number: n, screen };
     }
     let viewport = screen.viewport;
     let clip = screen.clip_bbox;
@@ -257,7 +251,7 @@ pub fn filter_fill(
     if draws_nothing(pixmap, bbox) {
         let same = taken(screen, 0);
         return Built {
-            answer: Answer::Done,
+            number: 0,
             screen: same,
         };
     }
@@ -274,7 +268,7 @@ pub fn filter_fill(
         bbox,
     );
     Built {
-        answer: Answer::Done,
+        number: 0,
         screen: next,
     }
 }

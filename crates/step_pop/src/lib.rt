@@ -1,12 +1,9 @@
 // A pop (bucketer.rs, pop_layer; rules 9 and 10). `pop_layer` is a public call; the others are its parts.
-use cmd::Answer;
 use cmd::attrs::LayerFillAttrs;
 use cmd::attrs::put_layer_attrs;
 use rect::Rect;
-use row::wide;
 use screen::Built;
 use screen::Screen;
-use screen::answer_of;
 use screen::judge_screen;
 use screen_layers::OpenLayer;
 use screen_layers::box_at;
@@ -22,6 +19,7 @@ use sizes::LAYER_TABLE;
 use sizes::MOST_ATTRS;
 use sizes::OPACITIES;
 use sizes::OPEN_TABLE;
+use sizes::wide;
 use span::TileSpan;
 use step_pop_rows::close_segments;
 use step_pop_rows::close_spans;
@@ -43,7 +41,6 @@ ghost use Rattle.rules.specs.Segments.{cut-in, good-segment, judge-segments};
 ghost use Rattle.rules.specs.Plans.{on, close, pop, clip-box};
 ghost use Rattle.span.specs.Spans.{tiles};
 ghost use Rattle.rect.specs.Rects.{box-of};
-ghost use Rattle.cmd.specs.Answers.{number-of};
 ghost use Rattle.cmd.specs.Attrs.{words-at};
 ghost use Rattle.screen.specs.Screens.{frame-of, screen-after};
 ghost use Rattle.screen.specs.Judging.{judged};
@@ -367,7 +364,7 @@ pub fn pop_layer(
     layer_attrs: &mut [u32],
     list: &[u32],
 ) -> Built
-    ensures { λ r. ⌜ out (number-of (r .answer)) (r .screen) (lent (words (now (rows .exit)) (now (render .exit)) (now (fills .exit))) (now (layers .exit)) (now (opacities .exit)) (now («layer_attrs» .exit)))
+    ensures { λ r. ⌜ out (r .number) (r .screen) (lent (words (now (rows .exit)) (now (render .exit)) (now (fills .exit))) (now (layers .exit)) (now (opacities .exit)) (now («layer_attrs» .exit)))
         ≡ popped screen (lent (words (now (rows .entry)) (now (render .entry)) (now (fills .entry))) (now (layers .entry)) (now (opacities .entry)) (now («layer_attrs» .entry))) (now (list .entry)) ⌝ }
 {
     let n = judge_pop(
@@ -381,10 +378,7 @@ pub fn pop_layer(
         list,
     );
     if n != 0 {
-        return Built {
-            answer: answer_of(n),
-            screen,
-        };
+        return Built { number: n, screen };
     }
     let next = do_pop(
         screen,
@@ -397,7 +391,7 @@ pub fn pop_layer(
         list,
     );
     Built {
-        answer: Answer::Done,
+        number: 0,
         screen: next,
     }
 }

@@ -35,7 +35,7 @@ pub placed-at : (s : Scene) {p q : Placed} {g h : Segment} → p ≡ q → place
 placed-at s e a b = rw (← e, ← b) a
 
 -- .. has tiles that fit a command
-pub placed-short : (s : Scene) (g : Segment) (k : Cut) → good-segment g ≡ true → Starts (origin s) (bounds s) → k ∷ [] ≡ cut-in (origin s) (bounds s) g → Short (k .tiles)
+pub placed-short : (s : Scene) (g : Segment) (k : Cut) → good-segment g ≡ true → Starts (origin s) (bounds s) → k ∷ [] ≡ cut-in (origin s) (bounds s) g → Short (k .stretch .tiles)
 placed-short s g k t o e = let l = landed (origin s) (bounds s) g k t o e in (omega (arith, l .order, l .ends), l .ends)
 
 -- the puts of one segment, whose cut is cs
@@ -49,18 +49,18 @@ module _ (m i : ℕ) (xs : List ℕ) (rs : List Words) (cs : List Cut) where
     unfolding do-puts close-puts
     one-out h = rw (← e, h)
 
-    pub one-in : some-of (eqb (k .row)) xs ≡ true → done-puts m (close-puts i xs cs) rs ≡ change (put-command (layer-fill (k .tiles) (k .alpha) i)) (k .row) rs
+    pub one-in : some-of (eqb (k .row)) xs ≡ true → done-puts m (close-puts i xs cs) rs ≡ change (put-command (layer-fill (k .stretch .tiles) (k .stretch .alpha) i)) (k .row) rs
     unfolding do-puts do-act close-puts
     one-in h = rw (← e, h)
 
-    puts-in : some-of (eqb (k .row)) xs ≡ true → close-puts i xs cs ≡ on (close (k .tiles) (k .alpha) i) (k .row) ∷ []
+    puts-in : some-of (eqb (k .row)) xs ≡ true → close-puts i xs cs ≡ on (close (k .stretch .tiles) (k .stretch .alpha) i) (k .row) ∷ []
     unfolding close-puts
     puts-in h = rw (← e, h)
 
-    pub one-fillable : some-of (eqb (k .row)) xs ≡ true → k .row < length rs → Roomy m (close-puts i xs cs) rs → Fillable (k .tiles) (k .alpha) i (row-of rs (k .row))
+    pub one-fillable : some-of (eqb (k .row)) xs ≡ true → k .row < length rs → Roomy m (close-puts i xs cs) rs → Fillable (k .stretch .tiles) (k .stretch .alpha) i (row-of rs (k .row))
     one-fillable h g a =
-        let f = put-command (layer-fill (k .tiles) (k .alpha) i) in
-        let p : All (λ (p : Put). Room (row-of rs (p .row)) (row-of (change (put-command (layer-fill (k .tiles) (k .alpha) i)) (k .row) rs) (p .row))) (on (close (k .tiles) (k .alpha) i) (k .row) ∷ []) = rw (one-in h, puts-in h) at a in
+        let f = put-command (layer-fill (k .stretch .tiles) (k .stretch .alpha) i) in
+        let p : All (λ (p : Put). Room (row-of rs (p .row)) (row-of (change (put-command (layer-fill (k .stretch .tiles) (k .stretch .alpha) i)) (k .row) rs) (p .row))) (on (close (k .stretch .tiles) (k .stretch .alpha) i) (k .row) ∷ []) = rw (one-in h, puts-in h) at a in
         rw (change-same f (k .row) rs nowhere g) at (head p)
 
 -- a list's puts
@@ -71,9 +71,9 @@ module _ (i : ℕ) (xs : List ℕ) where
   close-join (k ∷ ks) ls = go (some-of (eqb (k .row)) xs) (close-join ks ls)
     where
       go : (b : Bool) → close-puts i xs (ks ++ ls) ≡ close-puts i xs ks ++ close-puts i xs ls
-          → cond b (on (close (k .tiles) (k .alpha) i) (k .row) ∷ close-puts i xs (ks ++ ls)) (close-puts i xs (ks ++ ls))
-          ≡ cond b (on (close (k .tiles) (k .alpha) i) (k .row) ∷ close-puts i xs ks) (close-puts i xs ks) ++ close-puts i xs ls
-      go true e = ap (λ (t : List Put). on (close (k .tiles) (k .alpha) i) (k .row) ∷ t) e
+          → cond b (on (close (k .stretch .tiles) (k .stretch .alpha) i) (k .row) ∷ close-puts i xs (ks ++ ls)) (close-puts i xs (ks ++ ls))
+          ≡ cond b (on (close (k .stretch .tiles) (k .stretch .alpha) i) (k .row) ∷ close-puts i xs ks) (close-puts i xs ks) ++ close-puts i xs ls
+      go true e = ap (λ (t : List Put). on (close (k .stretch .tiles) (k .stretch .alpha) i) (k .row) ∷ t) e
       go false e = e
 
   all-cond : {P : Put → Type 0} (b : Bool) (p : Put) {ps : List Put} → (b ≡ true → P p) → All P ps → All P (cond b (p ∷ ps) ps)
@@ -83,13 +83,13 @@ module _ (i : ℕ) (xs : List ℕ) where
   pub close-in : (ks : List Cut) → All (λ (p : Put). some-of (eqb (p .row)) xs ≡ true) (close-puts i xs ks)
   unfolding close-puts
   close-in [] = nil
-  close-in (k ∷ ks) = all-cond (some-of (eqb (k .row)) xs) (on (close (k .tiles) (k .alpha) i) (k .row)) (λ e. e) (close-in ks)
+  close-in (k ∷ ks) = all-cond (some-of (eqb (k .row)) xs) (on (close (k .stretch .tiles) (k .stretch .alpha) i) (k .row)) (λ e. e) (close-in ks)
 
   pub close-all : (l : ℕ) → All (λ (x : ℕ). x < l) xs → (ks : List Cut) → All (Close l) (close-puts i xs ks)
   unfolding close-puts
   close-all l a [] = nil
   close-all l a (k ∷ ks) =
-      all-cond (some-of (eqb (k .row)) xs) (on (close (k .tiles) (k .alpha) i) (k .row)) (λ e. record { row = at-found a (k .row) e; act = closing }) (close-all l a ks)
+      all-cond (some-of (eqb (k .row)) xs) (on (close (k .stretch .tiles) (k .stretch .alpha) i) (k .row)) (λ e. record { row = at-found a (k .row) e; act = closing }) (close-all l a ks)
 
 -- the loop over the segments from start to j, at segment i, on its way from the words w₀
 pub record Clipping (f : Frame) (n k : ℕ) (ws : List ℕ) (start j : ℕ) (e : Scene) (a b : ℕ) (w₀ : Words) (i : ℕ) (w : Words) : Type 0 where

@@ -202,7 +202,7 @@ module _ {cs ds rows : ℕ} {w : Words} (o : Arenas cs ds rows w) (a b n : ℕ) 
 pub clip-here : {cs ds rows : ℕ} {w : Words} (o : Arenas cs ds rows w) (a b n m i : ℕ) (e : Scene) (g : Segment) (k : Cut) → b ≤ rows → good-segment g ≡ true → Starts (origin e) (bounds e)
     → k ∷ [] ≡ cut-in (origin e) (bounds e) g → some-of (eqb (k .row)) (touched-in n (cut (sizes cs ds) rows w) (range a b)) ≡ true
     → Roomy m (close-puts i (touched-in n (cut (sizes cs ds) rows w) (range a b)) (cut-in (origin e) (bounds e) g)) (cut (sizes cs ds) rows w)
-    → Arenas cs ds rows w × (k .row < rows) × Short (k .tiles) × Fillable (k .tiles) (k .alpha) i (row-of (cut (sizes cs ds) rows w) (k .row))
+    → Arenas cs ds rows w × (k .row < rows) × Short (k .stretch .tiles) × Fillable (k .stretch .tiles) (k .stretch .alpha) i (row-of (cut (sizes cs ds) rows w) (k .row))
 clip-here {cs} {ds} {rows} {w} o a b n m i e g k h t s p q r = (
   o,
   touched-row o a b n h (k .row) q,

@@ -108,7 +108,7 @@ count-cuts i x xs [] h = refl
 count-cuts i x xs (k ∷ ks) h = go (some-of (eqb (k .row)) xs) refl (count-cuts i x xs ks h)
   where
     go : (b : Bool) → some-of (eqb (k .row)) xs ≡ b → count-on x (close-puts i xs ks) ≡ cuts-on x ks
-        → count-on x (cond b (on (close (k .tiles) (k .alpha) i) (k .row) ∷ close-puts i xs ks) (close-puts i xs ks)) ≡ cond (eqb (k .row) x) 1 0 + cuts-on x ks
+        → count-on x (cond b (on (close (k .stretch .tiles) (k .stretch .alpha) i) (k .row) ∷ close-puts i xs ks) (close-puts i xs ks)) ≡ cond (eqb (k .row) x) 1 0 + cuts-on x ks
     go true e f = ap (λ (q : ℕ). cond (eqb (k .row) x) 1 0 + q) f
     go false e f = f ∙ rw (ne-eqb (k .row) x (apart x (k .row) xs h e)) (omega arith)
 

@@ -3,7 +3,6 @@
 use cmd::command::Fill;
 use row::pop_buf;
 use row::push_closing;
-use row::wide;
 use row_judge::is_good_row;
 use row_screen::part;
 use row_screen::place_of;
@@ -16,6 +15,7 @@ use sizes::LEVEL;
 use sizes::LEVEL_BASE;
 use sizes::LEVELS;
 use sizes::ROW;
+use sizes::wide;
 use span::Alpha;
 use span::TileSpan;
 ghost use mathlib.Core.Path.{_≡_};

@@ -1,15 +1,15 @@
 -- A push's number and what it leaves, way by way through the code. Assumes nothing.
 use mathlib.Core.Path.{_≡_, refl, sym, ap, _∙_}
-use mathlib.Core.Bool.{Bool, true, false, _&&_, _||_, not, cond}
+use mathlib.Core.Bool.{Bool, true, false, _&&_, not, cond}
 use mathlib.Core.List.{List, [], _∷_, map}
 use mathlib.Core.Option.{Option, none, some}
-use Prim.Native.Nat.{ℕ, zero, suc, _+_, _-_, _*_, _/_, _≤_, _<_, min}
+use Prim.Native.Nat.{ℕ, zero, suc, _+_, _-_, _*_, _≤_, _<_}
 use native.Mathlib.Nat.{min-le-right}
 use native.Mathlib.Omega.{arith}
-use lib.Dec.{eqb, ltb, leb}
+use lib.Dec.{eqb, ltb}
 use lib.ListN.{length, set}
 use lib.Ieee.{Float}
-use borrow.Author.Tests.{eq-eqb, ne-eqb, eqb-true, eqb-false, le-ltb, lt-ltb, leb-true, leb-false}
+use borrow.Author.Tests.{eq-eqb, ne-eqb, le-ltb, lt-ltb}
 use Rattle.rules.specs.Lists.{range}
 use Rattle.rules.specs.Answers.{answer}
 use Rattle.rules.specs.Boxes.{Box, height, rows-of, rows-in, empty-box, good-viewport}
@@ -17,12 +17,11 @@ use Rattle.rules.specs.Blends.{destructive}
 use Rattle.rules.specs.Inputs as rule
 use Rattle.rules.specs.Inputs.{good-props}
 use Rattle.rules.specs.Attributes.{attrs-full}
-use Rattle.rules.specs.Plans as plans
-use Rattle.rules.specs.Plans.{touch, on, Put, Plan, Layer, State, layer-box, plan-push}
+use Rattle.rules.specs.Plans.{touch, on, Layer, layer-box, plan-push}
 use Rattle.rules.specs.Steps.{done, refusal}
-use Rattle.rules.proofs.All.{both, never}
+use Rattle.rules.proofs.All.{both}
 use Rattle.cmd.specs.Attrs.{words-at}
-use Rattle.row.specs.Words.{Words, words, word-ops}
+use Rattle.row.specs.Words.{Words, word-ops}
 use Rattle.row_screen.specs.Arena.{lay}
 use Rattle.row_acts.specs.Acts.{acted}
 use Rattle.row_judge.specs.Building.{Whole, rows-at, screen-at, good-rows, step-number}
@@ -39,9 +38,9 @@ use Rattle.screen_layers.specs.Layers.{clip-of as clip-in, props-of, good-patte
 use Rattle.step_rows.specs.Band.{band-number, each, OnRows}
 use Rattle.step_rows.proofs.Laws.{puts-each}
 use Rattle.step_rows.proofs.Numbers.{Adding, band-answer, band-step, band-room, touch-adds, run-told}
-use Rattle.step_rows.proofs.Passing.{passed-whole, rows-within, judged-small, if-small, step-small, decide, surely, below}
+use Rattle.step_rows.proofs.Passing.{passed-whole, rows-within, decide, surely, below}
 use Rattle.step_push.specs.declared.Run.{Run}
-use Rattle.step_push.specs.Push.{PushLent, lent, plan-of, first-number, push-number, after, pushed, no-run, box-run, touch-run, on-layer}
+use Rattle.step_push.specs.Push.{PushLent, lent, plan-of, push-number, after, pushed, no-run, box-run, touch-run, on-layer}
 
 -- the new layer's box, and the rows that it touches at once
 abbrev pub own-box : LayerProps → Screen → Box
@@ -281,27 +280,9 @@ module _ (p : LayerProps) (s : Screen) (w : Words) (ls : List ℕ) (os : List Fl
 
 -- the call
 module _ (p : LayerProps) (l : PushLent) where
-  refused-small : plan-of p (l .screen) .refused ≤ 14
-  unfolding plan-push
-  refused-small = if-small (good-props (props-of p)) 0 4 (omega arith) (omega arith)
-
-  first-small : first-number p l ≤ 14
-  first-small =
-      let s = l .screen in
-      let n = judged s (length (l .words .state)) (length (l .words .render)) (length (l .words .fills)) in
-      let t = eqb (length (l .layers)) 256 && eqb (length (l .opacities)) 1040 && good-pattern (p .opacity) (p .nan) in
-      if-small (eqb n 0) (cond t 0 4) n (if-small t 0 4 (omega arith) (omega arith)) (judged-small s (length (l .words .state)) (length (l .words .render)) (length (l .words .fills)))
-
-  pub small : push-number p l ≤ 14
-  unfolding push-number
-  small =
-      let s = l .screen in
-      step-small (first-number p l) (good-rows (frame-of s) (s .layers) (plan-of p s .puts) (rows-at (frame-of s) (l .words))) (plan-of p s)
-      (screen-at (state-of s) (l .words)) first-small refused-small
-
-  pub refused-is : (n m : ℕ) → m ≡ n → n ≡ push-number p l → (n ≡ 0 → ⊥) → answer m l ≡ pushed p l
+  pub refused-is : (n : ℕ) → n ≡ push-number p l → (n ≡ 0 → ⊥) → answer n l ≡ pushed p l
   unfolding pushed
-  refused-is n m e f h = rw (e, ← f, ne-eqb n 0 h)
+  refused-is n e h = rw (← e, ne-eqb n 0 h)
 
   pub done-is : (t : PushLent) → push-number p l ≡ 0 → t ≡ after p l → answer 0 t ≡ pushed p l
   unfolding pushed

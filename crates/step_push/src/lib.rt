@@ -3,16 +3,13 @@ ghost use mathlib.Core.Path.{_≡_};
 ghost use Prim.Native.Nat.{_≤_};
 ghost use Rattle.sizes.specs.Sizes.{most-layers};
 ghost use Rattle.rules.specs.Answers.{answer};
-ghost use Rattle.cmd.specs.Answers.{number-of};
 ghost use Rattle.rect.specs.Rects.{box-of};
 ghost use Rattle.row.specs.Words.{words};
 ghost use Rattle.step_push.specs.Push.{touch-run, on-layer, lent, push-number, after, pushed};
-use cmd::Answer;
 use cmd::blend::Blend;
 use rect::Rect;
 use screen::Built;
 use screen::Screen;
-use screen::answer_of;
 use screen::judge_screen;
 use screen_layers::LayerProps;
 use screen_layers::is_good_props;
@@ -137,19 +134,16 @@ pub fn push_layer(
     opacities: &mut [f32],
     props: LayerProps,
 ) -> Built
-    ensures { λ r. ⌜ answer (number-of (r .answer)) (lent (r .screen) (words (now (rows .exit)) (now (render .exit)) (now (fills .exit))) (now (layers .exit)) (now (opacities .exit)))
+    ensures { λ r. ⌜ answer (r .number) (lent (r .screen) (words (now (rows .exit)) (now (render .exit)) (now (fills .exit))) (now (layers .exit)) (now (opacities .exit)))
         ≡ pushed props (lent screen (words (now (rows .entry)) (now (render .entry)) (now (fills .entry))) (now (layers .entry)) (now (opacities .entry))) ⌝ }
 {
     let n = judge_push(screen, rows, render, fills, layers, opacities, props);
     if n != 0 {
-        return Built {
-            answer: answer_of(n),
-            screen,
-        };
+        return Built { number: n, screen };
     }
     let next = do_push(screen, rows, render, fills, layers, opacities, props);
     Built {
-        answer: Answer::Done,
+        number: 0,
         screen: next,
     }
 }

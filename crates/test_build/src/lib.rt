@@ -249,10 +249,9 @@ pub fn build_step(
 
 // A building step's answer is its number.
 pub fn built(out: &mut [u32], at: usize, done: Built) -> Turn {
-    let answer = done.answer;
     let screen = done.screen;
     Turn {
         screen,
-        place: put(out, at, answer.number()),
+        place: put(out, at, done.number),
     }
 }

@@ -47,7 +47,7 @@ fn split_words(split: Split) -> [u32; 11]
 {
     let m = MARK;
     match split {
-        Split::Refused(_) => [MARK; 11],
+        Split::Refused => [MARK; 11],
         Split::Whole(t) => [1, 0, t.first, t.end, m, m, m, m, m, m, m],
         Split::Opaque {
             before,
@@ -107,16 +107,13 @@ fn listed(s: &[u8], at: usize, runs: Runs, list: &[u32]) -> bool
     requires { ⌜ at < 2 ^ 63 ⌝ }
 {
     let n = word(s, at) as usize;
-    match runs {
-        Runs::Refused(_) => false,
-        Runs::Listed(k) => {
-            if k == n {
-                holds(s, at + 1, 2 * n, list)
-            } else {
-                false
-            }
-        }
+    if runs.number != 0 {
+        return false;
     }
+    if runs.count != n {
+        return false;
+    }
+    holds(s, at + 1, 2 * n, list)
 }
 
 // Where a span stands: after b depth words and an id, which only an unset case has not.
@@ -198,6 +195,17 @@ fn summed(s: &[u8], at: usize, k: usize) -> DepthState
     state
 }
 
+// 1 is due for yes, 0 for no.
+fn is_due(skip: Skip, due: u32) -> bool {
+    if skip.number != 0 {
+        return false;
+    }
+    if skip.yes {
+        return due == 1;
+    }
+    due == 0
+}
+
 // More fills than the file has bytes are no case.
 fn replay_skip(s: &[u8], at: usize) -> Seen
     requires { ⌜ at ≤ 2 ^ 61 ⌝ }
@@ -212,14 +220,10 @@ fn replay_skip(s: &[u8], at: usize) -> Seen
     let place = at + 1 + 3 * k;
     let due = word(s, place + 3);
     let state = summed(s, at + 1, k);
-    let agrees = match state.can_skip(tiles_at(s, place), word(s, place + 2)) {
-        Skip::Refused(_) => false,
-        Skip::Yes => due == 1,
-        Skip::No => due == 0,
-    };
+    let skip = state.can_skip(tiles_at(s, place), word(s, place + 2));
     Seen {
         next: place + 4,
-        agrees,
+        agrees: is_due(skip, due),
     }
 }
 

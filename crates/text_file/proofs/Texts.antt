@@ -39,14 +39,14 @@ module _ (ws : List ℕ) (t : Tables) (bs : List ℕ) {q : Screen} (p : q ≡ no
   same : answer n (lent s u) ≡ recorded ws 64 64 (lent nothing t)
   same = rw p at e
 
-  module _ {k : ℕ} (i : k ≡ n) {x : Showed} where
-    pub text-refused : (k ≡ 0 → ⊥) → x ≡ refusing k s bs → file-out x u ≡ recording-text ws t bs
+  module _ {x : Showed} where
+    pub text-refused : (n ≡ 0 → ⊥) → x ≡ refusing n s bs → file-out x u ≡ recording-text ws t bs
     unfolding recording-text
-    text-refused h g = rw (← same, ← i, ne-eqb k 0 h) (ap (λ (y : Showed). file-out y u) g)
+    text-refused h g = rw (← same, ne-eqb n 0 h) (ap (λ (y : Showed). file-out y u) g)
 
-    pub text-shown : k ≡ 0 → x ≡ showing s (words (u .rows) (u .render) (u .fills)) bs → file-out x u ≡ recording-text ws t bs
+    pub text-shown : n ≡ 0 → x ≡ showing s (words (u .rows) (u .render) (u .fills)) bs → file-out x u ≡ recording-text ws t bs
     unfolding recording-text
-    text-shown h g = rw (← same, ← i, eq-eqb k 0 h) (ap (λ (y : Showed). file-out y u) g)
+    text-shown h g = rw (← same, eq-eqb n 0 h) (ap (λ (y : Showed). file-out y u) g)
 
 -- a file's size
 module _ (ws : List ℕ) where

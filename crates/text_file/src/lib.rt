@@ -111,9 +111,8 @@ pub fn recording_text(
         layer_attrs,
         filter_paints,
     );
-    let answer = built.answer;
     let screen = built.screen;
-    let n = answer.number();
+    let n = built.number;
     if n != 0 {
         return refuse(n, screen, out);
     }

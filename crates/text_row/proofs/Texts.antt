@@ -10,7 +10,6 @@ use Rattle.rules.proofs.All.{both}
 use Rattle.screen.specs.declared.Screen.{Screen}
 use Rattle.text.specs.Texts.{Text, text, Wrote}
 use Rattle.text.proofs.Laws.{then, within}
-use Rattle.cmd.specs.Answers.{number-of}
 use Rattle.paint_command.specs.Painting as painting
 use Rattle.paint_command.specs.Painting.{RowLent, lent, out}
 use Rattle.paint_screen.specs.declared.step.Stepped.{Stepped}
@@ -26,33 +25,30 @@ use Rattle.text_row.specs.Dumped.{row-out, row-dumped, pieces-written, S
 use Rattle.text_row.proofs.Holds.{row-holds}
 
 -- the number of a step that is tried
-pub stopped-at : (s : Screen) (r : ℕ) (a : Attributes) (l : RowLent) (q : Stepped) {d p ws : List ℕ} {n : ℕ} → n ≡ number-of (q .answer)
-    → out (painted-of q) d p ws ≡ stepped s r a l → stopped-out (listing n 0) d p ≡ stopped s r a l
+pub stopped-at : (s : Screen) (r : ℕ) (a : Attributes) (l : RowLent) (q : Stepped) {d p ws : List ℕ}
+    → out (painted-of q) d p ws ≡ stepped s r a l → stopped-out (listing (q .number) 0) d p ≡ stopped s r a l
 unfolding stopped
-stopped-at s r a l q i e = rw i (ap (λ (o : painting.StepOut). stopped-out (listing (o .answer .number) 0) (o .depth) (o .painting)) e)
+stopped-at s r a l q e = ap (λ (o : painting.StepOut). stopped-out (listing (o .answer .number) 0) (o .depth) (o .painting)) e
 
 -- a row
-module _ (s : Screen) (r : ℕ) (a : Attributes) (l : RowLent) (q : Stepped) {n : ℕ} (i : n ≡ number-of (q .answer)) {d p ws : List ℕ}
+module _ (s : Screen) (r : ℕ) (a : Attributes) (l : RowLent) (q : Stepped) {d p ws : List ℕ}
     (e : out (painted-of q) d p ws ≡ row-painted s r a l) (bs : List ℕ) where
-  same : out (record { number = n; finished = q .finished; pieces = q .pieces }) d p ws ≡ row-painted s r a l
-  same = rw i e
-
-  pub row-refused : (n ≡ 0 → ⊥) → row-out (listing n 0) d p ws bs ≡ row-dumped s r a l bs
+  pub row-refused : (q .number ≡ 0 → ⊥) → row-out (listing (q .number) 0) d p ws bs ≡ row-dumped s r a l bs
   unfolding row-dumped
-  row-refused h = rw (← same, ne-eqb n 0 h)
+  row-refused h = rw (← e, ne-eqb (q .number) 0 h)
 
   pub row-few : 6 * q .pieces ≤ length ws
   row-few = subst (λ (o : painting.StepOut). 6 * o .answer .pieces ≤ length (o .list)) (sym e) (row-holds s r a l)
 
-  module _ (h : n ≡ 0) where
+  module _ (h : q .number ≡ 0) where
     pub row-ended : {z : Listing} {f g : List ℕ} → q .finished ≡ false → stopped-out z f g ≡ stopped s r a (lent (l .state) (l .render) (l .fills) d p [])
         → row-out z f g ws bs ≡ row-dumped s r a l bs
     unfolding row-dumped
-    row-ended k j = ap (λ (o : Stopped). row-out (o .answer) (o .depth) (o .painting) ws bs) j ∙ rw (← same, eq-eqb n 0 h, k)
+    row-ended k j = ap (λ (o : Stopped). row-out (o .answer) (o .depth) (o .painting) ws bs) j ∙ rw (← e, eq-eqb (q .number) 0 h, k)
 
     pub row-done : {z : Listing} {cs : List ℕ} → q .finished ≡ true → left z cs ≡ pieces-written r ws (q .pieces) bs → row-out z d p ws cs ≡ row-dumped s r a l bs
     unfolding row-dumped
-    row-done k j = ap (λ (o : TextOut). row-out (o .answer) d p ws (o .bytes)) j ∙ rw (← same, eq-eqb n 0 h, k)
+    row-done k j = ap (λ (o : TextOut). row-out (o .answer) d p ws (o .bytes)) j ∙ rw (← e, eq-eqb (q .number) 0 h, k)
 
 -- its lines
 module _ (r : ℕ) (ws : List ℕ) (n : ℕ) (bs : List ℕ) where

@@ -1,6 +1,6 @@
 // What `rowdump` prints of a screen after the lines of `rowlist`. `attrs_text` and `row_text` are public calls; the others are their parts.
-use paint_screen::step::paint_step;
 use paint_whole::paint_row;
+use paint_whole::paint_step;
 use screen::Screen;
 use sizes::FILTER_TABLE;
 use sizes::LAYER_TABLE;
@@ -186,9 +186,8 @@ fn refused_at(
         layer_attrs,
         &mut none,
     );
-    let answer = step.answer;
     Listing {
-        number: answer.number(),
+        number: step.number,
         bytes: 0,
     }
 }
@@ -223,8 +222,7 @@ pub fn row_text(
         layer_attrs,
         list,
     );
-    let answer = done.answer;
-    let n = answer.number();
+    let n = done.number;
     if n != 0 {
         return Listing {
             number: n,

@@ -18,7 +18,6 @@ use denote.Triple.Entry.{Args}
 use denote.Triple.Clauses.{AtExit}
 use Rattle.rules.specs.Answers as rules
 use Rattle.rules.specs.Answers.{answer}
-use Rattle.cmd.specs.Answers.{number-of}
 use Rattle.rect.specs.declared.Rect.{Rect}
 use Rattle.row.specs.Words.{Words, words}
 use Rattle.screen.specs.declared.Screen.{Screen}
@@ -36,7 +35,6 @@ use Rattle.step_pop.specs.Pop.{popped}
 use Rattle.step_filter.specs.declared.Placement.{Placement}
 use Rattle.step_filter.specs.Filter as filters
 use Rattle.step_filter.specs.Filter.{filtered, given}
-use Rattle.paint_screen.proofs.Laws.{number-once}
 use Rattle.screen.proofs.reset as reset-call
 use Rattle.step_fill.proofs.fill as fill-call
 use Rattle.step_push.proofs.push_layer as push-call
@@ -44,11 +42,11 @@ use Rattle.step_pop.proofs.pop_layer as pop-call
 use Rattle.step_filter.proofs.filter_fill as filter-call
 
 -- an answer and a screen are a result
-pub built-once : (r q : Built) → number-of (r .answer) ≡ number-of (q .answer) → r .screen ≡ q .screen → r ≡ q
-built-once r q n s = rw (number-once (r .answer) (q .answer) n, s)
+pub built-once : (r q : Built) → r .number ≡ q .number → r .screen ≡ q .screen → r ≡ q
+built-once r q n s = rw (n, s)
 
 -- with all ten tables lent, as a reset and a recording are
-pub all-once : (r q : Built) (t u : Tables) → answer (number-of (r .answer)) (all.lent (r .screen) t) ≡ answer (number-of (q .answer)) (all.lent (q .screen) u) → (r ≡ q) × (t ≡ u)
+pub all-once : (r q : Built) (t u : Tables) → answer (r .number) (all.lent (r .screen) t) ≡ answer (q .number) (all.lent (q .screen) u) → (r ≡ q) × (t ≡ u)
 all-once r q t u h = (
   built-once r q (ap (λ (x : rules.Answer all.ScreenLent). x .number) h) (ap (λ (x : rules.Answer all.ScreenLent). x .value .screen) h),
   ap (λ (x : rules.Answer all.ScreenLent). x .value .tables) h,
@@ -57,7 +55,7 @@ all-once r q t u h = (
 -- `reset`: the ten tables before and after
 module _ (screen : Screen) (viewport : Rect) (c d : ℕ) (lent : Tables) where
   abbrev pub Resets : Built → Tables → Type 0
-  Resets r t = answer (number-of (r .answer)) (all.lent (r .screen) t) ≡ reset-to viewport c d (all.lent screen lent)
+  Resets r t = answer (r .number) (all.lent (r .screen) t) ≡ reset-to viewport c d (all.lent screen lent)
 
   pub one-reset : (r q : Built) (t u : Tables) → Resets r t → Resets q u → (r ≡ q) × (t ≡ u)
   one-reset r q t u e f = all-once r q t u (e ∙ sym f)
@@ -65,7 +63,7 @@ module _ (screen : Screen) (viewport : Rect) (c d : ℕ) (lent : Tables) where
 -- `fill`: the rows' words, and the table of paint attributes
 module _ (screen : Screen) (rows : Words) (attrs paints segments : List ℕ) (draw : Draw) where
   abbrev pub Fills : Built → Words → List ℕ → Type 0
-  Fills r w p = answer (number-of (r .answer)) (fills.lent (r .screen) w p) ≡ filled (fills.lent screen rows attrs) paints segments draw
+  Fills r w p = answer (r .number) (fills.lent (r .screen) w p) ≡ filled (fills.lent screen rows attrs) paints segments draw
 
   pub one-fill : (r q : Built) (w v : Words) (p o : List ℕ) → Fills r w p → Fills q v o → (r ≡ q) × (w ≡ v) × (p ≡ o)
   one-fill r q w v p o e f =
@@ -78,7 +76,7 @@ module _ (screen : Screen) (rows : Words) (attrs paints segments : List ℕ) (dr
 -- `push_layer`: the rows' words, the open layers and their opacities
 module _ (screen : Screen) (rows : Words) (layers : List ℕ) (opacities : List Float) (props : LayerProps) where
   abbrev pub Pushes : Built → Words → List ℕ → List Float → Type 0
-  Pushes r w l o = answer (number-of (r .answer)) (pushes.lent (r .screen) w l o) ≡ pushed props (pushes.lent screen rows layers opacities)
+  Pushes r w l o = answer (r .number) (pushes.lent (r .screen) w l o) ≡ pushed props (pushes.lent screen rows layers opacities)
 
   pub one-push : (r q : Built) (w v : Words) (l m : List ℕ) (o p : List Float) → Pushes r w l o → Pushes q v m p → (r ≡ q) × (w ≡ v) × (l ≡ m) × (o ≡ p)
   one-push r q w v l m o p e f =
@@ -92,7 +90,7 @@ module _ (screen : Screen) (rows : Words) (layers : List ℕ) (opacities : List 
 -- `pop_layer`: the rows' words, the open layers and the opacities, and the table of layer attributes
 module _ (screen : Screen) (lent : pops.PopLent) (list : List ℕ) where
   abbrev pub Pops : Built → pops.PopLent → Type 0
-  Pops r l = pops.out (number-of (r .answer)) (r .screen) l ≡ popped screen lent list
+  Pops r l = pops.out (r .number) (r .screen) l ≡ popped screen lent list
 
   pub one-pop : (r q : Built) (l m : pops.PopLent) → Pops r l → Pops q m → (r ≡ q) × (l ≡ m)
   one-pop r q l m e f =
@@ -104,7 +102,7 @@ module _ (screen : Screen) (lent : pops.PopLent) (list : List ℕ) where
 -- `filter_fill`: the rows' words, the table of paint attributes and the filter paints
 module _ (screen : Screen) (rows : Words) (attrs : List ℕ) (paints : List ℤ) (placement : Placement) (pixmap count : ℕ) where
   abbrev pub Filters : Built → Words → List ℕ → List ℤ → Type 0
-  Filters r w p z = answer (number-of (r .answer)) (filters.lent (r .screen) w p z) ≡ filtered (given placement pixmap count) (filters.lent screen rows attrs paints)
+  Filters r w p z = answer (r .number) (filters.lent (r .screen) w p z) ≡ filtered (given placement pixmap count) (filters.lent screen rows attrs paints)
 
   pub one-filter : (r q : Built) (w v : Words) (p o : List ℕ) (z y : List ℤ) → Filters r w p z → Filters q v o y → (r ≡ q) × (w ≡ v) × (p ≡ o) × (z ≡ y)
   one-filter r q w v p o z y e f =

@@ -15,7 +15,6 @@ use denote.Ref.{now}
 use denote.Triple.Entry.{Args}
 use denote.Triple.Clauses.{AtExit}
 use Rattle.rules.specs.Answers.{answer}
-use Rattle.cmd.specs.Answers.{number-of}
 use Rattle.span.specs.Spans.{tiles, buckets}
 use Rattle.span.specs.declared.TileSpan.{TileSpan}
 use Rattle.span.specs.declared.BucketRange.{BucketRange}
@@ -35,7 +34,7 @@ use Rattle.paint_screen.specs.Rows.{unset-of, visible-of, wrote, write-of, skip
 use Rattle.paint_screen.proofs.Laws.{begin-once, step-once, write-once}
 use Rattle.paint_whole.specs.Running.{row-painted}
 use Rattle.paint_screen.proofs.begin.begin_painting as begin-call
-use Rattle.paint_screen.proofs.step.paint_step as step-call
+use Rattle.paint_whole.proofs.paint_step as step-call
 use Rattle.paint_whole.proofs.paint_row as row-call
 use Rattle.paint_screen.proofs.rows.unset_runs as unset-call
 use Rattle.paint_screen.proofs.rows.visible_runs as visible-call
@@ -45,7 +44,7 @@ use Rattle.paint_screen.proofs.rows.can_skip as skip-call
 -- `begin_painting`: the depth words and the painting table
 module _ (screen : Screen) (depth painting : List ℕ) where
   abbrev pub Begins : Built → List ℕ → List ℕ → Type 0
-  Begins r d p = answer (number-of (r .answer)) (canvas (r .screen) d p) ≡ beginning (canvas screen depth painting)
+  Begins r d p = answer (r .number) (canvas (r .screen) d p) ≡ beginning (canvas screen depth painting)
 
   pub one-begin : (r q : Built) (d e p o : List ℕ) → Begins r d p → Begins q e o → (r ≡ q) × (d ≡ e) × (p ≡ o)
   one-begin r q d e p o h k = begin-once r q d e p o (h ∙ sym k)

@@ -15,7 +15,6 @@ use denote.Ref.{now}
 use denote.Triple.Entry.{Args}
 use denote.Triple.Clauses.{AtExit}
 use Rattle.rules.specs.Answers.{answer}
-use Rattle.cmd.specs.Answers.{number-of}
 use Rattle.screen.specs.declared.Screen.{Screen}
 use Rattle.screen.specs.declared.Built.{Built}
 use Rattle.screen.specs.Tables as all
@@ -27,7 +26,7 @@ use Rattle.file_call.proofs.bucket_recording as recording-call
 -- `bucket_recording`: the ten tables before and after
 module _ (screen : Screen) (file : List ℕ) (c d : ℕ) (lent : Tables) where
   abbrev pub Records : Built → Tables → Type 0
-  Records r t = answer (number-of (r .answer)) (all.lent (r .screen) t) ≡ recorded file c d (all.lent screen lent)
+  Records r t = answer (r .number) (all.lent (r .screen) t) ≡ recorded file c d (all.lent screen lent)
 
   pub one-recording : (r q : Built) (t u : Tables) → Records r t → Records q u → (r ≡ q) × (t ≡ u)
   one-recording r q t u e f = all-once r q t u (e ∙ sym f)

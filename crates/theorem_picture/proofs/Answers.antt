@@ -18,9 +18,10 @@ use Rattle.step_filter.specs.declared.Placement.{Placement}
 use Rattle.file_read.specs.Reading.{props-in}
 use Rattle.file_steps.specs.Steps.{call-at}
 use Rattle.refine_steps.specs.Lent.{lent-of}
-use Rattle.refine_steps.proofs.Alike.{settle-kept}
+use Rattle.rules.proofs.laws.Answers.{settle-kept}
+use Rattle.depth.specs.Listing.{listing}
 use Rattle.paint_screen.specs.Rows.{unset-of, visible-of, skip-of-row}
-use Rattle.refine_paint.specs.Canvases.{given-out, listed-of, wrote-of}
+use Rattle.refine_paint.specs.Canvases.{given-out, wrote-of}
 use Rattle.refine_paint.proofs.Runs.{unset-by, visible-by, skip-by}
 use Rattle.theorem_picture.specs.Calls.{fill-at, push-at, pop-at, filter-at, fill-said, pop-said, filter-said}
 use Rattle.theorem_picture.specs.Reached.{begin-at, paint-out, write-out}
@@ -59,18 +60,18 @@ module _ {f : Frame} {xs : List Step} {l : ScreenLent} (h : Stands f xs l) where
   paint-answer i list = ap (paint-out i list) (h .same) ∙ paint-gives k (h .whole) i list
 
   -- the direct runs of row i over tiles or buckets t, and `can_skip`
-  pub unset-answer : (i : ℕ) (t : Span) (list : List ℕ) → unset-of (l .screen) i (l .tables .depth) t list ≡ listed-of (unset-call 32 i (length list / 2) t k) list
+  pub unset-answer : (i : ℕ) (t : Span) (list : List ℕ) → unset-of (l .screen) i (l .tables .depth) t list ≡ listing (unset-call 32 i (length list / 2) t k) list
   unfolding lent-of
   unset-answer i t list = ap (λ (m : ScreenLent). unset-of (m .screen) i (m .tables .depth) t list) (h .same) ∙ unset-by k (h .whole) i t list
 
-  pub visible-answer : (i id : ℕ) (t : Span) (list : List ℕ) → visible-of (l .screen) i (l .tables .depth) t id list ≡ listed-of (visible-call 32 id i (length list / 2) t k) list
+  pub visible-answer : (i id : ℕ) (t : Span) (list : List ℕ) → visible-of (l .screen) i (l .tables .depth) t id list ≡ listing (visible-call 32 id i (length list / 2) t k) list
   unfolding lent-of
   visible-answer i id t list = ap (λ (m : ScreenLent). visible-of (m .screen) i (m .tables .depth) t id list) (h .same) ∙ visible-by k (h .whole) i id t list
 
   pub write-answer : (i id : ℕ) (t : Span) (list : List ℕ) → write-out i id t list l ≡ wrote-of (write-call 32 id i (length list / 2) t k) list
   write-answer i id t list = ap (write-out i id t list) (h .same) ∙ write-gives k (h .whole) i id t list
 
-  pub skip-answer : (i : ℕ) (t : Span) (id : ℕ) → skip-of-row (l .screen) i (l .tables .rows) t id ≡ answer (can-skip-call 32 i t id k .number) (can-skip-call 32 i t id k .value)
+  pub skip-answer : (i : ℕ) (t : Span) (id : ℕ) → skip-of-row (l .screen) i (l .tables .rows) t id ≡ can-skip-call 32 i t id k
   unfolding lent-of
   skip-answer i t id = ap (λ (m : ScreenLent). skip-of-row (m .screen) i (m .tables .rows) t id) (h .same) ∙ skip-by k (h .whole) i t id
 

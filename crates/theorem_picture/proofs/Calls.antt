@@ -34,7 +34,7 @@ use Rattle.step_filter.specs.declared.Placement.{Placement}
 use Rattle.step_filter.specs.Filter as filter
 use Rattle.step_filter.specs.Filter.{given, filtered, filter-number}
 use Rattle.file_read.specs.Reading.{props-in}
-use Rattle.refine_steps.proofs.Alike.{settle-number, settle-kept}
+use Rattle.rules.proofs.laws.Answers.{settle-number, settle-kept}
 use Rattle.file_steps.specs.Steps.{rows-words, fill-part, fill-into, push-part, push-into, pop-part, pop-into, filter-part, filter-into, with-value, call-at}
 use Rattle.file_steps.proofs.Calls.{same-fill, same-pop}
 use Rattle.file_steps.proofs.Lists.{paints-words-length, segments-words-length, paints-said, segments-said}

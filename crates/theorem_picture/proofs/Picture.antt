@@ -32,7 +32,7 @@ use Rattle.theorem_picture.proofs.Turns.{turned-words, log-words, turns
 finished-words : (k : Canvas) → WholeCanvas k → (r : ℕ) → finished-at (canvas-words k) r ≡ true → has-finished 32 k r ≡ true
 unfolding has-finished
 finished-words k w r e =
-    let f : paint-call 32 r 0 k .value .finished ≡ true = sym (ap (λ (o : StepOut). o .answer .finished) (paint-gives k w r [])) ∙ e in
+    let f : paint-call 32 r 0 k .value .result .finished ≡ true = sym (ap (λ (o : StepOut). o .answer .finished) (paint-gives k w r [])) ∙ e in
     by (eqb (paint-call 32 r 0 k .number) Done)
     (λ d. sym (ap (λ (o : Painted). o .finished) (call-given 32 r 0 k d .0)) ∙ f)
     (λ d. never (sym f ∙ call-refused 32 r 0 k d .2))

@@ -16,7 +16,7 @@ use Rattle.step_push.specs.Push.{pushed, push-number, after}
 use Rattle.step_push.proofs.Laws.{bad-props, ready}
 use Rattle.file_read.specs.Reading.{props-in, props-said}
 use Rattle.file_read.proofs.Given.{good-props-said}
-use Rattle.refine_steps.proofs.Alike.{settle-number}
+use Rattle.rules.proofs.laws.Answers.{settle-number}
 use Rattle.file_steps.specs.Steps.{rows-words, push-part}
 use Rattle.rules_picture.proofs.Cases.{by}
 use Rattle.theorem_picture.specs.Calls.{push-at}

@@ -25,7 +25,7 @@ use Rattle.screen.specs.Tables.{zeros, lengths, ScreenLent, reset-to}
 use Rattle.file_read.specs.Reading.{draw-in, props-in}
 use Rattle.file_steps.specs.Steps.{placement-in, call-at}
 use Rattle.file_steps.proofs.Lists.{paints-said, segments-said}
-use Rattle.refine_steps.proofs.Alike.{settle-number}
+use Rattle.rules.proofs.laws.Answers.{settle-number}
 use Rattle.refine_steps.proofs.Reset.{judged-facts, rooms, fresh-sound, fresh-words}
 use Rattle.refine_paint.specs.Canvases.{depth-of, painting-of, WholeCanvas}
 use Rattle.refine_paint.proofs.Begin.{blank-depth, blank-painting}
@@ -124,7 +124,7 @@ module _ {f : Frame} {xs : List Step} {l : ScreenLent} (h : Stands f xs l) where
   paint-stands : (i : ℕ) (list : List ℕ) → Stands f xs (paint-at i list l)
   paint-stands i list =
       record {
-        canvas = paint-call 32 i (length list / 6) k .canvas;
+        canvas = paint-call 32 i (length list / 6) k .value .canvas;
         whole = paint-whole k (h .whole) i (length list / 6);
         built = rw (call-screen 32 i (length list / 6) k) (h .built);
         same = ap (paint-at i list) (h .same) ∙ paint-words k (h .whole) i list;
@@ -133,7 +133,7 @@ module _ {f : Frame} {xs : List Step} {l : ScreenLent} (h : Stands f xs l) where
   write-stands : (i id : ℕ) (t : Span) (list : List ℕ) → Stands f xs (write-at i id t list l)
   write-stands i id t list =
       record {
-        canvas = write-call 32 id i (length list / 2) t k .canvas;
+        canvas = write-call 32 id i (length list / 2) t k .value .canvas;
         whole = write-whole k (h .whole) i id t (length list / 2);
         built = rw (same-screen k (h .whole) i id t (length list / 2)) (h .built);
         same = ap (write-at i id t list) (h .same) ∙ write-words k (h .whole) i id t list;

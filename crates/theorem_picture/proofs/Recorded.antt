@@ -25,7 +25,7 @@ use Rattle.file_steps.specs.Steps.{call-at}
 use Rattle.file_judge.specs.Judging.{judged}
 use Rattle.file_call.specs.Recorded.{or-fresh, played, recorded-in, of-sections, recorded}
 use Rattle.refine_steps.specs.Lent.{lent-of}
-use Rattle.refine_steps.proofs.Alike.{settle-number, settle-kept}
+use Rattle.rules.proofs.laws.Answers.{settle-number, settle-kept}
 use Rattle.refine_steps.proofs.Refined.{Refines, step-refines, reset-refines}
 use Rattle.refine_steps.proofs.Walks.{Both, Follow, walk-follows}
 use Rattle.refine_file.specs.Played.{place}

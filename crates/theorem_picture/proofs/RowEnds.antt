@@ -9,7 +9,7 @@ use lib.ListN.{length, take, drop, getD, length-append, length-drop}
 use lib.Seq.{length-take-le}
 use borrow.Author.Tests.{eq-eqb, lt-leb, le-ltb, leb-true}
 use Rattle.rules.specs.Lists.{join}
-use Rattle.rules.specs.Answers.{Done}
+use Rattle.rules.specs.Answers.{Answer, Done}
 use Rattle.rules.specs.Boxes.{rows-of}
 use Rattle.rules.specs.Rows.{fresh-row}
 use Rattle.rules.specs.Plans.{Frame, Step}
@@ -24,7 +24,8 @@ use Rattle.paint_whole.specs.Running.{one-more, run, most, standing, row-painte
 use Rattle.refine_paint.specs.Canvases.{given-out, WholeCanvas}
 use Rattle.refine_paint.proofs.Whole.{paint-whole}
 use Rattle.rules_picture.specs.Turns.{next-step}
-use Rattle.rules_picture.proofs.Cases.{by, and-right}
+use Rattle.rules.proofs.All.{and-right}
+use Rattle.rules_picture.proofs.Cases.{by}
 use Rattle.rules_picture.proofs.Turns.{step-counts, step-ended, late-ended, call-given, call-screen, call-paints, call-own}
 use Rattle.rules_picture.proofs.Finishes.{work}
 use Rattle.rules_picture.proofs.Picture.{built-on}
@@ -67,7 +68,7 @@ module _ (r : ℕ) (l : ScreenLent) where
     abbrev ys : List ℕ
     ys = next r l g .list
 
-    abbrev c : Given Painted
+    abbrev c : Answer (Given Painted)
     c = paint-call 32 r (length ys / 6) k
 
     step-is : step r l (g .depth) (g .painting) ys ≡ given-out c ys
@@ -79,12 +80,12 @@ module _ (r : ℕ) (l : ScreenLent) where
     unfolding one-more
     one-number = ap (λ (o : StepOut). o .answer .number) step-is
 
-    one-finished : one-more (step r l) g .answer .finished ≡ c .value .finished
+    one-finished : one-more (step r l) g .answer .finished ≡ c .value .result .finished
     unfolding one-more
     one-finished = ap (λ (o : StepOut). o .answer .finished) step-is
 
     -- the next one stands on the canvas after it
-    on : At (one-more (step r l) g) (c .canvas)
+    on : At (one-more (step r l) g) (c .value .canvas)
     on =
         record {
           words = sym (one-words r l g) ∙ ap (paint-at r ys) (z .words) ∙ paint-words k (z .whole) r ys;
@@ -95,18 +96,18 @@ module _ (r : ℕ) (l : ScreenLent) where
         }
 
     -- what is left of the list then
-    one-left : length (next r l (one-more (step r l) g) .list) ≡ length ys - 6 * length (c .value .pieces)
+    one-left : length (next r l (one-more (step r l) g) .list) ≡ length ys - 6 * length (c .value .result .pieces)
     unfolding one-more
     one-left =
-        let v = laid-long (c .value .pieces) ys in
-        rw step-is (left-after (g .answer .pieces) (length (c .value .pieces)) (g .list) (laid (c .value .pieces) ys) (z .holds) ∙ rw v (omega arith))
+        let v = laid-long (c .value .result .pieces) ys in
+        rw step-is (left-after (g .answer .pieces) (length (c .value .result .pieces)) (g .list) (laid (c .value .result .pieces) ys) (z .holds) ∙ rw v (omega arith))
 
     -- there is room for its pieces
     module _ (room : 6 * length (next-step 32 k r .pieces) ≤ length ys) where
       done : eqb (c .number) Done ≡ true
       done = eq-eqb _ _ (room-done k r (length ys / 6) (z .there) (z .goes-on) (omega arith))
 
-      given : c .value ≡ next-step 32 k r
+      given : c .value .result ≡ next-step 32 k r
       given = call-given 32 r (length ys / 6) k done .0
 
       -- it is the last
@@ -123,7 +124,7 @@ module _ (r : ℕ) (l : ScreenLent) where
           let y : one-more (step r l) g .answer .finished ≡ false = one-finished ∙ ap (λ (o : Painted). o .finished) given ∙ e in
           rw (one-number, done, y)
 
-      later : painter-of 32 (c .canvas) r ≡ next-step 32 k r .painter
+      later : painter-of 32 (c .value .canvas) r ≡ next-step 32 k r .painter
       later = call-own 32 r (length ys / 6) k (rw (z .whole .count) (z .there)) done
 
   -- a step that says finished needs no room

@@ -24,7 +24,8 @@ use Rattle.paint_screen.specs.Stepping.{Attributes, attributes, number, row-ste
 use Rattle.paint_whole.specs.Running.{goes-on, ended, one-more, run, most, standing, call-step, row-painted}
 use Rattle.paint_whole.proofs.Runs.{stops, more}
 use Rattle.rules_picture.specs.Turns.{Gave, from, said-finished}
-use Rattle.rules_picture.proofs.Cases.{by, and-left, and-right}
+use Rattle.rules.proofs.All.{and-left, and-right}
+use Rattle.rules_picture.proofs.Cases.{by}
 use Rattle.theorem_picture.specs.Reached.{Reached, by-paint, with-canvas, begin-at, paint-out, paint-at}
 use Rattle.theorem_picture.specs.Turns.{Turn, pieces-in, gave-out, turned, log}
 use Rattle.theorem_picture.specs.Picture.{finished}

@@ -16,7 +16,7 @@ use Rattle.rules.specs.Calls.{Canvas, Given, step-call, begin-call, paint-call,
 use Rattle.rules.proofs.laws.Maps.{planned}
 use Rattle.file_steps.specs.Steps.{call-at}
 use Rattle.refine_steps.specs.Lent.{screen-of, lent-of}
-use Rattle.refine_steps.proofs.Alike.{settle-kept}
+use Rattle.rules.proofs.laws.Answers.{settle-kept}
 use Rattle.refine_steps.proofs.Refined.{stepped}
 use Rattle.paint_command.specs.Painting.{StepOut}
 use Rattle.paint_screen.specs.Beginning as painter
@@ -91,25 +91,25 @@ module _ (k : Canvas) (w : WholeCanvas k) where
     unfolding paint-out
     paint-gives l = step-painted k w i l
 
-    pub paint-words : (l : List ℕ) → paint-at i l (canvas-words k) ≡ canvas-words (paint-call 32 i (length l / 6) k .canvas)
+    pub paint-words : (l : List ℕ) → paint-at i l (canvas-words k) ≡ canvas-words (paint-call 32 i (length l / 6) k .value .canvas)
     paint-words l =
-        let j = paint-call 32 i (length l / 6) k .canvas in
+        let j = paint-call 32 i (length l / 6) k .value .canvas in
         ap (λ (o : StepOut). with-canvas (canvas-words k) (canvas-words k .screen) (o .depth) (o .painting)) (paint-gives l)
         ∙ with-screen (depth-of (j .painters)) (painting-of (j .painters))
         ∙ rw (call-screen 32 i (length l / 6) k, call-begun 32 i (length l / 6) k)
 
     -- a writing run
     module _ (id : ℕ) (t : Span) (l : List ℕ) where
-      abbrev g : Given (List Span)
+      abbrev g : Answer (Given (List Span))
       g = write-call 32 id i (length l / 2) t k
 
       pub write-gives : write-out i id t l (canvas-words k) ≡ wrote-of g l
       unfolding write-out lent-of
       write-gives = write-by k w i id t l
 
-      pub write-words : write-at i id t l (canvas-words k) ≡ canvas-words (g .canvas)
+      pub write-words : write-at i id t l (canvas-words k) ≡ canvas-words (g .value .canvas)
       write-words =
           ap (λ (o : Wrote). with-canvas (canvas-words k) (o .screen) (o .depth) (canvas-words k .tables .painting)) write-gives
-          ∙ ap (λ (s : Screen Row). with-canvas (canvas-words k) (screen-of (s .state) (g .canvas .begun)) (depth-of (g .canvas .painters)) (canvas-words k .tables .painting)) (same-screen k w i id t _)
-          ∙ with-painting (g .canvas .begun) (depth-of (g .canvas .painters))
+          ∙ ap (λ (s : Screen Row). with-canvas (canvas-words k) (screen-of (s .state) (g .value .canvas .begun)) (depth-of (g .value .canvas .painters)) (canvas-words k .tables .painting)) (same-screen k w i id t _)
+          ∙ with-painting (g .value .canvas .begun) (depth-of (g .value .canvas .painters))
           ∙ rw (same-screen k w i id t (length l / 2), same-standing k w i id t (length l / 2))

@@ -30,7 +30,7 @@ use Rattle.text_row.specs.Dumped.{with-text, pieces-written, row-dumped}
 use Rattle.refine_paint.specs.Canvases.{WholeCanvas}
 use Rattle.rules_picture.specs.Turns.{Gave, from, steps-of, said-finished, turns, has-finished}
 use Rattle.refine_paint.proofs.Whole.{begin-whole}
-use Rattle.rules_picture.proofs.Cases.{and-left, and-right}
+use Rattle.rules.proofs.All.{and-left, and-right}
 use Rattle.rules_picture.proofs.Turns.{all-given, by-turns, said-so, next-at, turns-screen, turns-paints, call-other, begun-is, begun-paints, begun-painter}
 use Rattle.rules_picture.proofs.Picture.{built-on}
 use Rattle.theorem_picture.specs.Reached.{Reached, begin-at}
@@ -154,7 +154,7 @@ others i r d [] e k = refl
 others i r d (t ∷ ts) e k =
     let g = paint-call 32 (t .row) (length (t .list) / 6) k in
     let o : t .row ≡ r → ⊥ = λ q. d (sym (eqb-true (t .row) i (and-left _ _ e)) ∙ q) in
-    others i r d ts (and-right (eqb (t .row) i) _ e) (g .canvas) ∙ call-other 32 (t .row) (length (t .list) / 6) k r o
+    others i r d ts (and-right (eqb (t .row) i) _ e) (g .value .canvas) ∙ call-other 32 (t .row) (length (t .list) / 6) k r o
 
 -- Once painting has begun at reached words, every row does, ..
 pub begin-waits : {f : Frame} {xs : List Step} {l : ScreenLent} (h : Reached f xs l) → begin-at l .number ≡ Done → (r : ℕ) → r < rows-of (f .viewport)

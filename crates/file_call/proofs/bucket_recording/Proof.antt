@@ -1,9 +1,9 @@
 -- Each refusal before the walk leaves what the rules' `play` leaves: 3, 2 and 1 alter nothing, 4 and 5 come after the reset. An accepted walk gives
 -- its own words, a refused one is followed by a second reset.
 use Rattle.file_call.proofs.Recordings.{bad-file, not-reset, all-done, left-fresh}
-use mathlib.Core.Path.{sym, _∙_}
+use mathlib.Core.Path.{refl, sym, _∙_}
 use mathlib.Core.List.{[]}
-use Rattle.screen.specs.Tables.{tables}
+use Rattle.screen.specs.Tables.{ScreenLent, lent, tables}
 use Rattle.file_form.proofs.Laid.{good-form, bad-form}
 use borrow.Author.Needs.{needs}
 use Rattle.file_call.proofs.bucket_recording.Statement.{statement}
@@ -30,9 +30,6 @@ box-at-requires c κs =
 
 reset-requires : tie.Need-reset-requires
 reset-requires c κs = search needs
-
-number-requires : tie.Need-number-requires
-number-requires c κs = search needs
 
 same-length : tie.Need-same-length
 same-length c = search needs
@@ -73,7 +70,7 @@ returns-2 c =
     let at-read-form = at-l .before .before in
     let at-args = at-read-form .before .before .before .before .before .before .before .before .before .before .before in
     not-reset _ _ (good-form (at-args .args .file .now) (at-l .l .given .0 .0) (sym (at-l .l .given .1) ∙ at-read-form .read-form .ensures)) _
-    (at-box-at .box-at .ensures) _ _ _ _ _ (at-reset .reset .ensures) (λ z. c .if1 .taken (c .before .number .ensures ∙ z))
+    (at-box-at .box-at .ensures) _ _ _ _ _ (at-reset .reset .ensures) (c .if1 .taken)
 
 play-requires : tie.Need-play-requires
 play-requires c κs =
@@ -83,9 +80,6 @@ play-requires c κs =
     let at-read-form = at-l .before .before in
     let at-args = at-read-form .before .before .before .before .before .before .before .before .before .before .before in
     (good-form (at-args .args .file .now) (at-l .l .given .0 .0) (sym (at-l .l .given .1) ∙ at-read-form .read-form .ensures)) .fits
-
-number-requires-2 : tie.Need-number-requires-2
-number-requires-2 c κs = search needs
 
 same-length-11 : tie.Need-same-length-11
 same-length-11 c =
@@ -161,17 +155,16 @@ returns-3 : tie.Need-returns-3
 returns-3 c =
     let at-play = c .before .before .before .before .before .before .before .before .before .before .before .before .before .before .before .before .before in
     let at-if1 = at-play .before .before .before .before .before .before .before .before .before .before in
-    let at-number = at-if1 .before in
-    let at-reset = at-number .before .before .before .before .before .before .before .before .before .before .before .before .before .before .before
+    let at-known = at-if1 .before in
+    let at-reset = at-known .before .before .before .before .before .before .before .before .before .before .before .before .before .before .before
     .before .before .before .before .before in
     let at-box-at = at-reset .before .before .before .before .before .before .before .before .before .before .before in
     let at-l = at-box-at .before .before in
     let at-read-form = at-l .before .before in
     let at-args = at-read-form .before .before .before .before .before .before .before .before .before .before .before in
     all-done _ _ (good-form (at-args .args .file .now) (at-l .l .given .0 .0) (sym (at-l .l .given .1) ∙ at-read-form .read-form .ensures)) _
-    (at-box-at .box-at .ensures) _ _ _ _ _ (at-reset .reset .ensures) (sym (at-number .number .ensures) ∙ at-if1 .if1 .left) _ _ (at-play .play .ensures (tables
-    [] [] (at-reset .reset .last .1 .1 .1 .1 .1 .1 .0) [] (at-reset .reset .last .1 .1 .1 .1 .1 .1 .1 .1 .0) [] [] [] [] [])) (sym (c .before .number2 .ensures)
-    ∙ c .if2 .taken)
+    (at-box-at .box-at .ensures) _ _ _ _ _ (at-reset .reset .ensures) (at-if1 .if1 .left) _ _ (at-play .play .ensures (tables
+    [] [] (at-reset .reset .last .1 .1 .1 .1 .1 .1 .0) [] (at-reset .reset .last .1 .1 .1 .1 .1 .1 .1 .1 .0) [] [] [] [] [])) (c .if2 .taken)
 
 reset-requires-2 : tie.Need-reset-requires-2
 reset-requires-2 c κs = search needs
@@ -285,37 +278,44 @@ returns-4 c =
     let at-reset2 = c .before .before .before .before .before .before .before .before .before .before .before .before .before .before .before .before
     .before .before .before .before in
     let at-if2 = at-reset2 .before .before .before .before .before .before .before .before .before .before .before in
-    let at-number2 = at-if2 .before in
-    let at-play = at-number2 .before .before .before .before .before .before .before .before .before .before .before .before .before .before .before .before in
+    let at-known2 = at-if2 .before in
+    let at-play = at-known2 .before .before .before .before .before .before .before .before .before .before .before .before .before .before .before .before in
     let at-if1 = at-play .before .before .before .before .before .before .before .before .before .before in
-    let at-number = at-if1 .before in
-    let at-reset = at-number .before .before .before .before .before .before .before .before .before .before .before .before .before .before .before
+    let at-known = at-if1 .before in
+    let at-reset = at-known .before .before .before .before .before .before .before .before .before .before .before .before .before .before .before
     .before .before .before .before .before in
     let at-box-at = at-reset .before .before .before .before .before .before .before .before .before .before .before in
     let at-l = at-box-at .before .before in
     let at-read-form = at-l .before .before in
     let at-args = at-read-form .before .before .before .before .before .before .before .before .before .before .before in
+    let fresh : ScreenLent =
+    (lent (at-reset .reset .result .screen) (tables (at-reset .reset .last .1 .1 .1 .1 .0) (at-reset .reset .last .1 .1 .1 .1 .1 .0) (at-reset .reset .last .1 .1 .1 .1 .1 .1 .0) (at-reset .reset .last .1 .1 .1 .1 .1 .1 .1 .0) (at-reset .reset .last .1 .1 .1 .1 .1 .1 .1 .1 .0) (at-reset .reset .last .1 .1 .1 .1 .1 .1 .1 .1 .1 .0) (at-reset .reset .last .1 .1 .1 .1 .1 .1 .1 .1 .1 .1 .0) (at-reset .reset .last .1 .1 .1 .1 .1 .1 .1 .1 .1 .1 .1 .0) (at-reset .reset .last .1 .1 .1 .1 .1 .1 .1 .1 .1 .1 .1 .1 .0) (at-reset .reset .last .1 .1 .1 .1 .1 .1 .1 .1 .1 .1 .1 .1 .1 .0))) in
+    let after : ScreenLent =
+    (lent (at-play .play .result .screen) (tables (at-play .play .last .1 .1 .1 .1 .0) (at-play .play .last .1 .1 .1 .1 .1 .0) (at-reset .reset .last .1 .1 .1 .1 .1 .1 .0) (at-play .play .last .1 .1 .1 .0) (at-reset .reset .last .1 .1 .1 .1 .1 .1 .1 .1 .0) (at-play .play .last .1 .1 .1 .1 .1 .1 .0) (at-play .play .last .1 .1 .1 .1 .1 .1 .1 .0) (at-play .play .last .1 .1 .1 .1 .1 .1 .1 .1 .0) (at-play .play .last .1 .1 .1 .1 .1 .1 .1 .1 .1 .0) (at-play .play .last .1 .1 .1 .1 .1 .1 .1 .1 .1 .1 .0))) in
     left-fresh _ _ (good-form (at-args .args .file .now) (at-l .l .given .0 .0) (sym (at-l .l .given .1) ∙ at-read-form .read-form .ensures)) _
-    (at-box-at .box-at .ensures) _ _ _ _ _ (at-reset .reset .ensures) (sym (at-number .number .ensures) ∙ at-if1 .if1 .left) _ _ (at-play .play .ensures (tables
-    [] [] (at-reset .reset .last .1 .1 .1 .1 .1 .1 .0) [] (at-reset .reset .last .1 .1 .1 .1 .1 .1 .1 .1 .0) [] [] [] [] [])) (λ z. at-if2 .if2 .left
-    (at-number2 .number2 .ensures ∙ z)) _ (record {
-      render = at-play .play .kept .1 .1 .1 .1 .0 ∙ at-reset .reset .kept .1 .1 .1 .1 .0;
-      fills =
-          at-play .play .kept .1 .1 .1 .1 .1 .0 ∙ at-reset .reset .kept .1 .1 .1 .1 .1 .0;
+    (at-box-at .box-at .ensures) _ _ _ _ fresh (at-reset .reset .ensures) (at-if1 .if1 .left) _ after (at-play .play .ensures (tables
+    [] [] (at-reset .reset .last .1 .1 .1 .1 .1 .1 .0) [] (at-reset .reset .last .1 .1 .1 .1 .1 .1 .1 .1 .0) [] [] [] [] [])) (at-if2 .if2 .left) _ (record {
+      render = at-play .play .kept .1 .1 .1 .1 .0;
+      fills = at-play .play .kept .1 .1 .1 .1 .1 .0;
+      depth = refl;
+      rows = at-play .play .kept .1 .1 .1 .0;
+      painting = refl;
+      layers = at-play .play .kept .1 .1 .1 .1 .1 .1 .0;
+      opacities = at-play .play .kept .1 .1 .1 .1 .1 .1 .1 .0;
+      paint-attrs = at-play .play .kept .1 .1 .1 .1 .1 .1 .1 .1 .0;
+      layer-attrs = at-play .play .kept .1 .1 .1 .1 .1 .1 .1 .1 .1 .0;
+      filter-paints = at-play .play .kept .1 .1 .1 .1 .1 .1 .1 .1 .1 .1 .0;
+    }) (record {
+      render = at-reset .reset .kept .1 .1 .1 .1 .0;
+      fills = at-reset .reset .kept .1 .1 .1 .1 .1 .0;
       depth = at-reset .reset .kept .1 .1 .1 .1 .1 .1 .0;
-      rows =
-          at-play .play .kept .1 .1 .1 .0 ∙ at-reset .reset .kept .1 .1 .1 .1 .1 .1 .1 .0;
+      rows = at-reset .reset .kept .1 .1 .1 .1 .1 .1 .1 .0;
       painting = at-reset .reset .kept .1 .1 .1 .1 .1 .1 .1 .1 .0;
-      layers =
-          at-play .play .kept .1 .1 .1 .1 .1 .1 .0 ∙ at-reset .reset .kept .1 .1 .1 .1 .1 .1 .1 .1 .1 .0;
-      opacities = at-play .play .kept .1 .1 .1 .1 .1 .1 .1 .0 ∙
-          at-reset .reset .kept .1 .1 .1 .1 .1 .1 .1 .1 .1 .1 .0;
-      paint-attrs = at-play .play .kept .1 .1 .1 .1 .1 .1 .1 .1 .0 ∙
-          at-reset .reset .kept .1 .1 .1 .1 .1 .1 .1 .1 .1 .1 .1 .0;
-      layer-attrs = at-play .play .kept .1 .1 .1 .1 .1 .1 .1 .1 .1 .0 ∙
-          at-reset .reset .kept .1 .1 .1 .1 .1 .1 .1 .1 .1 .1 .1 .1 .0;
-      filter-paints = at-play .play .kept .1 .1 .1 .1 .1 .1 .1 .1 .1 .1 .0 ∙
-          at-reset .reset .kept .1 .1 .1 .1 .1 .1 .1 .1 .1 .1 .1 .1 .1 .0;
+      layers = at-reset .reset .kept .1 .1 .1 .1 .1 .1 .1 .1 .1 .0;
+      opacities = at-reset .reset .kept .1 .1 .1 .1 .1 .1 .1 .1 .1 .1 .0;
+      paint-attrs = at-reset .reset .kept .1 .1 .1 .1 .1 .1 .1 .1 .1 .1 .1 .0;
+      layer-attrs = at-reset .reset .kept .1 .1 .1 .1 .1 .1 .1 .1 .1 .1 .1 .1 .0;
+      filter-paints = at-reset .reset .kept .1 .1 .1 .1 .1 .1 .1 .1 .1 .1 .1 .1 .1 .0;
     }) _ _ (at-reset2 .reset2 .ensures)
 
 pub bucket-recording-spec : {M : Type 1} → statement M
@@ -328,7 +328,6 @@ bucket-recording-spec =
     returns
     box-at-requires
     reset-requires
-    number-requires
     same-length
     same-length-2
     same-length-3
@@ -341,7 +340,6 @@ bucket-recording-spec =
     same-length-10
     returns-2
     play-requires
-    number-requires-2
     same-length-11
     same-length-12
     same-length-13

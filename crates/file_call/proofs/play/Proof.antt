@@ -1,6 +1,6 @@
 -- The records are judged, then the nodes from the root are walked.
 use native.Mathlib.Omega.{arith}
-use Rattle.file_call.proofs.Recordings.{an-answer, bad-records, ready, root, good-walk}
+use Rattle.file_call.proofs.Recordings.{bad-records, ready, root, good-walk}
 use borrow.Author.Needs.{needs}
 use Rattle.file_call.proofs.play.Statement.{statement}
 use Rattle.file_call.proofs.play.Tie as tie
@@ -8,15 +8,12 @@ use Rattle.file_call.proofs.play.Tie as tie
 judge-records-requires : tie.Need-judge-records-requires
 judge-records-requires c κs = search needs
 
-answer-of-requires : tie.Need-answer-of-requires
-answer-of-requires c κs = an-answer _ _ (c .before .judge-records .ensures)
-
 returns : tie.Need-returns
 returns c =
-    let at-judge-records = c .before .before in
+    let at-judge-records = c .before in
     let back = at-judge-records .before .before .before .before .before .before .before .before .before in
     let s = back in
-    λ t. bad-records (s .args .l) (s .args .w .now) (s .pre) _ (at-judge-records .judge-records .ensures) (c .before .if1 .taken) _ (c .answer-of .ensures) _
+    λ t. bad-records (s .args .l) (s .args .w .now) (s .pre) _ (at-judge-records .judge-records .ensures) (c .if1 .taken) _
 
 mul-wide : tie.Need-mul-wide
 mul-wide c = search needs
@@ -85,7 +82,6 @@ play-spec =
     tie.close
     (tie.spec
     judge-records-requires
-    answer-of-requires
     returns
     mul-wide
     shared-slice-read-wide

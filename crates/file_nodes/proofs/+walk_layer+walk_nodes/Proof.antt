@@ -21,13 +21,12 @@ use Rattle.file_nodes.proofs.+walk_layer+walk_nodes.Lts-walk_layer as w
 use Rattle.file_nodes.proofs.walk_nodes.Reads as walk-nodes
 use Rattle.file_nodes.proofs.walk_nodes.Kinds as walk-nodes-kinds
 use Rattle.file_nodes.proofs.+walk_layer+walk_nodes.Lts-walk_nodes as walk-nodes-lts
-use Rattle.cmd.proofs.Answer.number.Reads as number-reads
 use Rattle.step_push.proofs.push_layer.Reads as push-layer-reads
 use Rattle.file_read.proofs.props_at.Reads as props-at-reads
 use Rattle.file_steps.proofs.pop_at.Reads as pop-at-reads
 use Rattle.file_steps.proofs.walk_draws.Reads as walk-draws-reads
 use Rattle.file_steps.proofs.walk_filter.Reads as walk-filter-reads
-use Rattle.file_nodes.proofs.wide.Reads as wide-reads
+use Rattle.sizes.proofs.wide.Reads as wide-reads
 use Rattle.file_nodes.proofs.+walk_layer+walk_nodes.{statement}
 use Rattle.file_nodes.proofs.+walk_layer+walk_nodes.Tie.{close}
 
@@ -64,8 +63,6 @@ layer-claims t = (
   props-at-reads.Learnt,
   push-layer-reads.Asked,
   push-layer-reads.Learnt,
-  number-reads.Asked,
-  number-reads.Learnt,
   walk-nodes-below t,
   walk-nodes.Post,
   pop-at-reads.Asked,
@@ -73,7 +70,7 @@ layer-claims t = (
 )
 
 abbrev nodes-claims : ℕ → walk-nodes-lts.Claims
-nodes-claims t = (wide-reads.Asked, wide-reads.Learnt, walk-draws-reads.Asked, walk-draws-reads.Learnt, number-reads.Asked, number-reads.Learnt, walk-layer-below t, walk-layer.Post)
+nodes-claims t = (wide-reads.Asked, wide-reads.Learnt, walk-draws-reads.Asked, walk-draws-reads.Learnt, walk-layer-below t, walk-layer.Post)
 
 walk-layer-returns : (t : ℕ) → walk-layer-lts.Need-returns (layer-claims t) (walk-layer-at t) walk-layer.Post
 walk-layer-returns t c =
@@ -152,9 +149,6 @@ walk-layer-props-at-requires t c κs = let s = c .before .before .before .before
 walk-layer-push-layer-requires : (t : ℕ) → walk-layer-lts.Need-push-layer-requires (layer-claims t) (walk-layer-at t) walk-layer.Post
 walk-layer-push-layer-requires t c κs = search needs
 
-walk-layer-number-requires : (t : ℕ) → walk-layer-lts.Need-number-requires (layer-claims t) (walk-layer-at t) walk-layer.Post
-walk-layer-number-requires t c κs = search needs
-
 walk-layer-same-length-9 : (t : ℕ) → walk-layer-lts.Need-same-length-9 (layer-claims t) (walk-layer-at t) walk-layer.Post
 walk-layer-same-length-9 t c =
     let at-push-layer = c .before .before .before .before .before .before .before .before .before .before .before .before in
@@ -191,8 +185,7 @@ walk-layer-returns-3 t c =
     let back = at-if1 .before .before .before .before .before .before .before .before .before in
     let s = back in
     λ u. not-pushed (recorded (s .args .l) (s .args .w .now)) (layer-from (s .args .w .now) (s .args .l .layers .at + 22 * at-wide .wide .result))
-    (at-if2 .if2 .left) _ _ _ (push-step u _ _ _ _ _ _ _ _ _ _ _ _ _ (rw (at-props-at .props-at .ensures) at (at-push-layer .push-layer .ensures))) _ (λ z.
-    c .if3 .taken (c .before .number .ensures ∙ z)) ∙ sym (names-one (s .args .l) (s .args .w .now) _ _ _ (at-wide .wide .result) (at-wide .wide .ensures)
+    (at-if2 .if2 .left) _ _ _ (push-step u _ _ _ _ _ _ _ _ _ _ _ _ _ (rw (at-props-at .props-at .ensures) at (at-push-layer .push-layer .ensures))) _ (c .if3 .taken) ∙ sym (names-one (s .args .l) (s .args .w .now) _ _ _ (at-wide .wide .result) (at-wide .wide .ensures)
     (at-if1 .if1 .left) (s .pre .1 .1))
 
 walk-layer-same-length-14 : (t : ℕ) → walk-layer-lts.Need-same-length-14 (layer-claims t) (walk-layer-at t) walk-layer.Post
@@ -264,9 +257,6 @@ walk-layer-sub-walk-nodes t c = omega (arith, c .before .before .before .before 
 walk-layer-walk-nodes-requires : (t : ℕ) → walk-layer-lts.Need-walk-nodes-requires (layer-claims t) (walk-layer-at t) walk-layer.Post
 walk-layer-walk-nodes-requires t c κs = let s = c .before .before .before .before .before .before .before .before .before .before .before .before .before .before .before .before .before .before .before .before .before .before .before .before .before .before .before .before .before .before .before .before .before .before .before .before .before .before .before .before .before .before .before .before .before .before .before in (omega (arith, c .before .before .before .before .before .before .before .before .before .before .before .before .before .if4 .left, s .pre .0), (s .pre .1 .0, (omega (arith, c .before .before .before .before .before .before .before .before .before .before .wide2 .ensures, c .before .before .before .before .before .before .before .before .wide3 .ensures, layer-range (s .args .l) (s .args .w .now) (s .pre .1 .0) (c .before .before .before .before .before .before .before .before .before .before .before .before .before .before .before .before .before .before .before .before .before .before .before .before .before .before .before .before .before .before .before .before .before .before .before .before .wide .result) (omega (arith, c .before .before .before .before .before .before .before .before .before .before .before .before .before .before .before .before .before .before .before .before .before .before .before .before .before .before .before .before .before .before .before .before .before .before .before .before .wide .ensures, s .pre .1 .1, c .before .before .before .before .before .before .before .before .before .before .before .before .before .before .before .before .before .before .before .before .before .before .before .before .before .before .before .before .before .before .before .before .before .before .before .before .before .before .if1 .left)) .0), omega (arith, c .before .before .before .before .before .before .before .before .wide3 .ensures, layer-range (s .args .l) (s .args .w .now) (s .pre .1 .0) (c .before .before .before .before .before .before .before .before .before .before .before .before .before .before .before .before .before .before .before .before .before .before .before .before .before .before .before .before .before .before .before .before .before .before .before .before .wide .result) (omega (arith, c .before .before .before .before .before .before .before .before .before .before .before .before .before .before .before .before .before .before .before .before .before .before .before .before .before .before .before .before .before .before .before .before .before .before .before .before .wide .ensures, s .pre .1 .1, c .before .before .before .before .before .before .before .before .before .before .before .before .before .before .before .before .before .before .before .before .before .before .before .before .before .before .before .before .before .before .before .before .before .before .before .before .before .before .if1 .left)) .1))))
 
-walk-layer-number-requires-2 : (t : ℕ) → walk-layer-lts.Need-number-requires-2 (layer-claims t) (walk-layer-at t) walk-layer.Post
-walk-layer-number-requires-2 t c κs = search needs
-
 walk-layer-same-length-19 : (t : ℕ) → walk-layer-lts.Need-same-length-19 (layer-claims t) (walk-layer-at t) walk-layer.Post
 walk-layer-same-length-19 t c =
     let at-walk-nodes = c .before .before .before .before .before .before .before .before .before .before .before .before .before .before .before
@@ -334,8 +324,8 @@ walk-layer-returns-5 t c =
     let at-wide2 = at-wide3 .before .before in
     let at-if4 = at-wide2 .before .before .before in
     let at-if3 = at-if4 .before in
-    let at-number = at-if3 .before in
-    let at-push-layer = at-number .before .before .before .before .before .before .before .before .before .before .before in
+    let at-known = at-if3 .before in
+    let at-push-layer = at-known .before .before .before .before .before .before .before .before .before .before .before in
     let at-props-at = at-push-layer .before .before .before .before .before .before in
     let at-if2 = at-props-at .before in
     let at-wide = at-if2 .before .before .before in
@@ -344,10 +334,10 @@ walk-layer-returns-5 t c =
     let s = back in
     λ u. not-walked (recorded (s .args .l) (s .args .w .now)) (layer-from (s .args .w .now) (s .args .l .layers .at + 22 * at-wide .wide .result))
     (at-if2 .if2 .left) _ _ _ (push-step u _ _ _ _ _ _ _ _ _ _ _ _ _ (rw (at-props-at .props-at .ensures) at (at-push-layer .push-layer .ensures))) _
-    (at-if4 .if4 .left) (sym (at-number .number .ensures) ∙ at-if3 .if3 .left) _ _ (rw (
+    (at-if4 .if4 .left) (at-if3 .if3 .left) _ _ (rw (
       at-wide2 .wide2 .ensures,
       at-wide3 .wide3 .ensures,
-    ) at (at-walk-nodes .walk-nodes .ensures u)) (λ z. c .if5 .taken (c .before .number2 .ensures ∙ z)) ∙ sym (names-one (s .args .l)
+    ) at (at-walk-nodes .walk-nodes .ensures u)) (c .if5 .taken) ∙ sym (names-one (s .args .l)
     (s .args .w .now) _ _ _ (at-wide .wide .result) (at-wide .wide .ensures) (at-if1 .if1 .left) (s .pre .1 .1))
 
 walk-layer-pop-at-requires : (t : ℕ) → walk-layer-lts.Need-pop-at-requires (layer-claims t) (walk-layer-at t) walk-layer.Post
@@ -432,15 +422,15 @@ unfolding layer-from
 walk-layer-returns-6 t c =
     let at-pop-at = c .before .before .before .before .before .before .before .before .before .before .before .before in
     let at-if5 = at-pop-at .before .before .before .before .before .before .before .before in
-    let at-number2 = at-if5 .before in
-    let at-walk-nodes = at-number2 .before .before .before .before .before .before .before .before .before .before .before .before .before .before
+    let at-known2 = at-if5 .before in
+    let at-walk-nodes = at-known2 .before .before .before .before .before .before .before .before .before .before .before .before .before .before
     .before .before in
     let at-wide3 = at-walk-nodes .before .before .before .before .before .before .before .before .before in
     let at-wide2 = at-wide3 .before .before in
     let at-if4 = at-wide2 .before .before .before in
     let at-if3 = at-if4 .before in
-    let at-number = at-if3 .before in
-    let at-push-layer = at-number .before .before .before .before .before .before .before .before .before .before .before in
+    let at-known = at-if3 .before in
+    let at-push-layer = at-known .before .before .before .before .before .before .before .before .before .before .before in
     let at-props-at = at-push-layer .before .before .before .before .before .before in
     let at-if2 = at-props-at .before in
     let at-wide = at-if2 .before .before .before in
@@ -449,10 +439,10 @@ walk-layer-returns-6 t c =
     let s = back in
     λ u. closed (recorded (s .args .l) (s .args .w .now)) (layer-from (s .args .w .now) (s .args .l .layers .at + 22 * at-wide .wide .result))
     (at-if2 .if2 .left) _ _ _ (push-step u _ _ _ _ _ _ _ _ _ _ _ _ _ (rw (at-props-at .props-at .ensures) at (at-push-layer .push-layer .ensures))) _
-    (at-if4 .if4 .left) (sym (at-number .number .ensures) ∙ at-if3 .if3 .left) _ _ (rw (
+    (at-if4 .if4 .left) (at-if3 .if3 .left) _ _ (rw (
       at-wide2 .wide2 .ensures,
       at-wide3 .wide3 .ensures,
-    ) at (at-walk-nodes .walk-nodes .ensures u)) (sym (at-number2 .number2 .ensures) ∙ at-if5 .if5 .left) _ (pop-step u _ _ _ _ _ _ _ _
+    ) at (at-walk-nodes .walk-nodes .ensures u)) (at-if5 .if5 .left) _ (pop-step u _ _ _ _ _ _ _ _
     _ _ _ _ _ _ (at-pop-at .pop-at .ensures)) ∙ sym (names-one (s .args .l) (s .args .w .now) _ _ _ (at-wide .wide .result) (at-wide .wide .ensures)
     (at-if1 .if1 .left) (s .pre .1 .1))
 
@@ -507,9 +497,6 @@ walk-nodes-wide-requires-2 t c κs = search needs
 
 walk-nodes-walk-draws-requires : (t : ℕ) → walk-nodes-lts.Need-walk-draws-requires (nodes-claims t) (walk-nodes-at t) walk-nodes.Post walk-nodes-Inv-loop walk-nodes-μ-loop
 walk-nodes-walk-draws-requires t c κs = let s = c .before .before .before .before .before .before .before .before .before .before .before .before .before .before .before .before .before .before .before .before in (s .pre .1 .0 .fits, (omega (arith, c .before .before .before .before .before .before .wide .ensures, c .before .before .before .before .wide2 .ensures, node-range (s .args .l) (s .args .w .now) (s .pre .1 .0) (c .before .before .before .before .before .before .before .before .before .before .loop .i) (omega (arith, c .before .before .before .before .before .before .before .before .before .loop-test .taken, s .pre .1 .1 .1)) .0), omega (arith, c .before .before .before .before .wide2 .ensures, node-range (s .args .l) (s .args .w .now) (s .pre .1 .0) (c .before .before .before .before .before .before .before .before .before .before .loop .i) (omega (arith, c .before .before .before .before .before .before .before .before .before .loop-test .taken, s .pre .1 .1 .1)) .1 .0)))
-
-walk-nodes-number-requires : (t : ℕ) → walk-nodes-lts.Need-number-requires (nodes-claims t) (walk-nodes-at t) walk-nodes.Post walk-nodes-Inv-loop walk-nodes-μ-loop
-walk-nodes-number-requires t c κs = search needs
 
 walk-nodes-same-length : (t : ℕ) → walk-nodes-lts.Need-same-length (nodes-claims t) (walk-nodes-at t) walk-nodes.Post walk-nodes-Inv-loop walk-nodes-μ-loop
 walk-nodes-same-length t c =
@@ -573,7 +560,7 @@ walk-nodes-returns t c =
     at-loop .loop .i) + 1) 0) u _ _ _ _ _ _ _ _ _ _ _ (λ v. rw (
       at-wide .wide .ensures,
       at-wide2 .wide2 .ensures,
-    ) at (at-walk-draws .walk-draws .ensures v))) (λ z. c .if1 .taken (c .before .number .ensures ∙ z))
+    ) at (at-walk-draws .walk-draws .ensures v))) (c .if1 .taken)
 
 walk-nodes-add-walk-layer : (t : ℕ) → walk-nodes-lts.Need-add-walk-layer (nodes-claims t) (walk-nodes-at t) walk-nodes.Post walk-nodes-Inv-loop walk-nodes-μ-loop
 walk-nodes-add-walk-layer t c = let s = c .before .before .before .before .before .before .before .before .before .before .before .before .before .before .before .before .before .before .before .before .before .before .before .before .before .before .before .before .before .before .before .before in omega (arith, node-room (s .args .l) (s .args .w .now) (s .pre .1 .0) (c .before .before .before .before .before .before .before .before .before .before .before .before .before .before .before .before .before .before .before .before .before .before .loop .i) (omega (arith, c .before .before .before .before .before .before .before .before .before .before .before .before .before .before .before .before .before .before .before .before .before .loop-test .taken, s .pre .1 .1 .1)))
@@ -581,24 +568,11 @@ walk-nodes-add-walk-layer t c = let s = c .before .before .before .before .befor
 walk-nodes-mul-walk-layer : (t : ℕ) → walk-nodes-lts.Need-mul-walk-layer (nodes-claims t) (walk-nodes-at t) walk-nodes.Post walk-nodes-Inv-loop walk-nodes-μ-loop
 walk-nodes-mul-walk-layer t c = let s = c .before .before .before .before .before .before .before .before .before .before .before .before .before .before .before .before .before .before .before .before .before .before .before .before .before .before .before .before .before .before .before .before in omega (arith, node-room (s .args .l) (s .args .w .now) (s .pre .1 .0) (c .before .before .before .before .before .before .before .before .before .before .before .before .before .before .before .before .before .before .before .before .before .before .loop .i) (omega (arith, c .before .before .before .before .before .before .before .before .before .before .before .before .before .before .before .before .before .before .before .before .before .loop-test .taken, s .pre .1 .1 .1)))
 
-walk-nodes-shared-slice-read-walk-layer :
-    (t : ℕ) → walk-nodes-lts.Need-shared-slice-read-walk-layer (
-      wide-reads.Asked,
-      wide-reads.Learnt,
-      walk-draws-reads.Asked,
-      walk-draws-reads.Learnt,
-      number-reads.Asked,
-      number-reads.Learnt,
-      walk-layer-below t,
-      walk-layer.Post,
-    ) (walk-nodes-at t) walk-nodes.Post walk-nodes-Inv-loop walk-nodes-μ-loop
+walk-nodes-shared-slice-read-walk-layer : (t : ℕ) → walk-nodes-lts.Need-shared-slice-read-walk-layer (nodes-claims t) (walk-nodes-at t) walk-nodes.Post walk-nodes-Inv-loop walk-nodes-μ-loop
 walk-nodes-shared-slice-read-walk-layer t c = let s = c .before .before .before .before .before .before .before .before .before .before .before .before .before .before .before .before .before .before .before .before .before .before .before .before .before .before .before .before .before .before .before .before .before in omega (arith, node-room (s .args .l) (s .args .w .now) (s .pre .1 .0) (c .before .before .before .before .before .before .before .before .before .before .before .before .before .before .before .before .before .before .before .before .before .before .before .loop .i) (omega (arith, c .before .before .before .before .before .before .before .before .before .before .before .before .before .before .before .before .before .before .before .before .before .before .loop-test .taken, s .pre .1 .1 .1)))
 
 walk-nodes-walk-layer-requires : (t : ℕ) → walk-nodes-lts.Need-walk-layer-requires (nodes-claims t) (walk-nodes-at t) walk-nodes.Post walk-nodes-Inv-loop walk-nodes-μ-loop
 walk-nodes-walk-layer-requires t c κs = let s = c .before .before .before .before .before .before .before .before .before .before .before .before .before .before .before .before .before .before .before .before .before .before .before .before .before .before .before .before .before .before .before .before .before .before .before .before .before .before .before .before .before in (omega (arith, s .pre .0), (s .pre .1 .0, node-range (s .args .l) (s .args .w .now) (s .pre .1 .0) (c .before .before .before .before .before .before .before .before .before .before .before .before .before .before .before .before .before .before .before .before .before .before .before .before .before .before .before .before .before .before .before .loop .i) (omega (arith, c .before .before .before .before .before .before .before .before .before .before .before .before .before .before .before .before .before .before .before .before .before .before .before .before .before .before .before .before .before .before .loop-test .taken, s .pre .1 .1 .1)) .1 .1))
-
-walk-nodes-number-requires-2 : (t : ℕ) → walk-nodes-lts.Need-number-requires-2 (nodes-claims t) (walk-nodes-at t) walk-nodes.Post walk-nodes-Inv-loop walk-nodes-μ-loop
-walk-nodes-number-requires-2 t c κs = search needs
 
 walk-nodes-same-length-9 : (t : ℕ) → walk-nodes-lts.Need-same-length-9 (nodes-claims t) (walk-nodes-at t) walk-nodes.Post walk-nodes-Inv-loop walk-nodes-μ-loop
 walk-nodes-same-length-9 t c =
@@ -674,8 +648,8 @@ walk-nodes-returns-2 t c =
     let at-walk-layer = c .before .before .before .before .before .before .before .before .before .before .before .before .before .before .before
     .before .before in
     let at-if1 = at-walk-layer .before .before .before .before .before .before .before .before .before .before .before in
-    let at-number = at-if1 .before in
-    let at-walk-draws = at-number .before .before .before .before .before .before .before .before .before in
+    let at-known = at-if1 .before in
+    let at-walk-draws = at-known .before .before .before .before .before .before .before .before .before in
     let at-wide2 = at-walk-draws .before .before .before .before .before in
     let at-wide = at-wide2 .before .before in
     let at-loop-test = at-wide .before .before .before in
@@ -687,8 +661,8 @@ walk-nodes-returns-2 t c =
     at-loop .loop .i) + 1) 0) u _ _ _ _ _ _ _ _ _ _ _ (λ v. rw (
       at-wide .wide .ensures,
       at-wide2 .wide2 .ensures,
-    ) at (at-walk-draws .walk-draws .ensures v))) (sym (at-number .number .ensures) ∙ at-if1 .if1 .left) _ _
-    (at-walk-layer .walk-layer .ensures) (λ z. c .if2 .taken (c .before .number2 .ensures ∙ z))
+    ) at (at-walk-draws .walk-draws .ensures v))) (at-if1 .if1 .left) _ _
+    (at-walk-layer .walk-layer .ensures) (c .if2 .taken)
 
 walk-nodes-add-i : (t : ℕ) → walk-nodes-lts.Need-add-i (nodes-claims t) (walk-nodes-at t) walk-nodes.Post walk-nodes-Inv-loop walk-nodes-μ-loop
 walk-nodes-add-i t c = let s = c .before .before .before .before .before .before .before .before .before .before .before .before .before .before .before .before .before .before .before .before .before .before .before .before .before .before .before .before .before .before .before .before .before .before .before .before .before .before .before .before .before .before .before .before .before .before .before .before .before .before .before .before .before .before .before .before .before .before .before .before in omega (arith, c .before .before .before .before .before .before .before .before .before .before .before .before .before .before .before .before .before .before .before .before .before .before .before .before .before .before .before .before .before .before .before .before .before .before .before .before .before .before .before .before .before .before .before .before .before .before .before .before .before .loop-test .taken, s .pre .1 .1 .1, s .pre .1 .0 .fits .nodes .few)
@@ -697,7 +671,7 @@ walk-nodes-loop-less : (t : ℕ) → walk-nodes-lts.Need-loop-less (nodes-claims
 walk-nodes-loop-less t c = omega (arith, c .before .before .before .before .before .before .before .before .before .before .before .before .before .before .before .before .before .before .before .before .before .before .before .before .before .before .before .before .before .before .before .before .before .before .before .before .before .before .before .before .before .before .before .before .before .before .before .before .before .loop-test .taken)
 
 walk-nodes-loop-again : (t : ℕ) → walk-nodes-lts.Need-loop-again (nodes-claims t) (walk-nodes-at t) walk-nodes.Post walk-nodes-Inv-loop walk-nodes-μ-loop
-walk-nodes-loop-again t c = let s = c .before .before .before .before .before .before .before .before .before .before .before .before .before .before .before .before .before .before .before .before .before .before .before .before .before .before .before .before .before .before .before .before .before .before .before .before .before .before .before .before .before .before .before .before .before .before .before .before .before .before .before .before .before .before .before .before .before .before .before .before in (omega (arith, c .before .before .before .before .before .before .before .before .before .before .before .before .before .before .before .before .before .before .before .before .before .before .before .before .before .before .before .before .before .before .before .before .before .before .before .before .before .before .before .before .before .before .before .before .before .before .before .before .before .loop-test .taken), (c .before .before .before .before .before .before .before .before .before .before .before .before .before .before .before .before .before .before .walk-layer .kept .1 .1 .1 .1 .1 .0 ∙ c .before .before .before .before .before .before .before .before .before .before .before .before .before .before .before .before .before .before .before .before .before .before .before .before .before .before .before .before .before .before .before .before .before .before .before .before .before .before .before .walk-draws .kept .1 .1 .1 .1 .1 .0 ∙ c .before .before .before .before .before .before .before .before .before .before .before .before .before .before .before .before .before .before .before .before .before .before .before .before .before .before .before .before .before .before .before .before .before .before .before .before .before .before .before .before .before .before .before .before .before .before .before .before .before .before .loop .inv .1 .0, (c .before .before .before .before .before .before .before .before .before .before .before .before .before .before .before .before .before .before .walk-layer .kept .1 .1 .1 .1 .1 .1 .0 ∙ c .before .before .before .before .before .before .before .before .before .before .before .before .before .before .before .before .before .before .before .before .before .before .before .before .before .before .before .before .before .before .before .before .before .before .before .before .before .before .before .walk-draws .kept .1 .1 .1 .1 .1 .1 .0 ∙ c .before .before .before .before .before .before .before .before .before .before .before .before .before .before .before .before .before .before .before .before .before .before .before .before .before .before .before .before .before .before .before .before .before .before .before .before .before .before .before .before .before .before .before .before .before .before .before .before .before .before .loop .inv .1 .1 .0, (c .before .before .before .before .before .before .before .before .before .before .before .before .before .before .before .before .before .before .walk-layer .kept .1 .1 .1 .1 .1 .1 .1 .0 ∙ c .before .before .before .before .before .before .before .before .before .before .before .before .before .before .before .before .before .before .before .before .before .before .before .before .before .before .before .before .before .before .before .before .before .before .before .before .before .before .before .walk-draws .kept .1 .1 .1 .1 .1 .1 .1 .0 ∙ c .before .before .before .before .before .before .before .before .before .before .before .before .before .before .before .before .before .before .before .before .before .before .before .before .before .before .before .before .before .before .before .before .before .before .before .before .before .before .before .before .before .before .before .before .before .before .before .before .before .before .loop .inv .1 .1 .1 .0, (c .before .before .before .before .before .before .before .before .before .before .before .before .before .before .before .before .before .before .walk-layer .kept .1 .1 .1 .1 .1 .1 .1 .1 .0 ∙ c .before .before .before .before .before .before .before .before .before .before .before .before .before .before .before .before .before .before .before .before .before .before .before .before .before .before .before .before .before .before .before .before .before .before .before .before .before .before .before .before .before .before .before .before .before .before .before .before .before .before .loop .inv .1 .1 .1 .1 .0, (c .before .before .before .before .before .before .before .before .before .before .before .before .before .before .before .before .before .before .walk-layer .kept .1 .1 .1 .1 .1 .1 .1 .1 .1 .0 ∙ c .before .before .before .before .before .before .before .before .before .before .before .before .before .before .before .before .before .before .before .before .before .before .before .before .before .before .before .before .before .before .before .before .before .before .before .before .before .before .before .before .before .before .before .before .before .before .before .before .before .before .loop .inv .1 .1 .1 .1 .1 .0, (c .before .before .before .before .before .before .before .before .before .before .before .before .before .before .before .before .before .before .walk-layer .kept .1 .1 .1 .1 .1 .1 .1 .1 .1 .1 .0 ∙ c .before .before .before .before .before .before .before .before .before .before .before .before .before .before .before .before .before .before .before .before .before .before .before .before .before .before .before .before .before .before .before .before .before .before .before .before .before .before .before .walk-draws .kept .1 .1 .1 .1 .1 .1 .1 .1 .0 ∙ c .before .before .before .before .before .before .before .before .before .before .before .before .before .before .before .before .before .before .before .before .before .before .before .before .before .before .before .before .before .before .before .before .before .before .before .before .before .before .before .before .before .before .before .before .before .before .before .before .before .before .loop .inv .1 .1 .1 .1 .1 .1 .0, (c .before .before .before .before .before .before .before .before .before .before .before .before .before .before .before .before .before .before .walk-layer .kept .1 .1 .1 .1 .1 .1 .1 .1 .1 .1 .1 .0 ∙ c .before .before .before .before .before .before .before .before .before .before .before .before .before .before .before .before .before .before .before .before .before .before .before .before .before .before .before .before .before .before .before .before .before .before .before .before .before .before .before .before .before .before .before .before .before .before .before .before .before .before .loop .inv .1 .1 .1 .1 .1 .1 .1 .0, (c .before .before .before .before .before .before .before .before .before .before .before .before .before .before .before .before .before .before .walk-layer .kept .1 .1 .1 .1 .1 .1 .1 .1 .1 .1 .1 .1 .0 ∙ c .before .before .before .before .before .before .before .before .before .before .before .before .before .before .before .before .before .before .before .before .before .before .before .before .before .before .before .before .before .before .before .before .before .before .before .before .before .before .before .before .before .before .before .before .before .before .before .before .before .before .loop .inv .1 .1 .1 .1 .1 .1 .1 .1 .0, node-turned (c .before .before .before .before .before .before .before .before .before .before .before .before .before .before .before .before .before .before .before .before .before .before .before .before .before .before .before .before .before .before .before .before .before .before .before .before .before .before .before .before .before .before .before .before .before .before .before .before .before .before .loop .inv .1 .1 .1 .1 .1 .1 .1 .1 .1) (c .before .before .before .before .before .before .before .before .before .before .before .before .before .before .before .before .before .before .before .before .before .before .before .before .before .before .before .before .before .before .before .before .before .before .before .before .before .before .before .before .before .before .before .before .before .before .before .before .before .loop-test .taken) (s .pre .1 .1 .1) _ _ (λ u. draws-work (s .args .l) (s .args .w .now) (getD (s .args .w .now) (s .args .l .nodes .at + 3 * c .before .before .before .before .before .before .before .before .before .before .before .before .before .before .before .before .before .before .before .before .before .before .before .before .before .before .before .before .before .before .before .before .before .before .before .before .before .before .before .before .before .before .before .before .before .before .before .before .before .before .loop .i) 0) (getD (s .args .w .now) ((s .args .l .nodes .at + 3 * c .before .before .before .before .before .before .before .before .before .before .before .before .before .before .before .before .before .before .before .before .before .before .before .before .before .before .before .before .before .before .before .before .before .before .before .before .before .before .before .before .before .before .before .before .before .before .before .before .before .before .loop .i) + 1) 0) u _ _ _ _ _ _ _ _ _ _ _ (λ v. rw (c .before .before .before .before .before .before .before .before .before .before .before .before .before .before .before .before .before .before .before .before .before .before .before .before .before .before .before .before .before .before .before .before .before .before .before .before .before .before .before .before .before .before .before .before .before .before .wide .ensures, c .before .before .before .before .before .before .before .before .before .before .before .before .before .before .before .before .before .before .before .before .before .before .before .before .before .before .before .before .before .before .before .before .before .before .before .before .before .before .before .before .before .before .before .before .wide2 .ensures) at (c .before .before .before .before .before .before .before .before .before .before .before .before .before .before .before .before .before .before .before .before .before .before .before .before .before .before .before .before .before .before .before .before .before .before .before .before .before .before .before .walk-draws .ensures v))) (sym (c .before .before .before .before .before .before .before .before .before .before .before .before .before .before .before .before .before .before .before .before .before .before .before .before .before .before .before .before .before .before .number .ensures) ∙ c .before .before .before .before .before .before .before .before .before .before .before .before .before .before .before .before .before .before .before .before .before .before .before .before .before .before .before .before .before .if1 .left) _ _ (c .before .before .before .before .before .before .before .before .before .before .before .before .before .before .before .before .before .before .walk-layer .ensures) (sym (c .before .before .number2 .ensures) ∙ c .before .if2 .left))))))))))
+walk-nodes-loop-again t c = let s = c .before .before .before .before .before .before .before .before .before .before .before .before .before .before .before .before .before .before .before .before .before .before .before .before .before .before .before .before .before .before .before .before .before .before .before .before .before .before .before .before .before .before .before .before .before .before .before .before .before .before .before .before .before .before .before .before .before .before .before .before in (omega (arith, c .before .before .before .before .before .before .before .before .before .before .before .before .before .before .before .before .before .before .before .before .before .before .before .before .before .before .before .before .before .before .before .before .before .before .before .before .before .before .before .before .before .before .before .before .before .before .before .before .before .loop-test .taken), (c .before .before .before .before .before .before .before .before .before .before .before .before .before .before .before .before .before .before .walk-layer .kept .1 .1 .1 .1 .1 .0 ∙ c .before .before .before .before .before .before .before .before .before .before .before .before .before .before .before .before .before .before .before .before .before .before .before .before .before .before .before .before .before .before .before .before .before .before .before .before .before .before .before .walk-draws .kept .1 .1 .1 .1 .1 .0 ∙ c .before .before .before .before .before .before .before .before .before .before .before .before .before .before .before .before .before .before .before .before .before .before .before .before .before .before .before .before .before .before .before .before .before .before .before .before .before .before .before .before .before .before .before .before .before .before .before .before .before .before .loop .inv .1 .0, (c .before .before .before .before .before .before .before .before .before .before .before .before .before .before .before .before .before .before .walk-layer .kept .1 .1 .1 .1 .1 .1 .0 ∙ c .before .before .before .before .before .before .before .before .before .before .before .before .before .before .before .before .before .before .before .before .before .before .before .before .before .before .before .before .before .before .before .before .before .before .before .before .before .before .before .walk-draws .kept .1 .1 .1 .1 .1 .1 .0 ∙ c .before .before .before .before .before .before .before .before .before .before .before .before .before .before .before .before .before .before .before .before .before .before .before .before .before .before .before .before .before .before .before .before .before .before .before .before .before .before .before .before .before .before .before .before .before .before .before .before .before .before .loop .inv .1 .1 .0, (c .before .before .before .before .before .before .before .before .before .before .before .before .before .before .before .before .before .before .walk-layer .kept .1 .1 .1 .1 .1 .1 .1 .0 ∙ c .before .before .before .before .before .before .before .before .before .before .before .before .before .before .before .before .before .before .before .before .before .before .before .before .before .before .before .before .before .before .before .before .before .before .before .before .before .before .before .walk-draws .kept .1 .1 .1 .1 .1 .1 .1 .0 ∙ c .before .before .before .before .before .before .before .before .before .before .before .before .before .before .before .before .before .before .before .before .before .before .before .before .before .before .before .before .before .before .before .before .before .before .before .before .before .before .before .before .before .before .before .before .before .before .before .before .before .before .loop .inv .1 .1 .1 .0, (c .before .before .before .before .before .before .before .before .before .before .before .before .before .before .before .before .before .before .walk-layer .kept .1 .1 .1 .1 .1 .1 .1 .1 .0 ∙ c .before .before .before .before .before .before .before .before .before .before .before .before .before .before .before .before .before .before .before .before .before .before .before .before .before .before .before .before .before .before .before .before .before .before .before .before .before .before .before .before .before .before .before .before .before .before .before .before .before .before .loop .inv .1 .1 .1 .1 .0, (c .before .before .before .before .before .before .before .before .before .before .before .before .before .before .before .before .before .before .walk-layer .kept .1 .1 .1 .1 .1 .1 .1 .1 .1 .0 ∙ c .before .before .before .before .before .before .before .before .before .before .before .before .before .before .before .before .before .before .before .before .before .before .before .before .before .before .before .before .before .before .before .before .before .before .before .before .before .before .before .before .before .before .before .before .before .before .before .before .before .before .loop .inv .1 .1 .1 .1 .1 .0, (c .before .before .before .before .before .before .before .before .before .before .before .before .before .before .before .before .before .before .walk-layer .kept .1 .1 .1 .1 .1 .1 .1 .1 .1 .1 .0 ∙ c .before .before .before .before .before .before .before .before .before .before .before .before .before .before .before .before .before .before .before .before .before .before .before .before .before .before .before .before .before .before .before .before .before .before .before .before .before .before .before .walk-draws .kept .1 .1 .1 .1 .1 .1 .1 .1 .0 ∙ c .before .before .before .before .before .before .before .before .before .before .before .before .before .before .before .before .before .before .before .before .before .before .before .before .before .before .before .before .before .before .before .before .before .before .before .before .before .before .before .before .before .before .before .before .before .before .before .before .before .before .loop .inv .1 .1 .1 .1 .1 .1 .0, (c .before .before .before .before .before .before .before .before .before .before .before .before .before .before .before .before .before .before .walk-layer .kept .1 .1 .1 .1 .1 .1 .1 .1 .1 .1 .1 .0 ∙ c .before .before .before .before .before .before .before .before .before .before .before .before .before .before .before .before .before .before .before .before .before .before .before .before .before .before .before .before .before .before .before .before .before .before .before .before .before .before .before .before .before .before .before .before .before .before .before .before .before .before .loop .inv .1 .1 .1 .1 .1 .1 .1 .0, (c .before .before .before .before .before .before .before .before .before .before .before .before .before .before .before .before .before .before .walk-layer .kept .1 .1 .1 .1 .1 .1 .1 .1 .1 .1 .1 .1 .0 ∙ c .before .before .before .before .before .before .before .before .before .before .before .before .before .before .before .before .before .before .before .before .before .before .before .before .before .before .before .before .before .before .before .before .before .before .before .before .before .before .before .before .before .before .before .before .before .before .before .before .before .before .loop .inv .1 .1 .1 .1 .1 .1 .1 .1 .0, node-turned (c .before .before .before .before .before .before .before .before .before .before .before .before .before .before .before .before .before .before .before .before .before .before .before .before .before .before .before .before .before .before .before .before .before .before .before .before .before .before .before .before .before .before .before .before .before .before .before .before .before .before .loop .inv .1 .1 .1 .1 .1 .1 .1 .1 .1) (c .before .before .before .before .before .before .before .before .before .before .before .before .before .before .before .before .before .before .before .before .before .before .before .before .before .before .before .before .before .before .before .before .before .before .before .before .before .before .before .before .before .before .before .before .before .before .before .before .before .loop-test .taken) (s .pre .1 .1 .1) _ _ (λ u. draws-work (s .args .l) (s .args .w .now) (getD (s .args .w .now) (s .args .l .nodes .at + 3 * c .before .before .before .before .before .before .before .before .before .before .before .before .before .before .before .before .before .before .before .before .before .before .before .before .before .before .before .before .before .before .before .before .before .before .before .before .before .before .before .before .before .before .before .before .before .before .before .before .before .before .loop .i) 0) (getD (s .args .w .now) ((s .args .l .nodes .at + 3 * c .before .before .before .before .before .before .before .before .before .before .before .before .before .before .before .before .before .before .before .before .before .before .before .before .before .before .before .before .before .before .before .before .before .before .before .before .before .before .before .before .before .before .before .before .before .before .before .before .before .before .loop .i) + 1) 0) u _ _ _ _ _ _ _ _ _ _ _ (λ v. rw (c .before .before .before .before .before .before .before .before .before .before .before .before .before .before .before .before .before .before .before .before .before .before .before .before .before .before .before .before .before .before .before .before .before .before .before .before .before .before .before .before .before .before .before .before .before .before .wide .ensures, c .before .before .before .before .before .before .before .before .before .before .before .before .before .before .before .before .before .before .before .before .before .before .before .before .before .before .before .before .before .before .before .before .before .before .before .before .before .before .before .before .before .before .before .before .wide2 .ensures) at (c .before .before .before .before .before .before .before .before .before .before .before .before .before .before .before .before .before .before .before .before .before .before .before .before .before .before .before .before .before .before .before .before .before .before .before .before .before .before .before .walk-draws .ensures v))) (c .before .before .before .before .before .before .before .before .before .before .before .before .before .before .before .before .before .before .before .before .before .before .before .before .before .before .before .before .before .if1 .left) _ _ (c .before .before .before .before .before .before .before .before .before .before .before .before .before .before .before .before .before .before .walk-layer .ensures) (c .before .if2 .left))))))))))
 
 walk-nodes-same-length-17 : (t : ℕ) → walk-nodes-lts.Need-same-length-17 (nodes-claims t) (walk-nodes-at t) walk-nodes.Post walk-nodes-Inv-loop walk-nodes-μ-loop
 walk-nodes-same-length-17 t c = c .before .loop .inv .1 .0
@@ -749,7 +723,6 @@ pub +walk-layer+walk-nodes-spec : {M : Type 1} → statement M
     (walk-layer-returns-2 t)
     (walk-layer-props-at-requires t)
     (walk-layer-push-layer-requires t)
-    (walk-layer-number-requires t)
     (walk-layer-same-length-9 t)
     (walk-layer-same-length-10 t)
     (walk-layer-same-length-11 t)
@@ -772,7 +745,6 @@ pub +walk-layer+walk-nodes-spec : {M : Type 1} → statement M
     (walk-layer-wide-requires-3 t)
     (walk-layer-sub-walk-nodes t)
     (walk-layer-walk-nodes-requires t)
-    (walk-layer-number-requires-2 t)
     (walk-layer-same-length-19 t)
     (walk-layer-same-length-20 t)
     (walk-layer-same-length-21 t)
@@ -808,7 +780,6 @@ pub +walk-layer+walk-nodes-spec : {M : Type 1} → statement M
     (walk-nodes-shared-slice-read-wide-2 t)
     (walk-nodes-wide-requires-2 t)
     (walk-nodes-walk-draws-requires t)
-    (walk-nodes-number-requires t)
     (walk-nodes-same-length t)
     (walk-nodes-same-length-2 t)
     (walk-nodes-same-length-3 t)
@@ -822,7 +793,6 @@ pub +walk-layer+walk-nodes-spec : {M : Type 1} → statement M
     (walk-nodes-mul-walk-layer t)
     (walk-nodes-shared-slice-read-walk-layer t)
     (walk-nodes-walk-layer-requires t)
-    (walk-nodes-number-requires-2 t)
     (walk-nodes-same-length-9 t)
     (walk-nodes-same-length-10 t)
     (walk-nodes-same-length-11 t)

@@ -1,5 +1,5 @@
-use Rattle.paint_screen.proofs.Judged.{small-step, below}
 use mathlib.Core.Path.{sym, _∙_}
+use native.Mathlib.Omega.{arith}
 use Rattle.paint_command.specs.Painting.{lent}
 use Rattle.paint_screen.specs.Stepping.{attributes}
 use Rattle.paint_screen.proofs.Parts.{ready}
@@ -11,25 +11,24 @@ use Rattle.paint_whole.proofs.paint_row.Tie as tie
 judge-step-requires : tie.Need-judge-step-requires
 judge-step-requires c κs = search needs
 
-answer-of-requires : tie.Need-answer-of-requires
-answer-of-requires c κs = below _ _ (c .before .judge-step .ensures) (small-step _ _ _ _)
-
 returns : tie.Need-returns
 returns c =
-    let at-judge-step = c .before .before in
+    let at-judge-step = c .before in
     let at-args = at-judge-step .before .before .before .before .before .before .before .before .before in
     row-refused (at-args .args .screen) (at-args .args .row) (attributes (at-args .args .paint-attrs .now) (at-args .args .layer-attrs .now)) (lent
     (at-args .args .rows .now) (at-args .args .render .now) (at-args .args .fills .now) (at-args .args .depth .now) (at-args .args .painting .now)
-    (at-args .args .list .now)) _ (at-judge-step .judge-step .ensures) _ (c .answer-of .ensures) (c .before .if1 .taken)
+    (at-args .args .list .now)) _ (at-judge-step .judge-step .ensures) (c .if1 .taken)
 
 row-part-requires : tie.Need-row-part-requires
 row-part-requires c κs =
     let at-if1 = c .before .before .before in
     let at-judge-step = at-if1 .before in
-    let at-args = at-judge-step .before .before .before .before .before .before .before .before .before in
-    ready (at-args .args .screen) (at-args .args .row) (attributes (at-args .args .paint-attrs .now) (at-args .args .layer-attrs .now)) (lent
-    (at-args .args .rows .now) (at-args .args .render .now) (at-args .args .fills .now) (at-args .args .depth .now) (at-args .args .painting .now)
-    (at-args .args .list .now)) (sym (at-judge-step .judge-step .ensures) ∙ at-if1 .if1 .left)
+    let at-args = at-judge-step .before .before .before .before .before .before .before .before .before in (
+      omega arith,
+      ready (at-args .args .screen) (at-args .args .row) (attributes (at-args .args .paint-attrs .now) (at-args .args .layer-attrs .now)) (lent
+          (at-args .args .rows .now) (at-args .args .render .now) (at-args .args .fills .now) (at-args .args .depth .now) (at-args .args .painting .now)
+          (at-args .args .list .now)) (sym (at-judge-step .judge-step .ensures) ∙ at-if1 .if1 .left),
+    )
 
 same-length : tie.Need-same-length
 same-length c = search needs
@@ -55,7 +54,6 @@ paint-row-spec =
     tie.close
     (tie.spec
     judge-step-requires
-    answer-of-requires
     returns
     row-part-requires
     same-length

@@ -18,7 +18,7 @@ push-paint-requires c κs =
     let at-enum-told = c .before .before .before in
     let at-split-opaque-span = at-enum-told .before .before in
     let at-args = at-split-opaque-span .before .before .before .before in
-    refused-asks _ _ (tiles (at-args .args .span)) (at-args .pre .0) _ (at-args .pre .1) (at-split-opaque-span .split-opaque-span .ensures) _
+    refused-asks _ _ (tiles (at-args .args .span)) (at-args .pre .0) _ (at-args .pre .1) (at-split-opaque-span .split-opaque-span .ensures)
     (at-enum-told .enum-told .given .1)
 
 enum-known-split : tie.Need-enum-known-split
@@ -78,7 +78,7 @@ returns c =
     let at-split-opaque-span = at-enum-told .before .before in
     let at-args = at-split-opaque-span .before .before .before .before in
     at-push-paint .push-paint .ensures ∙ sym (refused-is _ _ (tiles (at-args .args .span)) (at-args .pre .0) _ (at-args .pre .1)
-    (at-split-opaque-span .split-opaque-span .ensures) _ (at-enum-told .enum-told .given .1))
+    (at-split-opaque-span .split-opaque-span .ensures) (at-enum-told .enum-told .given .1))
 
 same-length-4 : tie.Need-same-length-4
 same-length-4 c = search needs

@@ -7,7 +7,7 @@ use Rattle.row_judge.proofs.is_good_row.Tie as tie
 use Rattle.row_judge.proofs.is_good_row.Reads as reads
 use Rattle.row_judge.proofs.is_good_row.Lts as lts
 use Rattle.row_judge.proofs.is_good_union.Reads as is-good-union-reads
-use Rattle.row.proofs.wide.Reads as wide-reads
+use Rattle.sizes.proofs.wide.Reads as wide-reads
 
 shared-slice-read-renders : tie.Need-shared-slice-read-renders
 shared-slice-read-renders c = search needs

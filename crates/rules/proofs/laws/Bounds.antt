@@ -27,7 +27,7 @@ pub record BoundedSpan (s : Span) : Type 0 where
   pub end : s .end ≤ 8192
 
 pub record BoundedCut (k : Cut) : Type 0 where
-  pub tiles : BoundedSpan (k .tiles)
+  pub tiles : BoundedSpan (k .stretch .tiles)
 
 -- a box that lies on the screen of the viewport v, unless it is empty
 pub record Inside (v b : Box) : Type 0 where
@@ -152,7 +152,7 @@ draw-ok false i id (some a) h = paints h
 draws-ok : (e : Bool) (i id : ℕ) {ks : List Cut} → All BoundedCut ks → All (PutOk BoundedSpan) (draw-puts e i id ks)
 unfolding draw-puts
 draws-ok e i id nil = nil
-draws-ok e i id (cons {x = k} h hs) = cons (record { act = draw-ok e i id (k .alpha) (h .tiles) }) (draws-ok e i id hs)
+draws-ok e i id (cons {x = k} h hs) = cons (record { act = draw-ok e i id (k .stretch .alpha) (h .tiles) }) (draws-ok e i id hs)
 
 closes-ok : (i : ℕ) (touched : List ℕ) {ks : List Cut} → All BoundedCut ks → All (PutOk BoundedSpan) (close-puts i touched ks)
 unfolding close-puts

@@ -2,7 +2,7 @@
 use mathlib.Core.Path.{ap, _∙_}
 use lib.ListN.{length}
 use borrow.Author.Needs.{needs}
-use Rattle.screen.proofs.Resets.{is-answer, length-zeros, refused, done, all-zero}
+use Rattle.screen.proofs.Resets.{length-zeros, refused, done, all-zero}
 use Rattle.screen.proofs.reset.Statement.{statement}
 use Rattle.screen.proofs.reset.Tie as tie
 
@@ -40,11 +40,8 @@ at-1 c = at-2 c .before .before .before .before
 judge-reset-requires : tie.Need-judge-reset-requires
 judge-reset-requires c κs = search needs
 
-answer-of-requires : tie.Need-answer-of-requires
-answer-of-requires c κs = is-answer _ _ _ _ _ (c .before .judge-reset .ensures)
-
 returns : tie.Need-returns
-returns c = refused _ _ _ _ _ (c .before .before .judge-reset .ensures) _ (c .answer-of .ensures) (c .before .if1 .taken)
+returns c = refused _ _ _ _ _ (c .before .judge-reset .ensures) (c .if1 .taken)
 
 clear-requires : tie.Need-clear-requires
 clear-requires c κs = search needs
@@ -120,7 +117,6 @@ reset-spec =
     tie.close
     (tie.spec
     judge-reset-requires
-    answer-of-requires
     returns
     clear-requires
     clear-requires-2

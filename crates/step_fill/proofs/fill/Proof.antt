@@ -9,7 +9,7 @@ use Rattle.row_screen.proofs.Laws.{rows-counted}
 use Rattle.step_fill.specs.Fills.{lent}
 use Rattle.step_fill.proofs.Inputs.{draw-facts}
 use Rattle.step_fill.proofs.Numbers.{right-lengths, passing}
-use Rattle.step_fill.proofs.Done.{is-answer, refused, zero-says, room-for-attr, done-empty, done-some}
+use Rattle.step_fill.proofs.Done.{refused, zero-says, room-for-attr, done-empty, done-some}
 use borrow.Author.Needs.{needs}
 use Rattle.step_fill.proofs.fill.Statement.{statement}
 use Rattle.step_fill.proofs.fill.Tie as tie
@@ -20,16 +20,9 @@ use Rattle.step_fill.proofs.job_of.Reads as job-of-reads
 use Rattle.step_fill.proofs.judge_fill.Reads as judge-fill-reads
 use Rattle.step_fill.proofs.taken.Reads as taken-reads
 use Rattle.step_fill_rows.proofs.fill_rows.Reads as fill-rows-reads
-use Rattle.screen.proofs.answer_of.Reads as answer-of-reads
 
 judge-fill-requires : tie.Need-judge-fill-requires
 judge-fill-requires c κs = search needs
-
-answer-of-requires : tie.Need-answer-of-requires
-answer-of-requires c κs =
-    let at-args = c .before .before .before .before .before .before .before .before .before .before .before .before in
-    is-answer (lent (at-args .args .screen) (words (at-args .args .rows .now) (at-args .args .render .now) (at-args .args .fills .now))
-    (at-args .args .paint-attrs .now)) (at-args .args .paints .now) (at-args .args .segments .now) (at-args .args .draw) (c .before .judge-fill .ensures)
 
 same-length : tie.Need-same-length
 same-length c = search needs
@@ -45,11 +38,11 @@ same-length-4 c = search needs
 
 returns : tie.Need-returns
 returns c =
-    let at-judge-fill = c .before .before in
+    let at-judge-fill = c .before in
     let at-args = at-judge-fill .before .before .before .before .before .before .before .before .before .before .before in
     refused (lent (at-args .args .screen) (words (at-args .args .rows .now) (at-args .args .render .now) (at-args .args .fills .now))
     (at-args .args .paint-attrs .now)) (at-args .args .paints .now) (at-args .args .segments .now) (at-args .args .draw) (at-judge-fill .judge-fill .ensures)
-    (c .before .if1 .taken) (c .answer-of .ensures)
+    (c .if1 .taken)
 
 taken-requires : tie.Need-taken-requires
 taken-requires c κs =
@@ -198,7 +191,6 @@ fill-spec =
     tie.close
     (tie.spec
     judge-fill-requires
-    answer-of-requires
     same-length
     same-length-2
     same-length-3

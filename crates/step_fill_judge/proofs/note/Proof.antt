@@ -4,7 +4,7 @@ use Rattle.step_fill_judge.proofs.note.Statement.{statement}
 use Rattle.step_fill_judge.proofs.note.Tie as tie
 use Rattle.step_fill_judge.proofs.note.Reads as reads
 use Rattle.step_fill_judge.proofs.note.Lts as lts
-use Rattle.row.proofs.wide.Reads as wide-reads
+use Rattle.sizes.proofs.wide.Reads as wide-reads
 
 wide-requires : tie.Need-wide-requires
 wide-requires c κs = search needs

@@ -1,6 +1,6 @@
 -- Judged first; refused, nothing is written. Done, the rows of the box get the fill, the tables its paint and its attribute.
 use mathlib.Core.Path.{sym, _∙_}
-use Rattle.step_filter.proofs.Laws.{small, refused-is, done-is}
+use Rattle.step_filter.proofs.Laws.{refused-is, done-is}
 use Rattle.step_filter.proofs.Doing.{nothing-needs, nothing-left}
 use borrow.Author.Needs.{needs}
 use Rattle.step_filter.proofs.filter_fill.Statement.{statement}
@@ -8,9 +8,6 @@ use Rattle.step_filter.proofs.filter_fill.Tie as tie
 
 judge-filter-requires : tie.Need-judge-filter-requires
 judge-filter-requires c κs = search needs
-
-answer-of-requires : tie.Need-answer-of-requires
-answer-of-requires c κs = rw (c .before .judge-filter .ensures) (small _ _)
 
 same-length : tie.Need-same-length
 same-length c = search needs
@@ -28,7 +25,7 @@ same-length-5 : tie.Need-same-length-5
 same-length-5 c = search needs
 
 returns : tie.Need-returns
-returns c = refused-is _ _ _ _ (c .answer-of .ensures) (c .before .before .judge-filter .ensures) (c .before .if1 .taken)
+returns c = refused-is _ _ _ (c .before .judge-filter .ensures) (c .if1 .taken)
 
 filter-box-requires : tie.Need-filter-box-requires
 filter-box-requires c κs = search needs
@@ -108,7 +105,6 @@ filter-fill-spec =
     tie.close
     (tie.spec
     judge-filter-requires
-    answer-of-requires
     same-length
     same-length-2
     same-length-3

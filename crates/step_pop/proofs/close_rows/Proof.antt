@@ -14,7 +14,7 @@ use Rattle.step_pop.proofs.end_row.Reads as end-row-reads
 use Rattle.step_pop.proofs.first_row.Reads as first-row-reads
 use Rattle.step_pop.proofs.parent_box.Reads as parent-box-reads
 use Rattle.rect.proofs.Rect.bbox_span.Reads as bbox-span-reads
-use Rattle.row.proofs.wide.Reads as wide-reads
+use Rattle.sizes.proofs.wide.Reads as wide-reads
 use Rattle.segments.proofs.scene_of.Reads as scene-of-reads
 
 sub-open-layer : tie.Need-sub-open-layer

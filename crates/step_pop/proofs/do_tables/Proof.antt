@@ -10,7 +10,7 @@ use Rattle.cmd.proofs.attrs.put_layer_attrs.Reads as put-layer-attrs-reads
 use Rattle.screen_layers.proofs.drop_layer.Reads as drop-layer-reads
 use Rattle.screen_layers.proofs.open_layer.Reads as open-layer-reads
 use Rattle.step_pop.proofs.thread_of.Reads as thread-of-reads
-use Rattle.row.proofs.wide.Reads as wide-reads
+use Rattle.sizes.proofs.wide.Reads as wide-reads
 
 sub-k : tie.Need-sub-k
 sub-k c = search needs

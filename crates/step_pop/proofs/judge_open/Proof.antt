@@ -15,7 +15,7 @@ use Rattle.step_pop.proofs.is_good_open.Reads as is-good-open-reads
 use Rattle.step_pop.proofs.judge_clip.Reads as judge-clip-reads
 use Rattle.step_pop.proofs.judge_plain.Reads as judge-plain-reads
 use Rattle.step_pop.proofs.parent_box.Reads as parent-box-reads
-use Rattle.row.proofs.wide.Reads as wide-reads
+use Rattle.sizes.proofs.wide.Reads as wide-reads
 use Rattle.segments.proofs.scene_of.Reads as scene-of-reads
 
 sub-open-layer : tie.Need-sub-open-layer

@@ -2,7 +2,7 @@
 use mathlib.Core.Path.{sym, _∙_}
 use Rattle.row.specs.Words.{words}
 use Rattle.step_pop.specs.Pop.{lent}
-use Rattle.step_pop.proofs.Popping.{refused-out, number-small}
+use Rattle.step_pop.proofs.Popping.{refused-out}
 use borrow.Author.Needs.{needs}
 use Rattle.step_pop.proofs.pop_layer.Statement.{statement}
 use Rattle.step_pop.proofs.pop_layer.Tie as tie
@@ -10,16 +10,9 @@ use Rattle.step_pop.proofs.pop_layer.Reads as reads
 use Rattle.step_pop.proofs.pop_layer.Lts as lts
 use Rattle.step_pop.proofs.do_pop.Reads as do-pop-reads
 use Rattle.step_pop.proofs.judge_pop.Reads as judge-pop-reads
-use Rattle.screen.proofs.answer_of.Reads as answer-of-reads
 
 judge-pop-requires : tie.Need-judge-pop-requires
 judge-pop-requires c κs = search needs
-
-answer-of-requires : tie.Need-answer-of-requires
-answer-of-requires c κs =
-    let at-args = c .before .before .before .before .before .before .before .before .before .before .before .before .before .before .before in
-    rw (c .before .judge-pop .ensures) (number-small (at-args .args .screen) (lent (words (at-args .args .rows .now) (at-args .args .render .now)
-    (at-args .args .fills .now)) (at-args .args .layers .now) (at-args .args .opacities .now) (at-args .args .layer-attrs .now)) (at-args .args .list .now))
 
 same-length : tie.Need-same-length
 same-length c = search needs
@@ -41,11 +34,11 @@ same-length-6 c = search needs
 
 returns : tie.Need-returns
 returns c =
-    let at-judge-pop = c .before .before in
+    let at-judge-pop = c .before in
     let at-args = at-judge-pop .before .before .before .before .before .before .before .before .before .before .before .before .before .before in
     refused-out (at-args .args .screen) (lent (words (at-args .args .rows .now) (at-args .args .render .now) (at-args .args .fills .now))
     (at-args .args .layers .now) (at-args .args .opacities .now) (at-args .args .layer-attrs .now)) (at-args .args .list .now)
-    (at-judge-pop .judge-pop .ensures) (c .before .if1 .taken) (c .answer-of .ensures)
+    (at-judge-pop .judge-pop .ensures) (c .if1 .taken)
 
 do-pop-requires : tie.Need-do-pop-requires
 do-pop-requires c κs = search needs
@@ -76,7 +69,6 @@ pop-layer-spec =
     tie.close
     (tie.spec
     judge-pop-requires
-    answer-of-requires
     same-length
     same-length-2
     same-length-3

@@ -6,7 +6,7 @@ use Rattle.step_pop_rows.proofs.is_full_row.Statement.{statement}
 use Rattle.step_pop_rows.proofs.is_full_row.Tie as tie
 use Rattle.step_pop_rows.proofs.is_full_row.Reads as reads
 use Rattle.step_pop_rows.proofs.is_full_row.Lts as lts
-use Rattle.row.proofs.wide.Reads as wide-reads
+use Rattle.sizes.proofs.wide.Reads as wide-reads
 
 mul-x : tie.Need-mul-x
 mul-x c = search needs

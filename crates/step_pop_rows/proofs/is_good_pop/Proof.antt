@@ -10,7 +10,7 @@ use Rattle.step_pop_rows.proofs.is_good_pop.Tie as tie
 use Rattle.step_pop_rows.proofs.is_good_pop.Reads as reads
 use Rattle.step_pop_rows.proofs.is_good_pop.Lts as lts
 use Rattle.row_judge.proofs.is_good_row.Reads as is-good-row-reads
-use Rattle.row.proofs.wide.Reads as wide-reads
+use Rattle.sizes.proofs.wide.Reads as wide-reads
 
 shared-slice-read-levels : tie.Need-shared-slice-read-levels
 shared-slice-read-levels c = search needs

@@ -8,7 +8,7 @@ use Rattle.step_pop_rows.proofs.so_far.Statement.{statement}
 use Rattle.step_pop_rows.proofs.so_far.Tie as tie
 use Rattle.step_pop_rows.proofs.so_far.Reads as reads
 use Rattle.step_pop_rows.proofs.so_far.Lts as lts
-use Rattle.row.proofs.wide.Reads as wide-reads
+use Rattle.sizes.proofs.wide.Reads as wide-reads
 
 add-if1 : tie.Need-add-if1
 add-if1 c = search needs

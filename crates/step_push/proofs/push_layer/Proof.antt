@@ -2,19 +2,13 @@
 use mathlib.Core.Path.{sym, _∙_}
 use Rattle.row.specs.Words.{words}
 use Rattle.step_push.specs.Push.{lent}
-use Rattle.step_push.proofs.Laws.{small, refused-is, done-is}
+use Rattle.step_push.proofs.Laws.{refused-is, done-is}
 use borrow.Author.Needs.{needs}
 use Rattle.step_push.proofs.push_layer.Statement.{statement}
 use Rattle.step_push.proofs.push_layer.Tie as tie
 
 judge-push-requires : tie.Need-judge-push-requires
 judge-push-requires c κs = search needs
-
-answer-of-requires : tie.Need-answer-of-requires
-answer-of-requires c κs =
-    let at-args = c .before .before .before .before .before .before .before .before .before .before .before .before in
-    rw (c .before .judge-push .ensures) (small (at-args .args .props) (lent (at-args .args .screen) (words (at-args .args .rows .now)
-    (at-args .args .render .now) (at-args .args .fills .now)) (at-args .args .layers .now) (at-args .args .opacities .now)))
 
 same-length : tie.Need-same-length
 same-length c = search needs
@@ -33,10 +27,10 @@ same-length-5 c = search needs
 
 returns : tie.Need-returns
 returns c =
-    let at-judge-push = c .before .before in
+    let at-judge-push = c .before in
     let at-args = at-judge-push .before .before .before .before .before .before .before .before .before .before .before in
     refused-is (at-args .args .props) (lent (at-args .args .screen) (words (at-args .args .rows .now) (at-args .args .render .now) (at-args .args .fills .now))
-    (at-args .args .layers .now) (at-args .args .opacities .now)) _ _ (c .answer-of .ensures) (at-judge-push .judge-push .ensures) (c .before .if1 .taken)
+    (at-args .args .layers .now) (at-args .args .opacities .now)) _ (at-judge-push .judge-push .ensures) (c .if1 .taken)
 
 do-push-requires : tie.Need-do-push-requires
 do-push-requires c κs =
@@ -74,7 +68,6 @@ push-layer-spec =
     tie.close
     (tie.spec
     judge-push-requires
-    answer-of-requires
     same-length
     same-length-2
     same-length-3

@@ -11,23 +11,17 @@ no-screen-requires c κs = search needs
 bucket-recording-requires : tie.Need-bucket-recording-requires
 bucket-recording-requires c κs = search needs
 
-number-requires : tie.Need-number-requires
-number-requires c κs = search needs
-
 refuse-requires : tie.Need-refuse-requires
 refuse-requires c κs = search needs
 
 same-length : tie.Need-same-length
 same-length c =
-    let at-bucket-recording = c .before .before .before .before .before .before .before .before .before .before .before .before .before .before .before
+    let at-bucket-recording = c .before .before .before .before .before .before .before .before .before .before .before .before .before .before
     .before .before .before .before .before .before .before .before .before .before .before in
     (at-bucket-recording .bucket-recording) .kept .1 .1 .1 .1 .0
 
 same-length-2 : tie.Need-same-length-2
-same-length-2 c =
-    let at-bucket-recording = c .before .before .before .before .before .before .before .before .before .before .before .before .before .before .before
-    .before .before .before .before .before .before .before .before .before .before .before in
-    (at-bucket-recording .bucket-recording) .kept .1 .1 .1 .1 .1 .0
+same-length-2 c = search needs
 
 same-length-3 : tie.Need-same-length-3
 same-length-3 c = search needs
@@ -60,15 +54,14 @@ returns : tie.Need-returns
 returns c =
     let at-refuse = c .before .before in
     let at-if1 = at-refuse .before .before in
-    let at-number = at-if1 .before in
-    let at-bucket-recording = at-number .before .before .before .before .before .before .before .before .before .before .before .before .before .before
+    let at-bucket-recording = at-if1 .before .before .before .before .before .before .before .before .before .before .before .before .before .before
     .before .before .before .before .before .before .before in
     let at-no-screen = at-bucket-recording .before .before .before .before .before .before .before .before .before .before .before in
     let at-args = at-no-screen .before .before .before .before .before .before .before .before .before .before .before .before in
     text-refused ((at-args .args) .file .now) (tables ((at-args .args) .render .now) ((at-args .args) .fills .now) ((at-args .args) .depth .now)
     ((at-args .args) .rows .now) ((at-args .args) .painting .now) ((at-args .args) .layers .now) ((at-args .args) .opacities .now)
     ((at-args .args) .paint-attrs .now) ((at-args .args) .layer-attrs .now) ((at-args .args) .filter-paints .now)) ((at-args .args) .out .now)
-    ((at-no-screen .no-screen) .ensures) ((at-bucket-recording .bucket-recording) .ensures) ((at-number .number) .ensures) ((at-if1 .if1) .taken)
+    ((at-no-screen .no-screen) .ensures) ((at-bucket-recording .bucket-recording) .ensures) ((at-if1 .if1) .taken)
     ((at-refuse .refuse) .ensures)
 
 show-requires : tie.Need-show-requires
@@ -76,33 +69,30 @@ show-requires c κs = search needs
 
 same-length-12 : tie.Need-same-length-12
 same-length-12 c =
-    let at-bucket-recording = c .before .before .before .before .before .before .before .before .before .before .before .before .before .before .before
+    let at-bucket-recording = c .before .before .before .before .before .before .before .before .before .before .before .before .before .before
     .before .before .before .before .before .before .before .before .before .before .before .before .before .before in
     (at-bucket-recording .bucket-recording) .kept .1 .1 .1 .1 .0
 
 same-length-13 : tie.Need-same-length-13
 same-length-13 c =
-    let at-bucket-recording = c .before .before .before .before .before .before .before .before .before .before .before .before .before .before .before
+    let at-bucket-recording = c .before .before .before .before .before .before .before .before .before .before .before .before .before .before
     .before .before .before .before .before .before .before .before .before .before .before .before .before .before in
     (at-bucket-recording .bucket-recording) .kept .1 .1 .1 .1 .1 .0
 
 same-length-14 : tie.Need-same-length-14
 same-length-14 c =
-    let at-bucket-recording = c .before .before .before .before .before .before .before .before .before .before .before .before .before .before .before
+    let at-bucket-recording = c .before .before .before .before .before .before .before .before .before .before .before .before .before .before
     .before .before .before .before .before .before .before .before .before .before .before .before .before .before in
     (at-bucket-recording .bucket-recording) .kept .1 .1 .1 .1 .1 .1 .0
 
 same-length-15 : tie.Need-same-length-15
 same-length-15 c =
-    let at-bucket-recording = c .before .before .before .before .before .before .before .before .before .before .before .before .before .before .before
+    let at-bucket-recording = c .before .before .before .before .before .before .before .before .before .before .before .before .before .before
     .before .before .before .before .before .before .before .before .before .before .before .before .before .before in
     (at-bucket-recording .bucket-recording) .kept .1 .1 .1 .1 .1 .1 .1 .0
 
 same-length-16 : tie.Need-same-length-16
-same-length-16 c =
-    let at-bucket-recording = c .before .before .before .before .before .before .before .before .before .before .before .before .before .before .before
-    .before .before .before .before .before .before .before .before .before .before .before .before .before .before in
-    (at-bucket-recording .bucket-recording) .kept .1 .1 .1 .1 .1 .1 .1 .1 .0
+same-length-16 c = search needs
 
 same-length-17 : tie.Need-same-length-17
 same-length-17 c = search needs
@@ -126,15 +116,14 @@ returns-2 : tie.Need-returns-2
 returns-2 c =
     let at-show = c .before .before in
     let at-if1 = at-show .before .before .before .before .before in
-    let at-number = at-if1 .before in
-    let at-bucket-recording = at-number .before .before .before .before .before .before .before .before .before .before .before .before .before .before
+    let at-bucket-recording = at-if1 .before .before .before .before .before .before .before .before .before .before .before .before .before .before
     .before .before .before .before .before .before .before in
     let at-no-screen = at-bucket-recording .before .before .before .before .before .before .before .before .before .before .before in
     let at-args = at-no-screen .before .before .before .before .before .before .before .before .before .before .before .before in
     text-shown ((at-args .args) .file .now) (tables ((at-args .args) .render .now) ((at-args .args) .fills .now) ((at-args .args) .depth .now)
     ((at-args .args) .rows .now) ((at-args .args) .painting .now) ((at-args .args) .layers .now) ((at-args .args) .opacities .now)
     ((at-args .args) .paint-attrs .now) ((at-args .args) .layer-attrs .now) ((at-args .args) .filter-paints .now)) ((at-args .args) .out .now)
-    ((at-no-screen .no-screen) .ensures) ((at-bucket-recording .bucket-recording) .ensures) ((at-number .number) .ensures) ((at-if1 .if1) .left)
+    ((at-no-screen .no-screen) .ensures) ((at-bucket-recording .bucket-recording) .ensures) ((at-if1 .if1) .left)
     ((at-show .show) .ensures)
 
 pub recording-text-spec : {M : Type 1} → statement M
@@ -143,7 +132,6 @@ recording-text-spec =
     (tie.spec
     no-screen-requires
     bucket-recording-requires
-    number-requires
     refuse-requires
     same-length
     same-length-2

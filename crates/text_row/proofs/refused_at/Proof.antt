@@ -14,9 +14,6 @@ slice-aggregate-paint-step c = search needs
 paint-step-requires : tie.Need-paint-step-requires
 paint-step-requires c κs = search needs
 
-number-requires : tie.Need-number-requires
-number-requires c κs = search needs
-
 same-length : tie.Need-same-length
 same-length c = search needs
 
@@ -25,11 +22,10 @@ same-length-2 c = search needs
 
 returns : tie.Need-returns
 returns c =
-    let back = c .before .before .before .before .before .before in
-    let at-paint-step = back in
+    let at-paint-step = c .before .before .before .before .before in
     let entry = at-paint-step .before .before .before .before .before .before .before .before .before .before .before in
     stopped-at _ _ (attributes (entry .args .paint-attrs .now) (entry .args .layer-attrs .now)) (lent (entry .args .rows .now) (entry .args .render .now)
-    (entry .args .fills .now) (entry .args .depth .now) (entry .args .painting .now) []) (at-paint-step .paint-step .result) (c .number .ensures)
+    (entry .args .fills .now) (entry .args .depth .now) (entry .args .painting .now) []) (at-paint-step .paint-step .result)
     (at-paint-step .paint-step .ensures)
 
 pub refused-at-spec : {M : Type 1} → statement M
@@ -38,7 +34,6 @@ refused-at-spec =
     (tie.spec
     slice-aggregate-paint-step
     paint-step-requires
-    number-requires
     same-length
     same-length-2
     returns)

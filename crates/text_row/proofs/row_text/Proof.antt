@@ -11,9 +11,6 @@ use Rattle.text_row.proofs.row_text.Tie as tie
 paint-row-requires : tie.Need-paint-row-requires
 paint-row-requires c κs = search needs
 
-number-requires : tie.Need-number-requires
-number-requires c κs = search needs
-
 same-length : tie.Need-same-length
 same-length c = search needs
 
@@ -25,12 +22,11 @@ same-length-3 c = search needs
 
 returns : tie.Need-returns
 returns c =
-    let back = c .before .before .before .before .before .before .before .before in
-    let at-paint-row = back in
+    let at-paint-row = c .before .before .before .before .before .before .before in
     let entry = at-paint-row .before .before .before .before .before .before .before .before .before .before .before .before .before in
     row-refused _ _ (attributes (entry .args .paint-attrs .now) (entry .args .layer-attrs .now)) (lent (entry .args .rows .now) (entry .args .render .now)
     (entry .args .fills .now) (entry .args .depth .now) (entry .args .painting .now) (entry .args .list .now)) (at-paint-row .paint-row .result)
-    (c .before .number .ensures) (at-paint-row .paint-row .ensures) _ (c .if1 .taken)
+    (at-paint-row .paint-row .ensures) _ (c .if1 .taken)
 
 refused-at-requires : tie.Need-refused-at-requires
 refused-at-requires c κs = search needs
@@ -50,22 +46,19 @@ returns-2 c =
     let at-refused-at = back in
     let at-if2 = at-refused-at .before .before .before in
     let at-if1 = at-if2 .before .before in
-    let at-number = at-if1 .before in
-    let at-paint-row = at-number .before .before .before .before .before .before .before in
+    let at-paint-row = at-if1 .before .before .before .before .before .before .before in
     let entry = at-paint-row .before .before .before .before .before .before .before .before .before .before .before .before .before in
     row-ended _ _ (attributes (entry .args .paint-attrs .now) (entry .args .layer-attrs .now)) (lent (entry .args .rows .now) (entry .args .render .now)
     (entry .args .fills .now) (entry .args .depth .now) (entry .args .painting .now) (entry .args .list .now)) (at-paint-row .paint-row .result)
-    (at-number .number .ensures) (at-paint-row .paint-row .ensures) _ (at-if1 .if1 .left) (not-true _ (at-if2 .if2 .taken)) (at-refused-at .refused-at .ensures)
+    (at-paint-row .paint-row .ensures) _ (at-if1 .if1 .left) (not-true _ (at-if2 .if2 .taken)) (at-refused-at .refused-at .ensures)
 
 write-pieces-requires : tie.Need-write-pieces-requires
 write-pieces-requires c κs =
-    let back = c .before .before .before .before .before in
-    let at-number = back in
-    let at-paint-row = at-number .before .before .before .before .before .before .before in
+    let at-paint-row = c .before .before .before .before .before .before .before .before .before .before .before in
     let entry = at-paint-row .before .before .before .before .before .before .before .before .before .before .before .before .before in
     row-few _ _ (attributes (entry .args .paint-attrs .now) (entry .args .layer-attrs .now)) (lent (entry .args .rows .now) (entry .args .render .now)
     (entry .args .fills .now) (entry .args .depth .now) (entry .args .painting .now) (entry .args .list .now)) (at-paint-row .paint-row .result)
-    (at-number .number .ensures) (at-paint-row .paint-row .ensures) []
+    (at-paint-row .paint-row .ensures) []
 
 same-length-7 : tie.Need-same-length-7
 same-length-7 c = search needs
@@ -85,12 +78,11 @@ returns-3 c =
     let at-write-pieces = back in
     let at-if2 = at-write-pieces .before .before .before in
     let at-if1 = at-if2 .before .before in
-    let at-number = at-if1 .before in
-    let at-paint-row = at-number .before .before .before .before .before .before .before in
+    let at-paint-row = at-if1 .before .before .before .before .before .before .before in
     let entry = at-paint-row .before .before .before .before .before .before .before .before .before .before .before .before .before in
     row-done _ _ (attributes (entry .args .paint-attrs .now) (entry .args .layer-attrs .now)) (lent (entry .args .rows .now) (entry .args .render .now)
     (entry .args .fills .now) (entry .args .depth .now) (entry .args .painting .now) (entry .args .list .now)) (at-paint-row .paint-row .result)
-    (at-number .number .ensures) (at-paint-row .paint-row .ensures) _ (at-if1 .if1 .left) (not-false _ (at-if2 .if2 .left))
+    (at-paint-row .paint-row .ensures) _ (at-if1 .if1 .left) (not-false _ (at-if2 .if2 .left))
     (at-write-pieces .write-pieces .ensures)
 
 pub row-text-spec : {M : Type 1} → statement M
@@ -98,7 +90,6 @@ row-text-spec =
     tie.close
     (tie.spec
     paint-row-requires
-    number-requires
     same-length
     same-length-2
     same-length-3

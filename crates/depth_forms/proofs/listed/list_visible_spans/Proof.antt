@@ -35,7 +35,6 @@ use denote.Lend.{lends-shr-slice}
 use denote.Signature.{plain}
 use denote.Builtin.{u32, usize, unit}
 use denote.Struct.Laws as LL
-use denote.Enum.Laws as EL
 use denote.Struct.Steps.{spelt}
 use denote.Steps.{only, nothing, owned, peeks, heard}
 use denote.Triple.Statement.{Contract, Triple}
@@ -178,7 +177,7 @@ module _ {M : Type 1} (𝓤 : URA M) (H : Heap 𝓤) (A : Atoms 𝓤) (W : Given
         nothing ! $ move ! (1 ∷ 0 ∷ []) $ fjoin ! $ owned ! u32 (Is u32) (uint-makes 𝓤 H A W w32) i _ (refl, gi) $ fjoin ! $
         owned ! T.the-row (Is T.the-row) (LL.makes T.the-type T′.the-plain 𝓤 H A) s _ gs $ fjoin ! $ move ! (3 ∷ 0 ∷ []) $ fjoin ! $
         nothing ! $ move ! (3 ∷ 0 ∷ []) $ join ! $ move ! (2 ∷ 0 ∷ []) $ join ! $
-        owned ! R.the-row (Is R.the-row) (EL.makes R.the-type R′.the-plain 𝓤 H A) r _ is $ move ! (1 ∷ 2 ∷ 0 ∷ []) $ done !
+        owned ! R.the-row (Is R.the-row) (LL.makes R.the-type R′.the-plain 𝓤 H A) r _ is $ move ! (1 ∷ 2 ∷ 0 ∷ []) $ done !
 
     asks-finder : ent 𝓤 (sep 𝓤 (A .lft κ q) (sem 𝓤 H A Depth)) (Finder 𝓤 H A at-mem run .pre to-finder)
     asks-finder =
@@ -251,7 +250,7 @@ module _ {M : Type 1} (𝓤 : URA M) (H : Heap 𝓤) (A : Atoms 𝓤) (W : Given
           move ! (1 ∷ []) $ drop ! $ use1 W (‵ (fat fullShare words-ty l₆ 0 (words-val (f .words)))) (W .laws .raw-at fullShare words-ty l₆ 0 (words-val (f .words))) $
           -- [_6; true; the list's token; the last list; true; true; true; the depth words' token; the depth words; _12; …; _7; …; _6's end; _5; …; _0; …]
           assigns ! (of-opd ! (load ! (from ! (fld ! refl (stop !))) (look-in ! 22 (sub ! 0 refl (whole !))))) (from ! (stop !))
-          (init ! 32 refl (EL.lawful R.the-type R′.the-laws 𝓤 H A W tt .typed (f .runs) _ (its-runs f v is) .0)) $
+          (init ! 32 refl (LL.lawful R.the-type R′.the-laws 𝓤 H A W .typed (f .runs) _ (its-runs f v is) .0)) $
           returns ! (look ! 32 refl) $ forget ! 0 refl $ forget ! 9 refl $ forget ! 11 refl $ forget ! 13 refl $ forget ! 15 refl $ forget ! 17 refl $ forget ! 19 refl $
           forget ! 22 refl $ forget ! 24 refl $ forget ! 26 refl $ forget ! 28 refl $ forget ! 30 refl $ forget ! 32 refl $
           move ! (32 ∷ 33 ∷ []) $ free1 ! $ move ! (30 ∷ 31 ∷ []) $ free1 ! $ move ! (28 ∷ 29 ∷ []) $ free1 ! $ move ! (26 ∷ 27 ∷ []) $ free1 ! $ move ! (24 ∷ 25 ∷ []) $ free1 ! $ move ! (22 ∷ 23 ∷ []) $ free1 ! $

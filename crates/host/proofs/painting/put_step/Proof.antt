@@ -1,15 +1,12 @@
-use mathlib.Core.Path.{sym, _∙_}
+-- A refusal leaves the result; else it is whether the row was finished, and how many pieces are listed.
 use borrow.Author.Tests.{ne-eqb}
 use Rattle.host.proofs.Results.{two-stored}
 use borrow.Author.Needs.{needs}
 use Rattle.host.proofs.painting.put_step.Statement.{statement}
 use Rattle.host.proofs.painting.put_step.Tie as tie
 
-number-requires : tie.Need-number-requires
-number-requires c κs = search needs
-
 returns : tie.Need-returns
-returns c = rw (c .before .number .ensures, ne-eqb _ _ (λ z. c .if1 .taken (c .before .number .ensures ∙ z)))
+returns c = rw (ne-eqb _ _ (c .if1 .taken))
 
 one-requires : tie.Need-one-requires
 one-requires c κs = search needs
@@ -24,13 +21,12 @@ same-length : tie.Need-same-length
 same-length c = search needs
 
 returns-2 : tie.Need-returns-2
-returns-2 c = rw (sym (c .before .before .number .ensures) ∙ c .before .if1 .left, two-stored _ _ _ (c .before .before .before .before .pre), c .one .ensures)
+returns-2 c = rw (c .before .if1 .left, two-stored _ _ _ (c .before .before .before .pre), c .one .ensures)
 
 pub put-step-spec : {M : Type 1} → statement M
 put-step-spec =
     tie.close
     (tie.spec
-    number-requires
     returns
     one-requires
     slice-write-result

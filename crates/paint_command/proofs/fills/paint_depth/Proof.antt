@@ -18,32 +18,8 @@ slice-aggregate-unset-runs-and-write c = sym (lent-length (c .before .before .be
 unset-runs-and-write-requires : tie.Need-unset-runs-and-write-requires
 unset-runs-and-write-requires c κs = search needs
 
-enum-known-answer : tie.Need-enum-known-answer
-enum-known-answer c = search needs
-
-number-requires : tie.Need-number-requires
-number-requires c κs = search needs
-
 refused-requires : tie.Need-refused-requires
 refused-requires c κs = search needs
-
-enum-known-n : tie.Need-enum-known-n
-enum-known-n c = search needs
-
-spread-requires : tie.Need-spread-requires
-spread-requires c κs =
-    let at-n = c .before .before in
-    let at-unset-runs-and-write = at-n .before .before .before .before .before .before in
-    let at-args = at-unset-runs-and-write .before .before .before .before .before .before .before in
-    depth-ready _ (at-args .args .painting .now) (at-args .args .list .now) _ _ _ (at-args .args .fill .«attrs_idx») (at-args .args .fill .buckets)
-    (at-args .pre .0 .0) (at-args .pre .0 .1) (at-args .pre .0 .3) _ (at-unset-runs-and-write .unset-runs-and-write .ensures) _ (at-n .n .given .1)
-    (at-args .pre .0 .2)
-
-slice-read-nesting : tie.Need-slice-read-nesting
-slice-read-nesting c = search needs
-
-advance-requires : tie.Need-advance-requires
-advance-requires c κs = search needs
 
 same-length : tie.Need-same-length
 same-length c = search needs
@@ -53,11 +29,23 @@ same-length-2 c = search needs
 
 returns : tie.Need-returns
 returns c =
-    let at-answer = c .before .before .before in
-    let at-unset-runs-and-write = at-answer .before .before .before .before .before .before in
-    let at-args = at-unset-runs-and-write .before .before .before .before .before .before .before in
+    let at-found = c .before .before .before .before .before .before in
+    let at-args = at-found .before .before .before .before .before .before .before in
     depth-refused _ _ (at-args .args .list .now) _ _ _ _ (at-args .args .fill .buckets) (at-args .pre .0 .0) (at-args .pre .0 .1) (at-args .pre .0 .3) _
-    (at-unset-runs-and-write .unset-runs-and-write .ensures) _ _ _ (at-answer .answer .given .1) (c .before .number .ensures) (c .refused .ensures)
+    (at-found .unset-runs-and-write .ensures) _ (c .before .if1 .taken) (c .refused .ensures)
+
+spread-requires : tie.Need-spread-requires
+spread-requires c κs =
+    let at-found = c .before .before .before .before .before .before in
+    let at-args = at-found .before .before .before .before .before .before .before in
+    depth-ready _ (at-args .args .painting .now) (at-args .args .list .now) _ _ _ (at-args .args .fill .«attrs_idx») (at-args .args .fill .buckets)
+    (at-args .pre .0 .0) (at-args .pre .0 .1) (at-args .pre .0 .3) _ (at-found .unset-runs-and-write .ensures) (c .before .if1 .left) (at-args .pre .0 .2)
+
+slice-read-nesting : tie.Need-slice-read-nesting
+slice-read-nesting c = search needs
+
+advance-requires : tie.Need-advance-requires
+advance-requires c κs = search needs
 
 same-length-3 : tie.Need-same-length-3
 same-length-3 c = search needs
@@ -72,12 +60,11 @@ returns-2 : tie.Need-returns-2
 returns-2 c =
     let at-advance = c .before .before in
     let at-spread = at-advance .before .before .before .before .before in
-    let at-n = at-spread .before .before .before in
-    let at-unset-runs-and-write = at-n .before .before .before .before .before .before in
-    let at-args = at-unset-runs-and-write .before .before .before .before .before .before .before in
+    let at-if1 = at-spread .before .before in
+    let at-found = at-if1 .before .before .before .before .before in
+    let at-args = at-found .before .before .before .before .before .before .before in
     depth-done _ (at-args .args .painting .now) (at-args .args .list .now) _ _ _ _ (at-args .args .fill .buckets) (at-args .pre .0 .0) (at-args .pre .0 .1)
-    (at-args .pre .0 .3) _ (at-unset-runs-and-write .unset-runs-and-write .ensures) _ (at-n .n .given .1) _ _ _ (at-advance .advance .ensures)
-    (at-spread .spread .ensures)
+    (at-args .pre .0 .3) _ (at-found .unset-runs-and-write .ensures) (at-if1 .if1 .left) _ _ _ (at-advance .advance .ensures) (at-spread .spread .ensures)
 
 pub paint-depth-spec : {M : Type 1} → statement M
 paint-depth-spec =
@@ -87,16 +74,13 @@ paint-depth-spec =
     slice-relend-prefix-unset-runs-and-write
     slice-aggregate-unset-runs-and-write
     unset-runs-and-write-requires
-    enum-known-answer
-    number-requires
     refused-requires
-    enum-known-n
-    spread-requires
-    slice-read-nesting
-    advance-requires
     same-length
     same-length-2
     returns
+    spread-requires
+    slice-read-nesting
+    advance-requires
     same-length-3
     same-length-4
     same-length-5

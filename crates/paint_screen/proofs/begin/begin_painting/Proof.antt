@@ -1,7 +1,5 @@
-use native.Mathlib.Omega.{arith}
-use lib.ListN.{length}
 use Rattle.paint_screen.specs.Beginning.{canvas}
-use Rattle.paint_screen.proofs.Judged.{small-begin, not-begun, begun-now}
+use Rattle.paint_screen.proofs.Judged.{not-begun, begun-now}
 use borrow.Author.Needs.{needs}
 use Rattle.paint_screen.proofs.begin.begin_painting.Statement.{statement}
 use Rattle.paint_screen.proofs.begin.begin_painting.Tie as tie
@@ -9,22 +7,12 @@ use Rattle.paint_screen.proofs.begin.begin_painting.Tie as tie
 judge-begin-requires : tie.Need-judge-begin-requires
 judge-begin-requires c κs = search needs
 
-answer-of-requires : tie.Need-answer-of-requires
-answer-of-requires c κs =
-    let at-args = c .before .before .before .before in
-    omega (
-      arith,
-      c .before .judge-begin .ensures,
-      small-begin (at-args .args .screen) (length (at-args .args .depth .now)) (length
-          (at-args .args .painting .now)),
-    )
-
 returns : tie.Need-returns
 returns c =
-    let at-judge-begin = c .before .before in
+    let at-judge-begin = c .before in
     let at-args = at-judge-begin .before .before .before in
-    not-begun (canvas (at-args .args .screen) (at-args .args .depth .now) (at-args .args .painting .now)) _ (at-judge-begin .judge-begin .ensures) _
-    (c .answer-of .ensures) (c .before .if1 .taken)
+    not-begun (canvas (at-args .args .screen) (at-args .args .depth .now) (at-args .args .painting .now)) _ (at-judge-begin .judge-begin .ensures)
+    (c .if1 .taken)
 
 clear-requires : tie.Need-clear-requires
 clear-requires c κs = search needs
@@ -56,7 +44,6 @@ begin-painting-spec =
     tie.close
     (tie.spec
     judge-begin-requires
-    answer-of-requires
     returns
     clear-requires
     clear-requires-2

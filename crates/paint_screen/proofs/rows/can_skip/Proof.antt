@@ -1,6 +1,5 @@
 use mathlib.Core.Path.{sym, _∙_}
 use native.Mathlib.Omega.{arith}
-use Rattle.paint_screen.proofs.Judged.{small-skip, below}
 use Rattle.paint_screen.proofs.Parts.{part-length, state-within}
 use Rattle.paint_screen.proofs.Runs.{skip-refused, skip-done}
 use borrow.Author.Needs.{needs}
@@ -10,11 +9,8 @@ use Rattle.paint_screen.proofs.rows.can_skip.Tie as tie
 judge-skip-requires : tie.Need-judge-skip-requires
 judge-skip-requires c κs = search needs
 
-answer-of-requires : tie.Need-answer-of-requires
-answer-of-requires c κs = below _ _ (c .before .judge-skip .ensures) (small-skip _ _ _)
-
 returns : tie.Need-returns
-returns c = skip-refused _ _ _ _ _ (c .before .before .judge-skip .ensures) (c .before .if1 .taken) (c .answer-of .result) (c .answer-of .ensures) _
+returns c = skip-refused _ _ _ _ _ (c .before .judge-skip .ensures) (c .if1 .taken) _
 
 mul-at : tie.Need-mul-at
 mul-at c = let w = state-within _ _ (c .before .before .before .args .rows .now) (sym (c .before .judge-skip .ensures) ∙ c .if1 .left) in omega (arith, w .near)
@@ -45,7 +41,6 @@ can-skip-spec =
     tie.close
     (tie.spec
     judge-skip-requires
-    answer-of-requires
     returns
     mul-at
     add-skip-by

@@ -1,7 +1,6 @@
 use mathlib.Core.Path.{sym, _∙_}
 use native.Mathlib.Omega.{arith}
 use Rattle.paint_screen.specs.Stepping.{Within}
-use Rattle.paint_screen.proofs.Judged.{small-runs, below}
 use Rattle.paint_screen.proofs.Parts.{depth-within}
 use Rattle.paint_screen.proofs.Runs.{write-refused, write-kept, write-done}
 use borrow.Author.Needs.{needs}
@@ -11,11 +10,8 @@ use Rattle.paint_screen.proofs.rows.unset_runs_and_write.Tie as tie
 judge-runs-requires : tie.Need-judge-runs-requires
 judge-runs-requires c κs = search needs
 
-answer-of-requires : tie.Need-answer-of-requires
-answer-of-requires c κs = below _ _ (c .before .judge-runs .ensures) (small-runs _ _ _)
-
 returns : tie.Need-returns
-returns c = write-refused _ _ _ _ _ _ _ (c .before .before .judge-runs .ensures) (c .before .if1 .taken) (c .answer-of .result) (c .answer-of .ensures)
+returns c = write-refused _ _ _ _ _ _ _ (c .before .judge-runs .ensures) (c .if1 .taken)
 
 buckets-requires : tie.Need-buckets-requires
 buckets-requires c κs = search needs
@@ -61,15 +57,6 @@ part-unset-runs-and-write-end c =
 unset-runs-and-write-requires : tie.Need-unset-runs-and-write-requires
 unset-runs-and-write-requires c κs = search needs
 
-enum-known-runs : tie.Need-enum-known-runs
-enum-known-runs c = search needs
-
-enum-known-runs-2 : tie.Need-enum-known-runs-2
-enum-known-runs-2 c = search needs
-
-with-painting-requires : tie.Need-with-painting-requires
-with-painting-requires c κs = search needs
-
 same-length : tie.Need-same-length
 same-length c = search needs
 
@@ -78,12 +65,15 @@ same-length-2 c = search needs
 
 returns-2 : tie.Need-returns-2
 returns-2 c =
-    let at-unset-runs-and-write = c .before .before .before .before .before .before .before in
+    let at-unset-runs-and-write = c .before .before .before .before .before .before in
     let at-buckets = at-unset-runs-and-write .before .before .before in
     let at-if1 = at-buckets .before in
     let at-judge-runs = at-if1 .before in
     write-kept _ _ _ _ _ _ _ (at-judge-runs .judge-runs .ensures) (at-if1 .if1 .left) _ (at-buckets .buckets .ensures) _ _ _
-    (at-unset-runs-and-write .unset-runs-and-write .ensures) _ (c .before .runs .given .1)
+    (at-unset-runs-and-write .unset-runs-and-write .ensures) (c .if2 .taken)
+
+with-painting-requires : tie.Need-with-painting-requires
+with-painting-requires c κs = search needs
 
 same-length-3 : tie.Need-same-length-3
 same-length-3 c = search needs
@@ -93,20 +83,19 @@ same-length-4 c = search needs
 
 returns-3 : tie.Need-returns-3
 returns-3 c =
-    let at-runs2 = c .before .before in
-    let at-unset-runs-and-write = at-runs2 .before .before .before .before .before .before in
+    let at-if2 = c .before in
+    let at-unset-runs-and-write = at-if2 .before .before .before .before .before .before in
     let at-buckets = at-unset-runs-and-write .before .before .before in
     let at-if1 = at-buckets .before in
     let at-judge-runs = at-if1 .before in
     write-done _ _ _ _ _ _ _ (at-judge-runs .judge-runs .ensures) (at-if1 .if1 .left) _ (at-buckets .buckets .ensures) _ _ _
-    (at-unset-runs-and-write .unset-runs-and-write .ensures) _ _ (at-runs2 .runs2 .given .1) (c .with-painting .ensures)
+    (at-unset-runs-and-write .unset-runs-and-write .ensures) _ (at-if2 .if2 .left) (c .with-painting .ensures)
 
 pub unset-runs-and-write-spec : {M : Type 1} → statement M
 unset-runs-and-write-spec =
     tie.close
     (tie.spec
     judge-runs-requires
-    answer-of-requires
     returns
     buckets-requires
     mul-at
@@ -116,12 +105,10 @@ unset-runs-and-write-spec =
     part-unset-runs-and-write-start
     part-unset-runs-and-write-end
     unset-runs-and-write-requires
-    enum-known-runs
-    enum-known-runs-2
-    with-painting-requires
     same-length
     same-length-2
     returns-2
+    with-painting-requires
     same-length-3
     same-length-4
     returns-3)

@@ -1,7 +1,6 @@
 use mathlib.Core.Path.{sym, _∙_}
 use native.Mathlib.Omega.{arith}
 use Rattle.paint_screen.specs.Stepping.{Within}
-use Rattle.paint_screen.proofs.Judged.{small-runs, below}
 use Rattle.paint_screen.proofs.Parts.{depth-within}
 use Rattle.paint_screen.proofs.Runs.{visible-refused, visible-done}
 use borrow.Author.Needs.{needs}
@@ -11,11 +10,8 @@ use Rattle.paint_screen.proofs.rows.visible_runs.Tie as tie
 judge-runs-requires : tie.Need-judge-runs-requires
 judge-runs-requires c κs = search needs
 
-answer-of-requires : tie.Need-answer-of-requires
-answer-of-requires c κs = below _ _ (c .before .judge-runs .ensures) (small-runs _ _ _)
-
 returns : tie.Need-returns
-returns c = visible-refused _ _ _ _ _ (c .before .before .judge-runs .ensures) (c .before .if1 .taken) (c .answer-of .result) (c .answer-of .ensures) _ _
+returns c = visible-refused _ _ _ _ _ (c .before .judge-runs .ensures) (c .if1 .taken) _ _
 
 buckets-requires : tie.Need-buckets-requires
 buckets-requires c κs = search needs
@@ -78,7 +74,6 @@ visible-runs-spec =
     tie.close
     (tie.spec
     judge-runs-requires
-    answer-of-requires
     returns
     buckets-requires
     mul-at

@@ -2,3 +2,4 @@
 pub mod Changes
 pub mod Maps
 pub mod Bounds
+pub mod Pixmaps

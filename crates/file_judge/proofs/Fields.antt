@@ -9,6 +9,7 @@ use lib.Dec.{eqb}
 use Rattle.rules.specs.Boxes.{Box, box, good-box, good-dest}
 use Rattle.rules.specs.Lists.{every}
 use Rattle.rules.specs.Recording.{zero-clip, zero-filter}
+use Rattle.rules.proofs.laws.Pixmaps.{none-is}
 use Rattle.file_form.specs.Each.{each}
 use Rattle.file_form.specs.Places.{clip-from, filter-from}
 use Rattle.file_judge.specs.Judging.{box-from, word-from, is-zero}
@@ -49,4 +50,4 @@ module _ (ws : List ℕ) (p : ℕ) where
 
   pub filter-zeros : every is-zero (each word-from 1 ws (p + 15) 7) ≡ zero-filter (filter-from ws p)
   unfolding each filter-from
-  filter-zeros = simp add-assoc (four-inside (is-zero (getD ws (p + 15) 0)) (is-zero (getD ws (p + 16) 0)) (is-zero (getD ws (p + 17) 0)) (is-zero (getD ws (p + 18) 0)) (is-zero (getD ws (p + 19) 0)) (is-zero (getD ws (p + 20) 0)) (is-zero (getD ws (p + 21) 0)))
+  filter-zeros = simp (add-assoc, none-is) (four-inside (is-zero (getD ws (p + 15) 0)) (is-zero (getD ws (p + 16) 0)) (is-zero (getD ws (p + 17) 0)) (is-zero (getD ws (p + 18) 0)) (is-zero (getD ws (p + 19) 0)) (is-zero (getD ws (p + 20) 0)) (is-zero (getD ws (p + 21) 0)))

@@ -8,14 +8,17 @@ use Rattle.file_steps.proofs.filter_at.Tie as tie
 placement-at-requires : tie.Need-placement-at-requires
 placement-at-requires c κs = search needs
 
-add-filter-fill : tie.Need-add-filter-fill
-add-filter-fill c = search needs
+add-pixmap-of : tie.Need-add-pixmap-of
+add-pixmap-of c = search needs
 
-mul-filter-fill : tie.Need-mul-filter-fill
-mul-filter-fill c = search needs
+mul-pixmap-of : tie.Need-mul-pixmap-of
+mul-pixmap-of c = search needs
 
-shared-slice-read-filter-fill : tie.Need-shared-slice-read-filter-fill
-shared-slice-read-filter-fill c = search needs
+shared-slice-read-pixmap-of : tie.Need-shared-slice-read-pixmap-of
+shared-slice-read-pixmap-of c = search needs
+
+pixmap-of-requires : tie.Need-pixmap-of-requires
+pixmap-of-requires c κs = search needs
 
 cast-filter-fill : tie.Need-cast-filter-fill
 cast-filter-fill c = search needs
@@ -52,9 +55,10 @@ filter-at-spec =
     tie.close
     (tie.spec
     placement-at-requires
-    add-filter-fill
-    mul-filter-fill
-    shared-slice-read-filter-fill
+    add-pixmap-of
+    mul-pixmap-of
+    shared-slice-read-pixmap-of
+    pixmap-of-requires
     cast-filter-fill
     filter-fill-requires
     same-length

@@ -45,10 +45,10 @@ returns : tie.Need-returns
 unfolding filter-from
 returns c =
     let at-filter-fill = c .before .before .before .before .before .before .before .before .before in
-    let at-placement-at = at-filter-fill .before .before .before .before .before .before .before .before in
-    let back = at-placement-at .before .before .before .before .before .before .before in
-    let s = back in
-    at-filter-fill .filter-fill .ensures ∙ rw (at-placement-at .placement-at .ensures, paints-count (s .args .l) (s .args .w .now) (s .pre .0))
+    let at-pixmap-of = at-filter-fill .before .before .before .before .before .before .before in
+    let at-placement-at = at-pixmap-of .before .before in
+    let s = at-placement-at .before .before .before .before .before .before .before in
+    at-filter-fill .filter-fill .ensures ∙ rw (at-placement-at .placement-at .ensures, at-pixmap-of .pixmap-of .ensures, paints-count (s .args .l) (s .args .w .now) (s .pre .0))
 
 pub filter-at-spec : {M : Type 1} → statement M
 filter-at-spec =

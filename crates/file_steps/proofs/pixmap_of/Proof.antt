@@ -12,7 +12,7 @@ sub-t3 : tie.Need-sub-t3
 sub-t3 c = search needs
 
 returns-2 : tie.Need-returns-2
-returns-2 c = sym (present _ (c .before .if1 .left))
+returns-2 c = sym (present _ (c .if1 .left))
 
 pub pixmap-of-spec : {M : Type 1} → statement M
 pixmap-of-spec = tie.close (tie.spec returns sub-t3 returns-2)

@@ -10,7 +10,7 @@ use lib.Dec.{leb, ltb, eqb}
 use lib.Ieee.{Float}
 use lib.IntN.{ℤ}
 use borrow.Author.Tests.{eqb-true, eqb-false, lt-ltb, le-ltb}
-use Rattle.rules.specs.Answers.{Answer, answer, settle, first-of, Done, BadRecord, BadOrder, BadRun, Open, NoRoom}
+use Rattle.rules.specs.Answers.{Answer, answer, first-of, Done, BadRecord, BadOrder, BadRun, Open, NoRoom}
 use Rattle.rules.specs.Spans.{Span, bad-range}
 use Rattle.rules.specs.Depth.{listed, unset-runs, visible-runs, write-runs, unset-answer, visible-answer, write-answer, can-skip-answer}
 use Rattle.rules.specs.Rows.{Row, fresh-row, row-ops}
@@ -22,6 +22,7 @@ use Rattle.rules.specs.Walk.{go-on, _then_, walk-all}
 use Rattle.rules.proofs.Logged.{Logged, logged-call}
 use Rattle.rules.specs.Painting as rules
 use Rattle.rules.proofs.All.{nil, cons}
+use Rattle.rules.proofs.laws.Answers.{settle-number}
 use Rattle.rules_picture.proofs.Cases.{by}
 use Rattle.rules_picture.proofs.Walked.{Late, late-done, first-late, plan-late, refusal-late, all-walks}
 use Rattle.rules.specs.Boxes.{good-viewport, rows-of}
@@ -85,9 +86,6 @@ after k m h = by (eqb k Done) (λ y. rw y (zero-4 k (eqb-true k Done y) ∙ sym 
 late-or : (b : Bool) (m : ℕ) → Late m → Late (cond b m BadRecord)
 late-or true m h = h
 late-or false m h = λ e. omega arith
-
-settle-number : {S : Type 0} (n : ℕ) (s t : S) → settle n s t .number ≡ n
-settle-number n s t = by (eqb n Done) (λ y. rw y (sym (eqb-true n Done y))) (λ z. rw z)
 
 -- Building steps. k: what the screen and the lengths say
 step-early : (k : ℕ) (good : Bool) (p : Plan) (s : rule.Screen Words) → Late (p .refused) → before-4 k ≡ before-4 (step-number k good p s)

@@ -1,6 +1,6 @@
 -- A refused call leaves the state's words, and everything else that it was lent, as they were.
-use mathlib.Core.Path.{_≡_, refl, sym, ap, _∙_}
-use mathlib.Core.Bool.{Bool, true, false, cond}
+use mathlib.Core.Path.{_≡_, refl}
+use mathlib.Core.Bool.{Bool, true, false}
 use mathlib.Core.List.{List}
 use mathlib.Core.Option.{Option}
 use Prim.Native.Nat.{ℕ}
@@ -8,7 +8,9 @@ use lib.ListN.{length}
 use lib.Dec.{leb, eqb}
 use lib.Ieee.{Float}
 use lib.IntN.{ℤ}
+use borrow.Author.Tests.{ne-eqb}
 use Rattle.rules.specs.Answers.{Answer, answer, settle, Done}
+use Rattle.rules.proofs.laws.Answers.{settle-kept}
 use Rattle.rect.specs.declared.Rect.{Rect}
 use Rattle.row.specs.Words.{Words}
 use Rattle.screen.specs.declared.Screen.{Screen}
@@ -39,11 +41,7 @@ abbrev pub Refused : {A : Type 0} → Answer A → Type 0
 Refused a = a .number ≡ 0 → ⊥
 
 pub settled : {A : Type 0} (n : ℕ) (x y : A) → Refused (settle n x y) → settle n x y .value ≡ x
-settled n x y q = by (eqb n Done) refl q
-  where
-    by : (b : Bool) → eqb n Done ≡ b → Refused (cond b (answer Done y) (answer n x)) → cond b (answer Done y) (answer n x) .value ≡ x
-    by true e q = absurd (q refl)
-    by false e q = refl
+settled n x y q = settle-kept n x y (ne-eqb _ Done q)
 
 -- L: a screen with what a call is lent; T: the same without the screen; F: T with the state's words
 module _ {L T F : Type 0} (pack : List ℕ → T → F) (screen-in : L → Screen) (rest-in : L → T) (good : Bool) (st : List ℕ) (t : T) (lend : Screen → L) (run : Screen → Answer L) where

@@ -568,17 +568,7 @@ walk-nodes-add-walk-layer t c = let s = c .before .before .before .before .befor
 walk-nodes-mul-walk-layer : (t : ℕ) → walk-nodes-lts.Need-mul-walk-layer (nodes-claims t) (walk-nodes-at t) walk-nodes.Post walk-nodes-Inv-loop walk-nodes-μ-loop
 walk-nodes-mul-walk-layer t c = let s = c .before .before .before .before .before .before .before .before .before .before .before .before .before .before .before .before .before .before .before .before .before .before .before .before .before .before .before .before .before .before .before .before in omega (arith, node-room (s .args .l) (s .args .w .now) (s .pre .1 .0) (c .before .before .before .before .before .before .before .before .before .before .before .before .before .before .before .before .before .before .before .before .before .before .loop .i) (omega (arith, c .before .before .before .before .before .before .before .before .before .before .before .before .before .before .before .before .before .before .before .before .before .loop-test .taken, s .pre .1 .1 .1)))
 
-walk-nodes-shared-slice-read-walk-layer :
-    (t : ℕ) → walk-nodes-lts.Need-shared-slice-read-walk-layer (
-      wide-reads.Asked,
-      wide-reads.Learnt,
-      walk-draws-reads.Asked,
-      walk-draws-reads.Learnt,
-      number-reads.Asked,
-      number-reads.Learnt,
-      walk-layer-below t,
-      walk-layer.Post,
-    ) (walk-nodes-at t) walk-nodes.Post walk-nodes-Inv-loop walk-nodes-μ-loop
+walk-nodes-shared-slice-read-walk-layer : (t : ℕ) → walk-nodes-lts.Need-shared-slice-read-walk-layer (nodes-claims t) (walk-nodes-at t) walk-nodes.Post walk-nodes-Inv-loop walk-nodes-μ-loop
 walk-nodes-shared-slice-read-walk-layer t c = let s = c .before .before .before .before .before .before .before .before .before .before .before .before .before .before .before .before .before .before .before .before .before .before .before .before .before .before .before .before .before .before .before .before .before in omega (arith, node-room (s .args .l) (s .args .w .now) (s .pre .1 .0) (c .before .before .before .before .before .before .before .before .before .before .before .before .before .before .before .before .before .before .before .before .before .before .before .loop .i) (omega (arith, c .before .before .before .before .before .before .before .before .before .before .before .before .before .before .before .before .before .before .before .before .before .before .loop-test .taken, s .pre .1 .1 .1)))
 
 walk-nodes-walk-layer-requires : (t : ℕ) → walk-nodes-lts.Need-walk-layer-requires (nodes-claims t) (walk-nodes-at t) walk-nodes.Post walk-nodes-Inv-loop walk-nodes-μ-loop

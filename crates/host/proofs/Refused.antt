@@ -78,8 +78,11 @@ pub filter-refused : (flag : ℕ) (p : Placement) (pixmap : Option ℕ) (n : ℕ
     → filter-call flag p pixmap n st w pas fps .value ≡ (st, w, pas, fps)
 unfolding filter-call filtered
 filter-refused flag p pixmap n st w pas fps q =
-    unchanged {T = Words × List ℕ × List ℤ} {F = List ℕ × Words × List ℕ × List ℤ} (λ (ws : List ℕ) (t : Words × List ℕ × List ℤ). (ws, t .0, t .1, t .2)) (λ (l : filter.FilterLent). l .screen) (λ (l : filter.FilterLent). (l .words, l .paint-attrs, l .filter-paints)) (leb flag 1) st (w, pas, fps) (λ (s : Screen). filter.lent s w pas fps)
-    (λ (s : Screen). filtered (given p pixmap n) (filter.lent s w pas fps)) (λ (s : Screen). (refl, refl)) (λ (s : Screen). settled (filter.filter-number (given p pixmap n) (filter.lent s w pas fps)) (filter.lent s w pas fps) (filter.after (given p pixmap n) (filter.lent s w pas fps))) (screen-of (leb flag 1) st) refl q
+    let g = given p pixmap n in
+    unchanged {T = Words × List ℕ × List ℤ} {F = List ℕ × Words × List ℕ × List ℤ} (λ (ws : List ℕ) (t : Words × List ℕ × List ℤ). (ws, t .0, t .1, t .2))
+    (λ (l : filter.FilterLent). l .screen) (λ (l : filter.FilterLent). (l .words, l .paint-attrs, l .filter-paints)) (leb flag 1) st (w, pas, fps)
+    (λ (s : Screen). filter.lent s w pas fps) (λ (s : Screen). filtered g (filter.lent s w pas fps)) (λ (s : Screen). (refl, refl))
+    (λ (s : Screen). settled (filter.filter-number g (filter.lent s w pas fps)) (filter.lent s w pas fps) (filter.after g (filter.lent s w pas fps))) (screen-of (leb flag 1) st) refl q
 
 pub begin-refused : (st d p : List ℕ) → Refused (begin-call st d p) → begin-call st d p .value ≡ (st, d, p)
 unfolding begin-call beginning

@@ -18,6 +18,7 @@ use sizes::DEPTHS;
 use sizes::LAST_ID;
 use sizes::MOST_LAYERS;
 use sizes::RENDERS;
+use sizes::wide;
 ghost use mathlib.Core.Path.{_≡_};
 ghost use mathlib.Core.Bool.{true};
 ghost use mathlib.Core.List.{[]};
@@ -30,12 +31,6 @@ ghost use Rattle.cmd.specs.Commands.{command, read-of};
 ghost use Rattle.cmd.specs.Good.{GoodCommand};
 ghost use Rattle.depth.specs.Answers.{summary};
 ghost use Rattle.paint_command.specs.Painting.{word, attrs-at, lent, out, painter-at, given, depth-step, command-step, depth-fill-at, command-at, settled, painted-row};
-
-fn wide(x: u32) -> usize
-    ensures { λ r. ⌜ r ≡ x ⌝ }
-{
-    x as usize
-}
 
 // The id if a draw can have taken it, else 0.
 fn taken(id: u32) -> u32

@@ -1,5 +1,5 @@
 -- A row's own part of a screen's words. Assumes nothing.
-use mathlib.Core.Path.{_≡_, ap}
+use mathlib.Core.Path.{_≡_}
 use mathlib.Core.Bool.{true, false, _&&_}
 use mathlib.Core.List.{List}
 use Prim.Native.Nat.{ℕ, _≤_, _<_, _+_, _-_, _*_}
@@ -13,10 +13,9 @@ use Rattle.row_screen.proofs.Laws.{within, small}
 use Rattle.screen.specs.declared.Screen.{Screen}
 use Rattle.screen.specs.Screens.{good-screen}
 use Rattle.rules.proofs.All.{and-left, and-right}
-use Rattle.paint_command.specs.declared.Painted.{Painted}
-use Rattle.paint_command.specs.Painting.{attrs-at, RowLent, lent, StepOut, out, painted-row}
+use Rattle.paint_command.specs.Painting.{RowLent, StepOut, out, refused}
 use Rattle.paint_screen.specs.Judging.{count, wide, runs-number, skip-number}
-use Rattle.paint_screen.specs.Stepping.{part, with-part, Within, Attributes, own, in-place, number, StepReady, row-step, stepped}
+use Rattle.paint_screen.specs.Stepping.{part, with-part, Within, Attributes, number, StepReady, row-step, stepped}
 use Rattle.paint_screen.proofs.Judged.{step-there, runs-there, skip-there}
 
 -- a part as code cuts it out
@@ -91,24 +90,6 @@ ready s r a l h =
       paints = few .0;
       layers = few .1;
     }
-
--- the step of the row's own parts, put back in their places
-module _ (s : Screen) (r : ℕ) (a : Attributes) (l : RowLent) (b : ℕ) (e : b ≡ wide s) (o : Painted) (d p t : List ℕ) where
-  pub step-back : out o d p t ≡ painted-row (attrs-at (a .paints) (s .«paint_attrs») (a .layers) (s .«layer_attrs»))
-      (lent (take (r * 54 + 54 - r * 54) (drop (r * 54) (l .state)))
-      (take (r * (4 * s .c) + 4 * s .c - r * (4 * s .c)) (drop (r * (4 * s .c)) (l .render)))
-      (take (r * (2 * s .d) + 2 * s .d - r * (2 * s .d)) (drop (r * (2 * s .d)) (l .fills)))
-      (take (r * b + b - r * b) (drop (r * b) (l .depth)))
-      (take (r * 2 + 2 - r * 2) (drop (r * 2) (l .painting)))
-      (l .list))
-      → out o (putMid (r * b) (r * b + b - r * b) (l .depth) d)
-      (putMid (r * 2) (r * 2 + 2 - r * 2) (l .painting) p) t
-      ≡ row-step s r a l
-  unfolding row-step
-  step-back h =
-      let i : out o d p t ≡ painted-row (attrs-at (a .paints) (s .«paint_attrs») (a .layers) (s .«layer_attrs»)) (own s r l) =
-      rw (part-is 54 r (l .state), part-is (4 * s .c) r (l .render), part-is (2 * s .d) r (l .fills), part-is b r (l .depth), part-is 2 r (l .painting), e) at h in
-      rw (put-is b r (l .depth) d, put-is 2 r (l .painting) p, e) (ap (in-place s r l) i)
 
 -- the call, refused or done
 module _ (s : Screen) (r : ℕ) (a : Attributes) (l : RowLent) (n : ℕ) (e : n ≡ number s r a l) where

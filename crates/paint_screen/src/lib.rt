@@ -1,5 +1,5 @@
-// Painting over a whole screen: begin, step, the runs of a row's depth words, `can_skip`. `begin_painting`, `paint_step`, `unset_runs`,
-// `visible_runs`, `unset_runs_and_write` and `can_skip` are public calls: they have no `requires`. The others are parts of them.
+// Painting over a whole screen: begin, what is judged before a row is painted, the runs of a row's depth words, `can_skip`. `begin_painting`,
+// `unset_runs`, `visible_runs`, `unset_runs_and_write` and `can_skip` are public calls: they have no `requires`. The others are parts of them.
 pub mod begin;
 pub mod judge;
 pub mod rows;
@@ -12,4 +12,3 @@ pub use rows::unset_runs;
 pub use rows::unset_runs_and_write;
 pub use rows::visible_runs;
 pub use step::Stepped;
-pub use step::paint_step;

@@ -2,27 +2,31 @@
 use mathlib.Core.Path.{_≡_, refl, sym, ap, _∙_}
 use mathlib.Core.Bool.{Bool, true, false, cond}
 use mathlib.Core.List.{List, _++_}
-use Prim.Native.Nat.{ℕ, zero, suc, _+_, _-_, _*_}
+use mathlib.Core.Option.{Option, none, some}
+use Prim.Native.Nat.{ℕ, zero, suc, _+_, _-_, _*_, _/_}
+use native.Mathlib.Nat.{zero-add}
 use native.Mathlib.Omega.{arith}
 use lib.ListN.{length, take, drop, length-drop}
 use lib.Seq.{length-take-le, take-at, drop-at}
+use lib.Dec.{ltb}
 use borrow.Author.Tests.{eq-eqb, ne-eqb}
 use borrow.Rule.Slice.PartMut.{putMid, put-same, take-put}
 use Rattle.rules.specs.Attributes.{Attrs}
+use Rattle.rules.specs.Painting as rules
 use Rattle.row_screen.proofs.Laws.{put-length}
 use Rattle.screen.specs.declared.Screen.{Screen}
 use Rattle.paint_command.specs.declared.Painted.{Painted}
-use Rattle.paint_command.specs.Painting.{attrs-at, RowLent, lent, StepOut, out, refused, painted-row}
+use Rattle.paint_command.specs.Painting.{attrs-at, RowLent, lent, StepOut, out, refused, left, settled, painted-row}
 use Rattle.paint_command.proofs.Laws.{same-lengths}
 use Rattle.paint_screen.specs.Judging.{wide}
 use Rattle.paint_screen.specs.Stepping.{part, with-part, Within, Attributes, own, in-place, number, row-step, stepped}
 use Rattle.paint_screen.proofs.Parts.{part-is, put-is, ready}
 use Rattle.paint_whole.specs.Running.{goes-on, ended, one-more, run, most, standing, own-step, own-run, row-run, call-step, row-painted}
-use Rattle.paint_whole.proofs.Runs.{stops}
+use Rattle.paint_whole.proofs.Runs.{stops, more}
 
 -- the steps of the row's own parts, put back in their places
-module _ (s : Screen) (r : ℕ) (a : Attributes) (l : RowLent) (b : ℕ) (e : b ≡ wide s) (o : Painted) (d p t : List ℕ) where
-  pub run-back : out o d p t ≡ own-run (attrs-at (a .paints) (s .«paint_attrs») (a .layers) (s .«layer_attrs»))
+module _ (f : ℕ) (s : Screen) (r : ℕ) (a : Attributes) (l : RowLent) (b : ℕ) (e : b ≡ wide s) (o : Painted) (d p t : List ℕ) where
+  pub run-back : out o d p t ≡ own-run f (attrs-at (a .paints) (s .«paint_attrs») (a .layers) (s .«layer_attrs»))
       (lent (take (r * 54 + 54 - r * 54) (drop (r * 54) (l .state)))
       (take (r * (4 * s .c) + 4 * s .c - r * (4 * s .c)) (drop (r * (4 * s .c)) (l .render)))
       (take (r * (2 * s .d) + 2 * s .d - r * (2 * s .d)) (drop (r * (2 * s .d)) (l .fills)))
@@ -31,10 +35,10 @@ module _ (s : Screen) (r : ℕ) (a : Attributes) (l : RowLent) (b : ℕ) (e : b 
       (l .list))
       → out o (putMid (r * b) (r * b + b - r * b) (l .depth) d)
       (putMid (r * 2) (r * 2 + 2 - r * 2) (l .painting) p) t
-      ≡ row-run s r a l
+      ≡ row-run f s r a l
   unfolding row-run
   run-back h =
-      let i : out o d p t ≡ own-run (attrs-at (a .paints) (s .«paint_attrs») (a .layers) (s .«layer_attrs»)) (own s r l) =
+      let i : out o d p t ≡ own-run f (attrs-at (a .paints) (s .«paint_attrs») (a .layers) (s .«layer_attrs»)) (own s r l) =
       rw (part-is 54 r (l .state), part-is (4 * s .c) r (l .render), part-is (2 * s .d) r (l .fills), part-is b r (l .depth), part-is 2 r (l .painting), e) at h in
       rw (put-is b r (l .depth) d, put-is 2 r (l .painting) p, e) (ap (in-place s r l) i)
 
@@ -114,7 +118,7 @@ module _ (s : Screen) (r : ℕ) (a : Attributes) (l : RowLent) (z : number s r a
       go true = refl
       go false = refl
 
-  pub calls-are-run : row-painted s r a l ≡ row-run s r a l
+  pub calls-are-run : row-painted s r a l ≡ row-run most s r a l
   unfolding row-painted row-run own-run
   calls-are-run =
       let g = ready s r a l z in
@@ -138,5 +142,41 @@ module _ (s : Screen) (r : ℕ) (a : Attributes) (l : RowLent) (n : ℕ) (e : n 
       let i : goes-on (one-more step start .answer) ≡ false = rw (f, ne-eqb n 0 h) in
       sym (stops step most 0 start (omega arith) i ∙ rw f)
 
-  pub row-done : (o : StepOut) → n ≡ 0 → o ≡ row-run s r a l → o ≡ row-painted s r a l
+  pub row-done : (o : StepOut) → n ≡ 0 → o ≡ row-run most s r a l → o ≡ row-painted s r a l
   row-done o h p = p ∙ sym (calls-are-run s r a l (sym e ∙ h))
+
+-- a run of one step at most is the step
+abbrev again : StepOut → StepOut
+again o = out (record { number = o .answer .number; finished = o .answer .finished; pieces = o .answer .pieces }) (o .depth) (o .painting) (o .list)
+
+settled-again : (x : Option rules.Painted) (d p l : List ℕ) → again (settled x d p l) ≡ settled x d p l
+unfolding settled
+settled-again none d p l = refl
+settled-again (some o) d p l = go (ltb (length l / 6) (length (o .pieces)))
+  where
+    go : (b : Bool) → again (cond b (out (refused 14) d p l) (left o l)) ≡ cond b (out (refused 14) d p l) (left o l)
+    go true = refl
+    go false = refl
+
+row-again : (a : Attrs) (w : RowLent) → again (painted-row a w) ≡ painted-row a w
+unfolding painted-row
+row-again a w = settled-again _ _ _ _
+
+first-one : (step : List ℕ → List ℕ → List ℕ → StepOut) (d p l : List ℕ) → one-more step (standing d p l) ≡ again (step d p l)
+unfolding one-more
+first-one step d p l = rw zero-add
+
+one-run : (step : List ℕ → List ℕ → List ℕ → StepOut) (d p l : List ℕ) → run step 1 0 (standing d p l) ≡ again (step d p l)
+unfolding run
+one-run step d p l = go (goes-on (one-more step (standing d p l) .answer)) refl
+  where
+    go : (b : Bool) → goes-on (one-more step (standing d p l) .answer) ≡ b → run step 1 0 (standing d p l) ≡ again (step d p l)
+    go true e = more step 1 0 (standing d p l) (omega arith) e ∙ first-one step d p l
+    go false e = stops step 1 0 (standing d p l) (omega arith) e ∙ rw (first-one step d p l)
+
+pub step-is-run : (s : Screen) (r : ℕ) (a : Attributes) (l : RowLent) → row-run 1 s r a l ≡ row-step s r a l
+unfolding row-run own-run row-step
+step-is-run s r a l =
+    let b = attrs-at (a .paints) (s .«paint_attrs») (a .layers) (s .«layer_attrs») in
+    let w = own s r l in
+    ap (in-place s r l) (one-run (own-step b (w .state) (w .render) (w .fills)) (w .depth) (w .painting) (w .list) ∙ row-again b w)

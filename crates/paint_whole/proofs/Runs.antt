@@ -14,7 +14,7 @@ use Rattle.rules.specs.Attributes.{Attrs}
 use Rattle.rules.specs.Painting as rules
 use Rattle.paint_command.specs.declared.Painted.{Painted}
 use Rattle.paint_command.specs.Painting.{RowLent, lent, StepOut, out, listed, settled, painted-row}
-use Rattle.paint_whole.specs.Running.{goes-on, ended, one-more, run, most, own-step}
+use Rattle.paint_whole.specs.Running.{goes-on, ended, one-more, run, own-step}
 use Rattle.paint_whole.specs.Kinds.{Onward}
 
 -- a step's pieces have room in its list
@@ -76,61 +76,63 @@ module _ (step : List ℕ → List ℕ → List ℕ → StepOut) where
   more zero k g h e = absurd (omega arith)
   more (suc f) k g h e = rw (e, less-one f)
 
-  -- the rest of the steps from here is all of them
-  pub record Rest (start now : StepOut) (k : ℕ) : Type 0 where
-    pub few : k ≤ most
-    pub whole : run step (most - k) k now ≡ run step most 0 start
+  -- .. at most so many
+  module _ (limit : ℕ) where
+    -- the rest of the steps from here is all of them
+    pub record Rest (start now : StepOut) (k : ℕ) : Type 0 where
+      pub few : k ≤ limit
+      pub whole : run step (limit - k) k now ≡ run step limit 0 start
 
-  pub rest-all : (g : StepOut) → Rest g g 0
-  rest-all g = record { few = omega arith; whole = refl }
+    pub rest-all : (g : StepOut) → Rest g g 0
+    rest-all g = let e : limit - 0 ≡ limit = omega arith in record { few = omega arith; whole = rw e }
 
-  -- steps that are done together
-  pub rest-far : {start now next : StepOut} {k n : ℕ} → Rest start now k → n ≤ most - k → Onward step n now next → Rest start next (k + n)
-  rest-far {k = k} {n = n} z h g =
-      let e : most - k - n ≡ most - (k + n) = omega (arith, z .few) in
-      record { few = omega (arith, z .few); whole = rw (← e) (sym (g (most - k) k h) ∙ z .whole) }
+    -- steps that are done together
+    pub rest-far : {start now next : StepOut} {k n : ℕ} → Rest start now k → n ≤ limit - k → Onward step n now next → Rest start next (k + n)
+    rest-far {k = k} {n = n} z h g =
+        let e : limit - k - n ≡ limit - (k + n) = omega (arith, z .few) in
+        record { few = omega (arith, z .few); whole = rw (← e) (sym (g (limit - k) k h) ∙ z .whole) }
 
-  no-and : (b : Bool) → (b && false) ≡ false
-  no-and true = refl
-  no-and false = refl
+    no-and : (b : Bool) → (b && false) ≡ false
+    no-and true = refl
+    no-and false = refl
 
-  module _ {start now : StepOut} {k : ℕ} (z : Rest start now k) (h : k < most) (q : Painted) (d p l : List ℕ) (e : out q d p l ≡ one-more step now) where
-    halted : goes-on q ≡ false → ended k (out q d p l) ≡ run step most 0 start
-    halted g =
-        let i : goes-on (one-more step now .answer) ≡ false = ap (λ (o : StepOut). goes-on (o .answer)) (sym e) ∙ g in
-        ap (ended k) e ∙ sym (stops (most - k) k now (omega arith) i) ∙ z .whole
+    module _ {start now : StepOut} {k : ℕ} (z : Rest start now k) (h : k < limit) (q : Painted) (d p l : List ℕ) (e : out q d p l ≡ one-more step now) where
+      halted : goes-on q ≡ false → ended k (out q d p l) ≡ run step limit 0 start
+      halted g =
+          let i : goes-on (one-more step now .answer) ≡ false = ap (λ (o : StepOut). goes-on (o .answer)) (sym e) ∙ g in
+          ap (ended k) e ∙ sym (stops (limit - k) k now (omega arith) i) ∙ z .whole
 
-    stuck : (q .number ≡ 0 → ⊥) → goes-on q ≡ false
-    stuck g = rw (ne-eqb (q .number) 0 g)
+      stuck : (q .number ≡ 0 → ⊥) → goes-on q ≡ false
+      stuck g = rw (ne-eqb (q .number) 0 g)
 
-    -- the first step is refused, ..
-    pub rest-refused : (q .number ≡ 0 → ⊥) → k ≡ 0 → out q d p l ≡ run step most 0 start
-    rest-refused g i = (rw (eq-eqb k 0 i) at (halted (stuck g)))
+      -- the first step is refused, ..
+      pub rest-refused : (q .number ≡ 0 → ⊥) → k ≡ 0 → out q d p l ≡ run step limit 0 start
+      rest-refused g i = (rw (eq-eqb k 0 i) at (halted (stuck g)))
 
-    -- .. or a later one, ..
-    pub rest-stopped : (q .number ≡ 0 → ⊥) → (k ≡ 0 → ⊥) → (b : Bool) → q .finished ≡ b
-        → out (record { number = 0; finished = b; pieces = q .pieces }) d p l ≡ run step most 0 start
-    rest-stopped g i b j = (rw (ne-eqb k 0 i, j) at (halted (stuck g)))
+      -- .. or a later one, ..
+      pub rest-stopped : (q .number ≡ 0 → ⊥) → (k ≡ 0 → ⊥) → (b : Bool) → q .finished ≡ b
+          → out (record { number = 0; finished = b; pieces = q .pieces }) d p l ≡ run step limit 0 start
+      rest-stopped g i b j = (rw (ne-eqb k 0 i, j) at (halted (stuck g)))
 
-    -- .. or the row is finished, ..
-    pub rest-finished : q .number ≡ 0 → q .finished ≡ true → out q d p l ≡ run step most 0 start
-    rest-finished m g = go (eqb k 0) refl
-      where
-        stop : goes-on q ≡ false
-        stop = rw g (no-and (eqb (q .number) 0))
+      -- .. or the row is finished, ..
+      pub rest-finished : q .number ≡ 0 → q .finished ≡ true → out q d p l ≡ run step limit 0 start
+      rest-finished m g = go (eqb k 0) refl
+        where
+          stop : goes-on q ≡ false
+          stop = rw g (no-and (eqb (q .number) 0))
 
-        go : (b : Bool) → eqb k 0 ≡ b → out q d p l ≡ run step most 0 start
-        go true i = (rw i at (halted stop))
-        go false i = rw m (rw i at (halted stop))
+          go : (b : Bool) → eqb k 0 ≡ b → out q d p l ≡ run step limit 0 start
+          go true i = (rw i at (halted stop))
+          go false i = rw m (rw i at (halted stop))
 
-    -- .. or it goes on
-    pub rest-on : q .number ≡ 0 → q .finished ≡ false → Rest start (out (listed (q .pieces)) d p l) (k + 1)
-    rest-on m g =
-        let j : most - k - 1 ≡ most - (k + 1) = omega arith in
-        let i : goes-on (one-more step now .answer) ≡ true = ap (λ (o : StepOut). goes-on (o .answer)) (sym e) ∙ rw (eq-eqb (q .number) 0 m, g) in
-        let same : out (listed (q .pieces)) d p l ≡ one-more step now = rw (← m, ← g) e in
-        record { few = omega arith; whole = rw (same, ← j) (sym (more (most - k) k now (omega arith) i) ∙ z .whole) }
+      -- .. or it goes on
+      pub rest-on : q .number ≡ 0 → q .finished ≡ false → Rest start (out (listed (q .pieces)) d p l) (k + 1)
+      rest-on m g =
+          let j : limit - k - 1 ≡ limit - (k + 1) = omega arith in
+          let i : goes-on (one-more step now .answer) ≡ true = ap (λ (o : StepOut). goes-on (o .answer)) (sym e) ∙ rw (eq-eqb (q .number) 0 m, g) in
+          let same : out (listed (q .pieces)) d p l ≡ one-more step now = rw (← m, ← g) e in
+          record { few = omega arith; whole = rw (same, ← j) (sym (more (limit - k) k now (omega arith) i) ∙ z .whole) }
 
-  pub rest-end : {start now : StepOut} {k : ℕ} → Rest start now k → most ≤ k → now ≡ run step most 0 start
-  unfolding run
-  rest-end {k = k} z h = let e : most - k ≡ 0 = omega arith in (rw e at (z .whole))
+    pub rest-end : {start now : StepOut} {k : ℕ} → Rest start now k → limit ≤ k → now ≡ run step limit 0 start
+    unfolding run
+    rest-end {k = k} z h = let e : limit - k ≡ 0 = omega arith in (rw e at (z .whole))

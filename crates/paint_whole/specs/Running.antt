@@ -1,4 +1,4 @@
--- A row painted from where it stands to its end: painting steps one after the other, each on what is left of the list.
+-- A row painted from where it stands: painting steps one after the other, each on what is left of the list.
 use Prim.Native.Nat.{ℕ, zero, suc, _+_, _*_}
 use mathlib.Core.Bool.{Bool, _&&_, not, cond}
 use mathlib.Core.List.{List, _++_}
@@ -51,13 +51,14 @@ standing d p l = out (listed 0) d p l
 abbrev pub own-step : Attrs → List ℕ → List ℕ → List ℕ → List ℕ → List ℕ → List ℕ → StepOut
 own-step a s re fi d p l = painted-row a (lent s re fi d p l)
 
-unfoldable pub own-run : Attrs → RowLent → StepOut
-own-run a w = run (own-step a (w .state) (w .render) (w .fills)) most 0 (standing (w .depth) (w .painting) (w .list))
+-- at most f of them
+unfoldable pub own-run : ℕ → Attrs → RowLent → StepOut
+own-run f a w = run (own-step a (w .state) (w .render) (w .fills)) f 0 (standing (w .depth) (w .painting) (w .list))
 
 -- .. of row r of a screen, each part in its place
-unfoldable pub row-run : Screen → ℕ → Attributes → RowLent → StepOut
-row-run s r a l =
-    in-place s r l (own-run (attrs-at (a .paints) (s .«paint_attrs») (a .layers) (s .«layer_attrs»)) (own s r l))
+unfoldable pub row-run : ℕ → Screen → ℕ → Attributes → RowLent → StepOut
+row-run f s r a l =
+    in-place s r l (own-run f (attrs-at (a .paints) (s .«paint_attrs») (a .layers) (s .«layer_attrs»)) (own s r l))
 
 -- calls of a painting step of row r of a screen
 abbrev pub call-step : Screen → ℕ → Attributes → List ℕ → List ℕ → List ℕ → List ℕ → List ℕ → List ℕ → StepOut

@@ -1,19 +1,21 @@
-// A row painted by one call, from where it stands to its end. `paint_row` is a public call: it has no `requires`. The others are its parts.
+// A row painted from where it stands: one step, or all of them. `paint_step` and `paint_row` are public calls: they have no `requires`. The
+// others are their parts.
 use crate::run::run_row;
 use paint_screen::judge::judge_step;
 use paint_screen::step::Stepped;
 use screen::Screen;
 use sizes::ROW;
 ghost use mathlib.Core.Path.{_≡_};
+ghost use Prim.Native.Nat.{_≤_};
 ghost use Rattle.paint_command.specs.Painting.{lent, out};
-ghost use Rattle.paint_screen.specs.Stepping.{painted-of, attributes, StepReady};
-ghost use Rattle.paint_whole.specs.Running.{row-run, row-painted};
+ghost use Rattle.paint_screen.specs.Stepping.{painted-of, attributes, StepReady, stepped};
+ghost use Rattle.paint_whole.specs.Running.{most, row-run, row-painted};
 
 pub mod pieces;
 pub mod plain;
 pub mod run;
 
-// The steps of a row that is there, painting having begun: the row's own parts are handed on.
+// At most `limit` steps of a row that is there, painting having begun: the row's own parts are handed on.
 fn row_part(
     screen: Screen,
     row: usize,
@@ -25,10 +27,11 @@ fn row_part(
     paint_attrs: &[u32],
     layer_attrs: &[u32],
     list: &mut [u32],
+    limit: usize,
 ) -> Stepped
-    requires { ⌜ StepReady screen row (attributes (now «paint_attrs») (now «layer_attrs»)) (lent (now rows) (now render) (now fills) (now depth) (now painting) (now list)) ⌝ }
+    requires { ⌜ (limit ≤ most) × StepReady screen row (attributes (now «paint_attrs») (now «layer_attrs»)) (lent (now rows) (now render) (now fills) (now depth) (now painting) (now list)) ⌝ }
     ensures { λ r. ⌜ out (painted-of r) (now (depth .exit)) (now (painting .exit)) (now (list .exit))
-        ≡ row-run screen row (attributes (now («paint_attrs» .entry)) (now («layer_attrs» .entry))) (lent (now (rows .entry)) (now (render .entry)) (now (fills .entry)) (now (depth .entry)) (now (painting .entry)) (now (list .entry))) ⌝ }
+        ≡ row-run limit screen row (attributes (now («paint_attrs» .entry)) (now («layer_attrs» .entry))) (lent (now (rows .entry)) (now (render .entry)) (now (fills .entry)) (now (depth .entry)) (now (painting .entry)) (now (list .entry))) ⌝ }
 {
     let b = screen.buckets();
     let c = 4 * (screen.c as usize);
@@ -49,12 +52,62 @@ fn row_part(
         layer_attrs,
         screen.layer_attrs,
         list,
+        limit,
     );
     Stepped {
         number: done.number,
         finished: done.finished,
         pieces: done.pieces,
     }
+}
+
+// One stored command of one row: its depth fills last to first, then its render commands in order, then finished, as often as asked.
+pub fn paint_step(
+    screen: Screen,
+    row: usize,
+    rows: &[u32],
+    render: &[u32],
+    fills: &[u32],
+    depth: &mut [u32],
+    painting: &mut [u32],
+    paint_attrs: &[u32],
+    layer_attrs: &[u32],
+    list: &mut [u32],
+) -> Stepped
+    ensures { λ r. ⌜ out (painted-of r) (now (depth .exit)) (now (painting .exit)) (now (list .exit))
+        ≡ stepped screen row (attributes (now («paint_attrs» .entry)) (now («layer_attrs» .entry))) (lent (now (rows .entry)) (now (render .entry)) (now (fills .entry)) (now (depth .entry)) (now (painting .entry)) (now (list .entry))) ⌝ }
+{
+    let n = judge_step(
+        screen,
+        row,
+        rows.len(),
+        render.len(),
+        fills.len(),
+        depth.len(),
+        painting.len(),
+        paint_attrs.len(),
+        layer_attrs.len(),
+    );
+    if n != 0 {
+        return Stepped {
+            number: n,
+            finished: false,
+            pieces: 0,
+        };
+    }
+    row_part(
+        screen,
+        row,
+        rows,
+        render,
+        fills,
+        depth,
+        painting,
+        paint_attrs,
+        layer_attrs,
+        list,
+        1,
+    )
 }
 
 // The row's next steps, one after the other, until one is refused or the row is finished; refused where the first step is. The pieces stand
@@ -103,5 +156,6 @@ pub fn paint_row(
         paint_attrs,
         layer_attrs,
         list,
+        2049,
     )
 }

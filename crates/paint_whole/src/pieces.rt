@@ -3,6 +3,7 @@ use sizes::BUCKET;
 use sizes::BUCKET_ROUND;
 use sizes::BUCKET_TILES;
 use sizes::TILE_ALPHAS;
+use sizes::wide;
 use span::larger;
 use span::smaller;
 ghost use mathlib.Core.Path.{_≡_};
@@ -16,12 +17,6 @@ ghost use Rattle.rules.specs.Depth.{is-visible, runs-in};
 ghost use Rattle.cmd.specs.Attrs.{words-at};
 ghost use Rattle.paint_command.specs.Painting.{word};
 ghost use Rattle.paint_whole.specs.Kinds.{Fills, low-met, high-met, moved-index, run-words, runs-met, Looked};
-
-fn wide(x: u32) -> usize
-    ensures { λ r. ⌜ r ≡ x ⌝ }
-{
-    x as usize
-}
 
 // Six words at place k of the list.
 pub fn put_words(list: &mut [u32], k: usize, a: u32, b: u32, c: u32, d: u32, e: u32, f: u32)

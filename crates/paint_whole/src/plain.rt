@@ -18,6 +18,7 @@ use sizes::PAINT_ATTR;
 use sizes::RENDERS;
 use sizes::TILE_ALPHAS;
 use sizes::TILE_END;
+use sizes::wide;
 ghost use mathlib.Core.Path.{_≡_};
 ghost use mathlib.Core.Bool.{true};
 ghost use mathlib.Core.List.{List};
@@ -29,14 +30,8 @@ ghost use Rattle.rules.specs.Spans.{span};
 ghost use Rattle.rules.specs.Depth.{Summary, can-skip};
 ghost use Rattle.paint_runs.specs.Summaries.{summary-at};
 ghost use Rattle.paint_command.specs.Painting.{word, given, attrs-at, out, listed};
-ghost use Rattle.paint_whole.specs.Running.{own-step};
+ghost use Rattle.paint_whole.specs.Running.{most, own-step};
 ghost use Rattle.paint_whole.specs.Kinds.{id-given, summary-by, good-index, SeenTo, HiddenTo, FillSaid, Said, Calm, place, Reaches, Onward};
-
-fn wide(x: u32) -> usize
-    ensures { λ r. ⌜ r ≡ x ⌝ }
-{
-    x as usize
-}
 
 // The id if a draw can have taken it, else 0.
 fn taken(id: u32) -> u32
@@ -135,8 +130,8 @@ struct Look {
     id: u32,
 }
 
-// What one look shows of a fill's words.
-fn fill_kind(
+// What one look shows of a fill's words; 0 where it is not sure.
+fn sure_fill(
     tag: u32,
     tiles: u32,
     alpha: u32,
@@ -228,8 +223,8 @@ fn fill_kind(
     }
 }
 
-// A buffer's words.
-fn buffer_kind(tag: u32, tiles: u32, alpha: u32, i: u32, nesting: u32) -> u32
+// What a buffer's words show; 0 where they are not sure.
+fn sure_buffer(tag: u32, tiles: u32, alpha: u32, i: u32, nesting: u32) -> u32
     ensures { λ r. ⌜ ((a : Attrs) (u : Summary) (D : List ℕ) → Said a u D nesting tag tiles alpha i r 0 0) ⌝ }
 {
     if alpha != 0 {
@@ -267,8 +262,8 @@ fn buffer_kind(tag: u32, tiles: u32, alpha: u32, i: u32, nesting: u32) -> u32
     0
 }
 
-// What one look shows of a command's words.
-fn kind_of(
+// What one look shows of a command's words; 0 where it is not sure.
+fn sure_kind(
     tag: u32,
     tiles: u32,
     alpha: u32,
@@ -287,7 +282,7 @@ fn kind_of(
     ensures { λ r. ⌜ Said (attrs-at (now («paint_attrs» .entry)) paints (now («layer_attrs» .entry)) layers) (summary-by from to largest) (now (depth .entry)) nesting tag tiles alpha i (r .kind) (r .stop) (r .id) ⌝ }
 {
     if 4 < tag {
-        let kind = buffer_kind(tag, tiles, alpha, i, nesting);
+        let kind = sure_buffer(tag, tiles, alpha, i, nesting);
         return Look {
             kind,
             stop: 0,
@@ -309,7 +304,7 @@ fn kind_of(
             id: 0,
         };
     }
-    fill_kind(tag, tiles, alpha, id, from, to, largest, depth)
+    sure_fill(tag, tiles, alpha, id, from, to, largest, depth)
 }
 
 // Where a run of commands ended: the place of the next command, the pieces listed, the nesting, what the look showed of that command.
@@ -355,7 +350,7 @@ fn run_sure(
         let tiles = render[k + 1];
         let alpha = render[k + 2];
         let i = render[k + 3];
-        let look = kind_of(
+        let look = sure_kind(
             tag,
             tiles,
             alpha,
@@ -528,7 +523,7 @@ pub fn run_plain(
 ) -> Gone
     requires { ⌜ (length (now state) ≡ row-size) × (length (now render) ≤ 4 * most-room) × (length (now fills) ≤ 2 * most-room) × (length (now depth) ≤ 65535) × (length (now painting) ≡ 2) ⌝ }
     requires { ⌜ (length (now «paint_attrs») ≡ paint-attr-table) × (paints ≤ most-attrs) × (length (now «layer_attrs») ≡ layer-attr-table) × (layers ≤ most-attrs) ⌝ }
-    requires { ⌜ (6 * pieces ≤ length (now list)) × (limit ≤ 2048) ⌝ }
+    requires { ⌜ (6 * pieces ≤ length (now list)) × (limit ≤ most) ⌝ }
     ensures { λ r. ⌜ Onward (own-step (attrs-at (now («paint_attrs» .entry)) paints (now («layer_attrs» .entry)) layers) (now (state .entry)) (now (render .entry)) (now (fills .entry))) (r .steps) (out (listed pieces) (now (depth .entry)) (now (painting .entry)) (now (list .entry))) (out (listed (r .pieces)) (now (depth .entry)) (now (painting .exit)) (now (list .exit))) ⌝ }
     ensures { λ r. ⌜ (r .steps ≤ limit) × (6 * r .pieces ≤ length (now (list .entry))) ⌝ }
 {

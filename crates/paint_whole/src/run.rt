@@ -7,7 +7,7 @@ ghost use Prim.Native.Nat.{_*_, _≤_};
 ghost use lib.ListN.{length};
 ghost use Rattle.sizes.specs.Sizes.{most-room, most-attrs, row-size, paint-attr-table, layer-attr-table};
 ghost use Rattle.paint_command.specs.Painting.{attrs-at, lent, out, listed};
-ghost use Rattle.paint_whole.specs.Running.{one-more, own-step, own-run};
+ghost use Rattle.paint_whole.specs.Running.{most, one-more, own-step, own-run};
 
 // One step more: its pieces go after those so far.
 fn step_on(
@@ -49,7 +49,8 @@ fn step_on(
     }
 }
 
-// The row's steps, until one is refused or the row is finished: commands that one look settles together, every other step by itself.
+// The row's steps, at most `limit`, until one is refused or the row is finished: commands that one look settles together, every other step
+// by itself.
 pub fn run_row(
     state: &[u32],
     render: &[u32],
@@ -61,14 +62,15 @@ pub fn run_row(
     layer_attrs: &[u32],
     layers: u32,
     list: &mut [u32],
+    limit: usize,
 ) -> Painted
     requires { ⌜ (length (now state) ≡ row-size) × (length (now render) ≤ 4 * most-room) × (length (now fills) ≤ 2 * most-room) × (length (now depth) ≤ 65535) × (length (now painting) ≡ 2) ⌝ }
-    requires { ⌜ (length (now «paint_attrs») ≡ paint-attr-table) × (paints ≤ most-attrs) × (length (now «layer_attrs») ≡ layer-attr-table) × (layers ≤ most-attrs) ⌝ }
-    ensures { λ r. ⌜ out r (now (depth .exit)) (now (painting .exit)) (now (list .exit)) ≡ own-run (attrs-at (now («paint_attrs» .entry)) paints (now («layer_attrs» .entry)) layers) (lent (now (state .entry)) (now (render .entry)) (now (fills .entry)) (now (depth .entry)) (now (painting .entry)) (now (list .entry))) ⌝ }
+    requires { ⌜ (length (now «paint_attrs») ≡ paint-attr-table) × (paints ≤ most-attrs) × (length (now «layer_attrs») ≡ layer-attr-table) × (layers ≤ most-attrs) × (limit ≤ most) ⌝ }
+    ensures { λ r. ⌜ out r (now (depth .exit)) (now (painting .exit)) (now (list .exit)) ≡ own-run limit (attrs-at (now («paint_attrs» .entry)) paints (now («layer_attrs» .entry)) layers) (lent (now (state .entry)) (now (render .entry)) (now (fills .entry)) (now (depth .entry)) (now (painting .entry)) (now (list .entry))) ⌝ }
 {
     let mut pieces: usize = 0;
     let mut steps: usize = 0;
-    while steps < 2049 {
+    while steps < limit {
         let gone = run_plain(
             state,
             render,
@@ -81,9 +83,16 @@ pub fn run_row(
             layers,
             list,
             pieces,
-            2048 - steps,
+            limit - steps,
         );
         let k = steps + gone.steps;
+        if limit <= k {
+            return Painted {
+                number: 0,
+                finished: false,
+                pieces: gone.pieces,
+            };
+        }
         let done = step_on(
             state,
             render,

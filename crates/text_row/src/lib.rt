@@ -1,6 +1,6 @@
 // What `rowdump` prints of a screen after the lines of `rowlist`. `attrs_text` and `row_text` are public calls; the others are their parts.
-use paint_screen::step::paint_step;
 use paint_whole::paint_row;
+use paint_whole::paint_step;
 use screen::Screen;
 use sizes::FILTER_TABLE;
 use sizes::LAYER_TABLE;

@@ -34,7 +34,7 @@ use Rattle.paint_screen.specs.Rows.{unset-of, visible-of, wrote, write-of, skip
 use Rattle.paint_screen.proofs.Laws.{begin-once, step-once, write-once}
 use Rattle.paint_whole.specs.Running.{row-painted}
 use Rattle.paint_screen.proofs.begin.begin_painting as begin-call
-use Rattle.paint_screen.proofs.step.paint_step as step-call
+use Rattle.paint_whole.proofs.paint_step as step-call
 use Rattle.paint_whole.proofs.paint_row as row-call
 use Rattle.paint_screen.proofs.rows.unset_runs as unset-call
 use Rattle.paint_screen.proofs.rows.visible_runs as visible-call

@@ -1,4 +1,5 @@
 use mathlib.Core.Path.{sym, _∙_}
+use native.Mathlib.Omega.{arith}
 use Rattle.paint_command.specs.Painting.{lent}
 use Rattle.paint_screen.specs.Stepping.{attributes}
 use Rattle.paint_screen.proofs.Parts.{ready}
@@ -22,10 +23,12 @@ row-part-requires : tie.Need-row-part-requires
 row-part-requires c κs =
     let at-if1 = c .before .before .before in
     let at-judge-step = at-if1 .before in
-    let at-args = at-judge-step .before .before .before .before .before .before .before .before .before in
-    ready (at-args .args .screen) (at-args .args .row) (attributes (at-args .args .paint-attrs .now) (at-args .args .layer-attrs .now)) (lent
-    (at-args .args .rows .now) (at-args .args .render .now) (at-args .args .fills .now) (at-args .args .depth .now) (at-args .args .painting .now)
-    (at-args .args .list .now)) (sym (at-judge-step .judge-step .ensures) ∙ at-if1 .if1 .left)
+    let at-args = at-judge-step .before .before .before .before .before .before .before .before .before in (
+      omega arith,
+      ready (at-args .args .screen) (at-args .args .row) (attributes (at-args .args .paint-attrs .now) (at-args .args .layer-attrs .now)) (lent
+          (at-args .args .rows .now) (at-args .args .render .now) (at-args .args .fills .now) (at-args .args .depth .now) (at-args .args .painting .now)
+          (at-args .args .list .now)) (sym (at-judge-step .judge-step .ensures) ∙ at-if1 .if1 .left),
+    )
 
 same-length : tie.Need-same-length
 same-length c = search needs

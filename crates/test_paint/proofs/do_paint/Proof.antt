@@ -13,7 +13,7 @@ use Rattle.test_words.proofs.copy.Reads as copy-reads
 use Rattle.test_words.proofs.mark.Reads as mark-reads
 use Rattle.test_words.proofs.wide.Reads as wide-reads
 use Rattle.test_words.proofs.word.Reads as word-reads
-use Rattle.paint_screen.proofs.paint_step.Reads as paint-step-reads
+use Rattle.paint_whole.proofs.paint_step.Reads as paint-step-reads
 
 word-requires : tie.Need-word-requires
 word-requires c κs = search needs

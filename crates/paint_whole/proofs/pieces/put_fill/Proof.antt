@@ -14,7 +14,7 @@ use Rattle.paint_whole.proofs.pieces.put_fill.Reads as reads
 use Rattle.paint_whole.proofs.pieces.put_fill.Lts as lts
 use Rattle.paint_whole.proofs.pieces.put_run.Reads as put-run-reads
 use Rattle.paint_whole.proofs.pieces.put_runs.Reads as put-runs-reads
-use Rattle.paint_whole.proofs.pieces.wide.Reads as wide-reads
+use Rattle.sizes.proofs.wide.Reads as wide-reads
 
 add-wide : tie.Need-add-wide
 add-wide c = search needs

@@ -7,7 +7,7 @@ use Rattle.paint_whole.proofs.plain.id_of.Tie as tie
 use Rattle.paint_whole.proofs.plain.id_of.Reads as reads
 use Rattle.paint_whole.proofs.plain.id_of.Lts as lts
 use Rattle.paint_whole.proofs.plain.taken.Reads as taken-reads
-use Rattle.paint_whole.proofs.plain.wide.Reads as wide-reads
+use Rattle.sizes.proofs.wide.Reads as wide-reads
 
 wide-requires : tie.Need-wide-requires
 wide-requires c κs = search needs

@@ -15,7 +15,7 @@ use Rattle.paint_whole.proofs.plain.run_plain.Lts as lts
 use Rattle.paint_whole.proofs.plain.least.Reads as least-reads
 use Rattle.paint_whole.proofs.plain.none_done.Reads as none-done-reads
 use Rattle.paint_whole.proofs.plain.run_commands.Reads as run-commands-reads
-use Rattle.paint_whole.proofs.plain.wide.Reads as wide-reads
+use Rattle.sizes.proofs.wide.Reads as wide-reads
 use Rattle.paint_runs.proofs.is_good_summary.Reads as is-good-summary-reads
 
 shared-slice-read-depths : tie.Need-shared-slice-read-depths

@@ -11,7 +11,7 @@ use Rattle.paint_whole.proofs.plain.run_sure.Statement.{statement}
 use Rattle.paint_whole.proofs.plain.run_sure.Tie as tie
 use Rattle.paint_whole.proofs.plain.run_sure.Reads as reads
 use Rattle.paint_whole.proofs.plain.run_sure.Lts as lts
-use Rattle.paint_whole.proofs.plain.kind_of.Reads as kind-of-reads
+use Rattle.paint_whole.proofs.plain.sure_kind.Reads as sure-kind-reads
 use Rattle.paint_whole.proofs.pieces.put_words.Reads as put-words-reads
 
 abbrev Inv-loop : tie.InvT-loop
@@ -104,8 +104,8 @@ shared-slice-read-i c =
     let at-pre = at-loop-test .before .before .before .before .before .before .before .before .before .before .before .before in
     omega (arith, at-pre .pre .1 .1 .1, at-pre .pre .1 .0 .1 .renders, at-pre .pre .1 .0 .2, at-loop-test .loop-test .taken)
 
-kind-of-requires : tie.Need-kind-of-requires Inv-loop μ-loop
-kind-of-requires c κs =
+sure-kind-requires : tie.Need-sure-kind-requires Inv-loop μ-loop
+sure-kind-requires c κs =
     let at-pre = c .before .before .before .before .before .before .before .before .before .before .before .before .before .before .before .before in
     at-pre .pre .0
 
@@ -151,8 +151,8 @@ loop-again c =
     let at-put-words = c .before .before in
     let at-if2 = at-put-words .before .before in
     let at-if1 = at-if2 .before in
-    let at-kind-of = at-if1 .before in
-    let at-loop-test = at-kind-of .before .before .before .before .before in
+    let at-sure-kind = at-if1 .before in
+    let at-loop-test = at-sure-kind .before .before .before .before .before in
     let at-loop = at-loop-test .before in
     let at-args = at-loop .before .before .before .before .before .before .before .before .before .before .before in (
       on-whole (attrs-at (at-args .args .paint-attrs .now) (at-args .args .paints) (at-args .args .layer-attrs .now) (at-args .args .layers))
@@ -161,7 +161,7 @@ loop-again c =
             arith,
             at-loop-test .loop-test .taken,
             at-args .pre .1 .1 .1,
-          )) _ _ _ (rw (at-loop .loop .inv .2, at-loop .loop .inv .3, at-loop .loop .inv .4) at (at-kind-of .kind-of .ensures)) (at-if2 .if2 .left)
+          )) _ _ _ (rw (at-loop .loop .inv .2, at-loop .loop .inv .3, at-loop .loop .inv .4) at (at-sure-kind .sure-kind .ensures)) (at-if2 .if2 .left)
           (at-if1 .if1 .taken) _ (at-put-words .put-words .ensures),
       omega (arith, at-loop-test .loop-test .taken),
       at-loop .loop .inv .2,
@@ -177,8 +177,8 @@ loop-less-2 c = omega (arith, c .before .before .before .before .before .before 
 
 loop-again-2 : tie.Need-loop-again-2 Inv-loop μ-loop
 loop-again-2 c =
-    let at-kind-of = c .before .before in
-    let at-loop-test = at-kind-of .before .before .before .before .before in
+    let at-sure-kind = c .before .before in
+    let at-loop-test = at-sure-kind .before .before .before .before .before in
     let at-loop = at-loop-test .before in
     let at-args = at-loop .before .before .before .before .before .before .before .before .before .before .before in (
       on-hidden (attrs-at (at-args .args .paint-attrs .now) (at-args .args .paints) (at-args .args .layer-attrs .now) (at-args .args .layers))
@@ -187,7 +187,7 @@ loop-again-2 c =
             arith,
             at-loop-test .loop-test .taken,
             at-args .pre .1 .1 .1,
-          )) _ _ _ (rw (at-loop .loop .inv .2, at-loop .loop .inv .3, at-loop .loop .inv .4) at (at-kind-of .kind-of .ensures)) (c .if3 .taken),
+          )) _ _ _ (rw (at-loop .loop .inv .2, at-loop .loop .inv .3, at-loop .loop .inv .4) at (at-sure-kind .sure-kind .ensures)) (c .if3 .taken),
       omega (arith, at-loop-test .loop-test .taken),
       at-loop .loop .inv .2,
       at-loop .loop .inv .3,
@@ -205,8 +205,8 @@ loop-less-3 c = omega (arith, c .before .before .before .before .before .before 
 
 loop-again-3 : tie.Need-loop-again-3 Inv-loop μ-loop
 loop-again-3 c =
-    let at-kind-of = c .before .before .before in
-    let at-loop-test = at-kind-of .before .before .before .before .before in
+    let at-sure-kind = c .before .before .before in
+    let at-loop-test = at-sure-kind .before .before .before .before .before in
     let at-loop = at-loop-test .before in
     let at-args = at-loop .before .before .before .before .before .before .before .before .before .before .before in (
       on-pushed (attrs-at (at-args .args .paint-attrs .now) (at-args .args .paints) (at-args .args .layer-attrs .now) (at-args .args .layers))
@@ -215,7 +215,7 @@ loop-again-3 c =
             arith,
             at-loop-test .loop-test .taken,
             at-args .pre .1 .1 .1,
-          )) _ _ _ (rw (at-loop .loop .inv .2, at-loop .loop .inv .3, at-loop .loop .inv .4) at (at-kind-of .kind-of .ensures)) (c .if4 .taken),
+          )) _ _ _ (rw (at-loop .loop .inv .2, at-loop .loop .inv .3, at-loop .loop .inv .4) at (at-sure-kind .sure-kind .ensures)) (c .if4 .taken),
       omega (arith, at-loop-test .loop-test .taken),
       at-loop .loop .inv .2,
       at-loop .loop .inv .3,
@@ -223,7 +223,7 @@ loop-again-3 c =
     )
 
 sub-level : tie.Need-sub-level Inv-loop μ-loop
-sub-level c = omega (arith, c .before .before .before .before .kind-of .ensures .popped (c .if5 .taken) .0)
+sub-level c = omega (arith, c .before .before .before .before .sure-kind .ensures .popped (c .if5 .taken) .0)
 
 add-at-4 : tie.Need-add-at-4 Inv-loop μ-loop
 add-at-4 c = omega (arith, c .before .before .before .before .before .before .before .before .before .loop-test .taken)
@@ -233,8 +233,8 @@ loop-less-4 c = omega (arith, c .before .before .before .before .before .before 
 
 loop-again-4 : tie.Need-loop-again-4 Inv-loop μ-loop
 loop-again-4 c =
-    let at-kind-of = c .before .before .before .before in
-    let at-loop-test = at-kind-of .before .before .before .before .before in
+    let at-sure-kind = c .before .before .before .before in
+    let at-loop-test = at-sure-kind .before .before .before .before .before in
     let at-loop = at-loop-test .before in
     let at-args = at-loop .before .before .before .before .before .before .before .before .before .before .before in (
       on-popped (attrs-at (at-args .args .paint-attrs .now) (at-args .args .paints) (at-args .args .layer-attrs .now) (at-args .args .layers))
@@ -243,7 +243,7 @@ loop-again-4 c =
             arith,
             at-loop-test .loop-test .taken,
             at-args .pre .1 .1 .1,
-          )) _ _ _ (rw (at-loop .loop .inv .2, at-loop .loop .inv .3, at-loop .loop .inv .4) at (at-kind-of .kind-of .ensures)) (c .if5 .taken),
+          )) _ _ _ (rw (at-loop .loop .inv .2, at-loop .loop .inv .3, at-loop .loop .inv .4) at (at-sure-kind .sure-kind .ensures)) (c .if5 .taken),
       omega (arith, at-loop-test .loop-test .taken),
       at-loop .loop .inv .2,
       at-loop .loop .inv .3,
@@ -257,11 +257,11 @@ same-length-2 c =
 
 returns-2 : tie.Need-returns-2 Inv-loop μ-loop
 returns-2 c =
-    let at-kind-of = c .before .before .before .before in
-    let at-loop-test = at-kind-of .before .before .before .before .before in
+    let at-sure-kind = c .before .before .before .before in
+    let at-loop-test = at-sure-kind .before .before .before .before .before in
     let at-loop = at-loop-test .before in (
       at-loop .loop .inv .0,
-      (at-loop .loop .inv .1, λ h. (at-loop-test .loop-test .taken, rw (at-loop .loop .inv .2, at-loop .loop .inv .3, at-loop .loop .inv .4) at (at-kind-of .kind-of .ensures))),
+      (at-loop .loop .inv .1, λ h. (at-loop-test .loop-test .taken, rw (at-loop .loop .inv .2, at-loop .loop .inv .3, at-loop .loop .inv .4) at (at-sure-kind .sure-kind .ensures))),
     )
 
 same-length-3 : tie.Need-same-length-3 Inv-loop μ-loop
@@ -292,7 +292,7 @@ run-sure-spec =
     add-i
     mul-i
     shared-slice-read-i
-    kind-of-requires
+    sure-kind-requires
     mul-if2
     add-if2
     same-length

@@ -3,21 +3,21 @@ use Rattle.paint_command.specs.Painting.{attrs-at}
 use Rattle.paint_whole.specs.Kinds.{summary-by}
 use Rattle.paint_whole.proofs.Saying.{said-none, said-fill}
 use borrow.Author.Needs.{needs}
-use Rattle.paint_whole.proofs.plain.kind_of.Statement.{statement}
-use Rattle.paint_whole.proofs.plain.kind_of.Tie as tie
-use Rattle.paint_whole.proofs.plain.kind_of.Reads as reads
-use Rattle.paint_whole.proofs.plain.kind_of.Lts as lts
-use Rattle.paint_whole.proofs.plain.buffer_kind.Reads as buffer-kind-reads
-use Rattle.paint_whole.proofs.plain.fill_kind.Reads as fill-kind-reads
+use Rattle.paint_whole.proofs.plain.sure_kind.Statement.{statement}
+use Rattle.paint_whole.proofs.plain.sure_kind.Tie as tie
+use Rattle.paint_whole.proofs.plain.sure_kind.Reads as reads
+use Rattle.paint_whole.proofs.plain.sure_kind.Lts as lts
+use Rattle.paint_whole.proofs.plain.sure_buffer.Reads as sure-buffer-reads
+use Rattle.paint_whole.proofs.plain.sure_fill.Reads as sure-fill-reads
 use Rattle.paint_whole.proofs.plain.id_of.Reads as id-of-reads
 
-buffer-kind-requires : tie.Need-buffer-kind-requires
-buffer-kind-requires c κs = search needs
+sure-buffer-requires : tie.Need-sure-buffer-requires
+sure-buffer-requires c κs = search needs
 
 returns : tie.Need-returns
 returns c =
     let at-args = c .before .before .before .before .before in
-    c .buffer-kind .ensures (attrs-at (at-args .args .paint-attrs .now) (at-args .args .paints) (at-args .args .layer-attrs .now) (at-args .args .layers))
+    c .sure-buffer .ensures (attrs-at (at-args .args .paint-attrs .now) (at-args .args .paints) (at-args .args .layer-attrs .now) (at-args .args .layers))
     (summary-by (at-args .args .from) (at-args .args .to) (at-args .args .largest)) (at-args .args .depth .now)
 
 returns-2 : tie.Need-returns-2
@@ -37,8 +37,8 @@ returns-3 c =
     (at-args .args .from) (at-args .args .to) (at-args .args .largest)) (at-args .args .depth .now) (at-args .args .nesting) (at-args .args .tag)
     (at-args .args .tiles) (at-args .args .alpha) (at-args .args .i)
 
-fill-kind-requires : tie.Need-fill-kind-requires
-fill-kind-requires c κs = search needs
+sure-fill-requires : tie.Need-sure-fill-requires
+sure-fill-requires c κs = search needs
 
 returns-4 : tie.Need-returns-4
 returns-4 c =
@@ -48,19 +48,19 @@ returns-4 c =
     let at-args = at-if1 .before .before .before .before in
     said-fill (at-args .args .paint-attrs .now) (at-args .args .paints) (at-args .args .layer-attrs .now) (at-args .args .layers) (summary-by
     (at-args .args .from) (at-args .args .to) (at-args .args .largest)) (at-args .args .depth .now) (at-args .args .nesting) (at-args .args .tag)
-    (at-args .args .tiles) (at-args .args .alpha) (at-args .args .i) _ _ _ _ (c .before .if3 .left) (c .fill-kind .ensures) (omega (
+    (at-args .args .tiles) (at-args .args .alpha) (at-args .args .i) _ _ _ _ (c .before .if3 .left) (c .sure-fill .ensures) (omega (
       arith,
       at-if2 .if2 .left,
     )) (at-if1 .if1 .left) (at-id-of .id-of .ensures)
 
-pub kind-of-spec : {M : Type 1} → statement M
-kind-of-spec =
+pub sure-kind-spec : {M : Type 1} → statement M
+sure-kind-spec =
     tie.close
     (tie.spec
-    buffer-kind-requires
+    sure-buffer-requires
     returns
     returns-2
     id-of-requires
     returns-3
-    fill-kind-requires
+    sure-fill-requires
     returns-4)

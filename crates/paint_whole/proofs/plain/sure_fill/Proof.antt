@@ -7,13 +7,13 @@ use Rattle.cmd.specs.Reading.{word-span}
 use Rattle.paint_whole.specs.Kinds.{summary-by}
 use Rattle.paint_whole.proofs.Looks.{seen-all, hidden-all, one-seen, one-hidden, met-seen, met-hidden, clear-whole, searched, none-said, whole-said, hidden-said, seen-said, unseen-said}
 use borrow.Author.Needs.{needs}
-use Rattle.paint_whole.proofs.plain.fill_kind.Statement.{statement}
-use Rattle.paint_whole.proofs.plain.fill_kind.Tie as tie
-use Rattle.paint_whole.proofs.plain.fill_kind.Reads as reads
-use Rattle.paint_whole.proofs.plain.fill_kind.Lts as lts
+use Rattle.paint_whole.proofs.plain.sure_fill.Statement.{statement}
+use Rattle.paint_whole.proofs.plain.sure_fill.Tie as tie
+use Rattle.paint_whole.proofs.plain.sure_fill.Reads as reads
+use Rattle.paint_whole.proofs.plain.sure_fill.Lts as lts
 use Rattle.paint_whole.proofs.plain.is_apart.Reads as is-apart-reads
 use Rattle.paint_whole.proofs.plain.is_good_index.Reads as is-good-index-reads
-use Rattle.paint_whole.proofs.plain.wide.Reads as wide-reads
+use Rattle.sizes.proofs.wide.Reads as wide-reads
 
 returns : tie.Need-returns
 returns c =
@@ -299,8 +299,8 @@ returns-11 c =
       at-if4 .if4 .left,
     )) _ (rw (at-wide2 .wide2 .ensures, at-wide3 .wide3 .ensures) at (c .before .hidden-end .ensures)) (omega (arith, at-wide3 .wide3 .ensures, c .if10 .left))
 
-pub fill-kind-spec : {M : Type 1} → statement M
-fill-kind-spec =
+pub sure-fill-spec : {M : Type 1} → statement M
+sure-fill-spec =
     tie.close
     (tie.spec
     returns

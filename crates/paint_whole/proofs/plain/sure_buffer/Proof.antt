@@ -1,8 +1,8 @@
 use Rattle.paint_whole.proofs.Saying.{said-none, push-bare, push-tiles, pop-bare}
-use Rattle.paint_whole.proofs.plain.buffer_kind.Statement.{statement}
-use Rattle.paint_whole.proofs.plain.buffer_kind.Tie as tie
-use Rattle.paint_whole.proofs.plain.buffer_kind.Reads as reads
-use Rattle.paint_whole.proofs.plain.buffer_kind.Lts as lts
+use Rattle.paint_whole.proofs.plain.sure_buffer.Statement.{statement}
+use Rattle.paint_whole.proofs.plain.sure_buffer.Tie as tie
+use Rattle.paint_whole.proofs.plain.sure_buffer.Reads as reads
+use Rattle.paint_whole.proofs.plain.sure_buffer.Lts as lts
 
 returns : tie.Need-returns
 returns c = λ x u D. said-none x u D (c .before .args .nesting) (c .before .args .tag) (c .before .args .tiles) (c .before .args .alpha) (c .before .args .i)
@@ -75,8 +75,8 @@ returns-12 c =
     let at-args = c .before .before .before .before .before .before in
     λ x u D. said-none x u D (at-args .args .nesting) (at-args .args .tag) (at-args .args .tiles) (at-args .args .alpha) (at-args .args .i)
 
-pub buffer-kind-spec : {M : Type 1} → statement M
-buffer-kind-spec =
+pub sure-buffer-spec : {M : Type 1} → statement M
+sure-buffer-spec =
     tie.close
     (tie.spec
     returns

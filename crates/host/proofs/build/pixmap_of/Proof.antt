@@ -1,6 +1,5 @@
 -- The flag decides whether the handle is read.
 use borrow.Author.Tests.{eq-eqb, ne-eqb}
-use borrow.Author.Needs.{needs}
 use Rattle.host.proofs.build.pixmap_of.Statement.{statement}
 use Rattle.host.proofs.build.pixmap_of.Tie as tie
 

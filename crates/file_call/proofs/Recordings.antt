@@ -79,6 +79,21 @@ pub record Same (t u : Tables) : Type 0 where
   pub layer-attrs : length (t .layer-attrs) ≡ length (u .layer-attrs)
   pub filter-paints : length (t .filter-paints) ≡ length (u .filter-paints)
 
+same-then : {t u x : Tables} → Same t u → Same u x → Same t x
+same-then e f =
+    record {
+      render = e .render ∙ f .render;
+      fills = e .fills ∙ f .fills;
+      depth = e .depth ∙ f .depth;
+      rows = e .rows ∙ f .rows;
+      painting = e .painting ∙ f .painting;
+      layers = e .layers ∙ f .layers;
+      opacities = e .opacities ∙ f .opacities;
+      paint-attrs = e .paint-attrs ∙ f .paint-attrs;
+      layer-attrs = e .layer-attrs ∙ f .layer-attrs;
+      filter-paints = e .filter-paints ∙ f .filter-paints;
+    }
+
 module _ {t u : Tables} (e : Same t u) where
   same-lengths : lengths t ≡ lengths u
   same-lengths = rw (e .render, e .fills, e .depth, e .rows, e .painting, e .layers, e .opacities, e .paint-attrs, e .layer-attrs, e .filter-paints)
@@ -135,7 +150,7 @@ module _ (l : Layout) (ws : List ℕ) (g : GoodForm ws l) (v : Rect) (b : box-of
     pub all-done : m ≡ 0 → answer m s ≡ recorded ws c d old
     all-done q = all-played (file.recorded l ws) a m s f q ∙ sym then-played
 
-    pub left-fresh : (m ≡ 0 → ⊥) → (u : Screen) → Same (s .tables) (old .tables) → (k : ℕ) (y : ScreenLent) → answer k y ≡ reset-to v c d (lent u (s .tables))
-        → answer m y ≡ recorded ws c d old
-    left-fresh q u p k y h =
-        rw (again v c d old n a e z (lent u (s .tables)) p k y h) (not-played (file.recorded l ws) a m s f q ∙ sym then-played)
+    pub left-fresh : (m ≡ 0 → ⊥) → (u : Screen) → Same (s .tables) (a .tables) → Same (a .tables) (old .tables) → (k : ℕ) (y : ScreenLent)
+        → answer k y ≡ reset-to v c d (lent u (s .tables)) → answer m y ≡ recorded ws c d old
+    left-fresh q u p o k y h =
+        rw (again v c d old n a e z (lent u (s .tables)) (same-then p o) k y h) (not-played (file.recorded l ws) a m s f q ∙ sym then-played)

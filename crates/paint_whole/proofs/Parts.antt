@@ -27,9 +27,7 @@ use Rattle.paint_whole.proofs.Runs.{stops, more}
 -- the steps of the row's own parts, put back in their places
 module _ (f : ℕ) (s : Screen) (r : ℕ) (a : Attributes) (l : RowLent) (b : ℕ) (e : b ≡ wide s) (o : Painted) (d p t : List ℕ) where
   pub run-back : out o d p t ≡ own-run f (attrs-at (a .paints) (s .«paint_attrs») (a .layers) (s .«layer_attrs»))
-      (lent (take (r * 54 + 54 - r * 54) (drop (r * 54) (l .state)))
-      (take (r * (4 * s .c) + 4 * s .c - r * (4 * s .c)) (drop (r * (4 * s .c)) (l .render)))
-      (take (r * (2 * s .d) + 2 * s .d - r * (2 * s .d)) (drop (r * (2 * s .d)) (l .fills)))
+      (lent (part 54 r (l .state)) (part (4 * s .c) r (l .render)) (part (2 * s .d) r (l .fills))
       (take (r * b + b - r * b) (drop (r * b) (l .depth)))
       (take (r * 2 + 2 - r * 2) (drop (r * 2) (l .painting)))
       (l .list))
@@ -39,7 +37,7 @@ module _ (f : ℕ) (s : Screen) (r : ℕ) (a : Attributes) (l : RowLent) (b : �
   unfolding row-run
   run-back h =
       let i : out o d p t ≡ own-run f (attrs-at (a .paints) (s .«paint_attrs») (a .layers) (s .«layer_attrs»)) (own s r l) =
-      rw (part-is 54 r (l .state), part-is (4 * s .c) r (l .render), part-is (2 * s .d) r (l .fills), part-is b r (l .depth), part-is 2 r (l .painting), e) at h in
+      rw (part-is b r (l .depth), part-is 2 r (l .painting), e) at h in
       rw (put-is b r (l .depth) d, put-is 2 r (l .painting) p, e) (ap (in-place s r l) i)
 
 -- a part in its place: it stands there, and another takes its place
@@ -57,7 +55,7 @@ module _ (k r : ℕ) (xs ys : List ℕ) (h : Within k r xs) (e : length ys ≡ k
   pub put-long : length (with-part k r xs ys) ≡ length xs
   put-long = put-length (r * k) k xs ys (h .ends) e
 
-part-of-length : (k r : ℕ) (xs : List ℕ) → Within k r xs → length (part k r xs) ≡ k
+pub part-of-length : (k r : ℕ) (xs : List ℕ) → Within k r xs → length (part k r xs) ≡ k
 part-of-length k r xs h = length-take-le k (drop (r * k) xs) (rw length-drop (omega (arith, h .ends)))
 
 -- A call whose screen and lengths are judged 0: its steps are those of the row's own words.

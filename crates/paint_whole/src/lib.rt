@@ -3,6 +3,7 @@
 use crate::run::run_row;
 use paint_screen::judge::judge_step;
 use paint_screen::step::Stepped;
+use row_screen::part;
 use screen::Screen;
 use sizes::ROW;
 ghost use mathlib.Core.Path.{_≡_};
@@ -34,17 +35,12 @@ fn row_part(
         ≡ row-run limit screen row (attributes (now («paint_attrs» .entry)) (now («layer_attrs» .entry))) (lent (now (rows .entry)) (now (render .entry)) (now (fills .entry)) (now (depth .entry)) (now (painting .entry)) (now (list .entry))) ⌝ }
 {
     let b = screen.buckets();
-    let c = 4 * (screen.c as usize);
-    let d = 2 * (screen.d as usize);
-    let x = row * ROW;
-    let y = row * c;
-    let z = row * d;
     let u = row * b;
     let v = row * 2;
     let done = run_row(
-        &rows[x..x + ROW],
-        &render[y..y + c],
-        &fills[z..z + d],
+        part(rows, ROW, row),
+        part(render, 4 * (screen.c as usize), row),
+        part(fills, 2 * (screen.d as usize), row),
         &mut depth[u..u + b],
         &mut painting[v..v + 2],
         paint_attrs,

@@ -84,8 +84,6 @@ fn do_paint(
     list: &mut [u32],
 ) -> usize {
     let row = wide(word(call, 1));
-    let n = after(0, wide(word(call, 2)), list.len());
-    mark(list);
     let done = paint_step(
         screen,
         row,
@@ -96,11 +94,11 @@ fn do_paint(
         painting,
         paint_attrs,
         layer_attrs,
-        &mut list[..n],
+        list,
     );
     let head = [done.number, flag(done.finished), narrow(done.pieces)];
     let place = copy(out, at, &head);
-    copy(out, place, &list[..n])
+    copy(out, place, list)
 }
 
 // row, first, end, words of the list.
@@ -112,12 +110,10 @@ fn do_unset(
     depth: &[u32],
     list: &mut [u32],
 ) -> usize {
-    let n = after(0, wide(word(call, 4)), list.len());
     let row = wide(word(call, 1));
     let span = tiles_at(call, 2);
-    mark(list);
-    let runs = unset_runs(screen, row, depth, span, &mut list[..n]);
-    put_runs(out, at, runs, &list[..n])
+    let runs = unset_runs(screen, row, depth, span, list);
+    put_runs(out, at, runs, list)
 }
 
 // row, id, first, end, words of the list.
@@ -129,13 +125,11 @@ fn do_visible(
     depth: &[u32],
     list: &mut [u32],
 ) -> usize {
-    let n = after(0, wide(word(call, 5)), list.len());
     let row = wide(word(call, 1));
     let id = word(call, 2);
     let span = tiles_at(call, 3);
-    mark(list);
-    let runs = visible_runs(screen, row, depth, span, id, &mut list[..n]);
-    put_runs(out, at, runs, &list[..n])
+    let runs = visible_runs(screen, row, depth, span, id, list);
+    put_runs(out, at, runs, list)
 }
 
 // row, id, first bucket, end bucket, words of the list. Done, it ends painting.
@@ -147,17 +141,15 @@ fn do_write(
     depth: &mut [u32],
     list: &mut [u32],
 ) -> Turn {
-    let n = after(0, wide(word(call, 5)), list.len());
     let row = wide(word(call, 1));
     let id = word(call, 2);
     let range = buckets_at(call, 3);
-    mark(list);
-    let written = unset_runs_and_write(screen, row, depth, range, id, &mut list[..n]);
+    let written = unset_runs_and_write(screen, row, depth, range, id, list);
     let runs = written.runs;
     let next = written.screen;
     Turn {
         screen: next,
-        place: put_runs(out, at, runs, &list[..n]),
+        place: put_runs(out, at, runs, list),
     }
 }
 
@@ -183,8 +175,8 @@ fn do_begin(
     }
 }
 
-// Any painting call.
-pub fn do_painting(
+// Any painting call, on the words of the list that it is lent.
+fn do_call(
     call: &[u32],
     screen: Screen,
     out: &mut [u32],
@@ -232,4 +224,49 @@ pub fn do_painting(
         },
         _ => Turn { screen, place: at },
     }
+}
+
+// How many words of the list a call is lent: its last argument, where it lists something.
+fn lent_words(call: &[u32], there: usize) -> usize
+    ensures { λ r. ⌜ r ≤ there ⌝ }
+{
+    match word(call, 0) {
+        6 => after(0, wide(word(call, 2)), there),
+        7 => after(0, wide(word(call, 4)), there),
+        8 | 9 => after(0, wide(word(call, 5)), there),
+        _ => 0,
+    }
+}
+
+// The same with the list, from which the call is lent what it asks for, full of marks.
+pub fn do_painting(
+    call: &[u32],
+    screen: Screen,
+    out: &mut [u32],
+    at: usize,
+    render: &[u32],
+    fills: &[u32],
+    depth: &mut [u32],
+    rows: &[u32],
+    painting: &mut [u32],
+    paint_attrs: &[u32],
+    layer_attrs: &[u32],
+    list: &mut [u32],
+) -> Turn {
+    let n = lent_words(call, list.len());
+    mark(list);
+    do_call(
+        call,
+        screen,
+        out,
+        at,
+        render,
+        fills,
+        depth,
+        rows,
+        painting,
+        paint_attrs,
+        layer_attrs,
+        &mut list[..n],
+    )
 }

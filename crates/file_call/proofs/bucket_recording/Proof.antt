@@ -1,9 +1,9 @@
 -- Each refusal before the walk leaves what the rules' `play` leaves: 3, 2 and 1 alter nothing, 4 and 5 come after the reset. An accepted walk gives
 -- its own words, a refused one is followed by a second reset.
 use Rattle.file_call.proofs.Recordings.{bad-file, not-reset, all-done, left-fresh}
-use mathlib.Core.Path.{sym, _∙_}
+use mathlib.Core.Path.{refl, sym, _∙_}
 use mathlib.Core.List.{[]}
-use Rattle.screen.specs.Tables.{tables}
+use Rattle.screen.specs.Tables.{ScreenLent, lent, tables}
 use Rattle.file_form.proofs.Laid.{good-form, bad-form}
 use borrow.Author.Needs.{needs}
 use Rattle.file_call.proofs.bucket_recording.Statement.{statement}
@@ -288,26 +288,34 @@ returns-4 c =
     let at-l = at-box-at .before .before in
     let at-read-form = at-l .before .before in
     let at-args = at-read-form .before .before .before .before .before .before .before .before .before .before .before in
+    let fresh : ScreenLent =
+    (lent (at-reset .reset .result .screen) (tables (at-reset .reset .last .1 .1 .1 .1 .0) (at-reset .reset .last .1 .1 .1 .1 .1 .0) (at-reset .reset .last .1 .1 .1 .1 .1 .1 .0) (at-reset .reset .last .1 .1 .1 .1 .1 .1 .1 .0) (at-reset .reset .last .1 .1 .1 .1 .1 .1 .1 .1 .0) (at-reset .reset .last .1 .1 .1 .1 .1 .1 .1 .1 .1 .0) (at-reset .reset .last .1 .1 .1 .1 .1 .1 .1 .1 .1 .1 .0) (at-reset .reset .last .1 .1 .1 .1 .1 .1 .1 .1 .1 .1 .1 .0) (at-reset .reset .last .1 .1 .1 .1 .1 .1 .1 .1 .1 .1 .1 .1 .0) (at-reset .reset .last .1 .1 .1 .1 .1 .1 .1 .1 .1 .1 .1 .1 .1 .0))) in
+    let after : ScreenLent =
+    (lent (at-play .play .result .screen) (tables (at-play .play .last .1 .1 .1 .1 .0) (at-play .play .last .1 .1 .1 .1 .1 .0) (at-reset .reset .last .1 .1 .1 .1 .1 .1 .0) (at-play .play .last .1 .1 .1 .0) (at-reset .reset .last .1 .1 .1 .1 .1 .1 .1 .1 .0) (at-play .play .last .1 .1 .1 .1 .1 .1 .0) (at-play .play .last .1 .1 .1 .1 .1 .1 .1 .0) (at-play .play .last .1 .1 .1 .1 .1 .1 .1 .1 .0) (at-play .play .last .1 .1 .1 .1 .1 .1 .1 .1 .1 .0) (at-play .play .last .1 .1 .1 .1 .1 .1 .1 .1 .1 .1 .0))) in
     left-fresh _ _ (good-form (at-args .args .file .now) (at-l .l .given .0 .0) (sym (at-l .l .given .1) ∙ at-read-form .read-form .ensures)) _
-    (at-box-at .box-at .ensures) _ _ _ _ _ (at-reset .reset .ensures) (at-if1 .if1 .left) _ _ (at-play .play .ensures (tables
+    (at-box-at .box-at .ensures) _ _ _ _ fresh (at-reset .reset .ensures) (at-if1 .if1 .left) _ after (at-play .play .ensures (tables
     [] [] (at-reset .reset .last .1 .1 .1 .1 .1 .1 .0) [] (at-reset .reset .last .1 .1 .1 .1 .1 .1 .1 .1 .0) [] [] [] [] [])) (at-if2 .if2 .left) _ (record {
-      render = at-play .play .kept .1 .1 .1 .1 .0 ∙ at-reset .reset .kept .1 .1 .1 .1 .0;
-      fills =
-          at-play .play .kept .1 .1 .1 .1 .1 .0 ∙ at-reset .reset .kept .1 .1 .1 .1 .1 .0;
+      render = at-play .play .kept .1 .1 .1 .1 .0;
+      fills = at-play .play .kept .1 .1 .1 .1 .1 .0;
+      depth = refl;
+      rows = at-play .play .kept .1 .1 .1 .0;
+      painting = refl;
+      layers = at-play .play .kept .1 .1 .1 .1 .1 .1 .0;
+      opacities = at-play .play .kept .1 .1 .1 .1 .1 .1 .1 .0;
+      paint-attrs = at-play .play .kept .1 .1 .1 .1 .1 .1 .1 .1 .0;
+      layer-attrs = at-play .play .kept .1 .1 .1 .1 .1 .1 .1 .1 .1 .0;
+      filter-paints = at-play .play .kept .1 .1 .1 .1 .1 .1 .1 .1 .1 .1 .0;
+    }) (record {
+      render = at-reset .reset .kept .1 .1 .1 .1 .0;
+      fills = at-reset .reset .kept .1 .1 .1 .1 .1 .0;
       depth = at-reset .reset .kept .1 .1 .1 .1 .1 .1 .0;
-      rows =
-          at-play .play .kept .1 .1 .1 .0 ∙ at-reset .reset .kept .1 .1 .1 .1 .1 .1 .1 .0;
+      rows = at-reset .reset .kept .1 .1 .1 .1 .1 .1 .1 .0;
       painting = at-reset .reset .kept .1 .1 .1 .1 .1 .1 .1 .1 .0;
-      layers =
-          at-play .play .kept .1 .1 .1 .1 .1 .1 .0 ∙ at-reset .reset .kept .1 .1 .1 .1 .1 .1 .1 .1 .1 .0;
-      opacities = at-play .play .kept .1 .1 .1 .1 .1 .1 .1 .0 ∙
-          at-reset .reset .kept .1 .1 .1 .1 .1 .1 .1 .1 .1 .1 .0;
-      paint-attrs = at-play .play .kept .1 .1 .1 .1 .1 .1 .1 .1 .0 ∙
-          at-reset .reset .kept .1 .1 .1 .1 .1 .1 .1 .1 .1 .1 .1 .0;
-      layer-attrs = at-play .play .kept .1 .1 .1 .1 .1 .1 .1 .1 .1 .0 ∙
-          at-reset .reset .kept .1 .1 .1 .1 .1 .1 .1 .1 .1 .1 .1 .1 .0;
-      filter-paints = at-play .play .kept .1 .1 .1 .1 .1 .1 .1 .1 .1 .1 .0 ∙
-          at-reset .reset .kept .1 .1 .1 .1 .1 .1 .1 .1 .1 .1 .1 .1 .1 .0;
+      layers = at-reset .reset .kept .1 .1 .1 .1 .1 .1 .1 .1 .1 .0;
+      opacities = at-reset .reset .kept .1 .1 .1 .1 .1 .1 .1 .1 .1 .1 .0;
+      paint-attrs = at-reset .reset .kept .1 .1 .1 .1 .1 .1 .1 .1 .1 .1 .1 .0;
+      layer-attrs = at-reset .reset .kept .1 .1 .1 .1 .1 .1 .1 .1 .1 .1 .1 .1 .0;
+      filter-paints = at-reset .reset .kept .1 .1 .1 .1 .1 .1 .1 .1 .1 .1 .1 .1 .1 .0;
     }) _ _ (at-reset2 .reset2 .ensures)
 
 pub bucket-recording-spec : {M : Type 1} → statement M

@@ -1,9 +1,11 @@
 -- Row r's parts are cut out of the slices and handed on; what the steps make of them is put back, and every other row stays.
+use mathlib.Core.Path.{ap, _∙_}
 use native.Mathlib.Omega.{arith}
+use lib.ListN.{length}
 use Rattle.paint_command.specs.Painting.{lent}
 use Rattle.paint_screen.specs.Stepping.{Within, attributes}
 use Rattle.paint_screen.proofs.Parts.{part-length}
-use Rattle.paint_whole.proofs.Parts.{run-back}
+use Rattle.paint_whole.proofs.Parts.{part-of-length, run-back}
 use borrow.Author.Needs.{needs}
 use Rattle.paint_whole.proofs.row_part.Statement.{statement}
 use Rattle.paint_whole.proofs.row_part.Tie as tie
@@ -11,42 +13,50 @@ use Rattle.paint_whole.proofs.row_part.Tie as tie
 buckets-requires : tie.Need-buckets-requires
 buckets-requires c κs = search needs
 
-cast-c : tie.Need-cast-c
-cast-c c = search needs
-
-mul-c : tie.Need-mul-c
-mul-c c = search needs
-
-cast-d : tie.Need-cast-d
-cast-d c = search needs
-
-mul-d : tie.Need-mul-d
-mul-d c = search needs
-
-mul-x : tie.Need-mul-x
-mul-x c = omega (arith, c .before .before .before .before .before .before .before .before .before .before .before .pre .1 .state .near)
-
-mul-y : tie.Need-mul-y
-mul-y c = omega (arith, c .before .before .before .before .before .before .before .before .before .before .before .pre .1 .render .near)
-
-mul-z : tie.Need-mul-z
-mul-z c = omega (arith, c .before .before .before .before .before .before .before .before .before .before .before .pre .1 .fills .near)
-
 mul-u : tie.Need-mul-u
 mul-u c =
-    let at-buckets = c .before .before in
-    let at-args = at-buckets .before .before .before .before .before .before .before .before .before in
-    let w : Within (at-buckets .buckets .result) (at-args .args .row) (at-args .args .depth .now) = rw (at-buckets .buckets .ensures) (at-args .pre .1 .depth) in
+    let at-buckets = c in
+    let entry = at-buckets .before .before .before .before .before .before .before .before .before in
+    let w : Within (at-buckets .buckets .result) (entry .args .row) (entry .args .depth .now) = rw (at-buckets .buckets .ensures) (entry .pre .1 .depth) in
     omega (arith, w .near)
 
 mul-v : tie.Need-mul-v
-mul-v c = omega (arith, c .before .before .before .before .before .before .before .before .before .before .before .pre .1 .painting .near)
+mul-v c = let entry = c .before .before .before .before .before .before .before .before .before in omega (arith, entry .pre .1 .painting .near)
+
+part-requires : tie.Need-part-requires
+part-requires c κs = let entry = c .before .before .before .before .before .before .before .before .before in omega (arith, entry .pre .1 .state .ends)
+
+cast-part : tie.Need-cast-part
+cast-part c = search needs
+
+mul-part : tie.Need-mul-part
+mul-part c = search needs
+
+part-requires-2 : tie.Need-part-requires-2
+part-requires-2 c κs = let entry = c .before .before .before .before .before .before .before .before .before .before .before in omega (arith, entry .pre .1 .render .ends)
+
+cast-part-2 : tie.Need-cast-part-2
+cast-part-2 c = search needs
+
+mul-part-2 : tie.Need-mul-part-2
+mul-part-2 c = search needs
+
+part-requires-3 : tie.Need-part-requires-3
+part-requires-3 c κs = let entry = c .before .before .before .before .before .before .before .before .before .before .before .before .before in omega (arith, entry .pre .1 .fills .ends)
 
 add-run-row : tie.Need-add-run-row
-add-run-row c = omega (arith, c .before .before .before .before .before .before .before .before .before .before .before .pre .1 .state .near)
+add-run-row c =
+    let at-buckets = c .before .before .before .before .before in
+    let entry = at-buckets .before .before .before .before .before .before .before .before .before in
+    let w : Within (at-buckets .buckets .result) (entry .args .row) (entry .args .depth .now) = rw (at-buckets .buckets .ensures) (entry .pre .1 .depth) in
+    omega (arith, w .near, w .short)
 
 mul-run-row : tie.Need-mul-run-row
-mul-run-row c = omega (arith, c .before .before .before .before .before .before .before .before .before .before .before .pre .1 .state .near)
+mul-run-row c =
+    let at-buckets = c .before .before .before .before .before in
+    let entry = at-buckets .before .before .before .before .before .before .before .before .before in
+    let w : Within (at-buckets .buckets .result) (entry .args .row) (entry .args .depth .now) = rw (at-buckets .buckets .ensures) (entry .pre .1 .depth) in
+    omega (arith, w .near)
 
 sub-run-row : tie.Need-sub-run-row
 sub-run-row c = search needs
@@ -55,13 +65,17 @@ part-run-row-start : tie.Need-part-run-row-start
 part-run-row-start c = search needs
 
 part-run-row-end : tie.Need-part-run-row-end
-part-run-row-end c = omega (arith, c .before .before .before .before .before .before .before .before .before .before .before .pre .1 .state .ends)
+part-run-row-end c =
+    let at-buckets = c .before .before .before .before .before in
+    let entry = at-buckets .before .before .before .before .before .before .before .before .before in
+    let w : Within (at-buckets .buckets .result) (entry .args .row) (entry .args .depth .now) = rw (at-buckets .buckets .ensures) (entry .pre .1 .depth) in
+    omega (arith, w .ends)
 
 add-run-row-2 : tie.Need-add-run-row-2
-add-run-row-2 c = omega (arith, c .before .before .before .before .before .before .before .before .before .before .before .before .pre .1 .render .near, c .before .before .before .before .before .before .before .before .before .before .before .before .pre .1 .c)
+add-run-row-2 c = let entry = c .before .before .before .before .before .before .before .before .before .before .before .before .before .before .before in omega (arith, entry .pre .1 .painting .near)
 
 mul-run-row-2 : tie.Need-mul-run-row-2
-mul-run-row-2 c = omega (arith, c .before .before .before .before .before .before .before .before .before .before .before .before .pre .1 .render .near)
+mul-run-row-2 c = let entry = c .before .before .before .before .before .before .before .before .before .before .before .before .before .before .before in omega (arith, entry .pre .1 .painting .near)
 
 sub-run-row-2 : tie.Need-sub-run-row-2
 sub-run-row-2 c = search needs
@@ -70,82 +84,25 @@ part-run-row-start-2 : tie.Need-part-run-row-start-2
 part-run-row-start-2 c = search needs
 
 part-run-row-end-2 : tie.Need-part-run-row-end-2
-part-run-row-end-2 c = omega (arith, c .before .before .before .before .before .before .before .before .before .before .before .before .pre .1 .render .ends)
-
-add-run-row-3 : tie.Need-add-run-row-3
-add-run-row-3 c = omega (arith, c .before .before .before .before .before .before .before .before .before .before .before .before .before .pre .1 .fills .near, c .before .before .before .before .before .before .before .before .before .before .before .before .before .pre .1 .d)
-
-mul-run-row-3 : tie.Need-mul-run-row-3
-mul-run-row-3 c = omega (arith, c .before .before .before .before .before .before .before .before .before .before .before .before .before .pre .1 .fills .near)
-
-sub-run-row-3 : tie.Need-sub-run-row-3
-sub-run-row-3 c = search needs
-
-part-run-row-start-3 : tie.Need-part-run-row-start-3
-part-run-row-start-3 c = search needs
-
-part-run-row-end-3 : tie.Need-part-run-row-end-3
-part-run-row-end-3 c = omega (arith, c .before .before .before .before .before .before .before .before .before .before .before .before .before .pre .1 .fills .ends)
-
-add-run-row-4 : tie.Need-add-run-row-4
-add-run-row-4 c =
-    let at-buckets = c .before .before .before .before .before in
-    let at-args = at-buckets .before .before .before .before .before .before .before .before .before in
-    let w : Within (at-buckets .buckets .result) (at-args .args .row) (at-args .args .depth .now) = rw (at-buckets .buckets .ensures) (at-args .pre .1 .depth) in
-    omega (arith, w .near, w .short)
-
-mul-run-row-4 : tie.Need-mul-run-row-4
-mul-run-row-4 c =
-    let at-buckets = c .before .before .before .before .before in
-    let at-args = at-buckets .before .before .before .before .before .before .before .before .before in
-    let w : Within (at-buckets .buckets .result) (at-args .args .row) (at-args .args .depth .now) = rw (at-buckets .buckets .ensures) (at-args .pre .1 .depth) in
-    omega (arith, w .near)
-
-sub-run-row-4 : tie.Need-sub-run-row-4
-sub-run-row-4 c = search needs
-
-part-run-row-start-4 : tie.Need-part-run-row-start-4
-part-run-row-start-4 c = search needs
-
-part-run-row-end-4 : tie.Need-part-run-row-end-4
-part-run-row-end-4 c =
-    let at-buckets = c .before .before .before .before .before in
-    let at-args = at-buckets .before .before .before .before .before .before .before .before .before in
-    let w : Within (at-buckets .buckets .result) (at-args .args .row) (at-args .args .depth .now) = rw (at-buckets .buckets .ensures) (at-args .pre .1 .depth) in
-    omega (arith, w .ends)
-
-add-run-row-5 : tie.Need-add-run-row-5
-add-run-row-5 c = omega (arith, c .before .before .before .before .before .before .before .before .before .before .before .before .before .before .before .pre .1 .painting .near)
-
-mul-run-row-5 : tie.Need-mul-run-row-5
-mul-run-row-5 c = omega (arith, c .before .before .before .before .before .before .before .before .before .before .before .before .before .before .before .pre .1 .painting .near)
-
-sub-run-row-5 : tie.Need-sub-run-row-5
-sub-run-row-5 c = search needs
-
-part-run-row-start-5 : tie.Need-part-run-row-start-5
-part-run-row-start-5 c = search needs
-
-part-run-row-end-5 : tie.Need-part-run-row-end-5
-part-run-row-end-5 c = omega (arith, c .before .before .before .before .before .before .before .before .before .before .before .before .before .before .before .pre .1 .painting .ends)
+part-run-row-end-2 c = let entry = c .before .before .before .before .before .before .before .before .before .before .before .before .before .before .before in omega (arith, entry .pre .1 .painting .ends)
 
 run-row-requires : tie.Need-run-row-requires
 run-row-requires c κs =
-    let at-buckets = c .before .before .before .before .before .before .before .before in
-    let at-args = at-buckets .before .before .before .before .before .before .before .before .before in
-    let w : Within (at-buckets .buckets .result) (at-args .args .row) (at-args .args .depth .now) = rw (at-buckets .buckets .ensures) (at-args .pre .1 .depth) in (
+    let at-part3 = c .before .before .before in
+    let at-part2 = at-part3 .before .before in
+    let at-part = at-part2 .before .before in
+    let at-buckets = at-part .before in
+    let entry = at-buckets .before .before .before .before .before .before .before .before .before in
+    let ready = entry .pre .1 in
+    let w : Within (at-buckets .buckets .result) (entry .args .row) (entry .args .depth .now) = rw (at-buckets .buckets .ensures) (entry .pre .1 .depth) in (
       (
-        part-length _ _ _ (at-args .pre .1 .state),
-        omega (arith, part-length _ _ _ (at-args .pre .1 .render), at-args .pre .1 .c),
-        omega (
-          arith,
-          part-length _ _ _ (at-args .pre .1 .fills),
-          at-args .pre .1 .d,
-        ),
+        ap length (at-part .part .ensures) ∙ part-of-length _ _ _ (ready .state),
+        omega (arith, ap length (at-part2 .part2 .ensures) ∙ part-of-length _ _ _ (ready .render), ready .c),
+        omega (arith, ap length (at-part3 .part3 .ensures) ∙ part-of-length _ _ _ (ready .fills), ready .d),
         omega (arith, part-length _ _ _ w, w .short),
-        part-length _ _ _ (at-args .pre .1 .painting),
+        part-length _ _ _ (ready .painting),
       ),
-      (at-args .pre .1 .paint-table, at-args .pre .1 .paints, at-args .pre .1 .layer-table, at-args .pre .1 .layers, at-args .pre .0),
+      (ready .paint-table, ready .paints, ready .layer-table, ready .layers, entry .pre .0),
     )
 
 same-length : tie.Need-same-length
@@ -160,26 +117,33 @@ same-length-3 c = search needs
 returns : tie.Need-returns
 returns c =
     let at-run-row = c .before .before .before .before .before .before in
-    let at-buckets = at-run-row .before .before .before .before .before .before .before .before .before in
-    let at-args = at-buckets .before .before .before .before .before .before .before .before .before in
-    run-back (at-args .args .limit) (at-args .args .screen) (at-args .args .row) (attributes (at-args .args .paint-attrs .now) (at-args .args .layer-attrs .now)) (lent
-    (at-args .args .rows .now) (at-args .args .render .now) (at-args .args .fills .now) (at-args .args .depth .now) (at-args .args .painting .now)
-    (at-args .args .list .now)) _ (at-buckets .buckets .ensures) _ _ _ _ (at-run-row .run-row .ensures)
+    let at-part3 = at-run-row .before .before .before .before in
+    let at-part2 = at-part3 .before .before in
+    let at-part = at-part2 .before .before in
+    let at-buckets = at-part .before in
+    let entry = at-buckets .before .before .before .before .before .before .before .before .before in
+    run-back (entry .args .limit) (entry .args .screen) (entry .args .row) (attributes (entry .args .paint-attrs .now) (entry .args .layer-attrs .now)) (lent
+    (entry .args .rows .now) (entry .args .render .now) (entry .args .fills .now) (entry .args .depth .now) (entry .args .painting .now)
+    (entry .args .list .now)) _ (at-buckets .buckets .ensures) _ _ _ _ (rw (
+      at-part .part .ensures,
+      at-part2 .part2 .ensures,
+      at-part3 .part3 .ensures,
+    ) at (at-run-row .run-row .ensures))
 
 pub row-part-spec : {M : Type 1} → statement M
 row-part-spec =
     tie.close
     (tie.spec
     buckets-requires
-    cast-c
-    mul-c
-    cast-d
-    mul-d
-    mul-x
-    mul-y
-    mul-z
     mul-u
     mul-v
+    part-requires
+    cast-part
+    mul-part
+    part-requires-2
+    cast-part-2
+    mul-part-2
+    part-requires-3
     add-run-row
     mul-run-row
     sub-run-row
@@ -190,21 +154,6 @@ row-part-spec =
     sub-run-row-2
     part-run-row-start-2
     part-run-row-end-2
-    add-run-row-3
-    mul-run-row-3
-    sub-run-row-3
-    part-run-row-start-3
-    part-run-row-end-3
-    add-run-row-4
-    mul-run-row-4
-    sub-run-row-4
-    part-run-row-start-4
-    part-run-row-end-4
-    add-run-row-5
-    mul-run-row-5
-    sub-run-row-5
-    part-run-row-start-5
-    part-run-row-end-5
     run-row-requires
     same-length
     same-length-2

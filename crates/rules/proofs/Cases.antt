@@ -13,7 +13,7 @@ use Rattle.rules.proofs.Words.{file}
 use Rattle.rules.specs.Lines.{header, row, D, P, L, B, E, refused, rowlist-words}
 use Rattle.rules.proofs.Picture.{same-picture}
 use Rattle.rules.proofs.Computing.{computing}
-use Rattle.rules.proofs.Samples.{solid, alpha, opaque-paint, draw, blend, clip, no-filter, full, a-nan, layer, composed, clipped, filtered, filter, pictureless, node, rec, minus, attrs, paint-attr, layer-attr, filter-paint, paint-piece, layer-piece, attributes, pieces}
+use Rattle.rules.proofs.Samples.{solid, alpha, opaque-paint, draw, blend, clip, no-clip, no-filter, full, a-nan, layer, composed, clipped, filtered, filter, pictureless, node, rec, minus, attrs, paint-attr, layer-attr, filter-paint, paint-piece, layer-piece, attributes, pieces}
 
 -- An alpha segment cut at the left: the screen begins at tile 4, so its index moves by 4 x 16.
 abbrev pub left-cut : Recording
@@ -186,6 +186,32 @@ first-picture-attributes = refl
 pub first-picture-pieces : pieces first-picture ≡ (paint-piece 0 0 8 none 0 ∷ paint-piece 1 8 16 none 0 ∷ []) ∷ []
 unfolding computing
 first-picture-pieces = refl
+
+-- A filter layer's nodes are not walked: the draw of its node takes no id.
+abbrev pub filter-nodes : Recording
+filter-nodes =
+    rec (box 0 0 64 4)
+    (solid 0 0 8 ∷ [])
+    (draw 0 1 ∷ [])
+    (record {
+      kind = 1;
+      start = 1;
+      end = 2;
+      blend = default-blend;
+      opacity = full;
+      mask = 0;
+      flag = 0;
+      clip = no-clip;
+      filter = filter 5 (box 0 0 32 4) 0 0;
+    }
+    ∷ [])
+    (node 0 0 1 ∷ node 0 1 0 ∷ [])
+    0
+    1
+
+pub filter-nodes-lines : rowlist-words (file filter-nodes) ≡ header 1 1 1 ∷ row 0 0 1 ∷ P 0 8 none 0 ∷ []
+unfolding computing
+filter-nodes-lines = refl
 
 -- A layer that reaches itself: 6 at the 17th push.
 pub cyclic-lines : rowlist-words (file (rec (box 0 0 64 4) [] [] (layer 0 1 ∷ []) (node 0 0 1 ∷ []) 0 1)) ≡ refused 6 ∷ []

@@ -16,15 +16,12 @@ refuse-requires c κs = search needs
 
 same-length : tie.Need-same-length
 same-length c =
-    let at-bucket-recording = c .before .before .before .before .before .before .before .before .before .before .before .before .before .before .before
+    let at-bucket-recording = c .before .before .before .before .before .before .before .before .before .before .before .before .before .before
     .before .before .before .before .before .before .before .before .before .before .before in
     (at-bucket-recording .bucket-recording) .kept .1 .1 .1 .1 .0
 
 same-length-2 : tie.Need-same-length-2
-same-length-2 c =
-    let at-bucket-recording = c .before .before .before .before .before .before .before .before .before .before .before .before .before .before .before
-    .before .before .before .before .before .before .before .before .before .before .before in
-    (at-bucket-recording .bucket-recording) .kept .1 .1 .1 .1 .1 .0
+same-length-2 c = search needs
 
 same-length-3 : tie.Need-same-length-3
 same-length-3 c = search needs
@@ -72,33 +69,30 @@ show-requires c κs = search needs
 
 same-length-12 : tie.Need-same-length-12
 same-length-12 c =
-    let at-bucket-recording = c .before .before .before .before .before .before .before .before .before .before .before .before .before .before .before
+    let at-bucket-recording = c .before .before .before .before .before .before .before .before .before .before .before .before .before .before
     .before .before .before .before .before .before .before .before .before .before .before .before .before .before in
     (at-bucket-recording .bucket-recording) .kept .1 .1 .1 .1 .0
 
 same-length-13 : tie.Need-same-length-13
 same-length-13 c =
-    let at-bucket-recording = c .before .before .before .before .before .before .before .before .before .before .before .before .before .before .before
+    let at-bucket-recording = c .before .before .before .before .before .before .before .before .before .before .before .before .before .before
     .before .before .before .before .before .before .before .before .before .before .before .before .before .before in
     (at-bucket-recording .bucket-recording) .kept .1 .1 .1 .1 .1 .0
 
 same-length-14 : tie.Need-same-length-14
 same-length-14 c =
-    let at-bucket-recording = c .before .before .before .before .before .before .before .before .before .before .before .before .before .before .before
+    let at-bucket-recording = c .before .before .before .before .before .before .before .before .before .before .before .before .before .before
     .before .before .before .before .before .before .before .before .before .before .before .before .before .before in
     (at-bucket-recording .bucket-recording) .kept .1 .1 .1 .1 .1 .1 .0
 
 same-length-15 : tie.Need-same-length-15
 same-length-15 c =
-    let at-bucket-recording = c .before .before .before .before .before .before .before .before .before .before .before .before .before .before .before
+    let at-bucket-recording = c .before .before .before .before .before .before .before .before .before .before .before .before .before .before
     .before .before .before .before .before .before .before .before .before .before .before .before .before .before in
     (at-bucket-recording .bucket-recording) .kept .1 .1 .1 .1 .1 .1 .1 .0
 
 same-length-16 : tie.Need-same-length-16
-same-length-16 c =
-    let at-bucket-recording = c .before .before .before .before .before .before .before .before .before .before .before .before .before .before .before
-    .before .before .before .before .before .before .before .before .before .before .before .before .before .before in
-    (at-bucket-recording .bucket-recording) .kept .1 .1 .1 .1 .1 .1 .1 .1 .0
+same-length-16 c = search needs
 
 same-length-17 : tie.Need-same-length-17
 same-length-17 c = search needs

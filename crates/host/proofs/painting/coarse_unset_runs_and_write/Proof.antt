@@ -34,14 +34,14 @@ unset-runs-and-write-requires c κs = search needs
 
 put-screen-requires : tie.Need-put-screen-requires
 put-screen-requires c κs =
-    let back = c .before .before .before .before .before .before .before .before .before .before in
+    let back = c .before .before .before .before .before .before .before .before .before .before .before in
     let at-screen = back in
     let at-screen-of = at-screen .before .before in
     long _ _ _ (sym (at-screen .screen .given .1) ∙ at-screen-of .screen-of .ensures)
 
 put-runs-requires : tie.Need-put-runs-requires
 put-runs-requires c κs =
-    let back = c .before .before .before .before .before .before .before .before .before .before .before .before .before .before in
+    let back = c .before .before .before .before .before .before .before .before .before .before .before .before .before .before .before in
     let at-screen = back in
     let at-screen-of = at-screen .before .before in
     eqb-true _ _ (was-good _ _ _ (sym (at-screen .screen .given .1) ∙ at-screen-of .screen-of .ensures))
@@ -63,7 +63,7 @@ returns-2 c =
     let back = c .before .before in
     let at-put-runs = back in
     let at-put-screen = at-put-runs .before .before .before .before in
-    let at-unset-runs-and-write = at-put-screen .before .before .before .before .before .before .before in
+    let at-unset-runs-and-write = at-put-screen .before .before .before .before .before .before .before .before in
     let at-screen = at-unset-runs-and-write .before .before .before .before in
     let at-screen-of = at-screen .before .before in
     write-roomed _ _ _ _ _ _ (at-unset-runs-and-write .unset-runs-and-write .result) _ _ _ _ _ _ _ (sym (at-screen .screen .given .1) ∙

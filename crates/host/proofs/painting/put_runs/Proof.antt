@@ -15,7 +15,7 @@ same-length : tie.Need-same-length
 same-length c = search needs
 
 returns-2 : tie.Need-returns-2
-returns-2 c = rw (c .if1 .left, one-stored _ _ (c .before .before .pre))
+returns-2 c = rw (c .if1 .left, one-stored _ _ (c .before .pre))
 
 pub put-runs-spec : {M : Type 1} → statement M
 put-runs-spec = tie.close (tie.spec returns slice-write-count same-length returns-2)

@@ -15,7 +15,7 @@ same-length : tie.Need-same-length
 same-length c = search needs
 
 returns-2 : tie.Need-returns-2
-returns-2 c = rw (c .before .if1 .left, c .if2 .taken, one-stored _ _ (c .before .before .before .pre))
+returns-2 c = rw (c .before .if1 .left, c .if2 .taken, one-stored _ _ (c .before .before .pre))
 
 slice-write-yes-2 : tie.Need-slice-write-yes-2
 slice-write-yes-2 c = search needs
@@ -24,7 +24,7 @@ same-length-2 : tie.Need-same-length-2
 same-length-2 c = search needs
 
 returns-3 : tie.Need-returns-3
-returns-3 c = rw (c .before .if1 .left, c .if2 .left, one-stored _ _ (c .before .before .before .pre))
+returns-3 c = rw (c .before .if1 .left, c .if2 .left, one-stored _ _ (c .before .before .pre))
 
 pub put-skip-spec : {M : Type 1} → statement M
 put-skip-spec = tie.close (tie.spec returns slice-write-yes same-length returns-2 slice-write-yes-2 same-length-2 returns-3)

@@ -141,7 +141,8 @@ uint32_t coarse_pop_layer(uint32_t *state, size_t state_len,
                           uint32_t *layer_attrs, size_t layer_attrs_len,
                           const uint32_t *segments, size_t segments_len);
 
-/* Draws a filter layer's pixmap into a box. paint_count: how many paints the paint list has. */
+/* Draws a filter layer's picture into a box. has_pixmap: 1 with a picture, whose handle follows, any below 2^31 and 0 too; or 0 without,
+ * and the handle is not read: then nothing is drawn. paint_count: how many paints the paint list has. */
 uint32_t coarse_filter_fill(uint32_t *state, size_t state_len,
                             uint32_t *rows, size_t rows_len,
                             uint32_t *render, size_t render_len,
@@ -149,7 +150,7 @@ uint32_t coarse_filter_fill(uint32_t *state, size_t state_len,
                             uint32_t *paint_attrs, size_t paint_attrs_len,
                             int32_t *filter_paints, size_t filter_paints_len,
                             uint32_t x0, uint32_t y0, uint32_t x1, uint32_t y1,
-                            uint32_t source_x, uint32_t source_y, uint32_t pixmap, uint32_t paint_count);
+                            uint32_t source_x, uint32_t source_y, uint32_t has_pixmap, uint32_t pixmap, uint32_t paint_count);
 
 /* Clears the depth words and sets every row to its first step. */
 uint32_t coarse_begin_painting(uint32_t *state, size_t state_len,

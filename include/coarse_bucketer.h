@@ -32,7 +32,7 @@ typedef struct { coarse_rect box; uint32_t start, end, thread; } coarse_clip;
 /* A layer's properties. clip: null for none. */
 typedef struct { coarse_blend blend; float opacity; uint32_t mask; const coarse_clip *clip; } coarse_layer_props;
 
-/* Where a filter layer's pixmap is drawn, and from where in it. */
+/* Where a filter layer's picture is drawn, and from where in it. */
 typedef struct { coarse_rect dest; uint32_t source_x, source_y; } coarse_placement;
 
 /* tag: 1 paint solid, 2 paint alpha, 3 layer solid, 4 layer alpha. */
@@ -181,13 +181,13 @@ static inline uint32_t coarse_bucketer_pop_layer(coarse_bucketer *b, const coars
                             segment_count * COARSE_SEGMENT);
 }
 
-/* Rule 11. paint_count: how many paints the paint list has. */
-static inline uint32_t coarse_bucketer_generate_filter_layer_fill(coarse_bucketer *b, uint32_t pixmap,
+/* Rule 11. pixmap: the picture's handle, or null for none. paint_count: how many paints the paint list has. */
+static inline uint32_t coarse_bucketer_generate_filter_layer_fill(coarse_bucketer *b, const uint32_t *pixmap,
                                                                   const coarse_placement *placement, uint32_t paint_count) {
     coarse_rect to = placement->dest;
     return coarse_filter_fill(b->state, COARSE_STATE, b->rows, b->sizes[3], b->render, b->sizes[0], b->fills, b->sizes[1],
                               b->paint_attrs, b->sizes[7], b->filter_paints, b->sizes[9], to.x0, to.y0, to.x1, to.y1,
-                              placement->source_x, placement->source_y, pixmap, paint_count);
+                              placement->source_x, placement->source_y, pixmap != NULL, pixmap ? *pixmap : 0, paint_count);
 }
 
 /* Clears the depth words and sets every row to its first step. */

@@ -87,6 +87,12 @@ static void lent_spans(void) {
     coarse_bucketer_free(&b);
 }
 
+/* A filter fill of 8 by 3 pixels with any flag and handle. */
+static uint32_t filter_fill(coarse_bucketer *b, uint32_t has_pixmap, uint32_t pixmap) {
+    return coarse_filter_fill(b->state, COARSE_STATE, b->rows, b->sizes[3], b->render, b->sizes[0], b->fills, b->sizes[1], b->paint_attrs,
+                              b->sizes[7], b->filter_paints, b->sizes[9], 0, 0, 8, 3, 4, 0, has_pixmap, pixmap, 2);
+}
+
 static void owned_tables(void) {
     coarse_bucketer b;
     coarse_rect narrow = {0, 0, 256, 8}, wide = {0, 0, 4096, 2048}, bad = {0, 0, 2, 4};
@@ -114,7 +120,14 @@ static void owned_tables(void) {
     expect("closed", COARSE_DONE, coarse_bucketer_pop_layer(&b, segments, 2));
     expect("a plain layer", COARSE_DONE, coarse_bucketer_push_layer(&b, &plain));
     expect("closed without a list", COARSE_DONE, coarse_bucketer_pop_layer(&b, NULL, 0));
-    expect("a filter fill", COARSE_DONE, coarse_bucketer_generate_filter_layer_fill(&b, 9, &placement, 2));
+    uint32_t first = 0, too_large = 2147483648u;
+    expect("no picture", COARSE_DONE, coarse_bucketer_generate_filter_layer_fill(&b, NULL, &placement, 2));
+    expect("is not drawn", 2, (uint32_t)coarse_bucketer_paint_attr_count(&b));
+    expect("a handle of 2^31", COARSE_BAD_RECORD, coarse_bucketer_generate_filter_layer_fill(&b, &too_large, &placement, 2));
+    expect("a flag of 2", COARSE_BAD_RECORD, filter_fill(&b, 2, 9));
+    expect("no picture, any handle", COARSE_DONE, filter_fill(&b, 0, too_large));
+    expect("the first picture", COARSE_DONE, coarse_bucketer_generate_filter_layer_fill(&b, &first, &placement, 2));
+    expect("is number 0", 0, (uint32_t)b.filter_paints[1]);
     expect("a step too early", COARSE_OPEN, coarse_bucketer_paint_step(&b, 0, &finished, &pieces, &count));
     expect("painting", COARSE_DONE, coarse_bucketer_begin_painting(&b));
     expect("a step", COARSE_DONE, coarse_bucketer_paint_step(&b, 0, &finished, &pieces, &count));

@@ -15,7 +15,7 @@ A line is a record; `#` starts a comment. Records of a kind are numbered from 0 
     node draws START END [layer ID]
     root START END
 
-What is left out is 0; a blend is 0 3 and an opacity 1.0. A kind, a flag or a layer's clip flag (`clip N`) can be a number, an opacity
+What is left out is 0, or not there at all (a node's layer, a filter layer's pixmap, whose handles count from 0); a blend is 0 3 and an opacity 1.0. A kind, a flag or a layer's clip flag (`clip N`) can be a number, an opacity
 its bits (`opacity bits N`). The way there and back is exact for every file whose sections are exactly counted.
 """
 import math
@@ -65,6 +65,11 @@ def line_of(kind, w):
             out.append(name)
             out.extend(str(x) for x in words)
 
+    def add_choice(name, word):
+        """A number + 1, or 0 for none."""
+        if word:
+            out.extend([name, str(word - 1)])
+
     if kind in ('viewport', 'root'):
         out.extend(str(x) for x in w)
     elif kind == 'paint':
@@ -90,13 +95,12 @@ def line_of(kind, w):
         add('box', w[8:12])
         add('segments', w[12:14])
         add('thread', w[14:15])
-        add('pixmap', w[15:16])
+        add_choice('pixmap', w[15])
         add('dest', w[16:20])
         add('source', w[20:22])
     elif kind == 'node':
         out += ['draws', str(w[0]), str(w[1])]
-        if w[2]:
-            out += ['layer', str(w[2] - 1)]
+        add_choice('layer', w[2])
     return ' '.join(out)
 
 
@@ -143,6 +147,13 @@ class Reader:
         if not low <= n < 1 << 32:
             self.fail('%d does not fit' % n)
         return n % (1 << 32)
+
+    def choice(self):
+        """A number that is there, as its word: the number + 1."""
+        n = self.word() + 1
+        if n >> 32:
+            self.fail('%d does not fit' % (n - 1))
+        return n
 
     def words(self, n, low=0):
         return [self.word(low) for _ in range(n)]
@@ -209,12 +220,14 @@ def record_of(kind, r):
         w = [r.kind('layer')] + [0] * 21
         w[3:6] = [0, 3, ONE]
         places = {'nodes': (1, 3), 'blend': (3, 5), 'mask': (6, 7), 'box': (8, 12), 'segments': (12, 14), 'thread': (14, 15),
-                  'pixmap': (15, 16), 'dest': (16, 20), 'source': (20, 22)}
+                  'dest': (16, 20), 'source': (20, 22)}
         while r.fields:
             key = r.next()
             if key in places:
                 a, b = places[key]
                 w[a:b] = r.words(b - a)
+            elif key == 'pixmap':
+                w[15] = r.choice()
             elif key == 'opacity':
                 w[5] = r.opacity()
             elif key == 'clip':
@@ -226,9 +239,7 @@ def record_of(kind, r):
         w = r.words(2) + [0]
         if r.fields:
             r.expect('layer')
-            w[2] = r.word() + 1
-            if w[2] >> 32:
-                r.fail('the layer does not fit')
+            w[2] = r.choice()
     if r.fields:
         r.fail('%r is too much' % r.fields[0])
     return w

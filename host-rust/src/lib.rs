@@ -224,7 +224,7 @@ impl Default for LayerProps {
     }
 }
 
-/// Where a filter layer's pixmap is drawn, and from where in it.
+/// Where a filter layer's picture is drawn, and from where in it.
 #[derive(Debug, Clone, Copy, PartialEq, Eq)]
 pub struct FilterLayerPlacement {
     pub dest: Rect,
@@ -613,10 +613,10 @@ impl CommandBucketer {
         })
     }
 
-    /// Rule 11. paint_count is the paint list's length.
+    /// Rule 11. Nothing is drawn without a picture. paint_count is the paint list's length.
     pub fn generate_filter_layer_fill(
         &mut self,
-        pixmap: u32,
+        pixmap: Option<u32>,
         placement: &FilterLayerPlacement,
         paint_count: u32,
     ) -> Result<(), Answer> {
@@ -642,7 +642,8 @@ impl CommandBucketer {
                 y1,
                 placement.source_x,
                 placement.source_y,
-                pixmap,
+                u32::from(pixmap.is_some()),
+                pixmap.unwrap_or(0),
                 paint_count,
             )
         })

@@ -188,6 +188,7 @@ extern "C" {
         y1: u32,
         source_x: u32,
         source_y: u32,
+        has_pixmap: u32,
         pixmap: u32,
         paint_count: u32,
     ) -> u32;

@@ -274,12 +274,20 @@ fn a_filter_fill() {
         source_y: 5,
     };
     bucketer
-        .generate_filter_layer_fill(9, &placement, 3)
+        .generate_filter_layer_fill(None, &placement, 3)
+        .unwrap();
+    assert_eq!(bucketer.filter_paints().count(), 0);
+    assert_eq!(
+        bucketer.generate_filter_layer_fill(Some(1 << 31), &placement, 3),
+        Err(Answer::BadRecord)
+    );
+    bucketer
+        .generate_filter_layer_fill(Some(0), &placement, 3)
         .unwrap();
     assert_eq!(
         bucketer.filter_paints().collect::<Vec<_>>(),
         [FilterPaint {
-            pixmap: 9,
+            pixmap: 0,
             shift_x: -12,
             shift_y: 3
         }]

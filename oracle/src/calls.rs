@@ -47,7 +47,7 @@ pub enum Call {
         segments: Vec<[u32; 5]>,
     },
     Filter {
-        pixmap: u32,
+        pixmap: Option<u32>,
         dest: [u32; 4],
         source: [u32; 2],
         count: u32,
@@ -112,7 +112,10 @@ impl Call {
                 dest,
                 source,
                 count,
-            } => [&[4, *pixmap], &dest[..], &source[..], &[*count]].concat(),
+            } => {
+                let choice = [u32::from(pixmap.is_some()), pixmap.unwrap_or(0)];
+                [&[4], &choice[..], &dest[..], &source[..], &[*count]].concat()
+            }
             Self::Begin => vec![5],
             Self::Step { row, words } => vec![6, *row, *words],
             Self::Unset { row, tiles, words } => vec![7, *row, tiles[0], tiles[1], *words],
@@ -166,9 +169,9 @@ impl Call {
                 segments: records(rest)?,
             },
             4 => {
-                let [pixmap, x0, y0, x1, y1, x, y, count] = take(rest)?;
+                let [flag, handle, x0, y0, x1, y1, x, y, count] = take(rest)?;
                 Self::Filter {
-                    pixmap,
+                    pixmap: (flag != 0).then_some(handle),
                     dest: [x0, y0, x1, y1],
                     source: [x, y],
                     count,
@@ -440,7 +443,7 @@ impl Screen {
                 source,
                 count,
             } => {
-                let good = *pixmap < HANDLES
+                let good = pixmap.is_none_or(|handle| handle < HANDLES)
                     && good_dest(*dest)
                     && source.iter().all(|edge| *edge <= LAST_PIXEL)
                     && *count <= MOST_RECORDS;
@@ -512,13 +515,13 @@ impl Screen {
                 let strips: Vec<_> = segments.iter().enumerate().map(read).collect();
                 self.bucketer.pop_layer(&strips);
             }
-            // Pixmap 0 says that there is none: nothing is drawn.
+            // Without a pixmap the original's walk makes no such call: nothing is drawn.
             Call::Filter {
-                pixmap,
+                pixmap: Some(handle),
                 dest,
                 source: [x, y],
                 count,
-            } if *pixmap != 0 => {
+            } => {
                 let source = (
                     u16::try_from(*x).expect("judged"),
                     u16::try_from(*y).expect("judged"),
@@ -528,7 +531,7 @@ impl Screen {
                     source,
                 };
                 self.bucketer.generate_filter_layer_fill(
-                    Arc::new(Pixmap::of(*pixmap)),
+                    Arc::new(Pixmap::of(*handle)),
                     placement,
                     *count as usize,
                 );

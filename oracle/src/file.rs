@@ -167,9 +167,14 @@ fn good_clip(r: &Recording, layer: &[u32; 22]) -> bool {
     good_box([x0, y0, x1, y1]) && good_range(start, end, r.segments.len()) && thread < THREADS
 }
 
+/// A filter layer's pixmap word: the handle + 1, or 0 where there is none.
+pub(crate) fn pixmap(word: u32) -> Option<u32> {
+    word.checked_sub(1)
+}
+
 fn good_placement(layer: &[u32; 22]) -> bool {
-    let &[.., pixmap, x0, y0, x1, y1, source_x, source_y] = layer;
-    pixmap < HANDLES
+    let &[.., word, x0, y0, x1, y1, source_x, source_y] = layer;
+    pixmap(word).is_none_or(|handle| handle < HANDLES)
         && good_dest([x0, y0, x1, y1])
         && source_x <= LAST_PIXEL
         && source_y <= LAST_PIXEL

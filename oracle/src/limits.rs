@@ -24,7 +24,7 @@ pub(crate) const LAST_TILE: u32 = 8_192;
 pub(crate) const WIDEST: u32 = 4_096;
 pub(crate) const HIGHEST: u32 = 2_048;
 pub(crate) const MOST_BUCKETS: u32 = 32;
-/// Masks and pixmaps are handles below this.
+/// Masks and pixmaps are handles below this; a mask of 0 says none.
 pub(crate) const HANDLES: u32 = 1 << 31;
 /// Thread numbers are below this.
 pub(crate) const THREADS: u32 = 256;

@@ -2,7 +2,7 @@
 
 use crate::coarse::cmd::PaintFillAttrs;
 use crate::coarse::CommandBucketer;
-use crate::file::Recording;
+use crate::file::{pixmap, Recording};
 use crate::filter::context::FilterContext;
 use crate::kurbo::{Affine, Vec2};
 use crate::peniko::{BlendMode, Extend, ImageQuality, ImageSampler};
@@ -58,9 +58,8 @@ pub(crate) fn scene(r: &Recording) -> Scene {
     let nodes: Vec<Node> = r.nodes.iter().map(node).collect();
     let mut filters = FilterContext::new(r.layers.len());
     for (id, layer) in r.layers.iter().enumerate() {
-        // A filter layer with pixmap 0 has none.
-        if layer[0] == 1 && layer[15] != 0 {
-            filters.set_layer(id, Pixmap::of(layer[15]));
+        if let Some(handle) = pixmap(layer[15]) {
+            filters.set_layer(id, Pixmap::of(handle));
         }
     }
     Scene {

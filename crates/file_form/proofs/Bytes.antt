@@ -6,12 +6,12 @@ use native.Mathlib.Omega.{arith}
 use mathlib.Core.Path.{_≡_, refl, sym, ap, _∙_}
 use mathlib.Core.Bool.{Bool, true, false, cond}
 use mathlib.Core.List.{List, [], _∷_, _++_, append-assoc}
-use mathlib.Core.Option.{Option, none, some}
+use mathlib.Core.Option.{Option, none, some, Option·map}
 use lib.ListN.{length, getD, take, drop, set, length-append, length-drop}
 use lib.Seq.{drop-cons, getD-drop, set-at, take-at}
 use lib.Dec.{eqb}
 use borrow.Author.Tests.{eq-eqb, ne-eqb}
-use Rattle.rules.specs.Lines.{word-of, cons-word, words-of}
+use Rattle.rules.specs.Lines.{word-of, words-of}
 use Rattle.file_form.specs.Each.{each}
 use Rattle.file_form.specs.Words.{word-from, words-in, filled, filled-with}
 use Rattle.file_form.proofs.Eaches.{each-length, each-more}
@@ -54,7 +54,7 @@ module _ (a b c d : ℕ) (bs : List ℕ) where
   unfolding each word-from
   four n = ap (λ (l : List ℕ). word-of a b c d ∷ l) (shifted 0 n)
 
-consed : (t : Bool) (x : ℕ) (xs : List ℕ) → cons-word x (cond t (some xs) none) ≡ cond t (some (x ∷ xs)) none
+consed : (t : Bool) (x : ℕ) (xs : List ℕ) → Option·map (λ ys. x ∷ ys) (cond t (some xs) none) ≡ cond t (some (x ∷ xs)) none
 consed true x xs = refl
 consed false x xs = refl
 

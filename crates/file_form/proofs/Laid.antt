@@ -6,13 +6,13 @@ use native.Mathlib.Omega.{arith}
 use mathlib.Core.Path.{_≡_, refl, sym, ap, _∙_}
 use mathlib.Core.Bool.{Bool, true, false, _&&_, cond}
 use mathlib.Core.List.{List, [], _∷_, _++_, append-assoc, append-nil}
-use mathlib.Core.Option.{Option, none, some}
+use mathlib.Core.Option.{Option, none, some, Option·map}
 use mathlib.Core.Logic.{⊎-elim}
 use lib.ListN.{length, getD, drop, length-drop}
 use lib.Seq.{drop-cons, drop-length, drop-drop}
 use lib.Dec.{leb, ltb, eqb}
 use borrow.Author.Tests.{lt-ltb, le-ltb, le-leb, lt-leb, eq-eqb, ne-eqb, ltb-true, ltb-false, leb-true, eqb-true, leb-false}
-use Rattle.rules.specs.Recording.{shape, good-count, records, sections, cons-section}
+use Rattle.rules.specs.Recording.{shape, good-count, records, sections}
 use Rattle.file_form.specs.declared.Section.{Section}
 use Rattle.file_form.specs.declared.Layout.{Layout}
 use Rattle.file_form.specs.declared.Form.{Form}
@@ -50,7 +50,7 @@ module _ (k : ℕ) (fixed : Bool) (ss : List (ℕ × Bool)) (ws : List ℕ) (p :
 
   opened : sections ((k, fixed) ∷ ss) (count ∷ drop (p + 1) ws)
       ≡ cond (good-count fixed count && leb (count * k) (length (drop (p + 1) ws)))
-      (cons-section (records k count (drop (p + 1) ws)) (sections ss (drop (count * k) (drop (p + 1) ws)))) none
+      (Option·map (λ xs. records k count (drop (p + 1) ws) ∷ xs) (sections ss (drop (count * k) (drop (p + 1) ws)))) none
   unfolding sections
   opened = picked (good-count fixed count && leb (count * k) (length (drop (p + 1) ws))) _ _
 
@@ -58,7 +58,7 @@ module _ (k : ℕ) (fixed : Bool) (ss : List (ℕ × Bool)) (ws : List ℕ) (p :
   here : p < length ws
       → sections ((k, fixed) ∷ ss) (drop p ws)
       ≡ cond (good-count fixed count && leb (count * k) (length ws - (p + 1)))
-      (cons-section (cut k ws (section-from ws p)) (sections ss (drop (past k (section-from ws p)) ws))) none
+      (Option·map (λ xs. cut k ws (section-from ws p) ∷ xs) (sections ss (drop (past k (section-from ws p)) ws))) none
   here h = rw (starts h, opened, length-drop (p + 1) ws, drop-drop (count * k) (p + 1) ws)
 
 -- the sections of a shape from place p on are those laid there, or none
@@ -73,7 +73,7 @@ module _ (ws : List ℕ) where
       rw (e, drop-length ws, eq-eqb (length ws) (length ws) refl)
 
   consed : (t : Bool) (x : List (List ℕ)) (xs : List (List (List ℕ)))
-      → cons-section x (cond t (some xs) none) ≡ cond t (some (x ∷ xs)) none
+      → Option·map (λ ys. x ∷ ys) (cond t (some xs) none) ≡ cond t (some (x ∷ xs)) none
   consed true x xs = refl
   consed false x xs = refl
 

@@ -6,7 +6,7 @@ use Rattle.rules.specs.Boxes.{Box, box}
 use Rattle.rules.specs.Blends.{Blend}
 use Rattle.rules.specs.Segments.{Segment}
 use Rattle.rules.specs.Inputs.{Paint, Draw, Clip, Filter}
-use Rattle.rules.specs.Recording.{LayerRec, Node, Recording}
+use Rattle.rules.specs.Recording.{LayerRec, Node, Recording, pixmap-of}
 use Rattle.file_form.specs.declared.Layout.{Layout}
 use Rattle.file_form.specs.Each.{each}
 
@@ -37,7 +37,7 @@ module _ (ws : List ℕ) (p : ℕ) where
 
   unfoldable pub filter-from : Filter
   filter-from =
-      record { pixmap = word 15; dest = box (word 16) (word 17) (word 18) (word 19); source-x = word 20; source-y = word 21 }
+      record { pixmap = pixmap-of (word 15); dest = box (word 16) (word 17) (word 18) (word 19); source-x = word 20; source-y = word 21 }
 
   unfoldable pub layer-from : LayerRec
   layer-from =

@@ -1,14 +1,17 @@
 -- The fields of a record, as the code reads them.
-use Prim.Native.Nat.{ℕ, _+_}
+use Prim.Native.Nat.{ℕ, _+_, _≤_, _<_}
 use native.Mathlib.Nat.{add-assoc}
 use mathlib.Core.Path.{_≡_, refl, sym, ap, _∙_}
 use mathlib.Core.Bool.{Bool, true, false, _&&_}
 use mathlib.Core.List.{List, [], _∷_}
 use lib.ListN.{getD}
 use lib.Dec.{eqb}
+use borrow.Author.Tests.{le-leb, lt-leb}
 use Rattle.rules.specs.Boxes.{Box, box, good-box, good-dest}
 use Rattle.rules.specs.Lists.{every}
-use Rattle.rules.specs.Recording.{zero-clip, zero-filter}
+use Rattle.rules.specs.Inputs.{good-pixmap}
+use Rattle.rules.specs.Recording.{pixmap-of, zero-clip, zero-filter}
+use Rattle.rules.proofs.laws.Pixmaps.{none-is, good-is}
 use Rattle.file_form.specs.Each.{each}
 use Rattle.file_form.specs.Places.{clip-from, filter-from}
 use Rattle.file_judge.specs.Judging.{box-from, word-from, is-zero}
@@ -33,6 +36,13 @@ four-inside true true true true true false g = refl
 four-inside true true true true true true false = refl
 four-inside true true true true true true true = refl
 
+-- the word of a picture: its handle + 1, or 0
+pub fine-pixmap : (n : ℕ) → n ≤ 2147483648 → good-pixmap (pixmap-of n) ≡ true
+fine-pixmap n h = good-is n ∙ le-leb n _ h
+
+pub bad-pixmap : (n : ℕ) → 2147483648 < n → good-pixmap (pixmap-of n) ≡ false
+bad-pixmap n h = good-is n ∙ lt-leb n _ h
+
 module _ (ws : List ℕ) (p : ℕ) where
   pub clip-box : box-from ws (p + 8) ≡ clip-from ws p .bounds
   unfolding box-from clip-from
@@ -49,4 +59,4 @@ module _ (ws : List ℕ) (p : ℕ) where
 
   pub filter-zeros : every is-zero (each word-from 1 ws (p + 15) 7) ≡ zero-filter (filter-from ws p)
   unfolding each filter-from
-  filter-zeros = simp add-assoc (four-inside (is-zero (getD ws (p + 15) 0)) (is-zero (getD ws (p + 16) 0)) (is-zero (getD ws (p + 17) 0)) (is-zero (getD ws (p + 18) 0)) (is-zero (getD ws (p + 19) 0)) (is-zero (getD ws (p + 20) 0)) (is-zero (getD ws (p + 21) 0)))
+  filter-zeros = simp (add-assoc, none-is) (four-inside (is-zero (getD ws (p + 15) 0)) (is-zero (getD ws (p + 16) 0)) (is-zero (getD ws (p + 17) 0)) (is-zero (getD ws (p + 18) 0)) (is-zero (getD ws (p + 19) 0)) (is-zero (getD ws (p + 20) 0)) (is-zero (getD ws (p + 21) 0)))

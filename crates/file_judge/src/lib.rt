@@ -129,12 +129,12 @@ fn is_good_clip_part(w: &[u32], at: usize, segments: usize) -> bool
     zeros(w, at + 8, 7)
 }
 
-// The filter of the layer at a place.
+// The filter of the layer at a place. The word of a picture is its handle + 1, 0 where there is none.
 fn is_good_filter(w: &[u32], at: usize) -> bool
     requires { ⌜ at + 22 ≤ length (now w) ⌝ }
     ensures { λ r. ⌜ r ≡ good-filter (filter-from (now (w .entry)) at) ⌝ }
 {
-    if HANDLE_END <= w[at + 15] {
+    if HANDLE_END < w[at + 15] {
         return false;
     }
     let b = box_at(w, at + 16);

@@ -6,6 +6,7 @@ ghost use lib.ListN.{length};
 ghost use Rattle.rules.specs.Answers.{answer};
 ghost use Rattle.rules.specs.Lists.{join, slice};
 ghost use Rattle.rules.proofs.Words.{paint-words, segment-words};
+ghost use Rattle.rules.specs.Recording.{pixmap-of};
 ghost use Rattle.rules.specs.Walk.{each, walk-filter};
 ghost use Rattle.row.specs.Words.{words};
 ghost use Rattle.screen.specs.Tables.{Tables, ScreenLent};
@@ -16,7 +17,7 @@ ghost use Rattle.step_fill.specs.Fills.{filled};
 ghost use Rattle.step_pop.specs.Pop as pop;
 ghost use Rattle.step_pop.specs.Pop.{popped};
 ghost use Rattle.step_filter.specs.Filter as filter;
-ghost use Rattle.step_filter.specs.Filter.{given, filtered};
+ghost use Rattle.step_filter.specs.Filter.{picture-of, given, filtered};
 ghost use Rattle.file_read.specs.Reading.{draw-in};
 ghost use Rattle.file_steps.specs.Steps.{placement-in, call-at, draw-step, fill-into, work, work-into};
 use file_form::Layout;
@@ -27,10 +28,21 @@ use file_read::props_at;
 use screen::Built;
 use screen::Screen;
 use step_fill::fill;
+use step_filter::Pixmap;
 use step_filter::Placement;
 use step_filter::filter_fill;
 use step_pop::pop_layer;
 use step_push::push_layer;
+
+// The picture that a file's word says: its handle + 1, or 0 for none.
+fn pixmap_of(word: u32) -> Pixmap
+    ensures { λ r. ⌜ picture-of r ≡ pixmap-of word ⌝ }
+{
+    if word == 0 {
+        return Pixmap::Absent;
+    }
+    Pixmap::Present(word - 1)
+}
 
 // The placement of the filter layer at a place.
 fn placement_at(w: &[u32], at: usize) -> Placement
@@ -165,6 +177,7 @@ fn filter_at(
 {
     let paints = l.paints;
     let placement = placement_at(w, at);
+    let pixmap = pixmap_of(w[at + 15]);
     filter_fill(
         screen,
         rows,
@@ -173,7 +186,7 @@ fn filter_at(
         paint_attrs,
         filter_paints,
         placement,
-        w[at + 15],
+        pixmap,
         paints.count as u32,
     )
 }

@@ -2,6 +2,7 @@
 use mathlib.Core.Path.{_≡_, ap, _∙_}
 use mathlib.Core.Bool.{true}
 use mathlib.Core.List.{List}
+use mathlib.Core.Option.{Option}
 use Prim.Native.Nat.{ℕ}
 use lib.Ieee.{Float}
 use lib.IntN.{ℤ}
@@ -53,14 +54,6 @@ module _ (st st' : List ℕ) (s s' : Screen) (r n : ℕ) (h : held.Good s ≡ sc
   pop-built ss l l' e =
       rw (rn, sw) (ap pop-left e ∙ ap (λ (x : Held). at-held x st (st, l) (λ (s : Screen). pop-left (popped s l ss))) h)
 
-  pub filter-built : (p : Placement) (pixmap k : ℕ) (w w' : Words) (pas pas' : List ℕ) (fps fps' : List ℤ)
-      → answer n (filter.lent s' w' pas' fps') ≡ filtered (given p pixmap k) (filter.lent s w pas fps) → answer r (st', w', pas', fps') ≡ filter-call p pixmap k st w pas fps
-  unfolding filter-call
-  filter-built p pixmap k w w' pas pas' fps fps' e =
-      rw (rn, sw)
-      (ap filter-left e
-      ∙ ap (λ (x : Held). at-held x st (st, w, pas, fps) (λ (s : Screen). filter-left (filtered (given p pixmap k) (filter.lent s w pas fps)))) h)
-
   pub begin-built : (d d' p p' : List ℕ) → answer n (canvas s' d' p') ≡ beginning (canvas s d p) → answer r (st', d', p') ≡ begin-call st d p
   unfolding begin-call
   begin-built d d' p p' e =
@@ -73,3 +66,13 @@ pub push-built : (st st' : List ℕ) (s s' : Screen) (r n flag : ℕ) → held.G
 unfolding push-call
 push-built st st' s s' r n flag h rn sw p w w' ls ls' os os' e =
     rw (rn, sw) (ap push-left e ∙ ap (λ (x : Held). at-held x st (st, w, ls, os) (λ (s : Screen). push-left (pushed p (push.lent s w ls os)))) h)
+
+-- .. of a filter fill, which the picture's flag lets through
+pub filter-built : (st st' : List ℕ) (s s' : Screen) (r n flag : ℕ) → held.Good s ≡ screen-of (leb flag 1) st → r ≡ n → st' ≡ screen-words s'
+    → (p : Placement) (m : Option ℕ) (k : ℕ) (w w' : Words) (pas pas' : List ℕ) (fps fps' : List ℤ)
+    → answer n (filter.lent s' w' pas' fps') ≡ filtered (given p m k) (filter.lent s w pas fps) → answer r (st', w', pas', fps') ≡ filter-call flag p m k st w pas fps
+unfolding filter-call
+filter-built st st' s s' r n flag h rn sw p m k w w' pas pas' fps fps' e =
+    rw (rn, sw)
+    (ap filter-left e
+    ∙ ap (λ (x : Held). at-held x st (st, w, pas, fps) (λ (s : Screen). filter-left (filtered (given p m k) (filter.lent s w pas fps)))) h)

@@ -2,6 +2,7 @@
 use mathlib.Core.Path.{_≡_, refl}
 use mathlib.Core.Bool.{Bool, true, false}
 use mathlib.Core.List.{List}
+use mathlib.Core.Option.{Option}
 use Prim.Native.Nat.{ℕ}
 use lib.ListN.{length}
 use lib.Dec.{leb, eqb}
@@ -73,12 +74,15 @@ push-refused flag p st w ls os q =
     (λ (s : Screen). pushed p (push.lent s w ls os)) (λ (s : Screen). (refl, refl))
     (λ (s : Screen). settled (push.push-number p (push.lent s w ls os)) (push.lent s w ls os) (push.after p (push.lent s w ls os))) (screen-of (leb flag 1) st) refl q
 
-pub filter-refused : (p : Placement) (pixmap n : ℕ) (st : List ℕ) (w : Words) (pas : List ℕ) (fps : List ℤ) → Refused (filter-call p pixmap n st w pas fps)
-    → filter-call p pixmap n st w pas fps .value ≡ (st, w, pas, fps)
+pub filter-refused : (flag : ℕ) (p : Placement) (pixmap : Option ℕ) (n : ℕ) (st : List ℕ) (w : Words) (pas : List ℕ) (fps : List ℤ) → Refused (filter-call flag p pixmap n st w pas fps)
+    → filter-call flag p pixmap n st w pas fps .value ≡ (st, w, pas, fps)
 unfolding filter-call filtered
-filter-refused p pixmap n st w pas fps q =
-    unchanged {T = Words × List ℕ × List ℤ} {F = List ℕ × Words × List ℕ × List ℤ} (λ (ws : List ℕ) (t : Words × List ℕ × List ℤ). (ws, t .0, t .1, t .2)) (λ (l : filter.FilterLent). l .screen) (λ (l : filter.FilterLent). (l .words, l .paint-attrs, l .filter-paints)) true st (w, pas, fps) (λ (s : Screen). filter.lent s w pas fps)
-    (λ (s : Screen). filtered (given p pixmap n) (filter.lent s w pas fps)) (λ (s : Screen). (refl, refl)) (λ (s : Screen). settled (filter.filter-number (given p pixmap n) (filter.lent s w pas fps)) (filter.lent s w pas fps) (filter.after (given p pixmap n) (filter.lent s w pas fps))) (screen-of true st) refl q
+filter-refused flag p pixmap n st w pas fps q =
+    let g = given p pixmap n in
+    unchanged {T = Words × List ℕ × List ℤ} {F = List ℕ × Words × List ℕ × List ℤ} (λ (ws : List ℕ) (t : Words × List ℕ × List ℤ). (ws, t .0, t .1, t .2))
+    (λ (l : filter.FilterLent). l .screen) (λ (l : filter.FilterLent). (l .words, l .paint-attrs, l .filter-paints)) (leb flag 1) st (w, pas, fps)
+    (λ (s : Screen). filter.lent s w pas fps) (λ (s : Screen). filtered g (filter.lent s w pas fps)) (λ (s : Screen). (refl, refl))
+    (λ (s : Screen). settled (filter.filter-number g (filter.lent s w pas fps)) (filter.lent s w pas fps) (filter.after g (filter.lent s w pas fps))) (screen-of (leb flag 1) st) refl q
 
 pub begin-refused : (st d p : List ℕ) → Refused (begin-call st d p) → begin-call st d p .value ≡ (st, d, p)
 unfolding begin-call beginning

@@ -73,13 +73,17 @@ pop-left o = answer (o .number) (screen-words (o .screen), o .lent)
 unfoldable pub pop-call : List ℕ → List ℕ → pop.PopLent → Answer (List ℕ × pop.PopLent)
 pop-call ss st l = on true st (st, l) (λ s. pop-left (popped s l ss))
 
--- the rows, the paint attributes and the filter paints
+-- a picture, by its handle where the flag is 1
+abbrev pub picture : ℕ → ℕ → Option ℕ
+picture flag handle = cond (eqb flag 1) (some handle) none
+
+-- the rows, the paint attributes and the filter paints; a flag that is neither 0 nor 1 is refused
 abbrev pub placement : Rect → ℕ → ℕ → Placement
 placement dest x y = record { dest = dest; «source_x» = x; «source_y» = y }
 
 abbrev pub filter-left : Answer filter.FilterLent → Answer (List ℕ × Words × List ℕ × List ℤ)
 filter-left a = answer (a .number) (screen-words (a .value .screen), a .value .words, a .value .paint-attrs, a .value .filter-paints)
 
-unfoldable pub filter-call : Placement → ℕ → ℕ → List ℕ → Words → List ℕ → List ℤ → Answer (List ℕ × Words × List ℕ × List ℤ)
-filter-call p pixmap n st w pas fps =
-    on true st (st, w, pas, fps) (λ s. filter-left (filtered (given p pixmap n) (filter.lent s w pas fps)))
+unfoldable pub filter-call : ℕ → Placement → Option ℕ → ℕ → List ℕ → Words → List ℕ → List ℤ → Answer (List ℕ × Words × List ℕ × List ℤ)
+filter-call flag p pixmap n st w pas fps =
+    on (leb flag 1) st (st, w, pas, fps) (λ s. filter-left (filtered (given p pixmap n) (filter.lent s w pas fps)))

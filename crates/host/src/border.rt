@@ -1,4 +1,4 @@
-// What a call answers where the host's own words are refused by 4: a state that is no screen's, a clip flag, a result of a wrong length.
+// What a call answers where the host's own words are refused by 4: a state that is no screen's, the flag of a clip or of a picture, a result of a wrong length.
 // Each asks the judge that the call itself asks first, so that 3, 2 and 1 come before that 4. Parts of the calls.
 use file_form::Form;
 use file_form::read_form;

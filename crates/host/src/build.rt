@@ -13,6 +13,7 @@ use screen::reset;
 use screen_layers::LayerProps;
 use step_fill::Draw;
 use step_fill::fill;
+use step_filter::Pixmap;
 use step_filter::Placement;
 use step_filter::filter_fill;
 use step_pop::pop_layer;
@@ -22,8 +23,9 @@ ghost use Rattle.rules.specs.Answers.{answer};
 ghost use Rattle.row.specs.Words.{words};
 ghost use Rattle.screen.specs.Tables.{tables};
 ghost use Rattle.step_pop.specs.Pop.{lent};
+ghost use Rattle.step_filter.specs.Filter.{picture-of};
 ghost use Rattle.host_screen.specs.State.{rect};
-ghost use Rattle.host.specs.Building.{reset-call, recording-call, draw, fill-call, clip, props, push-call, pop-call, placement, filter-call};
+ghost use Rattle.host.specs.Building.{reset-call, recording-call, draw, fill-call, clip, props, push-call, pop-call, placement, picture, filter-call};
 
 // Rule 1: a fresh screen of a viewport, C and D.
 #[no_mangle]
@@ -290,7 +292,18 @@ pub extern "C" fn coarse_pop_layer(
     leave(state, built)
 }
 
-// Rule 11: a pixmap drawn into a box, from a source origin; paint_count is the length of the paint list.
+// The picture whose handle is there if the flag is 1.
+fn pixmap_of(flag: u32, handle: u32) -> Pixmap
+    ensures { λ r. ⌜ picture-of r ≡ picture flag handle ⌝ }
+{
+    if flag != 1 {
+        return Pixmap::Absent;
+    }
+    Pixmap::Present(handle)
+}
+
+// Rule 11: a picture drawn into a box, from a source origin; paint_count is the length of the paint list. has_pixmap 1: the picture is the one
+// whose handle is pixmap, 0: there is none.
 #[no_mangle]
 pub extern "C" fn coarse_filter_fill(
     state: &mut [u32],
@@ -305,13 +318,14 @@ pub extern "C" fn coarse_filter_fill(
     y1: u32,
     source_x: u32,
     source_y: u32,
+    has_pixmap: u32,
     pixmap: u32,
     paint_count: u32,
 ) -> u32
     ensures { λ r. ⌜ answer r (now (state .exit), words (now (rows .exit)) (now (render .exit)) (now (fills .exit)), now («paint_attrs» .exit), now («filter_paints» .exit))
-        ≡ filter-call (placement (rect x0 y0 x1 y1) «source_x» «source_y») pixmap «paint_count» (now (state .entry)) (words (now (rows .entry)) (now (render .entry)) (now (fills .entry))) (now («paint_attrs» .entry)) (now («filter_paints» .entry)) ⌝ }
+        ≡ filter-call «has_pixmap» (placement (rect x0 y0 x1 y1) «source_x» «source_y») (picture «has_pixmap» pixmap) «paint_count» (now (state .entry)) (words (now (rows .entry)) (now (render .entry)) (now (fills .entry))) (now («paint_attrs» .entry)) (now («filter_paints» .entry)) ⌝ }
 {
-    let Held::Good(screen) = screen_of(state, true) else {
+    let Held::Good(screen) = screen_of(state, has_pixmap <= 1) else {
         return refuse_build(state, rows.len(), render.len(), fills.len());
     };
     let dest = Rect { x0, y0, x1, y1 };
@@ -320,6 +334,7 @@ pub extern "C" fn coarse_filter_fill(
         source_x,
         source_y,
     };
+    let picture = pixmap_of(has_pixmap, pixmap);
     let built = filter_fill(
         screen,
         rows,
@@ -328,7 +343,7 @@ pub extern "C" fn coarse_filter_fill(
         paint_attrs,
         filter_paints,
         placement,
-        pixmap,
+        picture,
         paint_count,
     );
     leave(state, built)

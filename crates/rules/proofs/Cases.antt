@@ -13,7 +13,7 @@ use Rattle.rules.proofs.Words.{file}
 use Rattle.rules.specs.Lines.{header, row, D, P, L, B, E, refused, rowlist-words}
 use Rattle.rules.proofs.Picture.{same-picture}
 use Rattle.rules.proofs.Computing.{computing}
-use Rattle.rules.proofs.Samples.{solid, alpha, opaque-paint, draw, blend, clip, no-clip, no-filter, full, a-nan, layer, composed, clipped, filtered, filter, node, rec, minus, attrs, paint-attr, layer-attr, filter-paint, paint-piece, layer-piece, attributes, pieces}
+use Rattle.rules.proofs.Samples.{solid, alpha, opaque-paint, draw, blend, clip, no-clip, no-filter, full, a-nan, layer, composed, clipped, filtered, filter, pictureless, node, rec, minus, attrs, paint-attr, layer-attr, filter-paint, paint-piece, layer-piece, attributes, pieces}
 
 -- An alpha segment cut at the left: the screen begins at tile 4, so its index moves by 4 x 16.
 abbrev pub left-cut : Recording
@@ -147,18 +147,45 @@ pub nan-pieces : pieces nan-filter ≡ (paint-piece 0 0 8 none 1 ∷ layer-piece
 unfolding computing
 nan-pieces = refl
 
--- A filter with pixmap 0 draws nothing; with a mask it is still pushed and popped, which takes an id.
-abbrev pub no-pixmap : Recording
-no-pixmap =
+-- A filter without a picture draws nothing; with a mask it is still pushed and popped, which takes an id.
+abbrev pub no-picture : Recording
+no-picture =
     rec (box 0 0 64 4) [] []
-    (filtered full 0 (filter 0 (box 0 0 32 4) 0 0) ∷ filtered full 2 (filter 0 (box 0 0 32 4) 0 0) ∷ [])
+    (filtered full 0 (pictureless (box 0 0 32 4) 0 0) ∷ filtered full 2 (pictureless (box 0 0 32 4) 0 0) ∷ [])
     (node 0 0 1 ∷ node 0 0 2 ∷ [])
     0
     2
 
-pub no-pixmap-lines : rowlist-words (file no-pixmap) ≡ header 1 1 1 ∷ row 0 0 0 ∷ []
+pub no-picture-lines : rowlist-words (file no-picture) ≡ header 1 1 1 ∷ row 0 0 0 ∷ []
 unfolding computing
-no-pixmap-lines = refl
+no-picture-lines = refl
+
+pub no-picture-attributes : attributes no-picture ≡ attrs [] (layer-attr 0 3 full 2 1 0 ∷ []) []
+unfolding computing
+no-picture-attributes = refl
+
+-- The first picture is number 0: it is drawn, and its filter paint has the plain handle; so is the last one.
+abbrev pub first-picture : Recording
+first-picture =
+    rec (box 0 0 64 4) [] []
+    (filtered full 0 (filter 0 (box 0 0 32 4) 0 0) ∷ filtered full 0 (filter 2147483647 (box 32 0 64 4) 0 0) ∷ [])
+    (node 0 0 1 ∷ node 0 0 2 ∷ [])
+    0
+    2
+
+pub first-picture-lines : rowlist-words (file first-picture) ≡ header 1 1 2 ∷ row 0 0 2 ∷ P 0 8 none 0 ∷ P 8 16 none 1 ∷ []
+unfolding computing
+first-picture-lines = refl
+
+pub first-picture-attributes :
+    attributes first-picture ≡
+    attrs (paint-attr 1 0 3 0 1 0 0 0 ∷ paint-attr 2 0 3 0 2 0 0 0 ∷ []) [] (filter-paint 0 (pos 0) (pos 0) ∷ filter-paint 2147483647 (minus 32) (pos 0) ∷ [])
+unfolding computing
+first-picture-attributes = refl
+
+pub first-picture-pieces : pieces first-picture ≡ (paint-piece 0 0 8 none 0 ∷ paint-piece 1 8 16 none 0 ∷ []) ∷ []
+unfolding computing
+first-picture-pieces = refl
 
 -- A filter layer's nodes are not walked: the draw of its node takes no id.
 abbrev pub filter-nodes : Recording
@@ -480,7 +507,8 @@ pub same-pictures :
     ∷ destructive-push
     ∷ shifted
     ∷ nan-filter
-    ∷ no-pixmap
+    ∷ no-picture
+    ∷ first-picture
     ∷ last-bucket
     ∷ away
     ∷ panel

@@ -9,12 +9,12 @@ use Rattle.rules.specs.Boxes.{box, good-box, good-dest, good-viewport, e
 use Rattle.rules.specs.Spans.{span, covers, bad-range, good-range}
 use Rattle.rules.specs.Blends.{Blend, default-blend, good-blend, is-default, destructive}
 use Rattle.rules.specs.Segments.{good-segment, follows, ordered}
-use Rattle.rules.specs.Inputs.{Clip, Props, good-handle, good-thread, good-paint, few-paints, good-draw, good-clip, good-props, needs-buffer, good-filter}
+use Rattle.rules.specs.Inputs.{Clip, Props, good-handle, good-thread, good-paint, few-paints, good-draw, good-clip, good-props, needs-buffer, good-pixmap, good-filter}
 use Rattle.rules.specs.Depth.{Summary, no-depth, included, can-skip, is-visible}
-use Rattle.rules.specs.Recording.{good-count}
+use Rattle.rules.specs.Recording.{good-count, pixmap-of}
 use Rattle.rules.specs.Walk.{good-room}
 use Rattle.rules.specs.Lines.{too-long}
-use Rattle.rules.proofs.Samples.{solid, alpha, opaque-paint, full, filter, blend, clip}
+use Rattle.rules.proofs.Samples.{solid, alpha, opaque-paint, full, filter, pictureless, blend, clip}
 use Rattle.rules.proofs.Computing.{computing}
 
 -- a draw with paint 0 and everything in bounds, changed in one field
@@ -144,12 +144,19 @@ edges =
     ∷ needs-buffer (props default-blend 1065353217 0 none) is true
     ∷ needs-buffer (props default-blend full 1 none) is true
     ∷ needs-buffer (props default-blend full 0 (some (clip (box 0 0 4 4) 0 0 0))) is true
-    -- filters
+    -- a picture's handle, its word in a file, and filters
+    ∷ good-pixmap none is true
+    ∷ good-pixmap (some 0) is true
+    ∷ good-pixmap (pixmap-of 2147483648) is true
+    ∷ good-pixmap (pixmap-of 2147483649) is false
     ∷ good-filter (filter 2147483647 (box 0 1 4 3) 32768 32768) is true
     ∷ good-filter (filter 2147483648 (box 0 1 4 3) 0 0) is false
     ∷ good-filter (filter 1 (box 0 1 4 3) 32769 0) is false
     ∷ good-filter (filter 1 (box 0 1 4 3) 0 32769) is false
     ∷ good-filter (filter 1 (box 0 3 4 1) 0 0) is false
+    ∷ good-filter (pictureless (box 0 1 4 3) 32768 32768) is true
+    ∷ good-filter (pictureless (box 0 1 4 3) 32769 0) is false
+    ∷ good-filter (pictureless (box 0 3 4 1) 0 0) is false
     -- limits of counts, of C and D, and of rowlist's file
     ∷ good-count false 0 is true
     ∷ good-count false 4096 is true

@@ -20,7 +20,7 @@ use Rattle.rules.specs.Recording.{Recording, LayerRec, Node}
 use Rattle.rules.proofs.Words.{file}
 use Rattle.rules.specs.Walk.{Place, needed, play}
 use Rattle.rules.specs.Lines.{rowlist-words, header, row, P, L, B, E, refused}
-use Rattle.rules.proofs.Samples.{solid, opaque-paint, draw, no-clip, no-filter, full, blend, clip, layer, filtered, filter, node, rec}
+use Rattle.rules.proofs.Samples.{solid, opaque-paint, draw, no-clip, no-filter, full, blend, clip, layer, filtered, filter, pictureless, node, rec}
 use Rattle.rules.proofs.WorkedExample.{worked-words}
 use Rattle.rules.proofs.Computing.{computing}
 
@@ -138,13 +138,20 @@ judgements =
     ∷ clip-layer 0 (clip (box 0 0 0 0) 1 0 0) is BadRecord
     ∷ clip-layer 0 (clip (box 0 0 0 0) 0 1 0) is BadRecord
     ∷ clip-layer 0 (clip (box 0 0 0 0) 0 0 1) is BadRecord
-    -- .. filter fields of a regular layer, and a filter layer's own
+    -- .. a filter layer's own fields, the last handle and no picture among them
     ∷ filter-layer 1 (filter 1 (box 0 3 4 5) 1 1) is Done
-    ∷ filter-layer 1 (filter 0 (box 2 3 4 5) 1 1) is BadRecord
-    ∷ filter-layer 0 (filter 1 (box 0 0 0 0) 0 0) is BadRecord
-    ∷ filter-layer 0 (filter 0 (box 0 0 4 0) 0 0) is BadRecord
-    ∷ filter-layer 0 (filter 0 (box 0 0 0 0) 1 0) is BadRecord
-    ∷ filter-layer 0 (filter 0 (box 0 0 0 0) 0 1) is BadRecord
+    ∷ filter-layer 1 (filter 2147483647 (box 0 3 4 5) 1 1) is Done
+    ∷ filter-layer 1 (filter 2147483648 (box 0 3 4 5) 1 1) is BadRecord
+    ∷ filter-layer 1 (pictureless (box 0 3 4 5) 1 1) is Done
+    ∷ filter-layer 1 (pictureless (box 2 3 4 5) 1 1) is BadRecord
+    ∷ filter-layer 1 (pictureless (box 0 3 4 5) 32769 1) is BadRecord
+    ∷ filter-layer 1 (pictureless (box 0 3 4 5) 1 32769) is BadRecord
+    -- .. filter fields of a regular layer
+    ∷ filter-layer 0 (pictureless (box 0 0 0 0) 0 0) is Done
+    ∷ filter-layer 0 (filter 0 (box 0 0 0 0) 0 0) is BadRecord
+    ∷ filter-layer 0 (pictureless (box 0 0 4 0) 0 0) is BadRecord
+    ∷ filter-layer 0 (pictureless (box 0 0 0 0) 1 0) is BadRecord
+    ∷ filter-layer 0 (pictureless (box 0 0 0 0) 0 1) is BadRecord
     -- .. nodes and root
     ∷ a-node (node 0 1 1) 1 1 is Done
     ∷ a-node (node 0 2 1) 1 1 is BadRecord

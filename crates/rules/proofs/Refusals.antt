@@ -21,7 +21,7 @@ use Rattle.rules.proofs.Words.{file}
 use Rattle.rules.specs.Painting.{begin}
 use Rattle.rules.specs.Walk.{needed}
 use Rattle.rules.specs.Calls.{Canvas, given, fresh-canvas, reset-call, step-call, record-call, begin-call, paint-call, unset-call, visible-call, write-call, can-skip-call}
-use Rattle.rules.proofs.Samples.{solid, alpha, opaque-paint, draw, blend, clip, full, filter, node, rec, minus}
+use Rattle.rules.proofs.Samples.{solid, alpha, opaque-paint, draw, blend, clip, full, filter, pictureless, node, rec, minus}
 use Rattle.rules.proofs.Computing.{computing}
 
 -- a screen of one row and two buckets, with room for one command and one depth fill
@@ -150,7 +150,10 @@ answers =
     ∷ steps (a-pop (solid 0 5 6 ∷ solid 0 5 7 ∷ [])) (clip-open 0 2) is BadOrder
     ∷ steps (a-filter 4096 (filter 1 (box 0 0 4 4) 0 0)) start is Done
     ∷ steps (a-filter 4097 (filter 1 (box 0 0 4 4) 0 0)) start is BadRecord
-    ∷ steps (a-filter 0 (filter 0 (box 2 0 4 4) 0 0)) start is BadRecord
+    ∷ steps (a-filter 0 (pictureless (box 2 0 4 4) 0 0)) start is BadRecord
+    ∷ steps (a-filter 0 (pictureless (box 0 0 4 4) 32769 0)) start is BadRecord
+    ∷ steps (a-filter 0 (filter 2147483647 (box 0 0 4 4) 0 0)) start is Done
+    ∷ steps (a-filter 0 (filter 2147483648 (box 0 0 4 4) 0 0)) start is BadRecord
     -- 6 and 7
     ∷ steps (a-push plain-props) (with-state 1 no-attrs (replicate 15 open-layer)) is Done
     ∷ steps (a-push plain-props) (with-state 1 no-attrs (replicate 16 open-layer)) is Deep
@@ -160,7 +163,8 @@ answers =
     ∷ steps (fills [] 0) (next-id 1048576) is Done
     ∷ steps (fills [] 0) (next-id 1048577) is Ids
     ∷ steps (a-filter 0 (filter 1 (box 0 0 0 0) 0 0)) (next-id 1048577) is Done
-    ∷ steps (a-filter 0 (filter 0 (box 0 0 4 4) 0 0)) (next-id 1048577) is Done
+    ∷ steps (a-filter 0 (filter 0 (box 0 0 4 4) 0 0)) (next-id 1048577) is Ids
+    ∷ steps (a-filter 0 (pictureless (box 0 0 4 4) 0 0)) (next-id 1048577) is Done
     -- 9: a fill without segments adds no attribute, one whose segments are cut away does
     ∷ steps (fills (solid 9 0 1 ∷ []) 1) (with-state 1 (attrs 1023 0 0) []) is Done
     ∷ steps (fills (solid 9 0 1 ∷ []) 1) (with-state 1 (attrs 1024 0 0) []) is FullAttrs

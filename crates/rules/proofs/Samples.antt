@@ -2,7 +2,7 @@
 use Prim.Native.Nat.{ℕ}
 use mathlib.Core.Bool.{true, false}
 use mathlib.Core.List.{List, [], _∷_, map}
-use mathlib.Core.Option.{Option}
+use mathlib.Core.Option.{Option, none, some}
 use lib.IntN.{ℤ, pos, negℤ}
 use Rattle.rules.specs.Spans.{span}
 use Rattle.rules.specs.Boxes.{Box, box, buckets-of}
@@ -35,7 +35,7 @@ abbrev pub no-clip : Clip
 no-clip = record { bounds = box 0 0 0 0; start = 0; end = 0; thread = 0 }
 
 abbrev pub no-filter : Filter
-no-filter = record { pixmap = 0; dest = box 0 0 0 0; source-x = 0; source-y = 0 }
+no-filter = record { pixmap = none; dest = box 0 0 0 0; source-x = 0; source-y = 0 }
 
 abbrev pub blend : ℕ → ℕ → Blend
 blend m c = record { mix = m; compose = c }
@@ -79,9 +79,12 @@ abbrev pub filtered : ℕ → ℕ → Filter → LayerRec
 filtered o m f =
     record { kind = 1; start = 0; end = 0; blend = default-blend; opacity = o; mask = m; flag = 0; clip = no-clip; filter = f }
 
--- a pixmap to a dest box, from a source origin
+-- picture h, or no picture, to a dest box, from a source origin
 abbrev pub filter : ℕ → Box → ℕ → ℕ → Filter
-filter h q x y = record { pixmap = h; dest = q; source-x = x; source-y = y }
+filter h q x y = record { pixmap = some h; dest = q; source-x = x; source-y = y }
+
+abbrev pub pictureless : Box → ℕ → ℕ → Filter
+pictureless q x y = record { pixmap = none; dest = q; source-x = x; source-y = y }
 
 -- a node: draws a to b, then a layer's number + 1, or 0
 abbrev pub node : ℕ → ℕ → ℕ → Node

@@ -1,6 +1,7 @@
 -- Words from records, the other way than a file is read: for the tests, and for what is proved of the words of lists.
-use Prim.Native.Nat.{ℕ}
+use Prim.Native.Nat.{ℕ, suc}
 use mathlib.Core.List.{List, [], _∷_, _++_}
+use mathlib.Core.Option.{Option, none, some}
 use lib.ListN.{length}
 use Rattle.rules.specs.Lists.{join}
 use Rattle.rules.specs.Boxes.{Box}
@@ -20,11 +21,16 @@ segment-words s = s .kind ∷ s .row ∷ s .first ∷ s .end ∷ s .alpha ∷ []
 abbrev pub draw-words : Draw → List ℕ
 draw-words d = d .thread ∷ d .start ∷ d .end ∷ d .paint ∷ d .blend .mix ∷ d .blend .compose ∷ d .mask ∷ []
 
+-- a picture's handle + 1, or 0 for none
+abbrev pub pixmap-word : Option ℕ → ℕ
+pixmap-word none = 0
+pixmap-word (some h) = suc h
+
 abbrev pub layer-words : LayerRec → List ℕ
 layer-words l =
     (l .kind ∷ l .start ∷ l .end ∷ l .blend .mix ∷ l .blend .compose ∷ l .opacity ∷ l .mask ∷ l .flag ∷ [])
     ++ (box-words (l .clip .bounds)
-    ++ ((l .clip .start ∷ l .clip .end ∷ l .clip .thread ∷ l .filter .pixmap ∷ [])
+    ++ ((l .clip .start ∷ l .clip .end ∷ l .clip .thread ∷ pixmap-word (l .filter .pixmap) ∷ [])
     ++ (box-words (l .filter .dest) ++ (l .filter .source-x ∷ l .filter .source-y ∷ []))))
 
 abbrev pub node-words : Node → List ℕ

@@ -3,3 +3,4 @@ pub mod Answers
 pub mod Changes
 pub mod Maps
 pub mod Bounds
+pub mod Pixmaps

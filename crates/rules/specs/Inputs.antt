@@ -12,7 +12,7 @@ use Rattle.rules.specs.Boxes.{Box, good-box, good-dest}
 use Rattle.rules.specs.Blends.{Blend, is-default, good-blend}
 use Rattle.rules.specs.Segments.{Segment}
 
--- masks and pixmaps are handles; 0 says none
+-- masks and pictures are handles. A mask of 0 says none; pictures are counted from 0
 abbrev pub good-handle : ℕ → Bool
 good-handle h = ltb h handle-end
 
@@ -88,12 +88,16 @@ abbrev pub needs-buffer : Props → Bool
 needs-buffer p =
     not (is-default (p .blend)) || not (eqb (p .opacity) 1065353216) || not (eqb (p .mask) 0) || not (is-none (p .clip))
 
--- what a filter layer draws: its pixmap and its placement
+-- what a filter layer draws: the handle of a picture, or none, and its placement
 pub record Filter : Type 0 where
-  pub pixmap : ℕ
+  pub pixmap : Option ℕ
   pub dest : Box
   pub source-x : ℕ
   pub source-y : ℕ
 
+abbrev pub good-pixmap : Option ℕ → Bool
+good-pixmap none = true
+good-pixmap (some h) = good-handle h
+
 abbrev pub good-filter : Filter → Bool
-good-filter f = good-handle (f .pixmap) && good-dest (f .dest) && leb (f .source-x) 32768 && leb (f .source-y) 32768
+good-filter f = good-pixmap (f .pixmap) && good-dest (f .dest) && leb (f .source-x) 32768 && leb (f .source-y) 32768

@@ -2,7 +2,7 @@
 use mathlib.Core.Path.{_≡_, refl, sym, ap, _∙_}
 use mathlib.Core.Bool.{Bool, true, false, _&&_, _||_, cond}
 use mathlib.Core.List.{List, [], _∷_, map, append-nil}
-use mathlib.Core.Option.{none}
+use mathlib.Core.Option.{Option, none, some, Option·getD}
 use Prim.Native.Nat.{ℕ, zero, suc, _+_, _-_, _*_, _/_, _≤_, _<_}
 use native.Mathlib.Nat.{min-le-right}
 use native.Mathlib.Omega.{arith}
@@ -11,7 +11,8 @@ use lib.IntN.{ℤ, pos, subℕ}
 use lib.ListN.{length, drop, length-append, take-append-drop}
 use lib.Seq.{drop-at, drop-length}
 use borrow.Author.Tests.{eq-eqb, ne-eqb, le-ltb, lt-ltb, leb-true, leb-false, ltb-true}
-use Rattle.rules.specs.Lists.{range, join}
+use Rattle.rules.specs.Lists.{range, join, is-none}
+use Rattle.rules.specs.Inputs.{good-pixmap}
 use Rattle.rules.specs.Answers.{answer}
 use Rattle.rules.specs.Boxes.{Box, width, height, rows-of, empty-box, span-of, good-dest, good-viewport}
 use Rattle.rules.specs.Spans.{Span}
@@ -281,9 +282,13 @@ module _ (g : FilterGiven) (s : Screen) (w : Words) (z : judged-at s w ≡ 0) (b
       → k ≡ band-number (s .c) (s .d) (s .layers) (w .state) (range (own-box g s .y0 / 4) ((own-box g s .y1 + 3) / 4))
   number-of-rows k h = rw (top-is, bottom-is) at h
 
+handle-small : (o : Option ℕ) → good-pixmap o ≡ true → Option·getD o 0 < 2147483648
+handle-small none q = omega arith
+handle-small (some h) q = ltb-true _ _ q
+
 -- what was given, judged good
 pub record Sound (g : FilterGiven) : Type 0 where
-  pub pixmap : g .pixmap < 2147483648
+  pub pixmap : Option·getD (g .pixmap) 0 < 2147483648
   pub left : g .placement .dest .x0 ≤ 32768
   pub top : g .placement .dest .y0 ≤ 32768
   pub across : g .placement .«source_x» ≤ 32768
@@ -293,7 +298,7 @@ pub record Sound (g : FilterGiven) : Type 0 where
 pub sound : (g : FilterGiven) → good-given g ≡ true → Sound g
 sound g h =
     let f = filter-of g in
-    let a = ltb (g .pixmap) 2147483648 in
+    let a = good-pixmap (g .pixmap) in
     let b = good-dest (f .dest) in
     let c = leb (f .source-x) 32768 in
     let d = leb (f .source-y) 32768 in
@@ -303,7 +308,7 @@ sound g h =
     let h4 = both a b (h3 .0) in
     let k = dest-facts f (h1 .0) in
     record {
-      pixmap = ltb-true _ _ (h4 .0);
+      pixmap = handle-small (g .pixmap) (h4 .0);
       left = omega (arith, k .across, k .right);
       top = omega (arith, k .down, k .bottom);
       across = leb-true _ _ (h3 .1);
@@ -363,7 +368,7 @@ module _ (g : FilterGiven) (s : Screen) (w : Words) (ps : List ℕ) (fs : List �
     short =
         let f = fit g s w ps fs (ready .zero) in
         let b = own-box g s in
-        let e = neither (eqb (g .pixmap) 0) (empty-box b) d .1 in
+        let e = neither (is-none (g .pixmap)) (empty-box b) d .1 in
         let l = leb-false (b .x1) (b .x0) (neither (leb (b .x1) (b .x0)) (leb (b .y1) (b .y0)) e .0) in
         let r = box-right g s (f .screen) (f .view) in
         let v = view (box-of (s .viewport)) (f .view) .wide in
@@ -430,14 +435,14 @@ module _ (g : FilterGiven) (s : Screen) (w : Words) (ps : List ℕ) (fs : List �
     drawn-attr = rw (drop-at (state-of s .attrs .paints) _ (s .«paint_attrs») (paint-count s), filter-count s, next-is s, frame-is s)
 
     drawn-paint : join filter-paint-words (drop (s .«filter_paints») (drawn .attrs .filters))
-        ≡ pos 0 ∷ pos (g .pixmap) ∷ subℕ (g .placement .«source_x») (g .placement .dest .x0) ∷ subℕ (g .placement .«source_y») (g .placement .dest .y0) ∷ []
+        ≡ pos 0 ∷ pos (Option·getD (g .pixmap) 0) ∷ subℕ (g .placement .«source_x») (g .placement .dest .x0) ∷ subℕ (g .placement .«source_y») (g .placement .dest .y0) ∷ []
     unfolding plan-filter-in
     drawn-paint = rw (drop-at (state-of s .attrs .filters) _ (s .«filter_paints») (filter-count s))
 
     pub after-drawn : (x : Screen) (ws : Words) (t : Span) (b : Rect) → box-of b ≡ own-box g s → t ≡ span-of (box-of b)
         → x ≡ counted s (s .«next_draw_id» + 1) (s .«paint_attrs» + 1) (s .«layer_attrs») (s .«filter_paints» + 1)
         → ws ≡ lay (each (acted (s .layers) (paint t none (s .«paint_attrs»))) (range (b .y0 / 4) ((b .y1 + 3) / 4)) (rows-at (frame-of s) w))
-        → lent x ws (put-paint ps (s .«paint_attrs») (attrs-of s (g .count))) (put-filter fs (s .«filter_paints») (paint-from (g .placement .dest) (g .placement .«source_x») (g .placement .«source_y») (g .pixmap))) ≡ after g (lent s w ps fs)
+        → lent x ws (put-paint ps (s .«paint_attrs») (attrs-of s (g .count))) (put-filter fs (s .«filter_paints») (paint-from (g .placement .dest) (g .placement .«source_x») (g .placement .«source_y») (Option·getD (g .pixmap) 0))) ≡ after g (lent s w ps fs)
     unfolding after
     after-drawn x ws t b e f h i =
         rw (

@@ -3,6 +3,7 @@ use Prim.Native.Nat.{ℕ, _+_, _*_}
 use mathlib.Core.Path.{_≡_}
 use mathlib.Core.Bool.{Bool, false, _&&_, cond}
 use mathlib.Core.List.{List, [], _∷_}
+use mathlib.Core.Option.{Option, none, some}
 use lib.ListN.{length, drop}
 use lib.Dec.{leb, eqb}
 use lib.IntN.{ℤ, pos, subℕ}
@@ -26,15 +27,21 @@ use Rattle.rect.specs.Rects.{box-of}
 use Rattle.screen.specs.declared.Screen.{Screen}
 use Rattle.screen.specs.Screens.{frame-of, state-of, screen-after}
 use Rattle.screen.specs.Judging.{judged}
+use Rattle.step_filter.specs.declared.Pixmap.{Pixmap}
+use Rattle.step_filter.specs.declared.Pixmap.the-variants.{Absent, Present}
 use Rattle.step_filter.specs.declared.Placement.{Placement}
 
--- what a filter fill is given: placement, pixmap, the paint list's length
+abbrev pub picture-of : Pixmap → Option ℕ
+picture-of Absent = none
+picture-of (Present h) = some h
+
+-- what a filter fill is given: placement, a picture's handle or none, the paint list's length
 pub record FilterGiven : Type 0 where
   pub placement : Placement
-  pub pixmap : ℕ
+  pub pixmap : Option ℕ
   pub count : ℕ
 
-abbrev pub given : Placement → ℕ → ℕ → FilterGiven
+abbrev pub given : Placement → Option ℕ → ℕ → FilterGiven
 given p m n = record { placement = p; pixmap = m; count = n }
 
 abbrev pub filter-of : FilterGiven → Filter

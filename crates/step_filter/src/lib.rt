@@ -1,16 +1,18 @@
 // A filter fill (rule 11). `filter_fill` is a public call; the others are parts of it.
 ghost use mathlib.Core.Path.{_≡_};
 ghost use mathlib.Core.Bool.{_||_};
-ghost use lib.Dec.{eqb};
+ghost use mathlib.Core.Option.{Option·getD};
 ghost use Prim.Native.Nat.{_≤_, _+_};
 ghost use lib.IntN.{subℕ};
 ghost use Rattle.sizes.specs.Sizes.{most-attrs, most-filters, most-records};
 ghost use Rattle.rules.specs.Answers.{answer};
 ghost use Rattle.rules.specs.Boxes.{meet, to-local, empty-box};
+ghost use Rattle.rules.specs.Inputs.{good-pixmap};
+ghost use Rattle.rules.specs.Lists.{is-none};
 ghost use Rattle.rect.specs.Rects.{box-of};
 ghost use Rattle.row.specs.Words.{words};
 ghost use Rattle.screen.specs.Screens.{counted};
-ghost use Rattle.step_filter.specs.Filter.{given, good-given, paint-from, attrs-of, lent, filter-number, after, filtered, Drawing};
+ghost use Rattle.step_filter.specs.Filter.{picture-of, given, good-given, paint-from, attrs-of, lent, filter-number, after, filtered, Drawing};
 use cmd::attrs::FilterPaint;
 use cmd::attrs::PaintFillAttrs;
 use cmd::attrs::put_filter_paint;
@@ -28,19 +30,54 @@ use sizes::PAINT_TABLE;
 use step_rows::judge_rows;
 use step_rows::paint_rows;
 
-// Where a filter layer is drawn, and from where in its pixmap.
+// The picture that a filter layer draws, by its handle, counted from 0; or none.
+pub enum Pixmap {
+    Absent,
+    Present(u32),
+}
+
+// Where a filter layer is drawn, and from where in its picture.
 pub struct Placement {
     pub dest: Rect,
     pub source_x: u32,
     pub source_y: u32,
 }
 
+// Answer 4: a picture's handle.
+fn is_good_pixmap(pixmap: Pixmap) -> bool
+    ensures { λ r. ⌜ r ≡ good-pixmap (picture-of pixmap) ⌝ }
+{
+    match pixmap {
+        Pixmap::Absent => true,
+        Pixmap::Present(h) => h < HANDLE_END,
+    }
+}
+
+fn is_absent(pixmap: Pixmap) -> bool
+    ensures { λ r. ⌜ r ≡ is-none (picture-of pixmap) ⌝ }
+{
+    match pixmap {
+        Pixmap::Absent => true,
+        Pixmap::Present(_) => false,
+    }
+}
+
+// The handle itself; 0 where there is none, which no paint has.
+fn handle_of(pixmap: Pixmap) -> u32
+    ensures { λ r. ⌜ r ≡ Option·getD (picture-of pixmap) 0 ⌝ }
+{
+    match pixmap {
+        Pixmap::Absent => 0,
+        Pixmap::Present(h) => h,
+    }
+}
+
 // Answer 4: what a filter fill is given.
-fn is_good_filter(placement: Placement, pixmap: u32, paint_count: u32) -> bool
-    ensures { λ r. ⌜ r ≡ good-given (given placement pixmap «paint_count») ⌝ }
+fn is_good_filter(placement: Placement, pixmap: Pixmap, paint_count: u32) -> bool
+    ensures { λ r. ⌜ r ≡ good-given (given placement (picture-of pixmap) «paint_count») ⌝ }
 {
     let dest = placement.dest;
-    if HANDLE_END <= pixmap {
+    if !is_good_pixmap(pixmap) {
         return false;
     }
     if !dest.is_good_dest() {
@@ -71,11 +108,11 @@ fn shift(source: u32, dest: u32) -> i32
     (source as i32) - (dest as i32)
 }
 
-// Nothing is drawn without a pixmap, or in an empty box.
-fn draws_nothing(pixmap: u32, bbox: Rect) -> bool
-    ensures { λ r. ⌜ r ≡ (eqb pixmap 0 || empty-box (box-of bbox)) ⌝ }
+// Nothing is drawn without a picture, or in an empty box.
+fn draws_nothing(pixmap: Pixmap, bbox: Rect) -> bool
+    ensures { λ r. ⌜ r ≡ (is-none (picture-of pixmap) || empty-box (box-of bbox)) ⌝ }
 {
-    if pixmap == 0 {
+    if is_absent(pixmap) {
         return true;
     }
     bbox.is_empty()
@@ -133,10 +170,10 @@ fn judge_filter(
     paint_attrs: &[u32],
     filter_paints: &[i32],
     placement: Placement,
-    pixmap: u32,
+    pixmap: Pixmap,
     paint_count: u32,
 ) -> u32
-    ensures { λ r. ⌜ r ≡ filter-number (given placement pixmap «paint_count») (lent screen (words (now (rows .entry)) (now (render .entry)) (now (fills .entry))) (now («paint_attrs» .entry)) (now («filter_paints» .entry))) ⌝ }
+    ensures { λ r. ⌜ r ≡ filter-number (given placement (picture-of pixmap) «paint_count») (lent screen (words (now (rows .entry)) (now (render .entry)) (now (fills .entry))) (now («paint_attrs» .entry)) (now («filter_paints» .entry))) ⌝ }
 {
     let n = judge_screen(screen, rows.len(), render.len(), fills.len());
     if n != 0 {
@@ -188,16 +225,17 @@ fn do_filter(
     paint_attrs: &mut [u32],
     filter_paints: &mut [i32],
     placement: Placement,
-    pixmap: u32,
+    pixmap: Pixmap,
     paint_count: u32,
     bbox: Rect,
 ) -> Screen
-    requires { ⌜ Drawing (given placement pixmap «paint_count») (lent screen (words (now rows) (now render) (now fills)) (now «paint_attrs») (now «filter_paints»)) bbox ⌝ }
+    requires { ⌜ Drawing (given placement (picture-of pixmap) «paint_count») (lent screen (words (now rows) (now render) (now fills)) (now «paint_attrs») (now «filter_paints»)) bbox ⌝ }
     ensures { λ r. ⌜ lent r (words (now (rows .exit)) (now (render .exit)) (now (fills .exit))) (now («paint_attrs» .exit)) (now («filter_paints» .exit))
-        ≡ after (given placement pixmap «paint_count») (lent screen (words (now (rows .entry)) (now (render .entry)) (now (fills .entry))) (now («paint_attrs» .entry)) (now («filter_paints» .entry))) ⌝ }
+        ≡ after (given placement (picture-of pixmap) «paint_count») (lent screen (words (now (rows .entry)) (now (render .entry)) (now (fills .entry))) (now («paint_attrs» .entry)) (now («filter_paints» .entry))) ⌝ }
 {
     let dest = placement.dest;
-    let paint = filter_paint(dest, placement.source_x, placement.source_y, pixmap);
+    let handle = handle_of(pixmap);
+    let paint = filter_paint(dest, placement.source_x, placement.source_y, handle);
     let attrs = filter_attrs(screen, paint_count);
     put_filter_paint(filter_paints, screen.filter_paints as usize, paint);
     put_paint_attrs(paint_attrs, screen.paint_attrs as usize, attrs);
@@ -224,11 +262,11 @@ pub fn filter_fill(
     paint_attrs: &mut [u32],
     filter_paints: &mut [i32],
     placement: Placement,
-    pixmap: u32,
+    pixmap: Pixmap,
     paint_count: u32,
 ) -> Built
     ensures { λ r. ⌜ answer (r .number) (lent (r .screen) (words (now (rows .exit)) (now (render .exit)) (now (fills .exit))) (now («paint_attrs» .exit)) (now («filter_paints» .exit)))
-        ≡ filtered (given placement pixmap «paint_count») (lent screen (words (now (rows .entry)) (now (render .entry)) (now (fills .entry))) (now («paint_attrs» .entry)) (now («filter_paints» .entry))) ⌝ }
+        ≡ filtered (given placement (picture-of pixmap) «paint_count») (lent screen (words (now (rows .entry)) (now (render .entry)) (now (fills .entry))) (now («paint_attrs» .entry)) (now («filter_paints» .entry))) ⌝ }
 {
     let n = judge_filter(
         screen,

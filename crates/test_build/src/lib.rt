@@ -9,6 +9,7 @@ use screen_layers::LayerClip;
 use screen_layers::LayerProps;
 use step_fill::Draw;
 use step_fill::fill;
+use step_filter::Pixmap;
 use step_filter::Placement;
 use step_filter::filter_fill;
 use step_pop::pop_layer;
@@ -163,7 +164,14 @@ pub fn do_pop(
     )
 }
 
-// pixmap, dest box, source origin, the paint list's length.
+fn pixmap_of(call: &[u32]) -> Pixmap {
+    if word(call, 1) == 0 {
+        return Pixmap::Absent;
+    }
+    Pixmap::Present(word(call, 2))
+}
+
+// picture flag, its handle, dest box, source origin, the paint list's length.
 pub fn do_filter(
     call: &[u32],
     screen: Screen,
@@ -174,9 +182,9 @@ pub fn do_filter(
     filter_paints: &mut [i32],
 ) -> Built {
     let placement = Placement {
-        dest: box_at(call, 2),
-        source_x: word(call, 6),
-        source_y: word(call, 7),
+        dest: box_at(call, 3),
+        source_x: word(call, 7),
+        source_y: word(call, 8),
     };
     filter_fill(
         screen,
@@ -186,8 +194,8 @@ pub fn do_filter(
         paint_attrs,
         filter_paints,
         placement,
-        word(call, 1),
-        word(call, 8),
+        pixmap_of(call),
+        word(call, 9),
     )
 }
 

@@ -14,7 +14,7 @@ use Rattle.rect.specs.declared.Rect.{Rect}
 use Rattle.screen.specs.Screens.{frame}
 use Rattle.screen.specs.Tables.{ScreenLent, reset-to}
 use Rattle.file_call.specs.Recorded.{recorded}
-use Rattle.host.specs.Building.{props}
+use Rattle.host.specs.Building.{props, picture}
 use Rattle.rules_picture.specs.Recorded.{history, Readable, said}
 use Rattle.rules_picture.proofs.Cases.{by}
 use Rattle.host_screen.specs.State.{screen-words}
@@ -107,10 +107,12 @@ holds (by-pop ss r e) =
     let z = holds r in
     let q = ap (pop-at ss) (z .same) ∙ pop-on (z .words) ss in
     made _ (calls.pop-at ss (z .words)) q (reached.by-pop ss (z .reached) (number-of _ (calls.pop-at ss (z .words)) q e))
-holds (by-filter p m n r e) =
+holds (by-filter p flag m n r e) =
     let z = holds r in
-    let q = ap (filter-at p m n) (z .same) ∙ filter-on (z .words) p m n in
-    made _ (calls.filter-at p m n (z .words)) q (reached.by-filter p m n (z .reached) (number-of _ (calls.filter-at p m n (z .words)) q e))
+    let F : Host → Answer Host = filter-at p flag m n in
+    let after = calls.filter-at p (picture flag m) n (z .words) in
+    let q = ap F (z .same) ∙ filter-on (z .words) p flag m n (sym (ap (λ (x : Host). F x .number) (z .same)) ∙ e) in
+    made _ after q (reached.by-filter p (picture flag m) n (z .reached) (number-of _ after q e))
 holds (by-begin r) =
     let z = holds r in
     made _ (reached.begin-at (z .words)) (ap begin-at (z .same) ∙ begin-on (z .words)) (reached.by-begin (z .reached))

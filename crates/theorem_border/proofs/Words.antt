@@ -36,7 +36,7 @@ use Rattle.host_screen.specs.declared.Held.{Held}
 use Rattle.host_screen.specs.declared.Held.the-variants as held
 use Rattle.host_screen.specs.State.{screen-words, screen-at, screen-of, before-4, refused-at, at-held, on}
 use Rattle.host_screen.proofs.Words.{read-back, written-back}
-use Rattle.host.specs.Building.{tables-left, reset-call, recording-call, fill-left, fill-call, props, push-left, push-call, pop-left, pop-call, filter-left, filter-call}
+use Rattle.host.specs.Building.{tables-left, reset-call, recording-call, fill-left, fill-call, props, push-left, push-call, pop-left, pop-call, picture, filter-left, filter-call}
 use Rattle.host.specs.Painting.{begin-left, begin-call, step-left, step-call, row-call, write-call, skip-left, skip-call}
 use Rattle.host.proofs.Kept.{step-refused, row-refused, write-refused}
 use Rattle.theorem_picture.specs.Calls as calls
@@ -154,13 +154,14 @@ module _ (l : ScreenLent) where
       (with-rows t (a .value .1 .words) (a .value .1 .layers) (a .value .1 .opacities) (t .paint-attrs) (a .value .1 .attrs) (t .filter-paints))))
       (on-screen (screen-words (l .screen), pop-part l) (λ (s : Screen). pop-left (popped s (pop-part l) ss)) (l .screen))
 
-  pub filter-on : (p : Placement) (m n : ℕ) → filter-at p m n (host-of l) ≡ hosted (calls.filter-at p m n l)
+  pub filter-on : (p : Placement) (flag m n : ℕ) → filter-at p flag m n (host-of l) .number ≡ Done
+      → filter-at p flag m n (host-of l) ≡ hosted (calls.filter-at p (picture flag m) n l)
   unfolding filter-at filter-call calls.filter-at
-  filter-on p m n =
+  filter-on p flag m n e =
       ap (λ (a : Answer (List ℕ × Words × List ℕ × List ℤ)). answer (a .number)
       (host (a .value .0) (with-rows t (a .value .1) (t .layers) (t .opacities) (a .value .2) (t .layer-attrs) (a .value .3))))
-      (on-screen (screen-words (l .screen), rows-words t, t .paint-attrs, t .filter-paints)
-      (λ (s : Screen). filter-left (filtered (given p m n) (filter.lent s (rows-words t) (t .paint-attrs) (t .filter-paints)))) (l .screen))
+      (on-done (screen-words (l .screen), rows-words t, t .paint-attrs, t .filter-paints)
+      (λ (s : Screen). filter-left (filtered (given p (picture flag m) n) (filter.lent s (rows-words t) (t .paint-attrs) (t .filter-paints)))) (leb flag 1) (l .screen) e)
 
   pub begin-on : begin-at (host-of l) ≡ hosted (reached.begin-at l)
   unfolding begin-at begin-call reached.begin-at

@@ -26,7 +26,7 @@ use Rattle.paint_screen.specs.Stepping.{Attributes, attributes}
 use Rattle.file_steps.specs.Steps.{rows-words}
 use Rattle.rules_picture.specs.Recorded.{history, Readable, said}
 use Rattle.theorem_picture.specs.Calls.{fill-said, pop-said, filter-said}
-use Rattle.host.specs.Building.{reset-call, recording-call, fill-call, props, push-call, pop-call, filter-call}
+use Rattle.host.specs.Building.{reset-call, recording-call, fill-call, props, push-call, pop-call, picture, filter-call}
 use Rattle.host.specs.Painting.{begin-call, step-call, row-call, write-call}
 
 -- the state's words and the ten tables
@@ -81,11 +81,11 @@ pop-at ss h =
     let l = a .value .1 in
     answer (a .number) (host (a .value .0) (with-rows t (l .words) (l .layers) (l .opacities) (t .paint-attrs) (l .attrs) (t .filter-paints)))
 
--- `coarse_filter_fill`: any placement and pixmap, beside a list of n paints
-unfoldable pub filter-at : Placement → ℕ → ℕ → Host → Answer Host
-filter-at p m n h =
+-- `coarse_filter_fill`: any placement, any flag and handle, beside a list of n paints
+unfoldable pub filter-at : Placement → ℕ → ℕ → ℕ → Host → Answer Host
+filter-at p flag m n h =
     let t = h .tables in
-    let a = filter-call p m n (h .state) (rows-words t) (t .paint-attrs) (t .filter-paints) in
+    let a = filter-call flag p (picture flag m) n (h .state) (rows-words t) (t .paint-attrs) (t .filter-paints) in
     answer (a .number) (host (a .value .0) (with-rows t (a .value .1) (t .layers) (t .opacities) (a .value .2) (t .layer-attrs) (a .value .3)))
 
 -- `coarse_begin_painting`
@@ -147,8 +147,8 @@ pub data Hosted : Frame → List Step → Host → Type 0 where
       → Hosted f (xs ++ (push-said mix compose opacity mask flag clip ∷ [])) (push-at mix compose opacity mask flag clip h .value)
   by-pop : {f : Frame} {xs : List Step} {h : Host} (ss : List ℕ) → Hosted f xs h → pop-at ss h .number ≡ Done
       → Hosted f (xs ++ (pop-said ss ∷ [])) (pop-at ss h .value)
-  by-filter : {f : Frame} {xs : List Step} {h : Host} (p : Placement) (m n : ℕ) → Hosted f xs h → filter-at p m n h .number ≡ Done
-      → Hosted f (xs ++ (filter-said p m n ∷ [])) (filter-at p m n h .value)
+  by-filter : {f : Frame} {xs : List Step} {h : Host} (p : Placement) (flag m n : ℕ) → Hosted f xs h → filter-at p flag m n h .number ≡ Done
+      → Hosted f (xs ++ (filter-said p (picture flag m) n ∷ [])) (filter-at p flag m n h .value)
   by-begin : {f : Frame} {xs : List Step} {h : Host} → Hosted f xs h → Hosted f xs (begin-at h .value)
   by-paint : {f : Frame} {xs : List Step} {h : Host} (c : Call) → Hosted f xs h → Hosted f xs (paint-at c h)
   by-write : {f : Frame} {xs : List Step} {h : Host} (i id : ℕ) (t : Span) (list count : List ℕ) → Hosted f xs h

@@ -2,6 +2,7 @@
 -- `..-source` says that the call asks nothing of its caller, and that the promise is the clause of the source itself. Assumes nothing.
 use mathlib.Core.Path.{_≡_, refl, sym, ap, _∙_}
 use mathlib.Core.List.{List}
+use mathlib.Core.Option.{Option}
 use Prim.Native.Nat.{ℕ}
 use lib.Ieee.{Float}
 use lib.IntN.{ℤ}
@@ -34,7 +35,7 @@ use Rattle.step_pop.specs.Pop as pops
 use Rattle.step_pop.specs.Pop.{popped}
 use Rattle.step_filter.specs.declared.Placement.{Placement}
 use Rattle.step_filter.specs.Filter as filters
-use Rattle.step_filter.specs.Filter.{filtered, given}
+use Rattle.step_filter.specs.Filter.{picture-of, filtered, given}
 use Rattle.screen.proofs.reset as reset-call
 use Rattle.step_fill.proofs.fill as fill-call
 use Rattle.step_push.proofs.push_layer as push-call
@@ -100,7 +101,7 @@ module _ (screen : Screen) (lent : pops.PopLent) (list : List ℕ) where
       )
 
 -- `filter_fill`: the rows' words, the table of paint attributes and the filter paints
-module _ (screen : Screen) (rows : Words) (attrs : List ℕ) (paints : List ℤ) (placement : Placement) (pixmap count : ℕ) where
+module _ (screen : Screen) (rows : Words) (attrs : List ℕ) (paints : List ℤ) (placement : Placement) (pixmap : Option ℕ) (count : ℕ) where
   abbrev pub Filters : Built → Words → List ℕ → List ℤ → Type 0
   Filters r w p z = answer (r .number) (filters.lent (r .screen) w p z) ≡ filtered (given placement pixmap count) (filters.lent screen rows attrs paints)
 
@@ -137,5 +138,5 @@ module _ {M : Type 1} (𝓤 : URA M) (H : Heap 𝓤) (A : Atoms 𝓤) (mem : Mem
 
   filter-source : (κs : Lfts (filter-call.signature .lifetimes)) (a : Args filter-call.signature κs) (r : Built) (e : AtExit filter-call.ended κs)
       → (filter-call.clauses 𝓤 H A mem run κs a .requires tt ≡ emp 𝓤)
-      × (filter-call.clauses 𝓤 H A mem run κs a .ensures tt r e ≡ fact 𝓤 (Filters (a .0) (words (now (a .1 .0)) (now (a .1 .1 .0)) (now (a .1 .1 .1 .0))) (now (a .1 .1 .1 .1 .0)) (now (a .1 .1 .1 .1 .1 .0)) (a .1 .1 .1 .1 .1 .1 .0) (a .1 .1 .1 .1 .1 .1 .1 .0) (a .1 .1 .1 .1 .1 .1 .1 .1 .0) r (words (now (e .1 .0)) (now (e .1 .1 .0)) (now (e .1 .1 .1 .0))) (now (e .1 .1 .1 .1 .0)) (now (e .1 .1 .1 .1 .1 .0))))
+      × (filter-call.clauses 𝓤 H A mem run κs a .ensures tt r e ≡ fact 𝓤 (Filters (a .0) (words (now (a .1 .0)) (now (a .1 .1 .0)) (now (a .1 .1 .1 .0))) (now (a .1 .1 .1 .1 .0)) (now (a .1 .1 .1 .1 .1 .0)) (a .1 .1 .1 .1 .1 .1 .0) (picture-of (a .1 .1 .1 .1 .1 .1 .1 .0)) (a .1 .1 .1 .1 .1 .1 .1 .1 .0) r (words (now (e .1 .0)) (now (e .1 .1 .0)) (now (e .1 .1 .1 .0))) (now (e .1 .1 .1 .1 .0)) (now (e .1 .1 .1 .1 .1 .0))))
   filter-source κs a r e = (refl, refl)

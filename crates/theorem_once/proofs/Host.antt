@@ -2,6 +2,7 @@
 -- `..-source` says that the call asks nothing of its caller, and that the promise is the clause of the source itself. Assumes nothing.
 use mathlib.Core.Path.{_≡_, refl, sym, ap, _∙_}
 use mathlib.Core.List.{List}
+use mathlib.Core.Option.{Option}
 use Prim.Native.Nat.{ℕ}
 use lib.Ieee.{Float}
 use lib.IntN.{ℤ}
@@ -29,7 +30,7 @@ use Rattle.step_filter.specs.declared.Placement.{Placement}
 use Rattle.paint_command.specs.Painting as paint
 use Rattle.paint_screen.specs.Stepping.{Attributes, attributes}
 use Rattle.host_screen.specs.State.{rect}
-use Rattle.host.specs.Building.{reset-call, recording-call, draw, fill-call, clip, props, push-call, pop-call, placement, filter-call}
+use Rattle.host.specs.Building.{reset-call, recording-call, draw, fill-call, clip, props, push-call, pop-call, placement, picture, filter-call}
 use Rattle.host.specs.Painting.{begin-call, step-call, row-call, unset-call, visible-call, write-call, skip-call, split-call}
 use Rattle.host.specs.Sizes.{size-call}
 use Rattle.host.specs.Spans.{spans-call}
@@ -95,12 +96,12 @@ module _ (segments state : List ℕ) (lent : pops.PopLent) where
   one-pop = once (pop-call segments state lent)
 
 -- `coarse_filter_fill`: the rows' words, the paint attributes and the filter paints
-module _ (given : Placement) (pixmap count : ℕ) (state : List ℕ) (rows : Words) (attrs : List ℕ) (paints : List ℤ) where
+module _ (flag : ℕ) (given : Placement) (pixmap : Option ℕ) (count : ℕ) (state : List ℕ) (rows : Words) (attrs : List ℕ) (paints : List ℤ) where
   abbrev pub Filters : ℕ → List ℕ × Words × List ℕ × List ℤ → Type 0
-  Filters r x = answer r x ≡ filter-call given pixmap count state rows attrs paints
+  Filters r x = answer r x ≡ filter-call flag given pixmap count state rows attrs paints
 
   pub one-filter : (r q : ℕ) (x y : List ℕ × Words × List ℕ × List ℤ) → Filters r x → Filters q y → (r ≡ q) × (x ≡ y)
-  one-filter = once (filter-call given pixmap count state rows attrs paints)
+  one-filter = once (filter-call flag given pixmap count state rows attrs paints)
 
 -- `coarse_begin_painting`: the depth words and the painting table
 module _ (state depth painting : List ℕ) where
@@ -260,7 +261,7 @@ module _ {M : Type 1} (𝓤 : URA M) (H : Heap 𝓤) (A : Atoms 𝓤) (mem : Mem
       (coarse-filter.clauses 𝓤 H A mem run κs a .requires tt ≡ emp 𝓤)
       × (coarse-filter.clauses 𝓤 H A mem run κs a .ensures tt r e
       ≡ fact 𝓤
-      (Filters (placement (rect (a5 .1 .0) (a5 .1 .1 .0) (a5 .1 .1 .1 .0) (a5 .1 .1 .1 .1 .0)) (a10 .0) (a10 .1 .0)) (a10 .1 .1 .0) (a10 .1 .1 .1 .0)
+      (Filters (a10 .1 .1 .0) (placement (rect (a5 .1 .0) (a5 .1 .1 .0) (a5 .1 .1 .1 .0) (a5 .1 .1 .1 .1 .0)) (a10 .0) (a10 .1 .0)) (picture (a10 .1 .1 .0) (a10 .1 .1 .1 .0)) (a10 .1 .1 .1 .1 .0)
       (now (a .0)) (words (now (a .1 .0)) (now (a .1 .1 .0)) (now (a .1 .1 .1 .0))) (now (a .1 .1 .1 .1 .0)) (now (a5 .0)) r
       (now (e .0), words (now (e .1 .0)) (now (e .1 .1 .0)) (now (e .1 .1 .1 .0)), now (e .1 .1 .1 .1 .0), now (e5 .0))))
   filter-source κs a r e = (refl, refl)

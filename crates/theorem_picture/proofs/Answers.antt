@@ -1,6 +1,7 @@
 -- At words that hold a canvas of the rules every call has the rules' answer. Assumes nothing.
 use mathlib.Core.Path.{_≡_, sym, ap, _∙_}
 use mathlib.Core.List.{List}
+use mathlib.Core.Option.{Option}
 use Prim.Native.Nat.{ℕ, _/_, _%_}
 use lib.ListN.{length}
 use borrow.Author.Tests.{ne-eqb}
@@ -49,7 +50,7 @@ module _ {f : Frame} {xs : List Step} {l : ScreenLent} (h : Stands f xs l) where
       → pop-at ss l ≡ answer (step-call 32 (pop-said ss) k .number) (canvas-words (step-call 32 (pop-said ss) k .value))
   pop-answer ss s = pop-whole ss l s ∙ step-answer (pop-said ss)
 
-  pub filter-answer : (p : Placement) (m n : ℕ)
+  pub filter-answer : (p : Placement) (m : Option ℕ) (n : ℕ)
       → filter-at p m n l ≡ answer (step-call 32 (filter-said p m n) k .number) (canvas-words (step-call 32 (filter-said p m n) k .value))
   filter-answer p m n = filter-steps p m n l ∙ step-answer (filter-said p m n)
 

@@ -5,6 +5,7 @@ use native.Mathlib.Omega.{arith}
 use mathlib.Core.Path.{_≡_, refl, sym, ap, _∙_}
 use mathlib.Core.Bool.{Bool, true, false, _&&_, not, cond}
 use mathlib.Core.List.{List, [], _∷_}
+use mathlib.Core.Option.{Option}
 use lib.Dec.{eqb}
 use lib.ListN.{length}
 use borrow.Author.Tests.{eqb-true, eqb-false}
@@ -156,7 +157,7 @@ pub pop-steps : (ss : List ℕ) (l : ScreenLent) → pop-at ss l .number ≡ Don
 pop-steps ss l e = pop-whole ss l (pop-list l ss (unfold pop-at in e))
 
 -- a filter fill is lent no list
-pub filter-steps : (p : Placement) (m n : ℕ) (l : ScreenLent) → filter-at p m n l ≡ call-at (filter-said p m n) l
+pub filter-steps : (p : Placement) (m : Option ℕ) (n : ℕ) (l : ScreenLent) → filter-at p m n l ≡ call-at (filter-said p m n) l
 unfolding filter-at call-at
 filter-steps p m n l = refl
 
@@ -175,7 +176,7 @@ module _ (l : ScreenLent) where
   pop-kept ss e =
       ap (λ (o : pop.PopOut). pop-into (l .tables) o .value) (pop-same (number (l .screen) (pop-part l) ss) _ _ _ _ e)
 
-  pub filter-kept : (p : Placement) (m n : ℕ) → eqb (filter-at p m n l .number) Done ≡ false → filter-at p m n l .value ≡ l
+  pub filter-kept : (p : Placement) (m : Option ℕ) (n : ℕ) → eqb (filter-at p m n l .number) Done ≡ false → filter-at p m n l .value ≡ l
   unfolding filter-at filtered
   filter-kept p m n e =
       let g = given p m n in

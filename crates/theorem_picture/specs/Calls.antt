@@ -2,6 +2,7 @@
 -- of the rules that the words of a call say.
 use Prim.Native.Nat.{ℕ}
 use mathlib.Core.List.{List}
+use mathlib.Core.Option.{Option}
 use Rattle.rules.specs.Answers.{Answer}
 use Rattle.rules.specs.Plans.{Step, a-fill, a-pop, a-filter}
 use Rattle.segments.specs.Segs.{segs-of}
@@ -27,8 +28,8 @@ push-at p l = with-value (push-into (l .tables)) (pushed p (push-part l))
 unfoldable pub pop-at : List ℕ → ScreenLent → Answer ScreenLent
 pop-at ss l = pop-into (l .tables) (popped (l .screen) (pop-part l) ss)
 
--- `filter_fill` with any placement and pixmap, beside a list of n paints
-unfoldable pub filter-at : Placement → ℕ → ℕ → ScreenLent → Answer ScreenLent
+-- `filter_fill` with any placement, and any picture or none, beside a list of n paints
+unfoldable pub filter-at : Placement → Option ℕ → ℕ → ScreenLent → Answer ScreenLent
 filter-at p m n l = with-value (filter-into (l .tables)) (filtered (given p m n) (filter-part l))
 
 -- what the words say: a paint's two shift words are read by no rule
@@ -38,5 +39,5 @@ fill-said ps ss d = a-fill (paints-of ps) (segs-of ss) (draw-of d)
 abbrev pub pop-said : List ℕ → Step
 pop-said ss = a-pop (segs-of ss)
 
-abbrev pub filter-said : Placement → ℕ → ℕ → Step
+abbrev pub filter-said : Placement → Option ℕ → ℕ → Step
 filter-said p m n = a-filter n (filter-of (given p m n))

@@ -2,6 +2,7 @@
 use Prim.Native.Nat.{ℕ}
 use mathlib.Core.Path.{_≡_}
 use mathlib.Core.List.{List, [], _∷_, _++_}
+use mathlib.Core.Option.{Option}
 use Rattle.rules.specs.Answers.{Answer, answer, Done}
 use Rattle.rules.specs.Spans.{Span}
 use Rattle.rules.specs.Inputs.{Props}
@@ -62,7 +63,7 @@ pub data Reached : Frame → List Step → ScreenLent → Type 0 where
       → Reached f (xs ++ (a-push q ∷ [])) (push-at p l .value)
   by-pop : {f : Frame} {xs : List Step} {l : ScreenLent} (ss : List ℕ) → Reached f xs l → pop-at ss l .number ≡ Done
       → Reached f (xs ++ (pop-said ss ∷ [])) (pop-at ss l .value)
-  by-filter : {f : Frame} {xs : List Step} {l : ScreenLent} (p : Placement) (m n : ℕ) → Reached f xs l → filter-at p m n l .number ≡ Done
+  by-filter : {f : Frame} {xs : List Step} {l : ScreenLent} (p : Placement) (m : Option ℕ) (n : ℕ) → Reached f xs l → filter-at p m n l .number ≡ Done
       → Reached f (xs ++ (filter-said p m n ∷ [])) (filter-at p m n l .value)
   by-begin : {f : Frame} {xs : List Step} {l : ScreenLent} → Reached f xs l → Reached f xs (begin-at l .value)
   by-paint : {f : Frame} {xs : List Step} {l : ScreenLent} (i : ℕ) (list : List ℕ) → Reached f xs l → Reached f xs (paint-at i list l)

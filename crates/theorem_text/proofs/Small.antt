@@ -2,7 +2,7 @@
 use mathlib.Core.Path.{_≡_, refl, sym, ap, _∙_}
 use mathlib.Core.Bool.{Bool, true, false, _&&_, not, cond}
 use mathlib.Core.List.{List, [], _∷_, _++_, map}
-use mathlib.Core.Option.{Option, none, some}
+use mathlib.Core.Option.{Option, none, some, Option·map}
 use Prim.Native.Nat.{ℕ, zero, suc, _+_, _*_, _/_, _<_}
 use native.Mathlib.Omega.{arith}
 use lib.Dec.{leb, eqb}
@@ -15,7 +15,7 @@ use Rattle.rules.specs.Attributes.{LayerAttr, Attrs}
 use Rattle.rules.specs.Rows.{Row, row-ops}
 use Rattle.rules.specs.Plans.{Layer, State, Step, a-fill, a-push, a-pop, a-filter, Plan, still, box-of, with-paint, filter-box, draws-nothing, plan-fill, plan-push, plan-pop, plan-filter-in, plan-filter, plan}
 use Rattle.rules.specs.Steps.{Screen, refusal, done, perform, touched, call}
-use Rattle.rules.specs.Recording.{Recording, LayerRec, layer-rec, good-count, records, cons-section, sections, recording}
+use Rattle.rules.specs.Recording.{Recording, LayerRec, layer-rec, good-count, records, sections, recording}
 use Rattle.rules.specs.Walk.{props-of, walk-all}
 use Rattle.rules.proofs.All.{All, nil, cons, all-append, all-take, all-drop, all-over, all-at}
 use Rattle.rules.proofs.laws.Maps.{planned}
@@ -52,7 +52,7 @@ abbrev Sections : Option (List (List (List ℕ))) → Type 0
 Sections none = Unit {0}
 Sections (some ss) = All (All (All Word)) ss
 
-cons-small : {x : List (List ℕ)} → All (All Word) x → (o : Option (List (List (List ℕ)))) → Sections o → Sections (cons-section x o)
+cons-small : {x : List (List ℕ)} → All (All Word) x → (o : Option (List (List (List ℕ)))) → Sections o → Sections (Option·map (λ xs. x ∷ xs) o)
 cons-small a none h = tt
 cons-small a (some ss) h = cons a h
 
@@ -64,7 +64,7 @@ sections-small (s ∷ sh) nil = tt
 sections-small (s ∷ sh) (cons {x = n} {xs = ws} p a) = go (good-count (s .1) n && leb (n * s .0) (length ws)) (sections-small sh (all-drop (n * s .0) a))
   where
     go : (b : Bool) → Sections (sections sh (drop (n * s .0) ws))
-        → Sections (elim b [ true ↦ cons-section (records (s .0) n ws) (sections sh (drop (n * s .0) ws)) | false ↦ none ])
+        → Sections (elim b [ true ↦ Option·map (λ xs. records (s .0) n ws ∷ xs) (sections sh (drop (n * s .0) ws)) | false ↦ none ])
     go true h = cons-small (records-small (s .0) n a) (sections sh (drop (n * s .0) ws)) h
     go false h = tt
 

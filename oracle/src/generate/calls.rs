@@ -2,7 +2,7 @@
 
 use super::damage::WORDS;
 use super::draft::{solid, HALF, ONE};
-use super::scenes::{blend, bounds, new_list, viewport, OPACITIES};
+use super::scenes::{any_pixmap, blend, bounds, new_list, viewport, OPACITIES};
 use crate::calls::Call;
 use crate::limits::{LAST_ID, MOST_ROOM};
 use crate::random::Random;
@@ -103,9 +103,9 @@ fn pop(segments: &[[u32; 5]]) -> Call {
     }
 }
 
-pub(crate) fn filter(pixmap: u32, dest: [u32; 4]) -> Call {
+pub(crate) fn filter(pixmap: impl Into<Option<u32>>, dest: [u32; 4]) -> Call {
     Call::Filter {
-        pixmap,
+        pixmap: pixmap.into(),
         dest,
         source: [4, 32_768],
         count: 3,
@@ -184,7 +184,7 @@ fn edges() -> Vec<Vec<Call>> {
             fill(&wide),
             pop(&[]),
             filter(5, [0, 0, 64, 8]),
-            filter(0, [0, 0, 64, 8]),
+            filter(None, [0, 0, 64, 8]),
             filter(5, [512, 0, 516, 8]),
             Call::Show,
         ],
@@ -270,29 +270,40 @@ fn edges() -> Vec<Vec<Call>> {
             },
             filter(5, [0, 9, 64, 15]),
             Call::Filter {
-                pixmap: 5,
+                pixmap: Some(5),
                 dest: [32_764, 32_768, 32_768, 32_768],
                 source: [0, 0],
                 count: 0,
             },
             Call::Filter {
-                pixmap: 5,
+                pixmap: Some(5),
                 dest: [0, 0, 32_768, 32_768],
                 source: [0, 0],
                 count: 4_096,
             },
             Call::Filter {
-                pixmap: 5,
+                pixmap: Some(5),
                 dest: [0, 0, 32_768, 32_768],
                 source: [32_768, 32_768],
                 count: 4_097,
             },
             Call::Filter {
-                pixmap: 5,
+                pixmap: Some(5),
                 dest: [40, 10, 44, 11],
                 source: [32_768, 0],
                 count: 7,
             },
+            Call::Show,
+        ],
+        // Pixmaps: the first and the last handle, and one too many; none, where the box is judged all the same.
+        vec![
+            reset(256, 8, 8, 8),
+            filter(0, [0, 0, 64, 8]),
+            filter((1 << 31) - 1, [0, 0, 64, 8]),
+            filter(1 << 31, [0, 0, 64, 8]),
+            filter(u32::MAX, [0, 0, 64, 8]),
+            filter(None, [0, 0, 64, 8]),
+            filter(None, [2, 0, 64, 8]),
             Call::Show,
         ],
         // Painting: not begun, a layer open, begun, past the end, out of room, ended by a step and by a writing run.
@@ -316,7 +327,7 @@ fn edges() -> Vec<Vec<Call>> {
             step(0),
             step(1),
             Call::Show,
-            filter(0, [0, 0, 4, 4]),
+            filter(None, [0, 0, 4, 4]),
             step(0),
             Call::Begin,
             Call::Write {
@@ -694,11 +705,7 @@ fn close(sketch: &mut Sketch, random: &mut Random) {
 }
 
 fn any_filter(sketch: &Sketch, random: &mut Random) -> Call {
-    let pixmap = if random.chance(15) {
-        0
-    } else {
-        random.from(1, (1 << 31) - 1)
-    };
+    let pixmap = any_pixmap(random);
     let dest = bounds(random, sketch.viewport, 1);
     let source = [0, 1].map(|_| random.pick(&[0, 1, 4, 100, 32_768]));
     Call::Filter {
@@ -787,11 +794,11 @@ fn damaged(sketch: &mut Sketch, random: &mut Random) -> Call {
             else {
                 unreachable!()
             };
-            let mut words = [pixmap, x0, y0, x1, y1, x, y, count];
+            let mut words = [pixmap.unwrap_or(0), x0, y0, x1, y1, x, y, count];
             change(random, &mut words);
-            let [pixmap, x0, y0, x1, y1, x, y, count] = words;
+            let [handle, x0, y0, x1, y1, x, y, count] = words;
             Call::Filter {
-                pixmap,
+                pixmap: pixmap.map(|_| handle),
                 dest: [x0, y0, x1, y1],
                 source: [x, y],
                 count,

@@ -46,14 +46,14 @@ pub fn clipped(
     layer
 }
 
-/// The layer as a filter layer.
+/// The layer as a filter layer, with the pixmap of a handle or none.
 pub(crate) fn filter(
     mut layer: [u32; 22],
-    pixmap: u32,
+    pixmap: impl Into<Option<u32>>,
     dest: [u32; 4],
     source: [u32; 2],
 ) -> [u32; 22] {
-    (layer[0], layer[PIXMAP]) = (1, pixmap);
+    (layer[0], layer[PIXMAP]) = (1, pixmap.into().map_or(0, |handle| handle + 1));
     layer[DEST..SOURCE].copy_from_slice(&dest);
     layer[SOURCE..].copy_from_slice(&source);
     layer

@@ -289,9 +289,12 @@ fn records() -> Vec<Edge> {
         (LAYERS, regular, 14, 255, 0),
         (LAYERS, regular, 14, 256, 4),
         (LAYERS, clipped_filter, 14, 256, 4),
-        (LAYERS, filter, PIXMAP, handle - 1, 0),
-        (LAYERS, filter, PIXMAP, handle, 4),
+        (LAYERS, filter, PIXMAP, handle, 0),
+        (LAYERS, filter, PIXMAP, handle + 1, 4),
+        (LAYERS, filter, PIXMAP, u32::MAX, 4),
         (LAYERS, filter, PIXMAP, 0, 0),
+        (LAYERS, filter, PIXMAP, 1, 0),
+        (LAYERS, plain, PIXMAP, 1, 4),
         (LAYERS, filter, DEST, 80, 0),
         (LAYERS, filter, DEST, 84, 4),
         (LAYERS, filter, DEST, 6, 4),
@@ -337,10 +340,16 @@ fn records() -> Vec<Edge> {
         0,
         base().rooted((4, 4)).bytes(),
     ));
-    // A pixmap of 0 does not excuse the box.
-    let mut draft = base();
-    (draft.layers[2][PIXMAP], draft.layers[2][DEST]) = (0, 2);
-    all.push(edge("pixmap 0 and a bad box", 4, draft.bytes()));
+    // That there is no pixmap does not excuse the box or the source.
+    for (place, word) in [(DEST, 2), (SOURCE, 32_769)] {
+        let mut draft = base();
+        (draft.layers[2][PIXMAP], draft.layers[2][place]) = (0, word);
+        all.push(edge(
+            &format!("no pixmap, and field {place} is {word}"),
+            4,
+            draft.bytes(),
+        ));
+    }
     // Ranges at the end of their sections.
     let mut draft = base();
     (draft.draws[0][1], draft.draws[0][2]) = (4, 4);
@@ -750,14 +759,14 @@ fn places() -> Vec<Edge> {
         ("masked", 6, 1),
         ("clipped", CLIP_FLAG, 1),
     ] {
-        for pixmap in [0, 8] {
+        for pixmap in [None, Some(0), Some(8)] {
             let mut draft = Draft::new(256, 8);
             let node = draft.node((0, 0), 1);
             let mut words = filter(layer((0, 0)), pixmap, [0, 0, 64, 8], [0, 0]);
             words[field] = word;
             draft.layer(words);
             all.push(edge(
-                &format!("filter layer {name}, pixmap {pixmap}"),
+                &format!("filter layer {name}, pixmap {pixmap:?}"),
                 0,
                 draft.rooted(node).bytes(),
             ));

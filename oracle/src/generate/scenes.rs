@@ -275,16 +275,22 @@ fn a_layer(draft: &mut Draft, random: &mut Random, depth: u32) -> u32 {
         words = clipped(words, bounds, list, random.below(256));
     }
     if is_filter {
-        let pixmap = if random.chance(20) {
-            0
-        } else {
-            random.from(1, (1 << 31) - 1)
-        };
+        let pixmap = any_pixmap(random);
         let dest = bounds(random, draft.viewport, 1);
         let source = [0, 1].map(|_| random.pick(&[0, 1, 4, 100, 32_768]));
         words = filter(words, pixmap, dest, source);
     }
     draft.layer(words)
+}
+
+/// None, the first pixmap, the last, or any other.
+pub(crate) fn any_pixmap(random: &mut Random) -> Option<u32> {
+    match random.below(20) {
+        0..4 => None,
+        4..8 => Some(0),
+        8 => Some((1 << 31) - 1),
+        _ => Some(random.below(1 << 31)),
+    }
 }
 
 /// A box on or near the viewport: x in fours, y in steps. It may be empty, or off the viewport.

@@ -1,9 +1,9 @@
 use native.Mathlib.Omega.{arith}
 use mathlib.Core.Path.{sym, ap, _∙_}
-use borrow.Author.Tests.{le-leb, lt-leb, lt-ltb, le-ltb, not-true, not-false}
+use borrow.Author.Tests.{le-leb, lt-leb, not-true, not-false}
 use Rattle.rules.specs.Boxes.{good-dest}
 use Rattle.file_form.specs.Places.{filter-from}
-use Rattle.file_judge.proofs.Fields.{filter-box}
+use Rattle.file_judge.proofs.Fields.{filter-box, fine-pixmap, bad-pixmap}
 use borrow.Author.Needs.{needs}
 use Rattle.file_judge.proofs.is_good_filter.Statement.{statement}
 use Rattle.file_judge.proofs.is_good_filter.Tie as tie
@@ -19,7 +19,7 @@ shared-slice-read-if1 c = omega arith
 
 returns : tie.Need-returns
 unfolding filter-from
-returns c = rw (le-ltb _ _ (c .if1 .taken))
+returns c = rw (bad-pixmap _ (c .if1 .taken))
 
 add-box-at : tie.Need-add-box-at
 add-box-at c = omega arith
@@ -32,7 +32,7 @@ is-good-dest-requires c κs = search needs
 
 returns-2 : tie.Need-returns-2
 unfolding filter-from
-returns-2 c = rw (lt-ltb _ _ (c .before .before .before .if1 .left), sym (c .before .is-good-dest .ensures ∙ ap good-dest (c .before .before .box-at .ensures ∙ filter-box _ _)) ∙ not-true _ (c .if2 .taken))
+returns-2 c = rw (fine-pixmap _ (c .before .before .before .if1 .left), sym (c .before .is-good-dest .ensures ∙ ap good-dest (c .before .before .box-at .ensures ∙ filter-box _ _)) ∙ not-true _ (c .if2 .taken))
 
 add-if3 : tie.Need-add-if3
 add-if3 c = omega arith
@@ -51,7 +51,7 @@ returns-3 c =
     let at-box-at = at-is-good-dest .before in
     let at-if1 = at-box-at .before in
     rw (
-      lt-ltb _ _ (at-if1 .if1 .left),
+      fine-pixmap _ (at-if1 .if1 .left),
       sym (at-is-good-dest .is-good-dest .ensures ∙ ap good-dest (at-box-at .box-at .ensures ∙ filter-box _ _)) ∙ not-false _
           (at-if2 .if2 .left),
       lt-leb _ _ (c .if3 .taken),
@@ -74,7 +74,7 @@ returns-4 c =
     let at-box-at = at-is-good-dest .before in
     let at-if1 = at-box-at .before in
     rw (
-      lt-ltb _ _ (at-if1 .if1 .left),
+      fine-pixmap _ (at-if1 .if1 .left),
       sym (at-is-good-dest .is-good-dest .ensures ∙ ap good-dest (at-box-at .box-at .ensures ∙ filter-box _ _)) ∙ not-false _
           (at-if2 .if2 .left),
       le-leb _ _ (c .before .if3 .left),

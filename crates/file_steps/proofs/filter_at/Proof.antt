@@ -8,14 +8,17 @@ use Rattle.file_steps.proofs.filter_at.Tie as tie
 placement-at-requires : tie.Need-placement-at-requires
 placement-at-requires c κs = search needs
 
-add-filter-fill : tie.Need-add-filter-fill
-add-filter-fill c = search needs
+add-pixmap-of : tie.Need-add-pixmap-of
+add-pixmap-of c = search needs
 
-mul-filter-fill : tie.Need-mul-filter-fill
-mul-filter-fill c = search needs
+mul-pixmap-of : tie.Need-mul-pixmap-of
+mul-pixmap-of c = search needs
 
-shared-slice-read-filter-fill : tie.Need-shared-slice-read-filter-fill
-shared-slice-read-filter-fill c = search needs
+shared-slice-read-pixmap-of : tie.Need-shared-slice-read-pixmap-of
+shared-slice-read-pixmap-of c = search needs
+
+pixmap-of-requires : tie.Need-pixmap-of-requires
+pixmap-of-requires c κs = search needs
 
 cast-filter-fill : tie.Need-cast-filter-fill
 cast-filter-fill c = search needs
@@ -42,19 +45,20 @@ returns : tie.Need-returns
 unfolding filter-from
 returns c =
     let at-filter-fill = c .before .before .before .before .before .before .before .before .before in
-    let at-placement-at = at-filter-fill .before .before .before .before .before .before .before .before in
-    let back = at-placement-at .before .before .before .before .before .before .before in
-    let s = back in
-    at-filter-fill .filter-fill .ensures ∙ rw (at-placement-at .placement-at .ensures, paints-count (s .args .l) (s .args .w .now) (s .pre .0))
+    let at-pixmap-of = at-filter-fill .before .before .before .before .before .before .before in
+    let at-placement-at = at-pixmap-of .before .before in
+    let s = at-placement-at .before .before .before .before .before .before .before in
+    at-filter-fill .filter-fill .ensures ∙ rw (at-placement-at .placement-at .ensures, at-pixmap-of .pixmap-of .ensures, paints-count (s .args .l) (s .args .w .now) (s .pre .0))
 
 pub filter-at-spec : {M : Type 1} → statement M
 filter-at-spec =
     tie.close
     (tie.spec
     placement-at-requires
-    add-filter-fill
-    mul-filter-fill
-    shared-slice-read-filter-fill
+    add-pixmap-of
+    mul-pixmap-of
+    shared-slice-read-pixmap-of
+    pixmap-of-requires
     cast-filter-fill
     filter-fill-requires
     same-length

@@ -13,7 +13,7 @@ use Rattle.rules.specs.Answers.{answer, first-of, Done, BadRecord, BadOr
 use Rattle.rules.specs.Boxes.{Box, width, height, by-4, bounded, good-box, good-dest, good-viewport, empty-box, rows-in, span-of, scene-tiles}
 use Rattle.rules.specs.Spans.{Span, span, Stretch, common, meeting, cut-at, cut-when, cut-to}
 use Rattle.rules.specs.Segments.{Segment, good-segment, ordered, judge-segments, stretch-of, Cut, localised, cut-in, cuts}
-use Rattle.rules.specs.Inputs.{Paint, Draw, Clip, Props, good-clip, good-handle, all-good, good-props, Filter, good-filter, draw-segments, good-fill}
+use Rattle.rules.specs.Inputs.{Paint, Draw, Clip, Props, good-clip, good-handle, all-good, good-props, Filter, good-pixmap, good-filter, draw-segments, good-fill}
 use Rattle.rules.specs.Blends.{good-blend}
 use Rattle.rules.specs.Rows.{RowOps}
 use Rattle.rules.specs.Plans.{Frame, Layer, State, Step, a-fill, a-push, a-pop, a-filter, paint, touch, close, pop, on, Plan, still, clip-box, box-of, draw-act, draw-puts, plan-fill, layer-box, touches-all, plan-push, clip-segments, clip-fits, close-puts, closing, plan-pop, filter-box, draws-nothing, filter-puts, plan-filter-in, plan-filter, plan}
@@ -85,9 +85,9 @@ clip-facts c g =
 pub dest-facts : (f : Filter) → good-filter f ≡ true → Bounded (f .dest)
 dest-facts f g =
     let b = f .dest in
-    let h3 = both (ltb (f .pixmap) 2147483648 && good-dest b && leb (f .source-x) 32768) (leb (f .source-y) 32768) g in
-    let h2 = both (ltb (f .pixmap) 2147483648 && good-dest b) (leb (f .source-x) 32768) (h3 .0) in
-    let h1 = both (ltb (f .pixmap) 2147483648) (good-dest b) (h2 .0) in
+    let h3 = both (good-pixmap (f .pixmap) && good-dest b && leb (f .source-x) 32768) (leb (f .source-y) 32768) g in
+    let h2 = both (good-pixmap (f .pixmap) && good-dest b) (leb (f .source-x) 32768) (h3 .0) in
+    let h1 = both (good-pixmap (f .pixmap)) (good-dest b) (h2 .0) in
     bounded-facts (f .dest) (both (by-4 (b .x0) && by-4 (b .x1)) (bounded b) (h1 .1) .1)
 
 -- a list that is not refused: its range is good, and so is each segment, and their order

@@ -5,11 +5,14 @@ use borrow.Author.Needs.{needs}
 use Rattle.step_filter.proofs.do_filter.Statement.{statement}
 use Rattle.step_filter.proofs.do_filter.Tie as tie
 
+handle-of-requires : tie.Need-handle-of-requires
+handle-of-requires c κs = search needs
+
 filter-paint-requires : tie.Need-filter-paint-requires
-filter-paint-requires c κs = paint-needs (c .before .before .before .before .before .pre)
+filter-paint-requires c κs = paint-needs (c .before .before .before .before .before .before .pre)
 
 filter-attrs-requires : tie.Need-filter-attrs-requires
-filter-attrs-requires c κs = attrs-needs (c .before .before .before .before .before .before .pre)
+filter-attrs-requires c κs = attrs-needs (c .before .before .before .before .before .before .before .pre)
 
 cast-put-filter-paint : tie.Need-cast-put-filter-paint
 cast-put-filter-paint c = search needs
@@ -17,15 +20,16 @@ cast-put-filter-paint c = search needs
 put-filter-paint-requires : tie.Need-put-filter-paint-requires
 put-filter-paint-requires c κs =
     let at-filter-paint = c .before .before .before in
-    let at-pre = at-filter-paint .before .before .before .before .before .before in
-    rw (at-filter-paint .filter-paint .ensures) (put-paint-needs (at-pre .pre))
+    let at-handle-of = at-filter-paint .before in
+    let at-pre = at-handle-of .before .before .before .before .before .before in
+    rw (at-filter-paint .filter-paint .ensures, at-handle-of .handle-of .ensures) (put-paint-needs (at-pre .pre))
 
 cast-put-paint-attrs : tie.Need-cast-put-paint-attrs
 cast-put-paint-attrs c = search needs
 
 put-paint-attrs-requires : tie.Need-put-paint-attrs-requires
 put-paint-attrs-requires c κs =
-    let at-pre = c .before .before .before .before .before .before .before .before .before .before .before .before .before in
+    let at-pre = c .before .before .before .before .before .before .before .before .before .before .before .before .before .before in
     put-attrs-needs (at-pre .pre)
 
 cast-paint-rows : tie.Need-cast-paint-rows
@@ -34,7 +38,7 @@ cast-paint-rows c = search needs
 add-paint-rows : tie.Need-add-paint-rows
 add-paint-rows c =
     let at-pre = c .before .before .before .before .before .before .before .before .before .before .before .before .before .before .before .before
-    .before .before .before .before .before in
+    .before .before .before .before .before .before in
     omega (arith, bottom (at-pre .pre))
 
 cast-paint-rows-2 : tie.Need-cast-paint-rows-2
@@ -46,13 +50,13 @@ bbox-span-requires c κs = search needs
 paint-rows-requires : tie.Need-paint-rows-requires
 paint-rows-requires c κs =
     let at-pre = c .before .before .before .before .before .before .before .before .before .before .before .before .before .before .before .before
-    .before .before .before .before .before .before in
+    .before .before .before .before .before .before .before in
     rows-needs (at-pre .pre) _ (c .bbox-span .ensures)
 
 taken-requires : tie.Need-taken-requires
 taken-requires c κs =
     let at-pre = c .before .before .before .before .before .before .before .before .before .before .before .before .before .before .before .before
-    .before .before .before .before .before .before .before .before .before .before .before .before .before in
+    .before .before .before .before .before .before .before .before .before .before .before .before .before .before in
     counts-needs (at-pre .pre)
 
 same-length : tie.Need-same-length
@@ -84,11 +88,13 @@ returns c =
     let at-put-filter-paint = at-put-paint-attrs .before .before .before .before in
     let at-filter-attrs = at-put-filter-paint .before .before .before in
     let at-filter-paint = at-filter-attrs .before in
-    let at-pre = at-filter-paint .before .before .before .before .before .before in
+    let at-handle-of = at-filter-paint .before in
+    let at-pre = at-handle-of .before .before .before .before .before .before in
     rw (
       at-put-filter-paint .put-filter-paint .ensures,
       at-put-paint-attrs .put-paint-attrs .ensures,
       at-filter-paint .filter-paint .ensures,
+      at-handle-of .handle-of .ensures,
       at-filter-attrs .filter-attrs .ensures,
     ) (leaves (at-pre .pre) _ _ _ (at-bbox-span .bbox-span .ensures) (c .taken .ensures)
     (at-paint-rows .paint-rows .ensures))
@@ -97,6 +103,7 @@ pub do-filter-spec : {M : Type 1} → statement M
 do-filter-spec =
     tie.close
     (tie.spec
+    handle-of-requires
     filter-paint-requires
     filter-attrs-requires
     cast-put-filter-paint

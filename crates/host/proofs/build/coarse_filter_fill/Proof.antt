@@ -27,15 +27,17 @@ returns : tie.Need-returns
 returns c =
     let at-enum-told = c .before .before in
     let at-screen-of = at-enum-told .before .before in
-    filter-unheld _ _ _ _ _ (words _ _ _) _ _ (sym (at-enum-told .enum-told .given .1) ∙ at-screen-of .screen-of .ensures) (c .refuse-build .ensures)
+    filter-unheld _ _ _ _ _ _ (words _ _ _) _ _ (sym (at-enum-told .enum-told .given .1) ∙ at-screen-of .screen-of .ensures) (c .refuse-build .ensures)
+
+pixmap-of-requires : tie.Need-pixmap-of-requires
+pixmap-of-requires c κs = search needs
 
 filter-fill-requires : tie.Need-filter-fill-requires
 filter-fill-requires c κs = search needs
 
 leave-requires : tie.Need-leave-requires
 leave-requires c κs =
-    let back = c .before .before .before .before .before .before .before .before .before .before .before .before .before .before .before .before .before in
-    let at-screen = back in
+    let at-screen = c .before .before .before .before .before .before .before .before .before .before .before .before .before .before .before .before .before .before in
     let at-screen-of = at-screen .before .before in
     long _ _ _ (sym (at-screen .screen .given .1) ∙ at-screen-of .screen-of .ensures)
 
@@ -59,13 +61,13 @@ same-length-7 c = search needs
 
 returns-2 : tie.Need-returns-2
 returns-2 c =
-    let back = c .before .before in
-    let at-leave = back in
+    let at-leave = c .before .before in
     let at-filter-fill = at-leave .before .before .before .before .before .before .before .before .before .before .before in
-    let at-screen = at-filter-fill .before .before .before .before .before .before .before in
+    let at-pixmap-of = at-filter-fill .before .before .before .before .before .before in
+    let at-screen = at-pixmap-of .before .before in
     let at-screen-of = at-screen .before .before in
-    filter-built _ _ _ _ _ _ (sym (at-screen .screen .given .1) ∙ at-screen-of .screen-of .ensures) (at-leave .leave .ensures .0) (at-leave .leave .ensures .1)
-    _ _ _ _ _ _ _ _ _ (at-filter-fill .filter-fill .ensures)
+    rw (← at-pixmap-of .pixmap-of .ensures) (filter-built _ _ _ _ _ _ _ (sym (at-screen .screen .given .1) ∙ at-screen-of .screen-of .ensures)
+    (at-leave .leave .ensures .0) (at-leave .leave .ensures .1) _ _ _ _ _ _ _ _ _ (at-filter-fill .filter-fill .ensures))
 
 pub coarse-filter-fill-spec : {M : Type 1} → statement M
 coarse-filter-fill-spec =
@@ -77,6 +79,7 @@ coarse-filter-fill-spec =
     refuse-build-requires
     same-length
     returns
+    pixmap-of-requires
     filter-fill-requires
     leave-requires
     same-length-2

@@ -289,9 +289,18 @@ returns-4 c =
     let at-read-form = at-l .before .before in
     let at-args = at-read-form .before .before .before .before .before .before .before .before .before .before .before in
     let fresh : ScreenLent =
-    (lent (at-reset .reset .result .screen) (tables (at-reset .reset .last .1 .1 .1 .1 .0) (at-reset .reset .last .1 .1 .1 .1 .1 .0) (at-reset .reset .last .1 .1 .1 .1 .1 .1 .0) (at-reset .reset .last .1 .1 .1 .1 .1 .1 .1 .0) (at-reset .reset .last .1 .1 .1 .1 .1 .1 .1 .1 .0) (at-reset .reset .last .1 .1 .1 .1 .1 .1 .1 .1 .1 .0) (at-reset .reset .last .1 .1 .1 .1 .1 .1 .1 .1 .1 .1 .0) (at-reset .reset .last .1 .1 .1 .1 .1 .1 .1 .1 .1 .1 .1 .0) (at-reset .reset .last .1 .1 .1 .1 .1 .1 .1 .1 .1 .1 .1 .1 .0) (at-reset .reset .last .1 .1 .1 .1 .1 .1 .1 .1 .1 .1 .1 .1 .1 .0))) in
+    (lent (at-reset .reset .result .screen) (tables (at-reset .reset .last .1 .1 .1 .1 .0) (at-reset .reset .last .1 .1 .1 .1 .1 .0)
+    (at-reset .reset .last .1 .1 .1 .1 .1 .1 .0) (at-reset .reset .last .1 .1 .1 .1 .1 .1 .1 .0)
+    (at-reset .reset .last .1 .1 .1 .1 .1 .1 .1 .1 .0) (at-reset .reset .last .1 .1 .1 .1 .1 .1 .1 .1 .1 .0)
+    (at-reset .reset .last .1 .1 .1 .1 .1 .1 .1 .1 .1 .1 .0) (at-reset .reset .last .1 .1 .1 .1 .1 .1 .1 .1 .1 .1 .1 .0)
+    (at-reset .reset .last .1 .1 .1 .1 .1 .1 .1 .1 .1 .1 .1 .1 .0)
+    (at-reset .reset .last .1 .1 .1 .1 .1 .1 .1 .1 .1 .1 .1 .1 .1 .0))) in
     let after : ScreenLent =
-    (lent (at-play .play .result .screen) (tables (at-play .play .last .1 .1 .1 .1 .0) (at-play .play .last .1 .1 .1 .1 .1 .0) (at-reset .reset .last .1 .1 .1 .1 .1 .1 .0) (at-play .play .last .1 .1 .1 .0) (at-reset .reset .last .1 .1 .1 .1 .1 .1 .1 .1 .0) (at-play .play .last .1 .1 .1 .1 .1 .1 .0) (at-play .play .last .1 .1 .1 .1 .1 .1 .1 .0) (at-play .play .last .1 .1 .1 .1 .1 .1 .1 .1 .0) (at-play .play .last .1 .1 .1 .1 .1 .1 .1 .1 .1 .0) (at-play .play .last .1 .1 .1 .1 .1 .1 .1 .1 .1 .1 .0))) in
+    (lent (at-play .play .result .screen) (tables (at-play .play .last .1 .1 .1 .1 .0) (at-play .play .last .1 .1 .1 .1 .1 .0)
+    (at-reset .reset .last .1 .1 .1 .1 .1 .1 .0) (at-play .play .last .1 .1 .1 .0) (at-reset .reset .last .1 .1 .1 .1 .1 .1 .1 .1 .0)
+    (at-play .play .last .1 .1 .1 .1 .1 .1 .0) (at-play .play .last .1 .1 .1 .1 .1 .1 .1 .0)
+    (at-play .play .last .1 .1 .1 .1 .1 .1 .1 .1 .0) (at-play .play .last .1 .1 .1 .1 .1 .1 .1 .1 .1 .0)
+    (at-play .play .last .1 .1 .1 .1 .1 .1 .1 .1 .1 .1 .0))) in
     left-fresh _ _ (good-form (at-args .args .file .now) (at-l .l .given .0 .0) (sym (at-l .l .given .1) ∙ at-read-form .read-form .ensures)) _
     (at-box-at .box-at .ensures) _ _ _ _ fresh (at-reset .reset .ensures) (at-if1 .if1 .left) _ after (at-play .play .ensures (tables
     [] [] (at-reset .reset .last .1 .1 .1 .1 .1 .1 .0) [] (at-reset .reset .last .1 .1 .1 .1 .1 .1 .1 .1 .0) [] [] [] [] [])) (at-if2 .if2 .left) _ (record {

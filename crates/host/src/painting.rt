@@ -20,6 +20,9 @@ use paint_screen::unset_runs_and_write;
 use paint_screen::visible_runs;
 use paint_whole::paint_row;
 use paint_whole::paint_step;
+use sizes::answers::BAD_RECORD;
+use sizes::answers::BAD_RUN;
+use sizes::answers::DONE;
 use span::BucketRange;
 use span::TileSpan;
 ghost use mathlib.Core.Path.{_≡_};
@@ -65,12 +68,12 @@ fn put_step(done: Stepped, result: &mut [usize]) -> u32
     ensures { λ r. ⌜ answer r (now (result .exit)) ≡ step-result (now (result .entry)) (painted-of done) ⌝ }
 {
     let number = done.number;
-    if number != 0 {
+    if number != DONE {
         return number;
     }
     result[0] = one(done.finished);
     result[1] = done.pieces;
-    0
+    DONE
 }
 
 // The next stored command of a row. result: 1 if none was left, else 0; how many pieces are listed, six words each.
@@ -172,11 +175,11 @@ fn put_runs(runs: Runs, count: &mut [usize]) -> u32
     ensures { λ r. ⌜ answer r (now (count .exit)) ≡ count-left (now (count .entry)) (out runs []) ⌝ }
 {
     let n = runs.number;
-    if n != 0 {
+    if n != DONE {
         return n;
     }
     count[0] = runs.count;
-    0
+    DONE
 }
 
 // The runs of the tiles first to end whose buckets hold 0; count: how many.
@@ -278,15 +281,15 @@ fn put_skip(skip: Skip, yes: &mut [u32]) -> u32
     ensures { λ r. ⌜ answer r (now (yes .exit)) ≡ skip-left (now (yes .entry)) (skip-of skip) ⌝ }
 {
     let n = skip.number;
-    if n != 0 {
+    if n != DONE {
         return n;
     }
     if skip.yes {
         yes[0] = 1;
-        return 0;
+        return DONE;
     }
     yes[0] = 0;
-    0
+    DONE
 }
 
 // A part of a split span: 1 for a regular piece or 2 for a depth fill, first, end; zeros for none.
@@ -384,7 +387,7 @@ fn put_split(parts: &mut [u32], split: Split) -> u32
     ensures { λ r. ⌜ answer r (now (parts .exit)) ≡ split-left (now (parts .entry)) (split-of split) ⌝ }
 {
     match split {
-        Split::Refused => 12,
+        Split::Refused => BAD_RUN,
         Split::Whole(s) => {
             let slots = Slots {
                 a: regular(s),
@@ -392,7 +395,7 @@ fn put_split(parts: &mut [u32], split: Split) -> u32
                 c: blank(),
             };
             put_slots(parts, slots);
-            0
+            DONE
         }
         Split::Opaque {
             before,
@@ -401,7 +404,7 @@ fn put_split(parts: &mut [u32], split: Split) -> u32
         } => {
             let slots = with_edges(before, range, after);
             put_slots(parts, slots);
-            0
+            DONE
         }
     }
 }
@@ -412,7 +415,7 @@ pub extern "C" fn coarse_split_opaque_span(first: u32, end: u32, parts: &mut [u3
     ensures { λ r. ⌜ answer r (now (parts .exit)) ≡ split-call (span first «end») (now (parts .entry)) ⌝ }
 {
     if parts.len() != 9 {
-        return 4;
+        return BAD_RECORD;
     }
     let span = TileSpan { first, end };
     put_split(parts, split_opaque_span(span))

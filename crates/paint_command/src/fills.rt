@@ -10,6 +10,7 @@ use depth::DepthState;
 use depth::unset_runs_and_write;
 use paint_runs::shown_runs;
 use sizes::BUCKET;
+use sizes::answers::DONE;
 use span::Alpha;
 ghost use mathlib.Core.Path.{_≡_};
 ghost use mathlib.Core.List.{map};
@@ -40,7 +41,7 @@ pub fn paint_depth(
     let range = fill.buckets;
     let found = unset_runs_and_write(depth, range, id, &mut list[..2 * room]);
     let number = found.number;
-    if number != 0 {
+    if number != DONE {
         return refused(number);
     }
     let n = found.count;
@@ -74,7 +75,7 @@ pub fn paint_fill(
     let span = fill.span;
     let found = shown_runs(depth, sum, span, id, &mut list[..2 * room]);
     let number = found.number;
-    if number != 0 {
+    if number != DONE {
         return refused(number);
     }
     let n = found.count;

@@ -1,4 +1,5 @@
 // Painting one row, over its own words. Parts: where a function asks something, its callers have judged it.
+use sizes::answers::DONE;
 ghost use mathlib.Core.Path.{_≡_};
 ghost use mathlib.Core.List.{[], _∷_};
 ghost use Prim.Native.Nat.{_+_, _<_};
@@ -36,7 +37,7 @@ fn advance(painting: &mut [u32], nesting: u32, pieces: usize) -> Painted
     painting[0] = painting[0] + 1;
     painting[1] = nesting;
     Painted {
-        number: 0,
+        number: DONE,
         finished: false,
         pieces,
     }

@@ -32,7 +32,7 @@ use step_fill::fill;
 use step_filter::Pixmap;
 use step_filter::Placement;
 use step_filter::filter_fill;
-use step_pop::pop_layer;
+use step_pop_call::pop_layer;
 use step_push::push_layer;
 
 // The picture that a file's word says: its handle + 1, or 0 for none.

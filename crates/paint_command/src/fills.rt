@@ -1,13 +1,13 @@
 // The doing halves of a step: the runs of a judged fill become pieces, and the row's steps go up by one.
-use crate::Painted;
-use crate::advance;
-use crate::pieces::Brush;
-use crate::pieces::spread;
-use crate::refused;
 use cmd::command::Fill;
 use cmd::depth_fill::DepthFill;
 use depth::DepthState;
 use depth::unset_runs_and_write;
+use paint_pieces::Brush;
+use paint_pieces::Painted;
+use paint_pieces::advance;
+use paint_pieces::refused;
+use paint_pieces::spread;
 use paint_runs::shown_runs;
 use sizes::BUCKET;
 use sizes::answers::DONE;

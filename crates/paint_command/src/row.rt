@@ -1,9 +1,6 @@
 // One step of one row: judged first, then done.
-use crate::Painted;
-use crate::advance;
 use crate::fills::paint_depth;
 use crate::fills::paint_fill;
-use crate::refused;
 use cmd::attrs::layer_id;
 use cmd::attrs::paint_id;
 use cmd::command::CmdWords;
@@ -12,6 +9,9 @@ use cmd::command::RenderCmd;
 use cmd::depth_fill::DepthWords;
 use cmd::depth_fill::ReadDepth;
 use depth::DepthState;
+use paint_pieces::Painted;
+use paint_pieces::advance;
+use paint_pieces::refused;
 use paint_runs::is_good_summary;
 use paint_runs::summary_of;
 use sizes::DEPTHS;

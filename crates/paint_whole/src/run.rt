@@ -1,7 +1,7 @@
 // The steps of one row, over its own words. Parts: where a function asks something, its callers have judged it.
 use crate::plain::run_plain;
-use paint_command::Painted;
 use paint_command::step_row;
+use paint_pieces::Painted;
 use sizes::answers::DONE;
 ghost use mathlib.Core.Path.{_≡_};
 ghost use Prim.Native.Nat.{_*_, _≤_};

@@ -1,8 +1,7 @@
-// A pop (bucketer.rs, pop_layer; rules 9 and 10). `pop_layer` is a public call; the others are its parts.
+// A pop's two halves, judged and done (bucketer.rs, pop_layer; rules 9 and 10). Parts: where a function asks something, its callers have judged it.
 use cmd::attrs::LayerFillAttrs;
 use cmd::attrs::put_layer_attrs;
 use rect::Rect;
-use screen::Built;
 use screen::Screen;
 use screen::judge_screen;
 use screen_layers::OpenLayer;
@@ -216,7 +215,7 @@ fn judge_open(
 }
 
 // A pop's number.
-fn judge_pop(
+pub fn judge_pop(
     screen: Screen,
     rows: &[u32],
     render: &[u32],
@@ -327,7 +326,7 @@ fn do_tables(screen: Screen, layers: &mut [u32], opacities: &mut [f32], layer_at
 }
 
 // A pop that is not refused.
-fn do_pop(
+pub fn do_pop(
     screen: Screen,
     rows: &mut [u32],
     render: &mut [u32],
@@ -356,48 +355,5 @@ fn do_pop(
         filter_paints: screen.filter_paints,
         layers: screen.layers - 1,
         painting: false,
-    }
-}
-
-// Rules 9 and 10. The list has the segments of the layer's clip.
-pub fn pop_layer(
-    screen: Screen,
-    rows: &mut [u32],
-    render: &mut [u32],
-    fills: &mut [u32],
-    layers: &mut [u32],
-    opacities: &mut [f32],
-    layer_attrs: &mut [u32],
-    list: &[u32],
-) -> Built
-    ensures { λ r. ⌜ out (r .number) (r .screen) (lent (words (now (rows .exit)) (now (render .exit)) (now (fills .exit))) (now (layers .exit)) (now (opacities .exit)) (now («layer_attrs» .exit)))
-        ≡ popped screen (lent (words (now (rows .entry)) (now (render .entry)) (now (fills .entry))) (now (layers .entry)) (now (opacities .entry)) (now («layer_attrs» .entry))) (now (list .entry)) ⌝ }
-{
-    let n = judge_pop(
-        screen,
-        rows,
-        render,
-        fills,
-        layers,
-        opacities,
-        layer_attrs,
-        list,
-    );
-    if n != DONE {
-        return Built { number: n, screen };
-    }
-    let next = do_pop(
-        screen,
-        rows,
-        render,
-        fills,
-        layers,
-        opacities,
-        layer_attrs,
-        list,
-    );
-    Built {
-        number: DONE,
-        screen: next,
     }
 }

@@ -23,7 +23,6 @@ use sizes::wide;
 use span::TileSpan;
 use step_pop_rows::close_segments;
 use step_pop_rows::close_spans;
-use step_pop_rows::is_full;
 use step_pop_rows::is_full_clip;
 use step_pop_rows::judge_pop_rows;
 use step_pop_rows::pop_rows;
@@ -121,7 +120,8 @@ fn judge_plain(
     ensures { λ r. ⌜ r ≡ late (good-pops (screen .c) (screen .d) (screen .layers) (rows-at (frame-of screen) (words (now (rows .entry)) (now (render .entry)) (now (fills .entry)))) (range a b)) 0 (screen .«next_draw_id») (screen .«layer_attrs»)
         (full-by (screen .c) 2 (rows-at (frame-of screen) (words (now (rows .entry)) (now (render .entry)) (now (fills .entry)))) (touched-in (screen .layers) (rows-at (frame-of screen) (words (now (rows .entry)) (now (render .entry)) (now (fills .entry)))) (range a b))) ⌝ }
 {
-    if !judge_pop_rows(screen, rows, render, fills, a, b) {
+    let found = judge_pop_rows(screen, rows, render, fills, a, b, 1);
+    if found == 4 {
         return 4;
     }
     if LAST_ID < screen.next_draw_id {
@@ -130,10 +130,7 @@ fn judge_plain(
     if MOST_ATTRS <= screen.layer_attrs {
         return 9;
     }
-    if is_full(screen, rows, render, fills, a, b, 2) {
-        return 10;
-    }
-    0
+    found
 }
 
 // With a clip: the rows from a to b, the segments from start to end, 8, 9 and 10.
@@ -154,7 +151,8 @@ fn judge_clip(
         (full-by (screen .c) 1 (rows-at (frame-of screen) (words (now (rows .entry)) (now (render .entry)) (now (fills .entry)))) (touched-in (screen .layers) (rows-at (frame-of screen) (words (now (rows .entry)) (now (render .entry)) (now (fills .entry)))) (range a b))
         || runs-full (screen .c) (touched-in (screen .layers) (rows-at (frame-of screen) (words (now (rows .entry)) (now (render .entry)) (now (fills .entry)))) (range a b)) (rows-at (frame-of screen) (words (now (rows .entry)) (now (render .entry)) (now (fills .entry)))) 0 0 (join (cut-in (origin scene) (bounds scene)) (segs (now (list .entry)) start («end» - start)))) ⌝ }
 {
-    if !judge_pop_rows(screen, rows, render, fills, a, b) {
+    let found = judge_pop_rows(screen, rows, render, fills, a, b, 0);
+    if found == 4 {
         return 4;
     }
     let listed = judge_segments(list, start, end);
@@ -167,7 +165,7 @@ fn judge_clip(
     if MOST_ATTRS <= screen.layer_attrs {
         return 9;
     }
-    if is_full(screen, rows, render, fills, a, b, 1) {
+    if found == 10 {
         return 10;
     }
     if is_full_clip(screen, rows, render, fills, list, start, end, scene, a, b) {

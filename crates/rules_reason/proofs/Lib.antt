@@ -1,0 +1,2 @@
+-- Tests by computation.
+pub mod Cases

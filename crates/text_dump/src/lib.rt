@@ -41,7 +41,7 @@ fn digit(n: u64) -> u8
 }
 
 // A number in decimal, its last k digits at most.
-fn put_digits(out: &mut [u8], at: usize, n: u64, k: usize) -> usize
+pub fn put_digits(out: &mut [u8], at: usize, n: u64, k: usize) -> usize
     requires { ⌜ at + k ≤ far ⌝ }
     ensures { λ r. ⌜ Wrote (digits k n) k (text (now (out .entry)) at) (text (now (out .exit)) r) ⌝ }
 {

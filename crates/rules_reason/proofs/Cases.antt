@@ -3,12 +3,10 @@ use Prim.Native.Nat.{ℕ}
 use mathlib.Core.Path.{_≡_, refl}
 use mathlib.Core.Bool.{true, false}
 use mathlib.Core.List.{List, [], _∷_, map}
-use Rattle.rules.specs.Boxes.{box}
-use Rattle.rules.specs.Blends.{default-blend}
 use Rattle.rules.specs.Recording.{Recording}
 use Rattle.rules.proofs.Picture.{walked}
 use Rattle.rules.proofs.Computing.{computing}
-use Rattle.rules.proofs.Cases.{panel, parent-cut, unreached, destructive-push, last-bucket, shifted, left-cut, no-picture, first-picture}
+use Rattle.rules.proofs.Cases.{panel, parent-cut, unreached, destructive-push, last-bucket, shifted, left-cut, nan-filter, no-picture, away, clipped-filter}
 use Rattle.rules_reason.specs.Reasons.{Reason, unknown-attribute, no-segment, cut-away, row-untouched, hidden-by, shown-at, Asked, account-step, accounts, account-of, place-of, newest-hider, because, reason}
 
 -- all that has to unfold to compute a reason
@@ -77,3 +75,24 @@ pub shifted-cases :
     ≡ no-segment ∷ shown-at 0 ∷ shown-at 0 ∷ no-segment ∷ []
 unfolding computing-reasons
 shifted-cases = refl
+
+-- the screen begins at scene tile 4, the segment ends at scene tile 20
+pub left-cut-cases :
+    map (λ (t : ℕ). reason 32 (left-cut .viewport) 0 t (walked 32 left-cut .log) (draw-of 0)) (0 ∷ 15 ∷ 16 ∷ [])
+    ≡ shown-at 0 ∷ shown-at 0 ∷ no-segment ∷ []
+unfolding computing-reasons
+left-cut-cases = refl
+
+-- a filter layer with a buffer: its fill, then the layer, which has the whole screen
+pub nan-4 : ask nan-filter 0 4 ≡ shown-at 0 ∷ unknown-attribute ∷ unknown-attribute ∷ shown-at 1 ∷ []
+unfolding computing-reasons
+nan-4 = refl
+
+pub nan-10 : ask nan-filter 0 10 ≡ no-segment ∷ unknown-attribute ∷ unknown-attribute ∷ shown-at 0 ∷ []
+unfolding computing-reasons
+nan-10 = refl
+
+-- without a picture nothing is drawn, and the layer closes over rows that nothing has touched
+pub no-picture-0 : ask no-picture 0 0 ≡ unknown-attribute ∷ unknown-attribute ∷ unknown-attribute ∷ row-untouched ∷ []
+unfolding computing-reasons
+no-picture-0 = refl

@@ -12,6 +12,7 @@ const USAGE: &str = "usage: oracle rowlist [--first-id N] < FILE
        oracle names SEED COUNT [KIND]
        oracle why [--first-id N] [--tally] ROW TILE [draw|layer N] < FILE
        oracle why [--first-id N] [--tally] --stream < QUESTIONS
+       oracle questions SEED COUNT [KIND] > QUESTIONS
        oracle leaves [--text] [SEED [COUNT]]
        oracle calls SEED COUNT [MOST] > CALLS
        oracle answers < CALLS
@@ -29,6 +30,8 @@ fn main() {
             agreed = answerer.disagreements.is_empty();
             out
         }
+        ["questions", seed, count] => asked(seed, count, "all"),
+        ["questions", seed, count, kind] => asked(seed, count, kind),
         ["rowlist"] => print::rowlist(&mut player, &input()).into_bytes(),
         ["rowdump"] => dump(|bytes| print::rowdump(&mut player, bytes)),
         ["generate", seed, count] => generate::stream(&made(seed, count, "all")),
@@ -105,11 +108,18 @@ fn why(player: walk::Player, words: &[&str]) -> (Vec<u8>, Answerer) {
     (out.into_bytes(), answerer)
 }
 
+fn asked(seed: &str, count: &str, kind: &str) -> Vec<u8> {
+    let (seed, count) = (number(seed), number(count));
+    generate::questions::stream(seed, count, kind).unwrap_or_else(|| no_kind(kind))
+}
+
 fn made(seed: &str, count: &str, kind: &str) -> Vec<generate::Made> {
-    generate::recordings(number(seed), number(count), kind).unwrap_or_else(|| {
-        eprintln!("oracle: no kind '{kind}'\n{USAGE}");
-        std::process::exit(2);
-    })
+    generate::recordings(number(seed), number(count), kind).unwrap_or_else(|| no_kind(kind))
+}
+
+fn no_kind(kind: &str) -> ! {
+    eprintln!("oracle: no kind '{kind}'\n{USAGE}");
+    std::process::exit(2);
 }
 
 /// Binary or readable, with seed 1 and 2,400 cases unless told otherwise.

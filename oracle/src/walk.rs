@@ -49,7 +49,6 @@ impl Player {
 }
 
 /// One step of a recording's walk.
-#[derive(Clone, Copy)]
 pub(crate) enum Step<'a> {
     Fill(&'a RecordedFill),
     Push(&'a RecordedLayer),

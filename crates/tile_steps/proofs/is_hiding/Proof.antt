@@ -5,7 +5,9 @@ use Rattle.tile_steps.proofs.is_hiding.Statement.{statement}
 use Rattle.tile_steps.proofs.is_hiding.Tie as tie
 
 returns : tie.Need-returns
-returns c = rw (not-true _ (c .if1 .taken))
+returns c =
+    let at-args = c .before in
+    rw (not-true (at-args .args .eligible) (c .if1 .taken))
 
 enum-told : tie.Need-enum-told
 enum-told c = search needs
@@ -16,12 +18,14 @@ enum-told-2 c = search needs
 returns-2 : tie.Need-returns-2
 returns-2 c =
     let at-if1 = c .before .before in
-    rw (not-false _ (at-if1 .if1 .left), c .enum-told .given .1)
+    let at-args = at-if1 .before in
+    rw (not-false (at-args .args .eligible) (at-if1 .if1 .left), c .enum-told .given .1)
 
 returns-3 : tie.Need-returns-3
 returns-3 c =
     let at-if1 = c .before .before in
-    rw (not-false _ (at-if1 .if1 .left), c .enum-told2 .given .1)
+    let at-args = at-if1 .before in
+    rw (not-false (at-args .args .eligible) (at-if1 .if1 .left), c .enum-told2 .given .1)
 
 pub is-hiding-spec : {M : Type 1} → statement M
 is-hiding-spec =

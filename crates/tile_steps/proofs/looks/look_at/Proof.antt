@@ -1,11 +1,11 @@
 -- So far: what the segments before i are to the tile; the rest of the list makes of it what the whole list makes.
-use mathlib.Core.Path.{refl, ap, _∙_}
+use mathlib.Core.Path.{ap, _∙_}
 use Prim.Native.Nat.{_-_}
 use native.Mathlib.Omega.{arith}
 use Rattle.rules.specs.Segments.{good-segment}
 use Rattle.rect.specs.Rects.{box-of}
 use Rattle.tile_steps.specs.Places.{look-of}
-use Rattle.tile_steps.proofs.Looking.{Looking, ended, good-here, again}
+use Rattle.tile_steps.proofs.Looking.{Looking, begun, ended, good-here, again}
 use Rattle.tile_steps.proofs.looks.look_at.Statement.{statement}
 use Rattle.tile_steps.proofs.looks.look_at.Tie as tie
 
@@ -24,7 +24,8 @@ scene-of-requires c κs =
 loop-holds : tie.Need-loop-holds Inv-loop μ-loop
 loop-holds c =
     let at-args = c .before .before .before in
-    record { before = at-args .pre .2; good = at-args .pre .4; rest = refl }
+    let s = at-args .args in
+    begun (s .spot .width) (box-of (s .spot .viewport)) (box-of (s .clip)) (s .spot .row) (s .spot .tile) (s .list .now) (s .start) (s .end) (at-args .pre .2) (at-args .pre .4)
 
 segment-at-requires : tie.Need-segment-at-requires Inv-loop μ-loop
 segment-at-requires c κs =

@@ -13,13 +13,20 @@ use Rattle.tile_steps.proofs.looks.see.Statement.{statement}
 use Rattle.tile_steps.proofs.looks.see.Tie as tie
 
 -- what is known of the tile before the cut
-noted : (c : tie.Joined2)
-    → look-of (c .if2 .next) ≡ cover (c .before .before .before .before .before .before .before .before .before .args .spot .width) (box-of (c .before .before .before .before .before .before .before .before .before .args .spot .viewport)) (c .before .before .before .before .before .before .before .before .before .args .spot .row) (c .before .before .before .before .before .before .before .before .before .args .spot .tile) (look-of (c .before .before .before .before .before .before .before .before .before .args .look)) (segment-of (c .before .before .before .before .before .before .before .before .before .args .segment))
+abbrev Noted : tie.Joined2 → Type 0
+Noted c =
+    let s = c .before .before .before .before .before .before .before .before .before .args in
+    look-of (c .if2 .next)
+    ≡ cover (s .spot .width) (box-of (s .spot .viewport)) (s .spot .row) (s .spot .tile) (look-of (s .look)) (segment-of (s .segment))
+
+noted : (c : tie.Joined2) → Noted c
 noted c =
     let s = c .before .before .before .before .before .before .before .before .before .args in
     ⊎-elim
-    (λ p. ap look-of (p .1) ∙ covered-now (s .spot .width) (box-of (s .spot .viewport)) (s .spot .row) (s .spot .tile) (look-of (s .look)) (segment-of (s .segment)) (sym (c .before .covers .ensures) ∙ p .0 .taken))
-    (λ p. ap look-of (p .1) ∙ covered-before (s .spot .width) (box-of (s .spot .viewport)) (s .spot .row) (s .spot .tile) (look-of (s .look)) (segment-of (s .segment)) (sym (c .before .covers .ensures) ∙ p .0 .left))
+    (λ p. ap look-of (p .1) ∙ covered-now (s .spot .width) (box-of (s .spot .viewport)) (s .spot .row) (s .spot .tile) (look-of (s .look)) (segment-of (s .segment))
+    (sym (c .before .covers .ensures) ∙ p .0 .taken))
+    (λ p. ap look-of (p .1) ∙ covered-before (s .spot .width) (box-of (s .spot .viewport)) (s .spot .row) (s .spot .tile) (look-of (s .look)) (segment-of (s .segment))
+    (sym (c .before .covers .ensures) ∙ p .0 .left))
     (c .if2 .came)
 
 add-if1 : tie.Need-add-if1
@@ -54,7 +61,7 @@ notice-requires c κs =
     let at-place = at-placed .before .before in
     let at-args = at-place .before .before .before .before .before .before .before .before .before .before in
     let s = at-args .args in
-    (at-args .pre .0, index-good _ _ (landed (origin (s .scene)) (bounds (s .scene)) (segment-of (s .segment)) _ (at-args .pre .1) (scene-starts (at-args .pre .2)) (sym (ap placed-of (at-placed .placed .given .1)) ∙ at-place .place .ensures) .index))
+    (at-args .pre .0, index-good (tiles (at-placed .placed .given .0 .1 .0 .tiles)) (alpha (at-placed .placed .given .0 .1 .0 .alpha)) (landed (origin (s .scene)) (bounds (s .scene)) (segment-of (s .segment)) _ (at-args .pre .1) (scene-starts (at-args .pre .2)) (sym (ap placed-of (at-placed .placed .given .1)) ∙ at-place .place .ensures) .index))
 
 returns-2 : tie.Need-returns-2
 returns-2 c =

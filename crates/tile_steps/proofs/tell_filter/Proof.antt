@@ -1,4 +1,5 @@
 -- Nothing is drawn without a picture or a box; refused with no id left, or no room for one more attribute or picture; else a line is told.
+use Prim.Native.Nat.{_≤_}
 use native.Mathlib.Omega.{arith}
 use Rattle.rect.specs.Rects.{box-of}
 use Rattle.tile_steps.specs.Places.{telling}
@@ -19,7 +20,11 @@ returns c =
     let at-filter-box = at-draws-nothing .before in
     let at-args = at-filter-box .before .before .before .before in
     let s = at-args .args in
-    ((λ f ls fd fm h. filter-nothing (s .spot .width) (box-of (s .spot .viewport)) (s .spot .row) (s .spot .tile) f (telling (s .tale) ls (s .lines .now)) (h .clip) fd fm (at-filter-box .filter-box .ensures) (at-draws-nothing .draws-nothing .ensures) (c .if1 .taken)), at-args .pre .2)
+    ((λ f ls fd fm h.
+    filter-nothing (s .spot .width) (box-of (s .spot .viewport)) (s .spot .row) (s .spot .tile) f
+    (telling (s .tale) ls (s .lines .now)) (h .clip) fd fm (at-filter-box .filter-box .ensures) (at-draws-nothing .draws-nothing .ensures)
+    (c .if1 .taken)),
+    at-args .pre .2)
 
 is-out-of-ids-requires : tie.Need-is-out-of-ids-requires
 is-out-of-ids-requires c κs = search needs
@@ -32,7 +37,11 @@ returns-2 c =
     let at-filter-box = at-draws-nothing .before in
     let at-args = at-filter-box .before .before .before .before in
     let s = at-args .args in
-    ((λ f ls fd fm h. filter-ids (s .spot .width) (box-of (s .spot .viewport)) (s .spot .row) (s .spot .tile) f (telling (s .tale) ls (s .lines .now)) (h .clip) fd fm (at-filter-box .filter-box .ensures) (at-draws-nothing .draws-nothing .ensures) (at-if1 .if1 .left) _ (out-of-ids (at-is-out-of-ids .is-out-of-ids .ensures) (c .if2 .taken))), at-args .pre .2)
+    ((λ f ls fd fm h.
+    filter-ids (s .spot .width) (box-of (s .spot .viewport)) (s .spot .row) (s .spot .tile) f
+    (telling (s .tale) ls (s .lines .now)) (h .clip) fd fm (at-filter-box .filter-box .ensures) (at-draws-nothing .draws-nothing .ensures)
+    (at-if1 .if1 .left) _ (out-of-ids (at-is-out-of-ids .is-out-of-ids .ensures) (c .if2 .taken))),
+    at-args .pre .2)
 
 returns-3 : tie.Need-returns-3
 returns-3 c =
@@ -43,7 +52,12 @@ returns-3 c =
     let at-filter-box = at-draws-nothing .before in
     let at-args = at-filter-box .before .before .before .before in
     let s = at-args .args in
-    ((λ f ls fd fm h. filter-full (s .spot .width) (box-of (s .spot .viewport)) (s .spot .row) (s .spot .tile) f (telling (s .tale) ls (s .lines .now)) (h .clip) fd fm (at-filter-box .filter-box .ensures) (at-draws-nothing .draws-nothing .ensures) (at-if1 .if1 .left) (ids-left (at-is-out-of-ids .is-out-of-ids .ensures) (at-if2 .if2 .left)) _ (c .if3 .taken)), at-args .pre .2)
+    let left : s .tale .next ≤ 1048576 = ids-left (at-is-out-of-ids .is-out-of-ids .ensures) (at-if2 .if2 .left) in
+    ((λ f ls fd fm h.
+    filter-full (s .spot .width) (box-of (s .spot .viewport)) (s .spot .row) (s .spot .tile) f
+    (telling (s .tale) ls (s .lines .now)) (h .clip) fd fm (at-filter-box .filter-box .ensures) (at-draws-nothing .draws-nothing .ensures)
+    (at-if1 .if1 .left) left _ (c .if3 .taken)),
+    at-args .pre .2)
 
 returns-4 : tie.Need-returns-4
 returns-4 c =
@@ -55,7 +69,12 @@ returns-4 c =
     let at-filter-box = at-draws-nothing .before in
     let at-args = at-filter-box .before .before .before .before in
     let s = at-args .args in
-    ((λ f ls fd fm h. filter-crowded (s .spot .width) (box-of (s .spot .viewport)) (s .spot .row) (s .spot .tile) f (telling (s .tale) ls (s .lines .now)) (h .clip) fd fm (at-filter-box .filter-box .ensures) (at-draws-nothing .draws-nothing .ensures) (at-if1 .if1 .left) (ids-left (at-is-out-of-ids .is-out-of-ids .ensures) (at-if2 .if2 .left)) (at-if3 .if3 .left) _ (c .if4 .taken)), at-args .pre .2)
+    let left : s .tale .next ≤ 1048576 = ids-left (at-is-out-of-ids .is-out-of-ids .ensures) (at-if2 .if2 .left) in
+    ((λ f ls fd fm h.
+    filter-crowded (s .spot .width) (box-of (s .spot .viewport)) (s .spot .row) (s .spot .tile) f
+    (telling (s .tale) ls (s .lines .now)) (h .clip) fd fm (at-filter-box .filter-box .ensures) (at-draws-nothing .draws-nothing .ensures)
+    (at-if1 .if1 .left) left (at-if3 .if3 .left) _ (c .if4 .taken)),
+    at-args .pre .2)
 
 add-is-met : tie.Need-add-is-met
 add-is-met c =
@@ -136,9 +155,13 @@ returns-5 c =
     let at-filter-box = at-draws-nothing .before in
     let at-args = at-filter-box .before .before .before .before in
     let s = at-args .args in
+    let left : s .tale .next ≤ 1048576 = ids-left (at-is-out-of-ids .is-out-of-ids .ensures) (at-if2 .if2 .left) in
     ((λ f ls fd fm h.
-    filter-done (s .spot .width) (box-of (s .spot .viewport)) (s .spot .row) (s .spot .tile) f (telling (s .tale) ls (s .lines .now)) (h .clip) fd fm (at-filter-box .filter-box .ensures) (at-draws-nothing .draws-nothing .ensures) (at-if1 .if1 .left) (ids-left (at-is-out-of-ids .is-out-of-ids .ensures) (at-if2 .if2 .left)) (at-if3 .if3 .left) (at-if4 .if4 .left) (h .count) (at-is-met .is-met .ensures) (at-is-met2 .is-met2 .ensures) (at-standing .standing .ensures) (at-wide .wide .ensures) (at-put-line .put-line .ensures) (at-is-in-row .is-in-row .ensures) (rw (c .if5 .taken))),
-    record { next = omega (arith, ids-left (at-is-out-of-ids .is-out-of-ids .ensures) (at-if2 .if2 .left)); paints = omega (arith, at-if3 .if3 .left); layers = at-args .pre .2 .layers; filters = omega (arith, at-if4 .if4 .left); levels = at-args .pre .1 .few })
+    filter-done (s .spot .width) (box-of (s .spot .viewport)) (s .spot .row) (s .spot .tile) f
+    (telling (s .tale) ls (s .lines .now)) (h .clip) fd fm (at-filter-box .filter-box .ensures) (at-draws-nothing .draws-nothing .ensures)
+    (at-if1 .if1 .left) left (at-if3 .if3 .left) (at-if4 .if4 .left) (h .count)
+    (at-is-met .is-met .ensures) (at-is-met2 .is-met2 .ensures) (at-standing .standing .ensures) (at-wide .wide .ensures) (at-put-line .put-line .ensures) (at-is-in-row .is-in-row .ensures) (rw (c .if5 .taken))),
+    record { next = omega (arith, left); paints = omega (arith, at-if3 .if3 .left); layers = at-args .pre .2 .layers; filters = omega (arith, at-if4 .if4 .left); levels = at-args .pre .1 .few })
 
 same-length-2 : tie.Need-same-length-2
 same-length-2 c = search needs
@@ -160,9 +183,13 @@ returns-6 c =
     let at-filter-box = at-draws-nothing .before in
     let at-args = at-filter-box .before .before .before .before in
     let s = at-args .args in
+    let left : s .tale .next ≤ 1048576 = ids-left (at-is-out-of-ids .is-out-of-ids .ensures) (at-if2 .if2 .left) in
     ((λ f ls fd fm h.
-    filter-done (s .spot .width) (box-of (s .spot .viewport)) (s .spot .row) (s .spot .tile) f (telling (s .tale) ls (s .lines .now)) (h .clip) fd fm (at-filter-box .filter-box .ensures) (at-draws-nothing .draws-nothing .ensures) (at-if1 .if1 .left) (ids-left (at-is-out-of-ids .is-out-of-ids .ensures) (at-if2 .if2 .left)) (at-if3 .if3 .left) (at-if4 .if4 .left) (h .count) (at-is-met .is-met .ensures) (at-is-met2 .is-met2 .ensures) (at-standing .standing .ensures) (at-wide .wide .ensures) (at-put-line .put-line .ensures) (at-is-in-row .is-in-row .ensures) (rw (c .if5 .left))),
-    record { next = omega (arith, ids-left (at-is-out-of-ids .is-out-of-ids .ensures) (at-if2 .if2 .left)); paints = omega (arith, at-if3 .if3 .left); layers = at-args .pre .2 .layers; filters = omega (arith, at-if4 .if4 .left); levels = at-args .pre .2 .levels })
+    filter-done (s .spot .width) (box-of (s .spot .viewport)) (s .spot .row) (s .spot .tile) f
+    (telling (s .tale) ls (s .lines .now)) (h .clip) fd fm (at-filter-box .filter-box .ensures) (at-draws-nothing .draws-nothing .ensures)
+    (at-if1 .if1 .left) left (at-if3 .if3 .left) (at-if4 .if4 .left) (h .count)
+    (at-is-met .is-met .ensures) (at-is-met2 .is-met2 .ensures) (at-standing .standing .ensures) (at-wide .wide .ensures) (at-put-line .put-line .ensures) (at-is-in-row .is-in-row .ensures) (rw (c .if5 .left))),
+    record { next = omega (arith, left); paints = omega (arith, at-if3 .if3 .left); layers = at-args .pre .2 .layers; filters = omega (arith, at-if4 .if4 .left); levels = at-args .pre .2 .levels })
 
 pub tell-filter-spec : {M : Type 1} → statement M
 tell-filter-spec =

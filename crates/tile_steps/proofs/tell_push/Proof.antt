@@ -14,7 +14,8 @@ returns c =
     let at-args = c .before .before in
     let s = at-args .args in
     ((λ p ls ws b q h.
-    (push-deep (s .spot .width) (box-of (s .spot .viewport)) (s .spot .row) (s .spot .tile) p (telling (s .tale) ls ws) (h .count) _ (c .if1 .taken), λ z. absurd (omega arith))),
+    (push-deep (s .spot .width) (box-of (s .spot .viewport)) (s .spot .row) (s .spot .tile) p
+    (telling (s .tale) ls ws) (h .count) _ (c .if1 .taken), λ z. absurd (omega arith))),
     at-args .pre .2, at-args .pre .1, λ z. absurd (omega arith))
 
 layer-box-requires : tie.Need-layer-box-requires
@@ -37,11 +38,14 @@ returns-2 c =
     let at-if1 = at-layer-box .before .before .before in
     let at-args = at-if1 .before .before in
     let s = at-args .args in
+    let small = small-by (at-layer-box .layer-box .ensures)
+    (layer-small (box-of (s .spot .viewport)) (box-of (s .within .clip)) (clip-of (s .clip)) (at-args .pre .1 .small) (at-args .pre .3)) in
     ((λ p ls ws b q h.
-    (push-done (s .spot .width) (box-of (s .spot .viewport)) (s .spot .row) (s .spot .tile) p (telling (s .tale) ls ws) (h .count) (at-if1 .if1 .left) (h .clip) b q (at-layer-box .layer-box .ensures) (at-touches .touches .ensures) (rw (c .if2 .taken)),
+    (push-done (s .spot .width) (box-of (s .spot .viewport)) (s .spot .row) (s .spot .tile) p
+    (telling (s .tale) ls ws) (h .count) (at-if1 .if1 .left) (h .clip) b q (at-layer-box .layer-box .ensures) (at-touches .touches .ensures) (rw (c .if2 .taken)),
     λ z. record { clip = refl; count = omega (arith, h .count) })),
     record { next = at-args .pre .2 .next; paints = at-args .pre .2 .paints; layers = at-args .pre .2 .layers; filters = at-args .pre .2 .filters; levels = omega (arith, at-if1 .if1 .left) },
-    record { small = small-by (at-layer-box .layer-box .ensures) (layer-small (box-of (s .spot .viewport)) (box-of (s .within .clip)) (clip-of (s .clip)) (at-args .pre .1 .small) (at-args .pre .3)); few = omega (arith, at-if1 .if1 .left) },
+    record { small = small; few = omega (arith, at-if1 .if1 .left) },
     λ z. refl)
 
 returns-3 : tie.Need-returns-3
@@ -51,11 +55,14 @@ returns-3 c =
     let at-if1 = at-layer-box .before .before .before in
     let at-args = at-if1 .before .before in
     let s = at-args .args in
+    let small = small-by (at-layer-box .layer-box .ensures)
+    (layer-small (box-of (s .spot .viewport)) (box-of (s .within .clip)) (clip-of (s .clip)) (at-args .pre .1 .small) (at-args .pre .3)) in
     ((λ p ls ws b q h.
-    (push-done (s .spot .width) (box-of (s .spot .viewport)) (s .spot .row) (s .spot .tile) p (telling (s .tale) ls ws) (h .count) (at-if1 .if1 .left) (h .clip) b q (at-layer-box .layer-box .ensures) (at-touches .touches .ensures) (rw (c .if2 .left)),
+    (push-done (s .spot .width) (box-of (s .spot .viewport)) (s .spot .row) (s .spot .tile) p
+    (telling (s .tale) ls ws) (h .count) (at-if1 .if1 .left) (h .clip) b q (at-layer-box .layer-box .ensures) (at-touches .touches .ensures) (rw (c .if2 .left)),
     λ z. record { clip = refl; count = omega (arith, h .count) })),
     at-args .pre .2,
-    record { small = small-by (at-layer-box .layer-box .ensures) (layer-small (box-of (s .spot .viewport)) (box-of (s .within .clip)) (clip-of (s .clip)) (at-args .pre .1 .small) (at-args .pre .3)); few = omega (arith, at-if1 .if1 .left) },
+    record { small = small; few = omega (arith, at-if1 .if1 .left) },
     λ z. refl)
 
 pub tell-push-spec : {M : Type 1} → statement M

@@ -1,9 +1,9 @@
 -- What a list of segments is to one tile: a stretch, one more segment, and the loop over them.
-use mathlib.Core.Path.{_≡_, refl, sym, ap, _∙_}
-use mathlib.Core.Bool.{Bool, true, false, _&&_, _||_}
+use mathlib.Core.Path.{_≡_, refl, ap}
+use mathlib.Core.Bool.{Bool, true, false, _||_}
 use mathlib.Core.List.{List, [], _∷_}
 use mathlib.Core.Option.{Option, none, some}
-use Prim.Native.Nat.{ℕ, _+_, _-_, _*_, _/_, _≤_, _<_}
+use Prim.Native.Nat.{ℕ, _+_, _-_, _/_, _≤_, _<_}
 use native.Mathlib.Omega.{arith}
 use lib.Dec.{leb, ltb}
 use borrow.Author.Tests.{eq-eqb, ne-eqb, leb-true, ltb-true}
@@ -18,7 +18,7 @@ use Rattle.span.specs.declared.Alpha.the-variants.{Solid, At}
 use Rattle.span.specs.Spans.{alpha, Moves}
 use Rattle.segments.specs.Segs.{seg-at, segs}
 use Rattle.segments.proofs.Laws.{Index, segs-end, segs-first, good-first, good-rest}
-use Rattle.tile_steps.specs.Telling.{Look, no-look, noticed, notice, cover, see, look}
+use Rattle.tile_steps.specs.Telling.{Look, no-look, noticed, cover, see, look}
 
 -- a tile of a span
 pub record Within (s : Span) (t : ℕ) : Type 0 where

@@ -16,12 +16,13 @@ returns : tie.Need-returns
 returns c =
     let at-is-out-of-ids = c .before in
     let at-args = at-is-out-of-ids .before .before .before in
-    let s = at-args .args in
-    ((λ ls h.
-    fill-ids (s .spot .width) (box-of (s .spot .viewport)) (s .spot .row) (s .spot .tile)
-    (segs (s .segments .now) (s .start) (s .end - s .start)) (s .eligible) (telling (s .tale) ls (s .lines .now)) _
-    (out-of-ids (at-is-out-of-ids .is-out-of-ids .ensures) (c .if1 .taken))),
-    at-args .pre .2)
+    let s = at-args .args in (
+      (λ ls h.
+          fill-ids (s .spot .width) (box-of (s .spot .viewport)) (s .spot .row) (s .spot .tile)
+          (segs (s .segments .now) (s .start) (s .end - s .start)) (s .eligible) (telling (s .tale) ls (s .lines .now)) _
+          (out-of-ids (at-is-out-of-ids .is-out-of-ids .ensures) (c .if1 .taken))),
+      at-args .pre .2,
+    )
 
 add-next : tie.Need-add-next
 add-next c =
@@ -34,12 +35,13 @@ returns-2 c =
     let at-is-out-of-ids = at-if1 .before in
     let at-args = at-is-out-of-ids .before .before .before in
     let s = at-args .args in
-    let left : s .tale .next ≤ 1048576 = ids-left (at-is-out-of-ids .is-out-of-ids .ensures) (at-if1 .if1 .left) in
-    ((λ ls h.
-    fill-empty (s .spot .width) (box-of (s .spot .viewport)) (s .spot .row) (s .spot .tile)
-    (segs (s .segments .now) (s .start) (s .end - s .start)) (s .eligible) (telling (s .tale) ls (s .lines .now))
-    left (none-there (s .segments .now) (s .start) (s .end) (c .if2 .taken))),
-    record { next = omega (arith, left); paints = at-args .pre .2 .paints; layers = at-args .pre .2 .layers; filters = at-args .pre .2 .filters; levels = at-args .pre .2 .levels })
+    let left : s .tale .next ≤ 1048576 = ids-left (at-is-out-of-ids .is-out-of-ids .ensures) (at-if1 .if1 .left) in (
+      (λ ls h.
+          fill-empty (s .spot .width) (box-of (s .spot .viewport)) (s .spot .row) (s .spot .tile)
+          (segs (s .segments .now) (s .start) (s .end - s .start)) (s .eligible) (telling (s .tale) ls (s .lines .now))
+          left (none-there (s .segments .now) (s .start) (s .end) (c .if2 .taken))),
+      record { next = omega (arith, left); paints = at-args .pre .2 .paints; layers = at-args .pre .2 .layers; filters = at-args .pre .2 .filters; levels = at-args .pre .2 .levels },
+    )
 
 returns-3 : tie.Need-returns-3
 returns-3 c =
@@ -48,12 +50,13 @@ returns-3 c =
     let at-is-out-of-ids = at-if1 .before in
     let at-args = at-is-out-of-ids .before .before .before in
     let s = at-args .args in
-    let left : s .tale .next ≤ 1048576 = ids-left (at-is-out-of-ids .is-out-of-ids .ensures) (at-if1 .if1 .left) in
-    ((λ ls h.
-    fill-full (s .spot .width) (box-of (s .spot .viewport)) (s .spot .row) (s .spot .tile)
-    (segs (s .segments .now) (s .start) (s .end - s .start)) (s .eligible) (telling (s .tale) ls (s .lines .now))
-    left _ (some-there (s .segments .now) (s .start) (s .end) (at-if2 .if2 .left)) (c .if3 .taken)),
-    at-args .pre .2)
+    let left : s .tale .next ≤ 1048576 = ids-left (at-is-out-of-ids .is-out-of-ids .ensures) (at-if1 .if1 .left) in (
+      (λ ls h.
+          fill-full (s .spot .width) (box-of (s .spot .viewport)) (s .spot .row) (s .spot .tile)
+          (segs (s .segments .now) (s .start) (s .end - s .start)) (s .eligible) (telling (s .tale) ls (s .lines .now))
+          left _ (some-there (s .segments .now) (s .start) (s .end) (at-if2 .if2 .left)) (c .if3 .taken)),
+      at-args .pre .2,
+    )
 
 look-at-requires : tie.Need-look-at-requires
 look-at-requires c κs =
@@ -101,13 +104,14 @@ returns-4 c =
     let at-is-out-of-ids = at-if1 .before in
     let at-args = at-is-out-of-ids .before .before .before in
     let s = at-args .args in
-    let left : s .tale .next ≤ 1048576 = ids-left (at-is-out-of-ids .is-out-of-ids .ensures) (at-if1 .if1 .left) in
-    ((λ ls h.
-    fill-drawn (s .spot .width) (box-of (s .spot .viewport)) (s .spot .row) (s .spot .tile)
-    (segs (s .segments .now) (s .start) (s .end - s .start)) (s .eligible) (telling (s .tale) ls (s .lines .now))
-    left (some-there (s .segments .now) (s .start) (s .end) (at-if2 .if2 .left)) (at-if3 .if3 .left) (h .clip) (h .count)
-    (at-look-at .look-at .ensures) (at-is-hiding .is-hiding .ensures) (at-standing .standing .ensures) (at-wide .wide .ensures) (at-put-line .put-line .ensures) (rw (c .if4 .taken))),
-    record { next = omega (arith, left); paints = omega (arith, at-if3 .if3 .left); layers = at-args .pre .2 .layers; filters = at-args .pre .2 .filters; levels = at-args .pre .1 .few })
+    let left : s .tale .next ≤ 1048576 = ids-left (at-is-out-of-ids .is-out-of-ids .ensures) (at-if1 .if1 .left) in (
+      (λ ls h.
+          fill-drawn (s .spot .width) (box-of (s .spot .viewport)) (s .spot .row) (s .spot .tile)
+          (segs (s .segments .now) (s .start) (s .end - s .start)) (s .eligible) (telling (s .tale) ls (s .lines .now))
+          left (some-there (s .segments .now) (s .start) (s .end) (at-if2 .if2 .left)) (at-if3 .if3 .left) (h .clip) (h .count)
+          (at-look-at .look-at .ensures) (at-is-hiding .is-hiding .ensures) (at-standing .standing .ensures) (at-wide .wide .ensures) (at-put-line .put-line .ensures) (rw (c .if4 .taken))),
+      record { next = omega (arith, left); paints = omega (arith, at-if3 .if3 .left); layers = at-args .pre .2 .layers; filters = at-args .pre .2 .filters; levels = at-args .pre .1 .few },
+    )
 
 same-length-2 : tie.Need-same-length-2
 same-length-2 c = search needs
@@ -125,13 +129,14 @@ returns-5 c =
     let at-is-out-of-ids = at-if1 .before in
     let at-args = at-is-out-of-ids .before .before .before in
     let s = at-args .args in
-    let left : s .tale .next ≤ 1048576 = ids-left (at-is-out-of-ids .is-out-of-ids .ensures) (at-if1 .if1 .left) in
-    ((λ ls h.
-    fill-drawn (s .spot .width) (box-of (s .spot .viewport)) (s .spot .row) (s .spot .tile)
-    (segs (s .segments .now) (s .start) (s .end - s .start)) (s .eligible) (telling (s .tale) ls (s .lines .now))
-    left (some-there (s .segments .now) (s .start) (s .end) (at-if2 .if2 .left)) (at-if3 .if3 .left) (h .clip) (h .count)
-    (at-look-at .look-at .ensures) (at-is-hiding .is-hiding .ensures) (at-standing .standing .ensures) (at-wide .wide .ensures) (at-put-line .put-line .ensures) (rw (c .if4 .left))),
-    record { next = omega (arith, left); paints = omega (arith, at-if3 .if3 .left); layers = at-args .pre .2 .layers; filters = at-args .pre .2 .filters; levels = at-args .pre .2 .levels })
+    let left : s .tale .next ≤ 1048576 = ids-left (at-is-out-of-ids .is-out-of-ids .ensures) (at-if1 .if1 .left) in (
+      (λ ls h.
+          fill-drawn (s .spot .width) (box-of (s .spot .viewport)) (s .spot .row) (s .spot .tile)
+          (segs (s .segments .now) (s .start) (s .end - s .start)) (s .eligible) (telling (s .tale) ls (s .lines .now))
+          left (some-there (s .segments .now) (s .start) (s .end) (at-if2 .if2 .left)) (at-if3 .if3 .left) (h .clip) (h .count)
+          (at-look-at .look-at .ensures) (at-is-hiding .is-hiding .ensures) (at-standing .standing .ensures) (at-wide .wide .ensures) (at-put-line .put-line .ensures) (rw (c .if4 .left))),
+      record { next = omega (arith, left); paints = omega (arith, at-if3 .if3 .left); layers = at-args .pre .2 .layers; filters = at-args .pre .2 .filters; levels = at-args .pre .2 .levels },
+    )
 
 pub tell-fill-spec : {M : Type 1} → statement M
 tell-fill-spec =

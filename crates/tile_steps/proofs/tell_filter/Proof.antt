@@ -19,12 +19,13 @@ returns c =
     let at-draws-nothing = c .before in
     let at-filter-box = at-draws-nothing .before in
     let at-args = at-filter-box .before .before .before .before in
-    let s = at-args .args in
-    ((λ f ls fd fm h.
-    filter-nothing (s .spot .width) (box-of (s .spot .viewport)) (s .spot .row) (s .spot .tile) f
-    (telling (s .tale) ls (s .lines .now)) (h .clip) fd fm (at-filter-box .filter-box .ensures) (at-draws-nothing .draws-nothing .ensures)
-    (c .if1 .taken)),
-    at-args .pre .2)
+    let s = at-args .args in (
+      (λ f ls fd fm h.
+          filter-nothing (s .spot .width) (box-of (s .spot .viewport)) (s .spot .row) (s .spot .tile) f
+          (telling (s .tale) ls (s .lines .now)) (h .clip) fd fm (at-filter-box .filter-box .ensures) (at-draws-nothing .draws-nothing .ensures)
+          (c .if1 .taken)),
+      at-args .pre .2,
+    )
 
 is-out-of-ids-requires : tie.Need-is-out-of-ids-requires
 is-out-of-ids-requires c κs = search needs
@@ -36,12 +37,13 @@ returns-2 c =
     let at-draws-nothing = at-if1 .before in
     let at-filter-box = at-draws-nothing .before in
     let at-args = at-filter-box .before .before .before .before in
-    let s = at-args .args in
-    ((λ f ls fd fm h.
-    filter-ids (s .spot .width) (box-of (s .spot .viewport)) (s .spot .row) (s .spot .tile) f
-    (telling (s .tale) ls (s .lines .now)) (h .clip) fd fm (at-filter-box .filter-box .ensures) (at-draws-nothing .draws-nothing .ensures)
-    (at-if1 .if1 .left) _ (out-of-ids (at-is-out-of-ids .is-out-of-ids .ensures) (c .if2 .taken))),
-    at-args .pre .2)
+    let s = at-args .args in (
+      (λ f ls fd fm h.
+          filter-ids (s .spot .width) (box-of (s .spot .viewport)) (s .spot .row) (s .spot .tile) f
+          (telling (s .tale) ls (s .lines .now)) (h .clip) fd fm (at-filter-box .filter-box .ensures) (at-draws-nothing .draws-nothing .ensures)
+          (at-if1 .if1 .left) _ (out-of-ids (at-is-out-of-ids .is-out-of-ids .ensures) (c .if2 .taken))),
+      at-args .pre .2,
+    )
 
 returns-3 : tie.Need-returns-3
 returns-3 c =
@@ -52,12 +54,13 @@ returns-3 c =
     let at-filter-box = at-draws-nothing .before in
     let at-args = at-filter-box .before .before .before .before in
     let s = at-args .args in
-    let left : s .tale .next ≤ 1048576 = ids-left (at-is-out-of-ids .is-out-of-ids .ensures) (at-if2 .if2 .left) in
-    ((λ f ls fd fm h.
-    filter-full (s .spot .width) (box-of (s .spot .viewport)) (s .spot .row) (s .spot .tile) f
-    (telling (s .tale) ls (s .lines .now)) (h .clip) fd fm (at-filter-box .filter-box .ensures) (at-draws-nothing .draws-nothing .ensures)
-    (at-if1 .if1 .left) left _ (c .if3 .taken)),
-    at-args .pre .2)
+    let left : s .tale .next ≤ 1048576 = ids-left (at-is-out-of-ids .is-out-of-ids .ensures) (at-if2 .if2 .left) in (
+      (λ f ls fd fm h.
+          filter-full (s .spot .width) (box-of (s .spot .viewport)) (s .spot .row) (s .spot .tile) f
+          (telling (s .tale) ls (s .lines .now)) (h .clip) fd fm (at-filter-box .filter-box .ensures) (at-draws-nothing .draws-nothing .ensures)
+          (at-if1 .if1 .left) left _ (c .if3 .taken)),
+      at-args .pre .2,
+    )
 
 returns-4 : tie.Need-returns-4
 returns-4 c =
@@ -69,12 +72,13 @@ returns-4 c =
     let at-filter-box = at-draws-nothing .before in
     let at-args = at-filter-box .before .before .before .before in
     let s = at-args .args in
-    let left : s .tale .next ≤ 1048576 = ids-left (at-is-out-of-ids .is-out-of-ids .ensures) (at-if2 .if2 .left) in
-    ((λ f ls fd fm h.
-    filter-crowded (s .spot .width) (box-of (s .spot .viewport)) (s .spot .row) (s .spot .tile) f
-    (telling (s .tale) ls (s .lines .now)) (h .clip) fd fm (at-filter-box .filter-box .ensures) (at-draws-nothing .draws-nothing .ensures)
-    (at-if1 .if1 .left) left (at-if3 .if3 .left) _ (c .if4 .taken)),
-    at-args .pre .2)
+    let left : s .tale .next ≤ 1048576 = ids-left (at-is-out-of-ids .is-out-of-ids .ensures) (at-if2 .if2 .left) in (
+      (λ f ls fd fm h.
+          filter-crowded (s .spot .width) (box-of (s .spot .viewport)) (s .spot .row) (s .spot .tile) f
+          (telling (s .tale) ls (s .lines .now)) (h .clip) fd fm (at-filter-box .filter-box .ensures) (at-draws-nothing .draws-nothing .ensures)
+          (at-if1 .if1 .left) left (at-if3 .if3 .left) _ (c .if4 .taken)),
+      at-args .pre .2,
+    )
 
 add-is-met : tie.Need-add-is-met
 add-is-met c =
@@ -155,13 +159,14 @@ returns-5 c =
     let at-filter-box = at-draws-nothing .before in
     let at-args = at-filter-box .before .before .before .before in
     let s = at-args .args in
-    let left : s .tale .next ≤ 1048576 = ids-left (at-is-out-of-ids .is-out-of-ids .ensures) (at-if2 .if2 .left) in
-    ((λ f ls fd fm h.
-    filter-done (s .spot .width) (box-of (s .spot .viewport)) (s .spot .row) (s .spot .tile) f
-    (telling (s .tale) ls (s .lines .now)) (h .clip) fd fm (at-filter-box .filter-box .ensures) (at-draws-nothing .draws-nothing .ensures)
-    (at-if1 .if1 .left) left (at-if3 .if3 .left) (at-if4 .if4 .left) (h .count)
-    (at-is-met .is-met .ensures) (at-is-met2 .is-met2 .ensures) (at-standing .standing .ensures) (at-wide .wide .ensures) (at-put-line .put-line .ensures) (at-is-in-row .is-in-row .ensures) (rw (c .if5 .taken))),
-    record { next = omega (arith, left); paints = omega (arith, at-if3 .if3 .left); layers = at-args .pre .2 .layers; filters = omega (arith, at-if4 .if4 .left); levels = at-args .pre .1 .few })
+    let left : s .tale .next ≤ 1048576 = ids-left (at-is-out-of-ids .is-out-of-ids .ensures) (at-if2 .if2 .left) in (
+      (λ f ls fd fm h.
+          filter-done (s .spot .width) (box-of (s .spot .viewport)) (s .spot .row) (s .spot .tile) f
+          (telling (s .tale) ls (s .lines .now)) (h .clip) fd fm (at-filter-box .filter-box .ensures) (at-draws-nothing .draws-nothing .ensures)
+          (at-if1 .if1 .left) left (at-if3 .if3 .left) (at-if4 .if4 .left) (h .count)
+          (at-is-met .is-met .ensures) (at-is-met2 .is-met2 .ensures) (at-standing .standing .ensures) (at-wide .wide .ensures) (at-put-line .put-line .ensures) (at-is-in-row .is-in-row .ensures) (rw (c .if5 .taken))),
+      record { next = omega (arith, left); paints = omega (arith, at-if3 .if3 .left); layers = at-args .pre .2 .layers; filters = omega (arith, at-if4 .if4 .left); levels = at-args .pre .1 .few },
+    )
 
 same-length-2 : tie.Need-same-length-2
 same-length-2 c = search needs
@@ -183,13 +188,14 @@ returns-6 c =
     let at-filter-box = at-draws-nothing .before in
     let at-args = at-filter-box .before .before .before .before in
     let s = at-args .args in
-    let left : s .tale .next ≤ 1048576 = ids-left (at-is-out-of-ids .is-out-of-ids .ensures) (at-if2 .if2 .left) in
-    ((λ f ls fd fm h.
-    filter-done (s .spot .width) (box-of (s .spot .viewport)) (s .spot .row) (s .spot .tile) f
-    (telling (s .tale) ls (s .lines .now)) (h .clip) fd fm (at-filter-box .filter-box .ensures) (at-draws-nothing .draws-nothing .ensures)
-    (at-if1 .if1 .left) left (at-if3 .if3 .left) (at-if4 .if4 .left) (h .count)
-    (at-is-met .is-met .ensures) (at-is-met2 .is-met2 .ensures) (at-standing .standing .ensures) (at-wide .wide .ensures) (at-put-line .put-line .ensures) (at-is-in-row .is-in-row .ensures) (rw (c .if5 .left))),
-    record { next = omega (arith, left); paints = omega (arith, at-if3 .if3 .left); layers = at-args .pre .2 .layers; filters = omega (arith, at-if4 .if4 .left); levels = at-args .pre .2 .levels })
+    let left : s .tale .next ≤ 1048576 = ids-left (at-is-out-of-ids .is-out-of-ids .ensures) (at-if2 .if2 .left) in (
+      (λ f ls fd fm h.
+          filter-done (s .spot .width) (box-of (s .spot .viewport)) (s .spot .row) (s .spot .tile) f
+          (telling (s .tale) ls (s .lines .now)) (h .clip) fd fm (at-filter-box .filter-box .ensures) (at-draws-nothing .draws-nothing .ensures)
+          (at-if1 .if1 .left) left (at-if3 .if3 .left) (at-if4 .if4 .left) (h .count)
+          (at-is-met .is-met .ensures) (at-is-met2 .is-met2 .ensures) (at-standing .standing .ensures) (at-wide .wide .ensures) (at-put-line .put-line .ensures) (at-is-in-row .is-in-row .ensures) (rw (c .if5 .left))),
+      record { next = omega (arith, left); paints = omega (arith, at-if3 .if3 .left); layers = at-args .pre .2 .layers; filters = omega (arith, at-if4 .if4 .left); levels = at-args .pre .2 .levels },
+    )
 
 pub tell-filter-spec : {M : Type 1} → statement M
 tell-filter-spec =

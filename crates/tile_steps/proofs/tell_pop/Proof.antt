@@ -19,12 +19,13 @@ returns : tie.Need-returns
 returns c =
     let at-is-out-of-ids = c .before in
     let at-args = at-is-out-of-ids .before .before .before in
-    let s = at-args .args in
-    ((λ l ls lo lb h.
-    pop-ids (s .spot .width) (box-of (s .spot .viewport)) (s .spot .row) (s .spot .tile) l ls
-    (segs-of (s .segments .now)) (telling (s .tale) (l ∷ ls) (s .lines .now)) _
-    (out-of-ids (at-is-out-of-ids .is-out-of-ids .ensures) (c .if1 .taken))),
-    at-args .pre .4)
+    let s = at-args .args in (
+      (λ l ls lo lb h.
+          pop-ids (s .spot .width) (box-of (s .spot .viewport)) (s .spot .row) (s .spot .tile) l ls
+          (segs-of (s .segments .now)) (telling (s .tale) (l ∷ ls) (s .lines .now)) _
+          (out-of-ids (at-is-out-of-ids .is-out-of-ids .ensures) (c .if1 .taken))),
+      at-args .pre .4,
+    )
 
 returns-2 : tie.Need-returns-2
 returns-2 c =
@@ -32,12 +33,13 @@ returns-2 c =
     let at-is-out-of-ids = at-if1 .before in
     let at-args = at-is-out-of-ids .before .before .before in
     let s = at-args .args in
-    let left : s .tale .next ≤ 1048576 = ids-left (at-is-out-of-ids .is-out-of-ids .ensures) (at-if1 .if1 .left) in
-    ((λ l ls lo lb h.
-    pop-full (s .spot .width) (box-of (s .spot .viewport)) (s .spot .row) (s .spot .tile) l ls
-    (segs-of (s .segments .now)) (telling (s .tale) (l ∷ ls) (s .lines .now))
-    left _ (c .if2 .taken)),
-    at-args .pre .4)
+    let left : s .tale .next ≤ 1048576 = ids-left (at-is-out-of-ids .is-out-of-ids .ensures) (at-if1 .if1 .left) in (
+      (λ l ls lo lb h.
+          pop-full (s .spot .width) (box-of (s .spot .viewport)) (s .spot .row) (s .spot .tile) l ls
+          (segs-of (s .segments .now)) (telling (s .tale) (l ∷ ls) (s .lines .now))
+          left _ (c .if2 .taken)),
+      at-args .pre .4,
+    )
 
 closing-look-requires : tie.Need-closing-look-requires
 closing-look-requires c κs =
@@ -85,14 +87,15 @@ returns-3 c =
     let at-is-out-of-ids = at-if1 .before in
     let at-args = at-is-out-of-ids .before .before .before in
     let s = at-args .args in
-    let left : s .tale .next ≤ 1048576 = ids-left (at-is-out-of-ids .is-out-of-ids .ensures) (at-if1 .if1 .left) in
-    ((λ l ls lo lb h.
-    pop-done (s .spot .width) (box-of (s .spot .viewport)) (s .spot .row) (s .spot .tile) l ls
-    (segs-of (s .segments .now)) (telling (s .tale) (l ∷ ls) (s .lines .now))
-    left (at-if2 .if2 .left) (h .clip) (h .count) lo lb 
-    (at-closing-look .closing-look .ensures) refl (at-standing .standing .ensures) (at-wide .wide .ensures) (at-args .pre .3) (at-put-line .put-line .ensures)
-    (omega (arith, ltb-true (at-args .args .outer .«open») (at-args .args .tale .levels) (c .if3 .taken)))),
-    record { next = omega (arith, left); paints = at-args .pre .4 .paints; layers = omega (arith, at-if2 .if2 .left); filters = at-args .pre .4 .filters; levels = at-args .pre .2 .few })
+    let left : s .tale .next ≤ 1048576 = ids-left (at-is-out-of-ids .is-out-of-ids .ensures) (at-if1 .if1 .left) in (
+      (λ l ls lo lb h.
+          pop-done (s .spot .width) (box-of (s .spot .viewport)) (s .spot .row) (s .spot .tile) l ls
+          (segs-of (s .segments .now)) (telling (s .tale) (l ∷ ls) (s .lines .now))
+          left (at-if2 .if2 .left) (h .clip) (h .count) lo lb
+          (at-closing-look .closing-look .ensures) refl (at-standing .standing .ensures) (at-wide .wide .ensures) (at-args .pre .3) (at-put-line .put-line .ensures)
+          (omega (arith, ltb-true (at-args .args .outer .«open») (at-args .args .tale .levels) (c .if3 .taken)))),
+      record { next = omega (arith, left); paints = at-args .pre .4 .paints; layers = omega (arith, at-if2 .if2 .left); filters = at-args .pre .4 .filters; levels = at-args .pre .2 .few },
+    )
 
 same-length-2 : tie.Need-same-length-2
 same-length-2 c = search needs
@@ -108,14 +111,15 @@ returns-4 c =
     let at-is-out-of-ids = at-if1 .before in
     let at-args = at-is-out-of-ids .before .before .before in
     let s = at-args .args in
-    let left : s .tale .next ≤ 1048576 = ids-left (at-is-out-of-ids .is-out-of-ids .ensures) (at-if1 .if1 .left) in
-    ((λ l ls lo lb h.
-    pop-done (s .spot .width) (box-of (s .spot .viewport)) (s .spot .row) (s .spot .tile) l ls
-    (segs-of (s .segments .now)) (telling (s .tale) (l ∷ ls) (s .lines .now))
-    left (at-if2 .if2 .left) (h .clip) (h .count) lo lb 
-    (at-closing-look .closing-look .ensures) refl (at-standing .standing .ensures) (at-wide .wide .ensures) (at-args .pre .3) (at-put-line .put-line .ensures)
-    (omega (arith, ltb-false (at-args .args .outer .«open») (at-args .args .tale .levels) (c .if3 .left)))),
-    record { next = omega (arith, left); paints = at-args .pre .4 .paints; layers = omega (arith, at-if2 .if2 .left); filters = at-args .pre .4 .filters; levels = at-args .pre .4 .levels })
+    let left : s .tale .next ≤ 1048576 = ids-left (at-is-out-of-ids .is-out-of-ids .ensures) (at-if1 .if1 .left) in (
+      (λ l ls lo lb h.
+          pop-done (s .spot .width) (box-of (s .spot .viewport)) (s .spot .row) (s .spot .tile) l ls
+          (segs-of (s .segments .now)) (telling (s .tale) (l ∷ ls) (s .lines .now))
+          left (at-if2 .if2 .left) (h .clip) (h .count) lo lb
+          (at-closing-look .closing-look .ensures) refl (at-standing .standing .ensures) (at-wide .wide .ensures) (at-args .pre .3) (at-put-line .put-line .ensures)
+          (omega (arith, ltb-false (at-args .args .outer .«open») (at-args .args .tale .levels) (c .if3 .left)))),
+      record { next = omega (arith, left); paints = at-args .pre .4 .paints; layers = omega (arith, at-if2 .if2 .left); filters = at-args .pre .4 .filters; levels = at-args .pre .4 .levels },
+    )
 
 pub tell-pop-spec : {M : Type 1} → statement M
 tell-pop-spec =

@@ -60,8 +60,12 @@ notice-requires c κs =
     let at-placed = c .before in
     let at-place = at-placed .before .before in
     let at-args = at-place .before .before .before .before .before .before .before .before .before .before in
-    let s = at-args .args in
-    (at-args .pre .0, index-good (tiles (at-placed .placed .given .0 .1 .0 .tiles)) (alpha (at-placed .placed .given .0 .1 .0 .alpha)) (landed (origin (s .scene)) (bounds (s .scene)) (segment-of (s .segment)) _ (at-args .pre .1) (scene-starts (at-args .pre .2)) (sym (ap placed-of (at-placed .placed .given .1)) ∙ at-place .place .ensures) .index))
+    let s = at-args .args in (
+      at-args .pre .0,
+      index-good (tiles (at-placed .placed .given .0 .1 .0 .tiles)) (alpha (at-placed .placed .given .0 .1 .0 .alpha))
+          (landed (origin (s .scene)) (bounds (s .scene)) (segment-of (s .segment)) _ (at-args .pre .1) (scene-starts (at-args .pre .2))
+          (sym (ap placed-of (at-placed .placed .given .1)) ∙ at-place .place .ensures) .index),
+    )
 
 returns-2 : tie.Need-returns-2
 returns-2 c =
@@ -69,7 +73,9 @@ returns-2 c =
     let at-if1 = at-place .before .before .before .before .before in
     let at-args = at-if1 .before .before .before .before .before in
     let s = at-args .args in
-    seen-away (s .spot .width) (box-of (s .spot .viewport)) (s .spot .row) (s .spot .tile) (box-of (s .clip)) (look-of (s .look)) _ (segment-of (s .segment)) (at-if1 .if1 .left) (noted (c .before .before .before)) (sym (ap placed-of (c .enum-told .given .1)) ∙ at-place .place .ensures ∙ cut-in-scene (at-args .pre .2) (segment-of (s .segment)))
+    seen-away (s .spot .width) (box-of (s .spot .viewport)) (s .spot .row) (s .spot .tile) (box-of (s .clip)) (look-of (s .look)) _
+    (segment-of (s .segment)) (at-if1 .if1 .left) (noted (c .before .before .before))
+    (sym (ap placed-of (c .enum-told .given .1)) ∙ at-place .place .ensures ∙ cut-in-scene (at-args .pre .2) (segment-of (s .segment)))
 
 returns-3 : tie.Need-returns-3
 returns-3 c =
@@ -79,7 +85,9 @@ returns-3 c =
     let at-args = at-if1 .before .before .before .before .before in
     let s = at-args .args in
     c .notice .ensures
-    ∙ seen-left (s .spot .width) (box-of (s .spot .viewport)) (s .spot .row) (s .spot .tile) (box-of (s .clip)) (look-of (s .look)) _ (segment-of (s .segment)) (at-if1 .if1 .left) (noted (c .before .before .before .before .before)) _ (sym (ap placed-of (at-placed .placed .given .1)) ∙ at-place .place .ensures ∙ cut-in-scene (at-args .pre .2) (segment-of (s .segment)))
+    ∙ seen-left (s .spot .width) (box-of (s .spot .viewport)) (s .spot .row) (s .spot .tile) (box-of (s .clip)) (look-of (s .look)) _
+    (segment-of (s .segment)) (at-if1 .if1 .left) (noted (c .before .before .before .before .before)) _
+    (sym (ap placed-of (at-placed .placed .given .1)) ∙ at-place .place .ensures ∙ cut-in-scene (at-args .pre .2) (segment-of (s .segment)))
 
 pub see-spec : {M : Type 1} → statement M
 see-spec =

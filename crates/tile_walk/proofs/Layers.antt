@@ -1,7 +1,7 @@
 -- A layer's steps, one after the other.
 use Prim.Native.Nat.{ℕ, zero, suc, _-_, _≤_, _+_, _*_}
 use native.Mathlib.Omega.{arith}
-use mathlib.Core.Path.{_≡_, refl, sym, ap, _∙_}
+use mathlib.Core.Path.{_≡_, refl, ap, _∙_}
 use mathlib.Core.Bool.{true, false, not}
 use mathlib.Core.List.{List, []}
 use lib.ListN.{length, getD}

@@ -1,7 +1,7 @@
 -- Runs of draws and of nodes, one more at a time.
 use Prim.Native.Nat.{ℕ, _+_, _-_, _*_, _≤_, _<_}
 use native.Mathlib.Omega.{arith}
-use mathlib.Core.Path.{_≡_, refl, sym, _∙_}
+use mathlib.Core.Path.{_≡_, refl}
 use mathlib.Core.Bool.{not}
 use mathlib.Core.List.{List, []}
 use lib.ListN.{length, getD}
@@ -22,7 +22,7 @@ use Rattle.tile_steps.specs.declared.Spot.{Spot}
 use Rattle.tile_steps.specs.declared.Within.{Within}
 use Rattle.tile_steps.specs.Telling.{Telling}
 use Rattle.tile_steps.specs.Places.{Holds, Says}
-use Rattle.tile_walk.proofs.Said.{said-by, stops, goes-on, Left, all-said, one-refused, one-turned}
+use Rattle.tile_walk.proofs.Said.{stops, goes-on, Left, all-said, one-refused, one-turned}
 use Rattle.tile_walk.proofs.Steps.{told}
 
 module _ (s : Spot) (l : Layout) (ws : List ℕ) where

@@ -1,17 +1,17 @@
 -- What a judged file's records are to the tile's steps: a draw's paint and segments, a layer's clip, a filter's dest box.
 use Prim.Native.Nat.{ℕ, zero, suc, _+_, _-_, _*_, _/_, _≤_, _<_}
 use native.Mathlib.Omega.{arith}
-use mathlib.Core.Path.{_≡_, refl, sym, ap, _∙_}
+use mathlib.Core.Path.{_≡_, refl, ap, _∙_}
 use mathlib.Core.Bool.{Bool, true, false, _&&_, cond}
 use mathlib.Core.List.{List, [], _∷_}
 use mathlib.Core.Option.{Option, none, some}
-use lib.ListN.{length, getD, take, drop, length-take, length-drop}
+use lib.ListN.{length, take, drop, length-take, length-drop}
 use lib.Dec.{leb, ltb, eqb}
 use borrow.Author.Tests.{leb-true, ltb-true, eq-eqb}
 use Rattle.rules.specs.Lists.{every, slice}
 use Rattle.rules.specs.Boxes.{Box, by-4, bounded, good-box, good-dest}
 use Rattle.rules.specs.Blends.{good-blend}
-use Rattle.rules.specs.Segments.{Segment, good-segment}
+use Rattle.rules.specs.Segments.{good-segment}
 use Rattle.rules.specs.Spans.{good-range}
 use Rattle.rules.specs.Inputs.{Draw, Clip, draw-paint, good-thread, good-paint, good-handle, good-draw, good-clip, good-filter, good-pixmap, all-good}
 use Rattle.rules.specs.Recording.{Recording, LayerRec, good-clip-rec, good-layer-rec, zero-clip, zero-filter, layer-rec}
@@ -22,7 +22,6 @@ use Rattle.segments.proofs.Laws.{segs-slice}
 use Rattle.screen_layers.specs.Layers.{clip-of}
 use Rattle.step_fill.specs.Fills.{paints-of}
 use Rattle.file_form.specs.declared.Layout.{Layout}
-use Rattle.file_form.specs.Layouts.{Fits}
 use Rattle.file_form.specs.Places.{recorded, draw-from, layer-from, segment-from}
 use Rattle.file_form.proofs.Eaches.{each-length}
 use Rattle.file_form.proofs.Reading.{lent-paints, paints-width}

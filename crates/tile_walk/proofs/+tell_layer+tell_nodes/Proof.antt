@@ -120,8 +120,7 @@ tell-layer-tell-filter-layer-requires t c κs =
     let at-wide = at-if2 .before .before .before in
     let at-if1 = at-wide .before .before in
     let s = at-if1 .before .before .before in
-    let few : at-wide .wide .result < s .args .l .layers .count = omega (arith, at-wide .wide .ensures, s .pre .1 .2, at-if1 .if1 .left) in
-    (
+    let few : at-wide .wide .result < s .args .l .layers .count = omega (arith, at-wide .wide .ensures, s .pre .1 .2, at-if1 .if1 .left) in (
       s .pre .1 .0,
       layer-room (s .args .l) (s .args .w .now) (s .pre .1 .0 .walk) (at-wide .wide .result) few,
       layer-good (s .args .l) (s .args .w .now) (s .pre .1 .0 .walk) (at-wide .wide .result) few,
@@ -144,8 +143,7 @@ tell-layer-returns-2 t c =
     let few : at-wide .wide .result < s .args .l .layers .count = omega (arith, at-wide .wide .ensures, s .pre .1 .2, at-if1 .if1 .left) in
     let r = recorded (s .args .l) (s .args .w .now) in
     let y = layer-from (s .args .w .now) (s .args .l .layers .at + 22 * at-wide .wide .result) in
-    let one : y .kind ≡ 1 = omega (arith, layer-kind (s .args .l) (s .args .w .now) (s .pre .1 .0 .walk) (at-wide .wide .result) few, at-if2 .if2 .taken) in
-    (
+    let one : y .kind ≡ 1 = omega (arith, layer-kind (s .args .l) (s .args .w .now) (s .pre .1 .0 .walk) (at-wide .wide .result) few, at-if2 .if2 .taken) in (
       λ ls o. said-by (names-one (s .args .spot) (s .args .l) (s .args .w .now) _ _ _ (at-wide .wide .result) (at-wide .wide .ensures) (at-if1 .if1 .left) (s .pre .1 .2) ∙ as-filter (s .args .spot) r y _ one _) (at-tell-filter-layer .tell-filter-layer .ensures .0 ls o),
       at-tell-filter-layer .tell-filter-layer .ensures .1,
     )
@@ -166,8 +164,7 @@ tell-layer-tell-push-requires t c κs =
     let s = at-if1 .before .before .before in
     let few : at-wide .wide .result < s .args .l .layers .count = omega (arith, at-wide .wide .ensures, s .pre .1 .2, at-if1 .if1 .left) in
     let r = recorded (s .args .l) (s .args .w .now) in
-    let y = layer-from (s .args .w .now) (s .args .l .layers .at + 22 * at-wide .wide .result) in
-    (
+    let y = layer-from (s .args .w .now) (s .args .l .layers .at + 22 * at-wide .wide .result) in (
       s .pre .1 .0 .spotted,
       s .pre .1 .0 .bounded,
       s .pre .1 .0 .low,
@@ -185,8 +182,7 @@ tell-layer-returns-3 t c =
     let s = at-if1 .before .before .before in
     let r = recorded (s .args .l) (s .args .w .now) in
     let y = layer-from (s .args .w .now) (s .args .l .layers .at + 22 * at-wide .wide .result) in
-    let e = at-props-at .props-at .ensures in
-    (
+    let e = at-props-at .props-at .ensures in (
       λ ls o.
           let p = at-tell-push .tell-push .ensures .0 (props-of y) ls (s .args .lines .now) (blend-told y e) (clip-told y e) o in
           said-by (names-one (s .args .spot) (s .args .l) (s .args .w .now) _ _ _ (at-wide .wide .result) (at-wide .wide .ensures) (at-if1 .if1 .left) (s .pre .1 .2))
@@ -265,8 +261,7 @@ tell-layer-tell-nodes-requires t c κs =
     let at-if1 = at-wide .before .before in
     let s = at-if1 .before .before .before in
     let few : at-wide .wide .result < s .args .l .layers .count = omega (arith, at-wide .wide .ensures, s .pre .1 .2, at-if1 .if1 .left) in
-    let range = layer-range (s .args .l) (s .args .w .now) (s .pre .1 .0 .walk) (at-wide .wide .result) few in
-    (
+    let range = layer-range (s .args .l) (s .args .w .now) (s .pre .1 .0 .walk) (at-wide .wide .result) few in (
       omega (arith, s .pre .0, s .pre .1 .1, at-tell-push .tell-push .ensures .3 (at-if3 .if3 .left), at-tell-push .tell-push .ensures .2 .few),
       (
         record {
@@ -302,8 +297,7 @@ tell-layer-returns-4 t c =
     let s = at-if1 .before .before .before in
     let r = recorded (s .args .l) (s .args .w .now) in
     let y = layer-from (s .args .w .now) (s .args .l .layers .at + 22 * at-wide .wide .result) in
-    let e = at-props-at .props-at .ensures in
-    (
+    let e = at-props-at .props-at .ensures in (
       λ ls o.
           let p = at-tell-push .tell-push .ensures .0 (props-of y) ls (s .args .lines .now) (blend-told y e) (clip-told y e) o in
           said-by (names-one (s .args .spot) (s .args .l) (s .args .w .now) _ _ _ (at-wide .wide .result) (at-wide .wide .ensures) (at-if1 .if1 .left) (s .pre .1 .2))
@@ -315,19 +309,19 @@ tell-layer-returns-4 t c =
 tell-layer-mul-e : (t : ℕ) → tell-layer-lts.Need-mul-e (layer-claims t) (tell-layer-at t) tell-layer.Post
 tell-layer-mul-e t c =
     let s = c .before .before .before .before .before .before .before .before .before .before .before .before .before .before .before .before .before .before .before .before .before .before .before .before .before .before
-        .before in
+    .before in
     omega (arith, s .pre .1 .0 .walk .fits .segments .few)
 
 tell-layer-add-e : (t : ℕ) → tell-layer-lts.Need-add-e (layer-claims t) (tell-layer-at t) tell-layer.Post
 tell-layer-add-e t c =
     let s = c .before .before .before .before .before .before .before .before .before .before .before .before .before .before .before .before .before .before .before .before .before .before .before .before .before .before
-        .before in
+    .before in
     let n = s .pre .1 .0 .walk .fits .segments in omega (arith, n .few, n .ends)
 
 tell-layer-mul-tell-pop : (t : ℕ) → tell-layer-lts.Need-mul-tell-pop (layer-claims t) (tell-layer-at t) tell-layer.Post
 tell-layer-mul-tell-pop t c =
     let s = c .before .before .before .before .before .before .before .before .before .before .before .before .before .before .before .before .before .before .before .before .before .before .before .before .before .before
-        .before .before in
+    .before .before in
     omega (arith, s .pre .1 .0 .walk .fits .segments .ends)
 
 tell-layer-sub-tell-pop : (t : ℕ) → tell-layer-lts.Need-sub-tell-pop (layer-claims t) (tell-layer-at t) tell-layer.Post
@@ -339,7 +333,7 @@ tell-layer-part-tell-pop-start t c = search needs
 tell-layer-part-tell-pop-end : (t : ℕ) → tell-layer-lts.Need-part-tell-pop-end (layer-claims t) (tell-layer-at t) tell-layer.Post
 tell-layer-part-tell-pop-end t c =
     let s = c .before .before .before .before .before .before .before .before .before .before .before .before .before .before .before .before .before .before .before .before .before .before .before .before .before .before
-        .before .before in
+    .before .before in
     omega (arith, s .pre .1 .0 .walk .fits .segments .ends)
 
 tell-layer-tell-pop-requires : (t : ℕ) → tell-layer-lts.Need-tell-pop-requires (layer-claims t) (tell-layer-at t) tell-layer.Post
@@ -352,9 +346,7 @@ tell-layer-tell-pop-requires t c κs =
     let at-if1 = at-wide .before .before in
     let s = at-if1 .before .before .before in
     let few : at-wide .wide .result < s .args .l .layers .count = omega (arith, at-wide .wide .ensures, s .pre .1 .2, at-if1 .if1 .left) in
-    let r = recorded (s .args .l) (s .args .w .now) in
-    let y = layer-from (s .args .w .now) (s .args .l .layers .at + 22 * at-wide .wide .result) in
-    (
+    let y = layer-from (s .args .w .now) (s .args .l .layers .at + 22 * at-wide .wide .result) in (
       s .pre .1 .0 .spotted,
       at-tell-push .tell-push .ensures .2,
       s .pre .1 .0 .bounded,
@@ -387,8 +379,7 @@ tell-layer-returns-5 t c =
     let s = at-if1 .before .before .before in
     let r = recorded (s .args .l) (s .args .w .now) in
     let y = layer-from (s .args .w .now) (s .args .l .layers .at + 22 * at-wide .wide .result) in
-    let e = at-props-at .props-at .ensures in
-    (
+    let e = at-props-at .props-at .ensures in (
       λ ls o.
           let p = at-tell-push .tell-push .ensures .0 (props-of y) ls (s .args .lines .now) (blend-told y e) (clip-told y e) o in
           said-by (names-one (s .args .spot) (s .args .l) (s .args .w .now) _ _ _ (at-wide .wide .result) (at-wide .wide .ensures) (at-if1 .if1 .left) (s .pre .1 .2))
@@ -480,17 +471,16 @@ tell-nodes-tell-draws-requires t c κs =
     let at-loop = at-loop-test .before in
     let s = at-loop .before .before .before .before in
     let few : at-loop .loop .i < s .args .l .nodes .count = omega (arith, at-loop-test .loop-test .taken, s .pre .1 .3) in
-    let range = node-range (s .args .l) (s .args .w .now) (s .pre .1 .0 .walk) (at-loop .loop .i) few in
-    (
-        record {
-          walk = s .pre .1 .0 .walk;
-          spotted = s .pre .1 .0 .spotted;
-          bounded = s .pre .1 .0 .bounded;
-          low = at-loop .loop .inv .2;
-          room = at-loop .loop .inv .1 ∙ s .pre .1 .0 .room;
-        },
-        omega (arith, at-wide .wide .ensures, at-wide2 .wide2 .ensures, range .0),
-        omega (arith, at-wide2 .wide2 .ensures, range .1 .0),
+    let range = node-range (s .args .l) (s .args .w .now) (s .pre .1 .0 .walk) (at-loop .loop .i) few in (
+      record {
+        walk = s .pre .1 .0 .walk;
+        spotted = s .pre .1 .0 .spotted;
+        bounded = s .pre .1 .0 .bounded;
+        low = at-loop .loop .inv .2;
+        room = at-loop .loop .inv .1 ∙ s .pre .1 .0 .room;
+      },
+      omega (arith, at-wide .wide .ensures, at-wide2 .wide2 .ensures, range .0),
+      omega (arith, at-wide2 .wide2 .ensures, range .1 .0),
     )
 
 tell-nodes-same-length : (t : ℕ) → tell-nodes-lts.Need-same-length (nodes-claims t) (tell-nodes-at t) tell-nodes.Post tell-nodes-Inv-loop tell-nodes-μ-loop
@@ -506,10 +496,9 @@ tell-nodes-returns t c =
     let at-wide = at-wide2 .before .before in
     let at-loop-test = at-wide .before .before .before in
     let at-loop = at-loop-test .before in
-    let s = at-loop .before .before .before .before in
-    (
+    let s = at-loop .before .before .before .before in (
       draws-refused (s .args .spot) (s .args .l) (s .args .w .now) _ (at-loop .loop .inv .3) (at-loop-test .loop-test .taken) (s .pre .1 .3) _ _
-      (λ ls o. rw (at-wide .wide .ensures, at-wide2 .wide2 .ensures) at (at-tell-draws .tell-draws .ensures .0 ls o)) (c .if1 .taken),
+          (λ ls o. rw (at-wide .wide .ensures, at-wide2 .wide2 .ensures) at (at-tell-draws .tell-draws .ensures .0 ls o)) (c .if1 .taken),
       at-tell-draws .tell-draws .ensures .1,
     )
 
@@ -543,8 +532,7 @@ tell-nodes-tell-layer-requires t c κs =
     let at-loop-test = at-tell-draws .before .before .before .before .before .before .before in
     let at-loop = at-loop-test .before in
     let s = at-loop .before .before .before .before in
-    let few : at-loop .loop .i < s .args .l .nodes .count = omega (arith, at-loop-test .loop-test .taken, s .pre .1 .3) in
-    (
+    let few : at-loop .loop .i < s .args .l .nodes .count = omega (arith, at-loop-test .loop-test .taken, s .pre .1 .3) in (
       omega (arith, s .pre .0),
       (
         record {
@@ -575,10 +563,9 @@ tell-nodes-returns-2 t c =
     let at-wide = at-wide2 .before .before in
     let at-loop-test = at-wide .before .before .before in
     let at-loop = at-loop-test .before in
-    let s = at-loop .before .before .before .before in
-    (
+    let s = at-loop .before .before .before .before in (
       layer-refused (s .args .spot) (s .args .l) (s .args .w .now) _ (at-loop .loop .inv .3) (at-loop-test .loop-test .taken) (s .pre .1 .3) _ _
-      (λ ls o. rw (at-wide .wide .ensures, at-wide2 .wide2 .ensures) at (at-tell-draws .tell-draws .ensures .0 ls o)) (at-if1 .if1 .left) _ _ (at-tell-layer .tell-layer .ensures .0) (c .if2 .taken),
+          (λ ls o. rw (at-wide .wide .ensures, at-wide2 .wide2 .ensures) at (at-tell-draws .tell-draws .ensures .0 ls o)) (at-if1 .if1 .left) _ _ (at-tell-layer .tell-layer .ensures .0) (c .if2 .taken),
       at-tell-layer .tell-layer .ensures .1,
     )
 
@@ -603,13 +590,12 @@ tell-nodes-loop-again t c =
     let at-wide = at-wide2 .before .before in
     let at-loop-test = at-wide .before .before .before in
     let at-loop = at-loop-test .before in
-    let s = at-loop .before .before .before .before in
-    (
+    let s = at-loop .before .before .before .before in (
       omega (arith, at-loop-test .loop-test .taken),
       at-tell-layer .tell-layer .kept .1 .1 .1 .1 .1 .1 .1 .0 ∙ at-tell-draws .tell-draws .kept .1 .1 .1 .1 .1 .1 .1 .0 ∙ at-loop .loop .inv .1,
       at-tell-layer .tell-layer .ensures .1,
       node-turned (s .args .spot) (s .args .l) (s .args .w .now) _ (at-loop .loop .inv .3) (at-loop-test .loop-test .taken) (s .pre .1 .3) _ _
-      (λ ls o. rw (at-wide .wide .ensures, at-wide2 .wide2 .ensures) at (at-tell-draws .tell-draws .ensures .0 ls o)) (at-if1 .if1 .left) _ _ (at-tell-layer .tell-layer .ensures .0) (at-if2 .if2 .left),
+          (λ ls o. rw (at-wide .wide .ensures, at-wide2 .wide2 .ensures) at (at-tell-draws .tell-draws .ensures .0 ls o)) (at-if1 .if1 .left) _ _ (at-tell-layer .tell-layer .ensures .0) (at-if2 .if2 .left),
     )
 
 tell-nodes-same-length-3 : (t : ℕ) → tell-nodes-lts.Need-same-length-3 (nodes-claims t) (tell-nodes-at t) tell-nodes.Post tell-nodes-Inv-loop tell-nodes-μ-loop

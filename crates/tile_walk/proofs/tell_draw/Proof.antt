@@ -67,8 +67,7 @@ tell-fill-requires c κs =
     let at-draw-at = c .before .before .before .before in
     let s = at-draw-at .before .before .before .before .before .before .before .before .before in
     let d = draw-is (s .args .l) (s .args .w .now) (s .pre .0 .walk) (s .args .i) (s .pre .1) in
-    let e = at-draw-at .draw-at .ensures in
-    (
+    let e = at-draw-at .draw-at .ensures in (
       s .pre .0 .spotted,
       s .pre .0 .bounded,
       s .pre .0 .low,
@@ -86,10 +85,9 @@ returns c =
     let at-tell-fill = c .before .before in
     let at-is-eligible = at-tell-fill .before .before .before in
     let at-draw-at = at-is-eligible .before .before in
-    let s = at-draw-at .before .before .before .before .before .before .before .before .before in
-    (
+    let s = at-draw-at .before .before .before .before .before .before .before .before .before in (
       λ ls o. draw-told (s .args .spot) (s .args .l) (s .args .w .now) (s .pre .0 .walk) (s .args .i) (s .pre .1) (s .args .within) (telling (s .args .tale) ls (s .args .lines .now)) o
-      (rw (at-is-eligible .is-eligible .ensures, at-draw-at .draw-at .ensures) at (at-tell-fill .tell-fill .ensures .0 ls o)),
+          (rw (at-is-eligible .is-eligible .ensures, at-draw-at .draw-at .ensures) at (at-tell-fill .tell-fill .ensures .0 ls o)),
       at-tell-fill .tell-fill .ensures .1,
     )
 

@@ -4,7 +4,6 @@ use native.Mathlib.Omega.{arith}
 use mathlib.Core.Path.{_≡_, refl, _∙_}
 use mathlib.Core.List.{List}
 use lib.ListN.{length}
-use borrow.Author.Needs.{needs}
 use Rattle.rules.specs.Plans.{Layer}
 use Rattle.rect.specs.Rects.{box-of}
 use Rattle.tile_steps.specs.Places.{Low, telling}
@@ -33,8 +32,7 @@ tell-draw-requires c κs =
     let at-loop-test = c .before in
     let at-loop = at-loop-test .before in
     let s = at-loop .before .before .before in
-    let i = at-loop .loop .inv in
-    (
+    let i = at-loop .loop .inv in (
       record { walk = s .pre .0 .walk; spotted = s .pre .0 .spotted; bounded = s .pre .0 .bounded; low = i .2; room = i .1 ∙ s .pre .0 .room },
       omega (arith, at-loop-test .loop-test .taken, s .pre .2),
     )
@@ -50,8 +48,7 @@ returns c =
     let at-tell-draw = c .before .before .before .before in
     let at-loop-test = at-tell-draw .before .before in
     let at-loop = at-loop-test .before in
-    let s = at-loop .before .before .before in
-    (
+    let s = at-loop .before .before .before in (
       draw-refused (s .args .spot) (s .args .l) (s .args .w .now) (s .pre .0 .walk) (at-loop .loop .inv .3) (at-loop-test .loop-test .taken) (s .pre .2) _ _ (at-tell-draw .tell-draw .ensures .0) (c .if1 .taken),
       at-tell-draw .tell-draw .ensures .1,
     )
@@ -73,8 +70,7 @@ loop-again c =
     let at-tell-draw = at-if1 .before .before .before .before in
     let at-loop-test = at-tell-draw .before .before in
     let at-loop = at-loop-test .before in
-    let s = at-loop .before .before .before in
-    (
+    let s = at-loop .before .before .before in (
       omega (arith, at-loop-test .loop-test .taken),
       at-tell-draw .tell-draw .kept .1 .1 .1 .1 .1 .1 .0 ∙ at-loop .loop .inv .1,
       at-tell-draw .tell-draw .ensures .1,

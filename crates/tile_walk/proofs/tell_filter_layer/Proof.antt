@@ -43,8 +43,7 @@ returns c =
     let s = at-shared-slice-known .before in
     let r = recorded (s .args .l) (s .args .w .now) in
     let y = layer-from (s .args .w .now) (s .args .at) in
-    let q = buffer-told y (at-props-at .props-at .ensures) _ (at-needs-buffer .needs-buffer .ensures) (omega (arith, at-shared-slice-known .shared-slice-known .given (s .args .at + 5))) in
-    (
+    let q = buffer-told y (at-props-at .props-at .ensures) _ (at-needs-buffer .needs-buffer .ensures) (omega (arith, at-shared-slice-known .shared-slice-known .given (s .args .at + 5))) in (
       λ ls o. plain (s .args .spot) r y (q ∙ not-true _ (at-if1 .if1 .taken)) (telling (s .args .tale) ls (s .args .lines .now)) (filter-told (s .args .spot) _ _ _ (at-tell-picture .tell-picture .ensures .0 ls o)),
       at-tell-picture .tell-picture .ensures .1,
     )
@@ -69,8 +68,7 @@ returns-2 c =
     let r = recorded (s .args .l) (s .args .w .now) in
     let y = layer-from (s .args .w .now) (s .args .at) in
     let q = buffer-told y (at-props-at .props-at .ensures) _ (at-needs-buffer .needs-buffer .ensures) (omega (arith, at-shared-slice-known .shared-slice-known .given (s .args .at + 5))) in
-    let e = at-props-at .props-at .ensures in
-    (
+    let e = at-props-at .props-at .ensures in (
       λ ls o.
           let p = at-tell-push .tell-push .ensures .0 (props-of y) ls (s .args .lines .now) (blend-told y e) (clip-told y e) o in
           filter-unpushed (s .args .spot) r y (q ∙ not-false _ (at-if1 .if1 .left)) (telling (s .args .tale) ls (s .args .lines .now)) (push-told (s .args .spot) _ _ (p .0)) (c .if2 .taken) _,
@@ -103,8 +101,7 @@ returns-3 c =
     let r = recorded (s .args .l) (s .args .w .now) in
     let y = layer-from (s .args .w .now) (s .args .at) in
     let q = buffer-told y (at-props-at .props-at .ensures) _ (at-needs-buffer .needs-buffer .ensures) (omega (arith, at-shared-slice-known .shared-slice-known .given (s .args .at + 5))) in
-    let e = at-props-at .props-at .ensures in
-    (
+    let e = at-props-at .props-at .ensures in (
       λ ls o.
           let p = at-tell-push .tell-push .ensures .0 (props-of y) ls (s .args .lines .now) (blend-told y e) (clip-told y e) o in
           filter-undrawn (s .args .spot) r y (q ∙ not-false _ (at-if1 .if1 .left)) (telling (s .args .tale) ls (s .args .lines .now)) (push-told (s .args .spot) _ _ (p .0)) (at-if2 .if2 .left)
@@ -145,9 +142,7 @@ tell-pop-requires c κs =
     let at-tell-push = at-if2 .before .before in
     let at-props-at = at-tell-push .before .before .before .before in
     let s = at-props-at .before .before .before in
-    let r = recorded (s .args .l) (s .args .w .now) in
-    let y = layer-from (s .args .w .now) (s .args .at) in
-    (
+    let y = layer-from (s .args .w .now) (s .args .at) in (
       s .pre .0 .spotted,
       at-tell-push .tell-push .ensures .2,
       s .pre .0 .bounded,
@@ -176,8 +171,7 @@ returns-4 c =
     let r = recorded (s .args .l) (s .args .w .now) in
     let y = layer-from (s .args .w .now) (s .args .at) in
     let q = buffer-told y (at-props-at .props-at .ensures) _ (at-needs-buffer .needs-buffer .ensures) (omega (arith, at-shared-slice-known .shared-slice-known .given (s .args .at + 5))) in
-    let e = at-props-at .props-at .ensures in
-    (
+    let e = at-props-at .props-at .ensures in (
       λ ls o.
           let p = at-tell-push .tell-push .ensures .0 (props-of y) ls (s .args .lines .now) (blend-told y e) (clip-told y e) o in
           filter-closed (s .args .spot) r y (q ∙ not-false _ (at-if1 .if1 .left)) (telling (s .args .tale) ls (s .args .lines .now)) (push-told (s .args .spot) _ _ (p .0)) (at-if2 .if2 .left)

@@ -40,8 +40,7 @@ returns c =
     let at-tell-filter = c .before .before in
     let at-pixmap-of = at-tell-filter .before .before in
     let at-box-at = at-pixmap-of .before .before in
-    let s = at-box-at .before .before .before in
-    (
+    let s = at-box-at .before .before .before in (
       λ ls o. at-tell-filter .tell-filter .ensures .0 (filter-from (s .args .w .now) (s .args .at)) ls (sym (at-box-at .box-at .ensures ∙ filter-box _ _)) (sym (at-pixmap-of .pixmap-of .ensures)) o,
       at-tell-filter .tell-filter .ensures .1,
     )

@@ -1,0 +1,4 @@
+pub mod Rows
+pub mod Looks
+pub mod Inside
+pub mod Lines

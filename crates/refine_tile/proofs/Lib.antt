@@ -2,3 +2,5 @@ pub mod Rows
 pub mod Looks
 pub mod Inside
 pub mod Lines
+pub mod Stories
+pub mod Tells

@@ -4,3 +4,4 @@ pub mod Inside
 pub mod Lines
 pub mod Stories
 pub mod Tells
+pub mod Walked

@@ -3,7 +3,7 @@ use Prim.Native.Nat.{ℕ, zero, suc, _+_, _-_, _*_, _/_}
 use mathlib.Core.Path.{_≡_, refl, sym, _∙_, ap}
 use mathlib.Core.Bool.{Bool, true, false, _&&_, _||_, not, cond}
 use mathlib.Core.Option.{Option, none, some}
-use mathlib.Core.List.{List, [], _∷_, _++_, map}
+use mathlib.Core.List.{List, [], _∷_, _++_, map, append-nil, append-assoc}
 use lib.ListN.{length}
 use Rattle.rules.specs.Lists.{such, keep, some-of, is-empty, is-none, join}
 use Rattle.rules.specs.Answers.{Done}
@@ -13,38 +13,16 @@ use Rattle.rules.specs.Segments.{Segment, judge-segments, Cut}
 use Rattle.rules.specs.Inputs.{Paint, Draw, draw-segments, draw-paint, good-fill, Clip, Props, Filter}
 use Rattle.rules.specs.Plans.{Step, a-fill, a-push, a-pop, a-filter, eligible, clip-segments, clip-fits, filter-box, draws-nothing}
 use Rattle.rules.specs.Painting.{Entry}
-use Rattle.rules.specs.Plain.{Told, OpenLayer, Story, box-now, here, closers, in-rows, tell, tell-step}
+use Rattle.rules.specs.Plain.{Told, OpenLayer, Story, box-now, here, closers, in-rows, tell, tell-step, tell-steps}
 use Rattle.rules.proofs.All.{All, nil, cons, head}
 use Rattle.rules.proofs.laws.Bounds.{judged-facts}
 use Rattle.rules_picture.proofs.Cases.{by}
 use Rattle.rules_reason.specs.Reasons.{Account, account-fill, account-pop, account-filter, account-step, accounts, covering, keeping, meets, layer-covers, layer-keeps}
 use Rattle.tile_steps.specs.Telling.{Line, standing-of, line-words, Look, no-look, look, closing-look, met, in-row}
+use Rattle.refine_tile.specs.Retold.{entry-of, tells, Says, Say, said, says}
 use Rattle.refine_tile.proofs.Rows.{rows-met, tiles-met, Even, meets-scene}
 use Rattle.refine_tile.proofs.Looks.{looked, and-implied}
 use Rattle.refine_tile.proofs.Inside.{Inside, PopFits, Fits, step-inside, Fitting, no-step, and-then}
-
--- the entry that a line tells
-abbrev pub entry-of : Line → Entry
-entry-of l = record { layer = l .layer; attribute = l .attribute; alpha = l .alpha; nesting = l .nesting }
-
--- what covers the tile, after the cut too, in a touched row, is told
-abbrev pub tells : Account → Bool
-tells k = k .covered && k .kept && k .touched
-
--- A line says what an account says: its attribute and its standing; and the account tells the line's entry exactly if it is covered, kept and
--- touched. (A line that tells nothing may have an alpha index.)
-pub record Says (k : Account) (l : Line) : Type 0 where
-  pub id : ℕ
-  pub hides : Bool
-  pub layer : l .layer ≡ k .layer
-  pub attribute : l .attribute ≡ k .attribute
-  pub standing : l .standing ≡ standing-of (k .covered) (k .kept) (k .touched) hides
-  pub told : k .told ≡ keep (tells k) (record { entry = entry-of l; id = id; hides = hides }) []
-
--- one after the other
-pub data Say : List Account → List Line → Type 0 where
-  said : Say [] []
-  says : {k : Account} {l : Line} {ks : List Account} {ls : List Line} → Says k l → Say ks ls → Say (k ∷ ks) (l ∷ ls)
 
 pub say-length : {ks : List Account} {ls : List Line} → Say ks ls → length ls ≡ length ks
 say-length said = refl
@@ -231,3 +209,10 @@ module _ (w : ℕ) (v : Box) (row tile : ℕ) where
   unfolding accounts all-lines
   steps-say ev no-step i = said
   steps-say ev (and-then {x = x} {o = o} f fs) i = say-append (step-says ev x o f i) (steps-say ev fs (step-inside w v row tile ev x o f i))
+
+  pub lines-more : (x : Step) (xs : List Step) (o : Story) → all-lines (xs ++ (x ∷ [])) o ≡ all-lines xs o ++ step-lines x (tell-steps w v row tile xs o)
+  unfolding all-lines tell-steps
+  lines-more x [] o = append-nil (step-lines x o)
+  lines-more x (y ∷ xs) o =
+      rw (lines-more x xs (tell-step w v row tile y o))
+      (sym (append-assoc (step-lines y o) (all-lines xs (tell-step w v row tile y o)) (step-lines x (tell-steps w v row tile xs (tell-step w v row tile y o)))))

@@ -28,15 +28,12 @@ use Rattle.rules_picture.proofs.Follows.{layer-in}
 use Rattle.cmd.specs.Attrs.{words-at}
 use Rattle.tile_steps.specs.Sizes.{line-size}
 use Rattle.tile_steps.specs.Telling.{Telling, Line, line-words, alpha-words, no-look, look, with-line, touch, no-id, drawn, undrawn, tell-fill, tell-push, closed, tell-pop, filtered, tell-filter, tell-at, in-row}
+use Rattle.refine_tile.specs.Retold.{flat}
 use Rattle.refine_tile.proofs.Rows.{rows-met}
 use Rattle.refine_tile.proofs.Looks.{looked}
 use Rattle.refine_tile.proofs.Inside.{PopFits, Fits}
 use Rattle.refine_tile.proofs.Lines.{fill-line, pop-line, filter-line, fill-lines, pop-lines, filter-lines, step-lines}
 use Rattle.refine_tile.proofs.Stories.{Stands, planned, Limits, filter-planned}
-
--- lines as words, one after the other
-abbrev pub flat : List Line → List ℕ
-flat ls = join line-words ls
 
 line-length : (l : Line) → length (line-words l) ≡ 6
 line-length l = go (l .alpha)

@@ -5,3 +5,5 @@ pub mod Lines
 pub mod Stories
 pub mod Tells
 pub mod Walked
+pub mod Numbers
+pub mod Shows

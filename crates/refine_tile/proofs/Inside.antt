@@ -1,19 +1,17 @@
 -- The open layers of a tile's story: each box lies within the one around it, and a row that is touched for a layer is a row of its box.
 use Prim.Native.Nat.{ℕ}
-use native.Mathlib.Omega.{arith}
 use native.Mathlib.Nat.{le-refl}
-use mathlib.Core.Path.{_≡_, refl, sym, _∙_, ap}
-use mathlib.Core.Bool.{Bool, true, false, _&&_, not, cond}
+use mathlib.Core.Path.{_≡_, refl, sym, _∙_}
+use mathlib.Core.Bool.{Bool, true, false, _&&_, not}
 use mathlib.Core.Option.{Option, none, some}
 use mathlib.Core.List.{List, [], _∷_, _++_}
-use Rattle.rules.specs.Lists.{is-empty}
 use Rattle.rules.specs.Answers.{Done}
-use Rattle.rules.specs.Boxes.{Box, meet, to-local}
+use Rattle.rules.specs.Boxes.{Box, to-local}
 use Rattle.rules.specs.Segments.{Segment, judge-segments}
 use Rattle.rules.specs.Inputs.{Clip, Props, Filter, draw-segments, good-fill}
-use Rattle.rules.specs.Plans.{Layer, Step, a-fill, a-push, a-pop, a-filter, layer-box, touches-all, clip-fits, clip-segments, filter-box, draws-nothing}
-use Rattle.rules.specs.Plain.{OpenLayer, Story, touch-all, box-now, here, in-rows, tell-fill, tell-push, tell-pop, tell-filter, tell-step, tell-steps}
-use Rattle.rules.proofs.All.{All, nil, cons, head, tail, all-map, all-over, never, and-right}
+use Rattle.rules.specs.Plans.{Step, a-fill, a-push, a-pop, a-filter, layer-box, touches-all, clip-fits, clip-segments, filter-box, draws-nothing}
+use Rattle.rules.specs.Plain.{OpenLayer, Story, touch-all, box-now, in-rows, tell-push, tell-pop, tell-filter, tell-step, tell-steps}
+use Rattle.rules.proofs.All.{All, nil, cons, tail, all-over, never, and-right}
 use Rattle.rules_picture.proofs.Cases.{by}
 use Rattle.tile_steps.specs.Telling.{in-row}
 use Rattle.refine_tile.proofs.Rows.{rows-met, Within, within-row, meet-within, Even}

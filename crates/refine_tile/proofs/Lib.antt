@@ -7,3 +7,5 @@ pub mod Tells
 pub mod Walked
 pub mod Numbers
 pub mod Shows
+pub mod Searches
+pub mod Reasons

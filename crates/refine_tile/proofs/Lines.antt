@@ -1,25 +1,24 @@
 -- The line of an account: what is told of an attribute into six words says what the rules' account of it says.
-use Prim.Native.Nat.{ℕ, zero, suc, _+_, _-_, _*_, _/_}
+use Prim.Native.Nat.{ℕ, suc, _+_, _/_}
 use mathlib.Core.Path.{_≡_, refl, sym, _∙_, ap}
-use mathlib.Core.Bool.{Bool, true, false, _&&_, _||_, not, cond}
+use mathlib.Core.Bool.{Bool, true, false, _&&_, not, cond}
 use mathlib.Core.Option.{Option, none, some}
-use mathlib.Core.List.{List, [], _∷_, _++_, map, append-nil, append-assoc}
+use mathlib.Core.List.{List, [], _∷_, _++_, append-nil, append-assoc}
 use lib.ListN.{length}
-use Rattle.rules.specs.Lists.{such, keep, some-of, is-empty, is-none, join}
+use Rattle.rules.specs.Lists.{keep, some-of, is-empty, is-none}
 use Rattle.rules.specs.Answers.{Done}
 use Rattle.rules.specs.Boxes.{Box, span-of}
 use Rattle.rules.specs.Spans.{covers, solid-tiles}
 use Rattle.rules.specs.Segments.{Segment, judge-segments, Cut}
-use Rattle.rules.specs.Inputs.{Paint, Draw, draw-segments, draw-paint, good-fill, Clip, Props, Filter}
+use Rattle.rules.specs.Inputs.{Paint, Draw, draw-segments, draw-paint, good-fill, Clip, Filter}
 use Rattle.rules.specs.Plans.{Step, a-fill, a-push, a-pop, a-filter, eligible, clip-segments, clip-fits, filter-box, draws-nothing}
-use Rattle.rules.specs.Painting.{Entry}
 use Rattle.rules.specs.Plain.{Told, OpenLayer, Story, box-now, here, closers, in-rows, tell, tell-step, tell-steps}
-use Rattle.rules.proofs.All.{All, nil, cons, head}
+use Rattle.rules.proofs.All.{head}
 use Rattle.rules.proofs.laws.Bounds.{judged-facts}
 use Rattle.rules_picture.proofs.Cases.{by}
 use Rattle.rules_reason.specs.Reasons.{Account, account-fill, account-pop, account-filter, account-step, accounts, covering, keeping, meets, layer-covers, layer-keeps}
-use Rattle.tile_steps.specs.Telling.{Line, standing-of, line-words, Look, no-look, look, closing-look, met, in-row}
-use Rattle.refine_tile.specs.Retold.{entry-of, tells, Says, Say, said, says}
+use Rattle.tile_steps.specs.Telling.{Line, standing-of, no-look, look, closing-look, met, in-row}
+use Rattle.refine_tile.specs.Retold.{entry-of, Says, Say, said, says}
 use Rattle.refine_tile.proofs.Rows.{rows-met, tiles-met, Even, meets-scene}
 use Rattle.refine_tile.proofs.Looks.{looked, and-implied}
 use Rattle.refine_tile.proofs.Inside.{Inside, PopFits, Fits, step-inside, Fitting, no-step, and-then}

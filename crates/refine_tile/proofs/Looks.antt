@@ -1,19 +1,19 @@
 -- One pass over the segments of a list finds what the rules say of them: whether one covers the tile, what is left of them in the row, and the one entry.
-use Prim.Native.Nat.{ℕ, zero, suc, _+_, _-_, _*_, _/_, _≤_, _<_, max, min}
+use Prim.Native.Nat.{ℕ, _+_, _-_, _/_, _≤_, _<_}
 use native.Mathlib.Omega.{arith}
 use mathlib.Core.Path.{_≡_, refl, sym, _∙_, ap, subst}
-use mathlib.Core.Bool.{Bool, true, false, _&&_, _||_, not, cond}
+use mathlib.Core.Bool.{Bool, true, false, _&&_, _||_, not}
 use mathlib.Core.Option.{Option, none, some}
 use mathlib.Core.List.{List, [], _∷_, _++_, map}
 use lib.Dec.{leb, ltb, eqb}
 use borrow.Author.Tests.{leb-true, ltb-true, eqb-true, eqb-false, eq-eqb, ne-eqb}
 use Rattle.rules.specs.Lists.{such, keep, some-of, is-empty, is-none, join}
 use Rattle.rules.specs.Boxes.{Box, scene-tiles}
-use Rattle.rules.specs.Spans.{Span, span, covers, Stretch, shifted, moved, common, when-some, meeting, cut-at, cut-when, cut-to}
-use Rattle.rules.specs.Segments.{Segment, good-segment, ordered, Cut, localised, on-row, stretch-of, cut-in, cuts}
+use Rattle.rules.specs.Spans.{span, covers, Stretch, shifted, moved, common, meeting, cut-at, cut-to}
+use Rattle.rules.specs.Segments.{Segment, good-segment, ordered, Cut, stretch-of, cut-in, cuts}
 use Rattle.rules.specs.Plain.{Told, tell}
-use Rattle.rules.proofs.All.{All, nil, cons, head, never, and-left, and-right, and-both, all-keep}
-use Rattle.rules_picture.proofs.Cases.{by, same-test, not-passed, covers-yes, covers-low, covers-high}
+use Rattle.rules.proofs.All.{All, nil, cons, head, never, and-left, and-right, and-both}
+use Rattle.rules_picture.proofs.Cases.{by, covers-yes, covers-low, covers-high}
 use Rattle.rules_picture.proofs.Listed.{such-append}
 use Rattle.rules_picture.proofs.Single.{Single, nothing, one, single}
 use Rattle.rules_reason.specs.Reasons.{covering, keeping}

@@ -1,8 +1,8 @@
 -- The accounts of any steps: attributes of each kind are numbered in order, and the story's entries are what the accounts tell.
-use Prim.Native.Nat.{ℕ, _+_, _≤_, _<_}
+use Prim.Native.Nat.{ℕ, _+_, _<_}
 use native.Mathlib.Omega.{arith}
 use mathlib.Core.Path.{_≡_, refl, sym, _∙_, ap}
-use mathlib.Core.Bool.{Bool, true, false, _&&_, not, cond, Bool·beq}
+use mathlib.Core.Bool.{Bool, true, false, _&&_, cond, Bool·beq}
 use mathlib.Core.List.{List, [], _∷_, _++_, append-nil, append-assoc}
 use lib.ListN.{length}
 use lib.Dec.{eqb}
@@ -10,12 +10,12 @@ use borrow.Author.Tests.{eqb-true, ne-eqb}
 use Rattle.rules.specs.Lists.{is-empty, join}
 use Rattle.rules.specs.Boxes.{Box}
 use Rattle.rules.specs.Segments.{Segment, cuts}
-use Rattle.rules.specs.Inputs.{Paint, Draw, draw-segments, draw-paint, Filter}
+use Rattle.rules.specs.Inputs.{draw-segments, draw-paint, Filter}
 use Rattle.rules.specs.Plans.{Step, a-fill, a-push, a-pop, a-filter, eligible, filter-box, draws-nothing}
-use Rattle.rules.specs.Plain.{Told, OpenLayer, Story, untold, box-now, here, tell, tell-fill, tell-pop, tell-filter, tell-step, tell-steps}
-use Rattle.rules.proofs.All.{All, nil, cons, never, and-left, and-right}
+use Rattle.rules.specs.Plain.{Told, OpenLayer, Story, untold, box-now, here, tell, tell-pop, tell-filter, tell-step, tell-steps}
+use Rattle.rules.proofs.All.{All, nil, cons, never}
 use Rattle.rules_picture.proofs.Cases.{by}
-use Rattle.rules_reason.specs.Reasons.{Asked, Account, account-fill, account-pop, account-filter, account-step, accounts}
+use Rattle.rules_reason.specs.Reasons.{Asked, Account, account-pop, account-filter, account-step, accounts}
 
 abbrev pub told-by : Account → List Told
 told-by k = k .told

@@ -1,15 +1,14 @@
 -- The rows and tiles that a box meets, by two comparisons and by the rules' list of rows.
-use Prim.Native.Nat.{ℕ, zero, suc, _+_, _-_, _*_, _/_, _≤_, _<_, max, min}
+use Prim.Native.Nat.{ℕ, zero, suc, _+_, _-_, _*_, _/_, _≤_, _<_}
 use native.Mathlib.Omega.{arith}
-use mathlib.Core.Path.{_≡_, refl, sym, _∙_, ap}
-use mathlib.Core.Bool.{Bool, true, false, _&&_, _||_, cond}
-use mathlib.Core.List.{List, [], _∷_}
-use lib.Dec.{leb, ltb, eqb}
+use mathlib.Core.Path.{_≡_, sym, _∙_, ap}
+use mathlib.Core.Bool.{Bool, true, _&&_}
+use lib.Dec.{leb, eqb}
 use borrow.Author.Tests.{leb-true, leb-false, lt-leb, eqb-true, eqb-false}
 use Rattle.rules.specs.Lists.{some-of, count-from}
 use Rattle.rules.specs.Boxes.{Box, rows-in, meet, to-local, empty-box, span-of}
 use Rattle.rules.specs.Spans.{span, covers}
-use Rattle.rules.proofs.All.{never, or-left, or-right, and-left, and-right, and-both}
+use Rattle.rules.proofs.All.{or-left, or-right, and-left, and-right, and-both}
 use Rattle.rules_picture.proofs.Cases.{by, same-test, covers-yes, covers-low, covers-high, covers-no}
 use Rattle.rules_reason.specs.Reasons.{meets}
 use Rattle.tile_steps.specs.Telling.{in-row, met}

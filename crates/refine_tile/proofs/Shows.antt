@@ -1,20 +1,19 @@
--- One entry more: what it does to the shown list, to the newest that hides, and to the place of an attribute; and the same of one account more.
-use Prim.Native.Nat.{ℕ, zero, suc, _+_}
-use native.Mathlib.Nat.{add-zero, zero-add}
+-- One entry more: what it does to the shown list, to the newest that hides, and to the place of an attribute.
+use Prim.Native.Nat.{ℕ, suc, _+_}
+use native.Mathlib.Nat.{add-zero}
 use native.Mathlib.Omega.{arith}
 use mathlib.Core.Path.{_≡_, refl, sym, _∙_, ap}
-use mathlib.Core.Bool.{Bool, true, false, _&&_, _||_, not, cond, Bool·beq}
+use mathlib.Core.Bool.{Bool, true, false, _&&_, _||_, Bool·beq}
 use mathlib.Core.Option.{Option, none, some}
 use mathlib.Core.List.{List, [], _∷_, _++_}
 use lib.ListN.{length}
 use lib.Dec.{eqb}
 use Rattle.rules.specs.Lists.{some-of}
 use Rattle.rules.specs.Plain.{Told, shown}
-use Rattle.rules.proofs.All.{All, nil, cons, head, tail, never}
+use Rattle.rules.proofs.All.{All, cons, never}
 use Rattle.rules_picture.proofs.Cases.{by}
 use Rattle.rules_picture.proofs.Shown.{hides-of}
-use Rattle.rules_reason.specs.Reasons.{Asked, Account, account-of, place-of, newest-hider}
-use Rattle.refine_tile.proofs.Numbers.{asks}
+use Rattle.rules_reason.specs.Reasons.{Asked, place-of, newest-hider}
 
 -- some entry hides
 abbrev pub hiding : List Told → Bool
@@ -94,18 +93,3 @@ module _ (a : Asked) where
   place-last n (t ∷ ts) u (cons e m) h =
       let k : suc n + length ts ≡ n + suc (length ts) = omega arith in
       rw e (place-last (suc n) ts u m h ∙ ap (λ (i : ℕ). some i) k)
-
-  -- one account more
-  pub account-known : (ks : List Account) (k j : Account) → account-of a ks ≡ some k → account-of a (ks ++ (j ∷ [])) ≡ some k
-  unfolding account-of
-  account-known [] k j e = let z : _≡_ {A = ℕ} 0 1 = cc in absurd (omega arith)
-  account-known (i ∷ ks) k j e = by (asks a i)
-      (λ y. rw y (rw y at e))
-      (λ m. rw m (account-known ks k j (rw m at e)))
-
-  pub account-new : (ks : List Account) (j : Account) → account-of a ks ≡ none → account-of a (ks ++ (j ∷ [])) ≡ cond (asks a j) (some j) none
-  unfolding account-of
-  account-new [] j e = refl
-  account-new (i ∷ ks) j e = by (asks a i)
-      (λ y. let q : _≡_ {A = Option Account} (some i) none = rw y at e in let z : _≡_ {A = ℕ} 0 1 = cc in absurd (omega arith))
-      (λ m. rw m (account-new ks j (rw m at e)))

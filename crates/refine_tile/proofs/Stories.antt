@@ -1,24 +1,23 @@
 -- Done steps of the rules fit the story of a tile: a screen's state and the story go together, and what was judged of a step is known of the story.
-use Prim.Native.Nat.{ℕ, _+_, _≤_}
+use Prim.Native.Nat.{ℕ, _+_}
 use native.Mathlib.Omega.{arith}
 use mathlib.Core.Path.{_≡_, refl, sym, _∙_, ap}
-use mathlib.Core.Bool.{Bool, true, false, _&&_, _||_, not, cond}
-use mathlib.Core.List.{List, [], _∷_, _++_, map}
+use mathlib.Core.Bool.{Bool, true, false, _&&_, not, cond}
+use mathlib.Core.List.{List, [], _∷_, map}
 use lib.ListN.{length, length-append}
-use lib.Dec.{leb, ltb, eqb}
+use lib.Dec.{ltb, eqb}
 use borrow.Author.Tests.{eqb-true, eq-eqb}
-use Rattle.sizes.specs.Sizes.{most-layers, most-records}
+use Rattle.sizes.specs.Sizes.{most-layers}
 use Rattle.rules.specs.Lists.{is-empty}
-use Rattle.rules.specs.Answers.{Answer, first-of, Done, BadRecord, NoLayer, Deep, Ids, FullAttrs, FullRow, FullDepth}
+use Rattle.rules.specs.Answers.{first-of, Done, BadRecord, NoLayer, Deep, Ids, FullAttrs, FullRow, FullDepth}
 use Rattle.rules.specs.Boxes.{Box}
 use Rattle.rules.specs.Segments.{Segment}
 use Rattle.rules.specs.Inputs.{Paint, Draw, draw-segments, Props, Filter, good-filter, few-paints}
-use Rattle.rules.specs.Attributes.{Attrs, attrs-full}
+use Rattle.rules.specs.Attributes.{attrs-full}
 use Rattle.rules.specs.Rows.{Row, fresh-row, row-ops}
 use Rattle.rules.specs.Plans.{Frame, Layer, State, Step, a-fill, a-push, a-pop, a-filter, Plan, still, box-of, with-paint, layer-box, touches-all, filter-box, draws-nothing, plan-fill, plan-push, plan-pop, plan-filter-in, plan-filter, plan}
 use Rattle.rules.specs.Steps.{Screen, reset, done, passes, refusal, perform, touched, call}
 use Rattle.rules.specs.Plain.{Told, OpenLayer, Story, untold, touch-all, box-now, here, in-rows, tell-fill, tell-push, tell-pop, tell-filter, tell-step, tell-steps}
-use Rattle.rules.proofs.All.{never}
 use Rattle.rules_picture.specs.Built.{Built, no-step, then}
 use Rattle.rules_picture.proofs.Cases.{by}
 use Rattle.rules_picture.proofs.Shape.{touched-layers}
@@ -89,14 +88,16 @@ module _ (w : ℕ) (v : Box) (row tile : ℕ) where
   unfolding plan-pop PopFits
   pop-stands ss js o s h [] q ms e j = let k : _≡_ {A = ℕ} NoLayer Done = rw e at j in absurd (omega arith)
   pop-stands ss js o s h (l ∷ ls) q ms e j =
-      rw e
-      (rw e at j, record {
-        view = h .view;
-        next = ap (λ (m : ℕ). m + 1) (h .next);
-        paints = h .paints;
-        layers = rw length-append (ap (λ (m : ℕ). m + 1) (h .layers));
-        opened = refl;
-      })
+      rw e (
+        rw e at j,
+        record {
+          view = h .view;
+          next = ap (λ (m : ℕ). m + 1) (h .next);
+          paints = h .paints;
+          layers = rw length-append (ap (λ (m : ℕ). m + 1) (h .layers));
+          opened = refl;
+        },
+      )
 
   filter-in-stands : (n : ℕ) (f : Filter) (o : Story) (s : State) (b : Box) (ts : List Told) → Stands v o s
       → Stands v

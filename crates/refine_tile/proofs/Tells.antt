@@ -1,5 +1,5 @@
 -- A done step of the rules is done by the engine of one tile too, which then knows what the story knows, and has written the step's line.
-use Prim.Native.Nat.{ℕ, zero, suc, _+_, _-_, _*_, _/_, _≤_, _<_, min}
+use Prim.Native.Nat.{ℕ, suc, _+_, _*_, _≤_, _<_, min}
 use native.Mathlib.Omega.{arith}
 use mathlib.Core.Path.{_≡_, refl, sym, _∙_, ap}
 use mathlib.Core.Bool.{Bool, true, false, _&&_, _||_, not, cond}
@@ -8,34 +8,33 @@ use mathlib.Core.List.{List, [], _∷_, _++_, map, append-assoc, append-nil}
 use lib.ListN.{length, take, drop, length-append, length-map}
 use lib.Seq.{take-at, drop-append-add, drop-drop}
 use lib.Dec.{leb, ltb, eqb}
-use borrow.Author.Tests.{leb-true, leb-false, ltb-true, ltb-false, le-leb, lt-leb, lt-ltb, le-ltb, eqb-true, eq-eqb, ne-eqb}
+use borrow.Author.Tests.{ltb-true, ltb-false, lt-leb, lt-ltb, le-ltb, eqb-true, eq-eqb}
 use Rattle.sizes.specs.Sizes.{most-layers, most-attrs, most-filters, last-id}
-use Rattle.rules.specs.Lists.{is-empty, join}
-use Rattle.rules.specs.Answers.{Answer, answer, settle, first-of, Done, Deep, Ids, FullAttrs}
+use Rattle.rules.specs.Lists.{is-empty}
+use Rattle.rules.specs.Answers.{Answer, answer, settle, first-of, Done, Ids, FullAttrs}
 use Rattle.rules.specs.Boxes.{Box}
 use Rattle.rules.specs.Segments.{Segment, judge-segments, cuts}
 use Rattle.rules.specs.Inputs.{Paint, Draw, draw-segments, draw-paint, good-fill, Props, Filter}
 use Rattle.rules.specs.Blends.{default-blend}
 use Rattle.rules.specs.Attributes.{Attrs, attrs-full}
-use Rattle.rules.specs.Plans.{Layer, State, Step, a-fill, a-push, a-pop, a-filter, Plan, still, box-of, with-paint, with-layer, filter-paint, eligible, clip-box, layer-box, touches-all, filter-box, draws-nothing, plan-fill, plan-push, plan-pop, plan-filter-in, plan-filter, plan}
+use Rattle.rules.specs.Plans.{Layer, State, Step, a-fill, a-push, a-pop, a-filter, still, box-of, with-paint, with-layer, filter-paint, eligible, layer-box, touches-all, filter-box, draws-nothing, plan-fill, plan-push, plan-pop, plan-filter-in, plan-filter, plan}
 use Rattle.rules.specs.Plain as story
 use Rattle.rules.specs.Plain.{Told, OpenLayer, Story, touch-all, box-now, here, in-rows, tell, tell-step}
-use Rattle.rules.proofs.All.{never, or-left, or-right}
+use Rattle.rules.proofs.All.{or-left, or-right}
 use Rattle.rules.proofs.laws.Bounds.{judged-facts}
 use Rattle.rules_picture.proofs.Cases.{by, same-test}
-use Rattle.rules_picture.proofs.Shape.{Shape, none-open, for-all, not-yet, shape-most, shape-touch, shape-inner, shape-closed, shape-kept, touched-length, touched-layers}
+use Rattle.rules_picture.proofs.Shape.{Shape, not-yet, shape-most, shape-touch, shape-inner, shape-closed, shape-kept, touched-layers}
 use Rattle.rules_picture.proofs.Follows.{layer-in}
 use Rattle.cmd.specs.Attrs.{words-at}
-use Rattle.tile_steps.specs.Sizes.{line-size}
-use Rattle.tile_steps.specs.Telling.{Telling, Line, line-words, alpha-words, no-look, look, with-line, touch, no-id, drawn, undrawn, tell-fill, tell-push, closed, tell-pop, filtered, tell-filter, tell-at, in-row}
+use Rattle.tile_steps.specs.Telling.{Telling, Line, line-words, alpha-words, no-look, look, with-line, tell-fill, tell-push, tell-pop, filtered, tell-filter, tell-at, in-row}
 use Rattle.refine_tile.specs.Retold.{flat}
 use Rattle.refine_tile.proofs.Rows.{rows-met}
 use Rattle.refine_tile.proofs.Looks.{looked}
 use Rattle.refine_tile.proofs.Inside.{PopFits, Fits}
 use Rattle.refine_tile.proofs.Lines.{fill-line, pop-line, filter-line, fill-lines, pop-lines, filter-lines, step-lines}
-use Rattle.refine_tile.proofs.Stories.{Stands, planned, Limits, filter-planned}
+use Rattle.refine_tile.proofs.Stories.{Stands, Limits, filter-planned}
 
-line-length : (l : Line) → length (line-words l) ≡ 6
+pub line-length : (l : Line) → length (line-words l) ≡ 6
 line-length l = go (l .alpha)
   where
     go : (a : Option ℕ) → length (cond (l .layer) 1 0 ∷ l .attribute ∷ l .standing ∷ alpha-words a (l .nesting ∷ [])) ≡ 6

@@ -1,18 +1,18 @@
 -- A recording that the rules walk to its end is told to its end by the engine of one tile, into lines that are the rules' accounts.
-use Prim.Native.Nat.{ℕ, _+_, _*_, _/_, _%_, _≤_}
+use Prim.Native.Nat.{ℕ, _+_, _%_}
 use native.Mathlib.Omega.{arith}
 use mathlib.Core.Path.{_≡_, refl, sym, _∙_, ap}
-use mathlib.Core.Bool.{Bool, true, false, _&&_, _||_}
+use mathlib.Core.Bool.{true, false, _&&_, _||_}
 use mathlib.Core.List.{List, [], _∷_, _++_}
-use lib.ListN.{length, drop}
-use lib.Dec.{leb, ltb, eqb}
+use lib.ListN.{length}
+use lib.Dec.{ltb}
 use borrow.Author.Tests.{eqb-true, ltb-false}
-use Rattle.sizes.specs.Sizes.{most-attrs, most-filters, most-width, most-height}
-use Rattle.rules.specs.Answers.{Answer, answer, Done}
-use Rattle.rules.specs.Boxes.{Box, width, height, by-4, bounded, good-box, good-viewport}
+use Rattle.sizes.specs.Sizes.{most-attrs, most-filters}
+use Rattle.rules.specs.Answers.{answer, Done}
+use Rattle.rules.specs.Boxes.{Box, by-4, bounded, good-viewport}
 use Rattle.rules.specs.Attributes.{attrs-full}
 use Rattle.rules.specs.Rows.{Row, row-ops, fresh-row}
-use Rattle.rules.specs.Plans.{Frame, State, Step, plan}
+use Rattle.rules.specs.Plans.{Frame, Step, plan}
 use Rattle.rules.specs.Steps.{Screen, reset, touched, call}
 use Rattle.rules.specs.Recording.{Recording}
 use Rattle.rules.specs.Walk.{walk-all}
@@ -21,14 +21,14 @@ use Rattle.rules.proofs.Logged.{Logged, logged-call, walk-logged}
 use Rattle.rules.proofs.All.{and-left, and-right, or-left, or-right}
 use Rattle.rules_picture.proofs.Shape.{Shape, none-open}
 use Rattle.rules_picture.proofs.Stepped.{call-done}
-use Rattle.refine_steps.proofs.Walks.{Agree, Agrees, walk-agrees}
+use Rattle.refine_steps.proofs.Walks.{Agrees, walk-agrees}
 use Rattle.tile_steps.specs.Telling.{Telling, tell-at, nothing-told}
-use Rattle.refine_tile.specs.Retold.{flat, Retold}
+use Rattle.refine_tile.specs.Retold.{Retold}
 use Rattle.refine_tile.proofs.Rows.{Even}
 use Rattle.refine_tile.proofs.Inside.{inside-none, Fitting, no-step, one-more, steps-more}
 use Rattle.refine_tile.proofs.Lines.{step-lines, all-lines, lines-more, steps-say, say-length}
-use Rattle.refine_tile.proofs.Stories.{Stands, reset-stands, planned, done-state, call-stands, call-limits}
-use Rattle.refine_tile.proofs.Tells.{telling, After, step-after}
+use Rattle.refine_tile.proofs.Stories.{Stands, planned, done-state, call-stands, call-limits}
+use Rattle.refine_tile.proofs.Tells.{telling, step-after}
 
 -- a good viewport starts at multiples of 4
 pub even : (v : Box) → good-viewport v ≡ true → Even v
@@ -77,15 +77,17 @@ module _ (w : ℕ) (v : Box) (row tile : ℕ) (ws : List ℕ) where
       let more = steps-more w v row tile x (s .log) untold in
       let longer = lines-more w v row tile x (s .log) untold in
       let after = called w x (s .screen) e in
-      rw told
-      (refl, record {
-        fitting = one-more w v row tile x (h .fitting) f;
-        stands = rw more k;
-        few = rw after (lim .attrs);
-        is = rw (more, longer, after);
-        shape = rw more (a .shape);
-        count = rw (more, longer) (a .count);
-      })
+      rw told (
+        refl,
+        record {
+          fitting = one-more w v row tile x (h .fitting) f;
+          stands = rw more k;
+          few = rw after (lim .attrs);
+          is = rw (more, longer, after);
+          shape = rw more (a .shape);
+          count = rw (more, longer) (a .count);
+        },
+      )
 
   step-agrees : (x : Step) → Agrees (λ (n : ℕ). n ≡ Done) refl Beside (logged-call Row row-ops w x) (tell-at w v row tile x)
   unfolding logged-call

@@ -107,19 +107,19 @@ new-layer : (b : Bool) (i p l : ℕ) → i < cond b l p → (Bool·beq true b &&
 new-layer true i p l h = ne-eqb l i (λ e. omega arith)
 new-layer false i p l h = refl
 
-more-paints : (b : Bool) (i p l : ℕ) → i < cond b l p → i < cond b l (p + 1)
+pub more-paints : (b : Bool) (i p l : ℕ) → i < cond b l p → i < cond b l (p + 1)
 more-paints true i p l h = h
 more-paints false i p l h = omega arith
 
-more-layers : (b : Bool) (i p l : ℕ) → i < cond b l p → i < cond b (l + 1) p
+pub more-layers : (b : Bool) (i p l : ℕ) → i < cond b l p → i < cond b (l + 1) p
 more-layers true i p l h = omega arith
 more-layers false i p l h = h
 
-is-paint : (b : Bool) (i p l : ℕ) → (Bool·beq false b && eqb p i) ≡ true → i < cond b l (p + 1)
+pub is-paint : (b : Bool) (i p l : ℕ) → (Bool·beq false b && eqb p i) ≡ true → i < cond b l (p + 1)
 is-paint true i p l y = never (sym y)
 is-paint false i p l y = let e = eqb-true p i y in omega arith
 
-is-layer : (b : Bool) (i p l : ℕ) → (Bool·beq true b && eqb l i) ≡ true → i < cond b (l + 1) p
+pub is-layer : (b : Bool) (i p l : ℕ) → (Bool·beq true b && eqb l i) ≡ true → i < cond b (l + 1) p
 is-layer true i p l y = let e = eqb-true l i y in omega arith
 is-layer false i p l y = never (sym y)
 

@@ -74,11 +74,6 @@ module _ (w : ℕ) (v : Box) (row tile : ℕ) where
   seen-append k [] ys = refl
   seen-append k (x ∷ xs) ys = seen-append (noticed w tile k (x .stretch)) xs ys
 
-  seen-covered : (k : Look) (xs : List Cut) → seen k xs .covered ≡ k .covered
-  seen-covered k [] = refl
-  seen-covered k (x ∷ xs) =
-      seen-covered (noticed w tile k (x .stretch)) xs ∙ by (covers (x .stretch .tiles) tile) (λ y. rw y) (λ n. rw n)
-
   seen-reached : (k : Look) (xs : List Cut) → seen k xs .reached ≡ (not (is-empty xs) || k .reached)
   seen-reached k [] = refl
   seen-reached k (x ∷ xs) =

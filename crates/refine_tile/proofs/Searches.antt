@@ -14,7 +14,7 @@ use Rattle.rules.specs.Plain.{Told, shown}
 use Rattle.rules.proofs.All.{All, nil, cons, head, tail, all-append, never}
 use Rattle.rules_picture.proofs.Cases.{by}
 use Rattle.rules_reason.specs.Reasons.{Reason, no-segment, cut-away, row-untouched, hidden-by, shown-at, Asked, Account, account-of, place-of, newest-hider, placed, because}
-use Rattle.tile_steps.specs.Telling.{Line, standing-of, line-words, alpha-words}
+use Rattle.tile_steps.specs.Telling.{Line, standing-of, line-words}
 use Rattle.tile_reason.specs.Reading.{Mark, mark-at, marks, Search, no-search, is-asked, is-told, met, read, read-all, reason-by, reason-read}
 use Rattle.refine_tile.specs.Retold.{entry-of, tells, Says, Say, said, says, flat}
 use Rattle.refine_tile.proofs.Tells.{line-length}
@@ -24,9 +24,6 @@ use Rattle.refine_tile.proofs.Shows.{hiding, hiding-yes, hiding-same, s
 -- what a reason goes by of a line
 abbrev mark-of : Line → Mark
 mark-of l = record { layer = cond (l .layer) 1 0; attribute = l .attribute; standing = l .standing }
-
-abbrev rest-words : Line → List ℕ
-rest-words l = alpha-words (l .alpha) (l .nesting ∷ [])
 
 mark-seen : (front : List ℕ) (i : ℕ) (l : Line) (back : List ℕ) → length front ≡ 6 * i → mark-at (front ++ (line-words l ++ back)) i ≡ mark-of l
 unfolding mark-at

@@ -68,11 +68,6 @@ module _ (a : Asked) where
   abbrev pub Unnamed : List Told → Type 0
   Unnamed ts = All (λ (t : Told). names t ≡ false) ts
 
-  pub no-place : (n : ℕ) (ts : List Told) → Unnamed ts → place-of a n ts ≡ none
-  unfolding place-of
-  no-place n [] u = refl
-  no-place n (t ∷ ts) (cons e u) = rw e (no-place (suc n) ts u)
-
   pub place-first : (n p : ℕ) (ts : List Told) (u : Told) → place-of a n ts ≡ some p → place-of a n (ts ++ (u ∷ [])) ≡ some p
   unfolding place-of
   place-first n p [] u e = let z : _≡_ {A = ℕ} 0 1 = cc in absurd (omega arith)

@@ -44,10 +44,6 @@ place-append : {A : Type 0} {n : ℕ} {x : A} {xs : List A} (ys : List A) → Pl
 place-append {n = n} [] p = (n, p)
 place-append (y ∷ ys) p = let (m, q) = place-append ys p in (suc m, later q)
 
-place-front : {A : Type 0} {n : ℕ} {x : A} {xs : List A} (ys : List A) → Place n xs x → Place n (xs ++ ys) x
-place-front ys first = first
-place-front ys (later p) = later (place-front ys p)
-
 pub place-all : {A : Type 0} {P : A → Type 0} {n : ℕ} {x : A} {xs : List A} → All P xs → Place n xs x → P x
 place-all (cons p a) first = p
 place-all (cons p a) (later q) = place-all a q

@@ -1,6 +1,9 @@
 // Runs of buckets in one row's depth words. The private functions are parts: their callers have judged the range and the room.
 use sizes::BUCKET;
 use sizes::TILE_END;
+use sizes::answers::BAD_RUN;
+use sizes::answers::DONE;
+use sizes::answers::NO_ROOM;
 use span::BucketRange;
 use span::TileSpan;
 use span::larger;
@@ -143,13 +146,13 @@ pub fn visible_runs(depth: &[u32], span: TileSpan, draw_id: u32, list: &mut [u32
 {
     if span.end < span.first {
         return Runs {
-            number: 12,
+            number: BAD_RUN,
             count: 0,
         };
     }
     if TILE_END < span.end {
         return Runs {
-            number: 12,
+            number: BAD_RUN,
             count: 0,
         };
     }
@@ -157,7 +160,7 @@ pub fn visible_runs(depth: &[u32], span: TileSpan, draw_id: u32, list: &mut [u32
     let hi = met_end(span, depth.len());
     if is_short(depth, lo, hi, draw_id, list.len()) {
         return Runs {
-            number: 14,
+            number: NO_ROOM,
             count: 0,
         };
     }
@@ -171,7 +174,10 @@ pub fn visible_runs(depth: &[u32], span: TileSpan, draw_id: u32, list: &mut [u32
         span.end,
         list,
     );
-    Runs { number: 0, count }
+    Runs {
+        number: DONE,
+        count,
+    }
 }
 
 // The runs of a span's tiles whose buckets hold 0: what is visible at id 0.
@@ -239,31 +245,31 @@ pub fn unset_runs_and_write(
     let hi = range.end as usize;
     if hi < lo {
         return Runs {
-            number: 12,
+            number: BAD_RUN,
             count: 0,
         };
     }
     if depth.len() < hi {
         return Runs {
-            number: 12,
+            number: BAD_RUN,
             count: 0,
         };
     }
     if draw_id == 0 {
         return Runs {
-            number: 12,
+            number: BAD_RUN,
             count: 0,
         };
     }
     if is_short(depth, lo, hi, 0, list.len()) {
         return Runs {
-            number: 14,
+            number: NO_ROOM,
             count: 0,
         };
     }
     let listed = mark_runs(depth, lo, hi, draw_id, list);
     Runs {
-        number: 0,
+        number: DONE,
         count: listed,
     }
 }

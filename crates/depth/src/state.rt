@@ -1,5 +1,7 @@
 // A row's depth summary: the union of its depth fills' spans, and the largest of their ids.
 use sizes::TILE_END;
+use sizes::answers::BAD_RUN;
+use sizes::answers::DONE;
 use span::TileSpan;
 use span::larger;
 ghost use mathlib.Core.Path.{_≡_};
@@ -57,43 +59,43 @@ impl DepthState {
     {
         if span.end < span.first {
             return Skip {
-                number: 12,
+                number: BAD_RUN,
                 yes: false,
             };
         }
         if TILE_END < span.end {
             return Skip {
-                number: 12,
+                number: BAD_RUN,
                 yes: false,
             };
         }
         if self.max_draw_id <= draw_id {
             return Skip {
-                number: 0,
+                number: DONE,
                 yes: true,
             };
         }
         let bounds = self.bounds;
         match bounds {
             Bounds::Nothing => Skip {
-                number: 0,
+                number: DONE,
                 yes: true,
             },
             Bounds::Tiles(known) => {
                 if known.end <= span.first {
                     return Skip {
-                        number: 0,
+                        number: DONE,
                         yes: true,
                     };
                 }
                 if span.end <= known.first {
                     return Skip {
-                        number: 0,
+                        number: DONE,
                         yes: true,
                     };
                 }
                 Skip {
-                    number: 0,
+                    number: DONE,
                     yes: false,
                 }
             }

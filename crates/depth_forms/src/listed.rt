@@ -3,6 +3,7 @@ use crate::runs::write_runs;
 use depth::Runs;
 use depth::visible_runs;
 use sizes::BUCKET_END;
+use sizes::answers::NO_ROOM;
 use span::TileSpan;
 ghost use mathlib.Core.Path.{_≡_};
 ghost use lib.ListN.{length, replicate};
@@ -29,7 +30,7 @@ fn found_runs(depth: &[u32], span: TileSpan, draw_id: u32, room: usize) -> Found
     let count = runs.count;
     if room < count {
         let short = Runs {
-            number: 14,
+            number: NO_ROOM,
             count: 0,
         };
         return Found {

@@ -18,6 +18,8 @@ use screen::Built;
 use screen::Screen;
 use screen::reset;
 use sizes::MOST_LAYERS;
+use sizes::answers::BAD_FORM;
+use sizes::answers::DONE;
 use sizes::wide;
 
 // A recording of good form, its viewport reset: the records are judged, then walked from the root, 16 layers deep.
@@ -40,7 +42,7 @@ fn play(
         (work-into t (work screen (words (now (rows .entry)) (now (render .entry)) (now (fills .entry))) (now (layers .entry)) (now (opacities .entry)) (now («paint_attrs» .entry)) (now («layer_attrs» .entry)) (now («filter_paints» .entry))))) ⌝ }
 {
     let n = judge_records(w, l);
-    if n != 0 {
+    if n != DONE {
         return Built { number: n, screen };
     }
     let root = l.root;
@@ -87,7 +89,10 @@ pub fn bucket_recording(
         ≡ recorded (now (file .entry)) c d (lent screen (tables (now (render .entry)) (now (fills .entry)) (now (depth .entry)) (now (rows .entry)) (now (painting .entry)) (now (layers .entry)) (now (opacities .entry)) (now («paint_attrs» .entry)) (now («layer_attrs» .entry)) (now («filter_paints» .entry)))) ⌝ }
 {
     let Form::Good(l) = read_form(file) else {
-        return Built { number: 3, screen };
+        return Built {
+            number: BAD_FORM,
+            screen,
+        };
     };
     let viewport = box_at(file, 1);
     let started = reset(
@@ -106,7 +111,7 @@ pub fn bucket_recording(
         layer_attrs,
         filter_paints,
     );
-    if started.number != 0 {
+    if started.number != DONE {
         return started;
     }
     let begun = started.screen;
@@ -123,7 +128,7 @@ pub fn bucket_recording(
         layer_attrs,
         filter_paints,
     );
-    if played.number == 0 {
+    if played.number == DONE {
         return played;
     }
     let again = reset(

@@ -23,6 +23,9 @@ use segments::judge_segments;
 use segments::segment_at;
 use sizes::HANDLE_END;
 use sizes::THREAD_END;
+use sizes::answers::BAD_ORDER;
+use sizes::answers::BAD_RECORD;
+use sizes::answers::DONE;
 use sizes::wide;
 
 // Four words from a place on.
@@ -303,7 +306,7 @@ fn is_ordered(list: &[u32], start: u32, end: u32) -> bool
     requires { ⌜ (good-range start «end» (length (now list) / 5) ≡ true) × (every good-segment (segs-of (now list)) ≡ true) ⌝ }
     ensures { λ r. ⌜ r ≡ ordered (slice start «end» (segs-of (now (list .entry)))) ⌝ }
 {
-    judge_segments(list, wide(start), wide(end)) == 0
+    judge_segments(list, wide(start), wide(end)) == DONE
 }
 
 // The clip of the layer at a place, if it is present.
@@ -368,10 +371,10 @@ pub fn judge_records(w: &[u32], l: Layout) -> u32
     ensures { λ r. ⌜ r ≡ judged (recording (sections-at l (now (w .entry)))) ⌝ }
 {
     if !good_records(w, l) {
-        return 4;
+        return BAD_RECORD;
     }
     if !good_order(w, l) {
-        return 5;
+        return BAD_ORDER;
     }
-    0
+    DONE
 }

@@ -21,6 +21,7 @@ use file_steps::walk_draws;
 use file_steps::walk_filter;
 use screen::Built;
 use screen::Screen;
+use sizes::answers::DONE;
 use sizes::wide;
 use step_push::push_layer;
 
@@ -54,7 +55,7 @@ pub fn walk_nodes(
         let first = wide(w[at]);
         let end = wide(w[at + 1]);
         let drawn = walk_draws(current, w, l, first, end, rows, render, fills, paint_attrs);
-        if drawn.number != 0 {
+        if drawn.number != DONE {
             return drawn;
         }
         let over = drawn.screen;
@@ -73,14 +74,14 @@ pub fn walk_nodes(
             layer_attrs,
             filter_paints,
         );
-        if walked.number != 0 {
+        if walked.number != DONE {
             return walked;
         }
         current = walked.screen;
         i += 1;
     }
     Built {
-        number: 0,
+        number: DONE,
         screen: current,
     }
 }
@@ -108,7 +109,10 @@ pub fn walk_layer(
         (work-into t (work screen (words (now (rows .entry)) (now (render .entry)) (now (fills .entry))) (now (layers .entry)) (now (opacities .entry)) (now («paint_attrs» .entry)) (now («layer_attrs» .entry)) (now («filter_paints» .entry))))) ⌝ }
 {
     if layer == 0 {
-        return Built { number: 0, screen };
+        return Built {
+            number: DONE,
+            screen,
+        };
     }
     let all = l.layers;
     let at = all.at + 22 * wide(layer - 1);
@@ -130,7 +134,7 @@ pub fn walk_layer(
     }
     let props = props_at(w, at);
     let pushed = push_layer(screen, rows, render, fills, layers, opacities, props);
-    if pushed.number != 0 {
+    if pushed.number != DONE {
         return pushed;
     }
     if depth == 0 {
@@ -155,7 +159,7 @@ pub fn walk_layer(
         layer_attrs,
         filter_paints,
     );
-    if walked.number != 0 {
+    if walked.number != DONE {
         return walked;
     }
     let over = walked.screen;

@@ -27,11 +27,12 @@ use file_read::needs_buffer;
 use file_read::props_at;
 use screen::Built;
 use screen::Screen;
+use sizes::answers::DONE;
 use step_fill::fill;
 use step_filter::Pixmap;
 use step_filter::Placement;
 use step_filter::filter_fill;
-use step_pop::pop_layer;
+use step_pop_call::pop_layer;
 use step_push::push_layer;
 
 // The picture that a file's word says: its handle + 1, or 0 for none.
@@ -114,14 +115,14 @@ pub fn walk_draws(
     let mut i = a;
     while i < b {
         let filled = fill_draw(current, w, l, i, rows, render, fills, paint_attrs);
-        if filled.number != 0 {
+        if filled.number != DONE {
             return filled;
         }
         current = filled.screen;
         i += 1;
     }
     Built {
-        number: 0,
+        number: DONE,
         screen: current,
     }
 }
@@ -226,7 +227,7 @@ pub fn walk_filter(
         );
     }
     let pushed = push_layer(screen, rows, render, fills, layers, opacities, props);
-    if pushed.number != 0 {
+    if pushed.number != DONE {
         return pushed;
     }
     let within = pushed.screen;
@@ -241,7 +242,7 @@ pub fn walk_filter(
         paint_attrs,
         filter_paints,
     );
-    if drawn.number != 0 {
+    if drawn.number != DONE {
         return drawn;
     }
     let over = drawn.screen;

@@ -26,7 +26,8 @@ use Rattle.host_screen.specs.declared.Held.{Held}
 use Rattle.host_screen.specs.declared.Held.the-variants as held
 use Rattle.host_screen.specs.State.{screen-words, screen-of, at-held, on}
 use Rattle.host_screen.proofs.Words.{written-back}
-use Rattle.host.specs.Painting.{with-room, step-left, step-call, row-call, runs-left, unset-call, visible-call, write-left, write-call, skip-left, skip-call, split-left, split-call}
+use Rattle.host_results.specs.Results.{skip-left, split-left}
+use Rattle.host.specs.Painting.{with-room, step-left, step-call, row-call, runs-left, unset-call, visible-call, write-left, write-call, skip-call, split-call}
 use Rattle.host.proofs.Refused.{Refused, settled}
 
 -- result words of another length, or a call that keeps t where it is refused

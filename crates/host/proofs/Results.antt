@@ -14,33 +14,20 @@ use Rattle.depth.specs.declared.split.Split.{Split}
 use Rattle.depth.specs.declared.state.Skip.{Skip}
 use Rattle.depth.specs.Answers.{skip-of, split-of}
 use Rattle.depth.specs.Listing.{out}
-use Rattle.paint_command.specs.declared.Painted.{Painted}
+use Rattle.paint_pieces.specs.declared.Painted.{Painted}
 use Rattle.paint_command.specs.Painting as paint
 use Rattle.paint_screen.specs.declared.rows.Written.{Written}
 use Rattle.paint_screen.specs.Stepping.{Attributes, stepped}
 use Rattle.paint_whole.specs.Running.{row-painted}
 use Rattle.paint_screen.specs.Rows.{wrote, unset-of, visible-of, write-of, skip-of-row}
-use Rattle.host.specs.declared.painting.Slots.{Slots}
 use Rattle.host_screen.specs.declared.Held.the-variants as held
 use Rattle.host_screen.specs.State.{screen-words, screen-of}
-use Rattle.host.specs.Painting.{step-result, step-left, step-call, row-call, count-left, runs-left, unset-call, visible-call, write-left, write-call, skip-left, skip-call, slot-words, split-left, split-call}
+use Rattle.host_results.specs.Results.{step-result, count-left, skip-left, split-left}
+use Rattle.host.specs.Painting.{step-left, step-call, row-call, runs-left, unset-call, visible-call, write-left, write-call, skip-call, split-call}
 use Rattle.host.specs.Sizes.{fixed}
 use Rattle.host_screen.proofs.Lists.{by-length}
 
 -- words stored over as many
-pub one-stored : (x : ℕ) (xs : List ℕ) → length xs ≡ 1 → set xs 0 x ≡ x ∷ []
-one-stored x = by-length 1 (λ (xs : List ℕ). set xs 0 x ≡ x ∷ []) (λ a. refl)
-
-pub two-stored : (x y : ℕ) (xs : List ℕ) → length xs ≡ 2 → set (set xs 0 x) 1 y ≡ x ∷ y ∷ []
-two-stored x y = by-length 2 (λ (xs : List ℕ). set (set xs 0 x) 1 y ≡ x ∷ y ∷ []) (λ a b. refl)
-
-pub slots-stored : (s : Slots) (xs : List ℕ) → length xs ≡ 9
-    → set (set (set (set (set (set (set (set (set xs 0 (s .a .kind)) 1 (s .a .first)) 2 (s .a .«end»)) 3 (s .b .kind)) 4 (s .b .first)) 5 (s .b .«end»)) 6 (s .c .kind)) 7 (s .c .first)) 8 (s .c .«end») ≡ slot-words s
-slots-stored s =
-    by-length 9
-    (λ (xs : List ℕ). set (set (set (set (set (set (set (set (set xs 0 (s .a .kind)) 1 (s .a .first)) 2 (s .a .«end»)) 3 (s .b .kind)) 4 (s .b .first)) 5 (s .b .«end»)) 6 (s .c .kind)) 7 (s .c .first)) 8 (s .c .«end») ≡ slot-words s)
-    (λ a b c d e f g h i. refl)
-
 pub sizes-stored : (a b c d e : ℕ) (xs : List ℕ) → length xs ≡ 10
     → set (set (set (set (set (set (set (set (set (set xs 0 a) 1 b) 2 c) 3 d) 4 e) 5 256) 6 1040) 7 8192) 8 6144) 9 1024 ≡ a ∷ b ∷ c ∷ d ∷ e ∷ fixed
 sizes-stored a b c d e =

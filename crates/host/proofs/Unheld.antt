@@ -38,7 +38,8 @@ use Rattle.host_screen.specs.State.{screen-of, refused-at}
 use Rattle.host_screen.proofs.Words.{refused-on}
 use Rattle.host.specs.Border.{arenas, arenas-number, file-number}
 use Rattle.host.specs.Building.{tables-left, reset-call, recording-call, fill-left, fill-call, push-left, push-call, pop-left, pop-call, filter-left, filter-call}
-use Rattle.host.specs.Painting.{begin-left, begin-call, step-left, step-call, row-call, runs-left, unset-call, visible-call, write-left, write-call, skip-left, skip-call}
+use Rattle.host_results.specs.Results.{skip-left}
+use Rattle.host.specs.Painting.{begin-left, begin-call, step-left, step-call, row-call, runs-left, unset-call, visible-call, write-left, write-call, skip-call}
 use Rattle.host.proofs.Early.{fill-early, push-early, filter-early, pop-early, begin-early, step-is-early, row-is-early, unset-early, visible-early, write-early, skip-early, reset-early, recorded-is-early}
 
 module _ (st : List ℕ) (n : ℕ) where

@@ -15,7 +15,7 @@ use Rattle.paint_screen.specs.Judging.{wide, runs-number}
 use Rattle.paint_screen.specs.Stepping.{part}
 use Rattle.paint_screen.specs.Rows.{or-runs}
 use Rattle.host_screen.specs.State.{on}
-use Rattle.host.specs.Painting.{result, count-left}
+use Rattle.host_results.specs.Results.{result, count-left}
 
 -- the row's runs that n runs' room lists, or the number of the refusal: `visible-of` lists these in words
 abbrev pub runs-of : Screen → ℕ → List ℕ → Span → ℕ → ℕ → Answer (List Span)

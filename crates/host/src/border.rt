@@ -14,6 +14,11 @@ use screen::fresh;
 use screen::is_good_rooms;
 use screen::judge_screen;
 use sizes::STATE;
+use sizes::answers::BAD_ARENA;
+use sizes::answers::BAD_FORM;
+use sizes::answers::BAD_RECORD;
+use sizes::answers::BAD_VIEWPORT;
+use sizes::answers::DONE;
 ghost use mathlib.Core.Path.{_≡_};
 ghost use lib.ListN.{length};
 ghost use Rattle.screen.specs.declared.Screen.{Screen as Numbers};
@@ -27,17 +32,17 @@ fn judge_arenas(viewport: Rect, c: u32, d: u32, render: usize, fills: usize, dep
     ensures { λ r. ⌜ r ≡ arenas-number viewport c d (arenas render fills depth) ⌝ }
 {
     if !viewport.is_good_viewport() {
-        return 2;
+        return BAD_VIEWPORT;
     }
     let screen = fresh(viewport, c, d);
     let n = screen.rows();
     if !is_good_rooms(n, c, d, render, fills) {
-        return 1;
+        return BAD_ARENA;
     }
     if depth != n * screen.buckets() {
-        return 1;
+        return BAD_ARENA;
     }
-    0
+    DONE
 }
 
 pub fn refuse_reset(
@@ -52,7 +57,7 @@ pub fn refuse_reset(
     ensures { λ r. ⌜ r ≡ refused-at (now (state .entry)) (λ (s : Numbers). arenas-number viewport c d (arenas render fills depth)) ⌝ }
 {
     if state.len() != STATE {
-        return 4;
+        return BAD_RECORD;
     }
     before_4(judge_arenas(viewport, c, d, render, fills, depth))
 }
@@ -62,7 +67,7 @@ fn judge_file(file: &[u32], c: u32, d: u32, render: usize, fills: usize, depth: 
     ensures { λ r. ⌜ r ≡ file-number (now (file .entry)) c d (arenas render fills depth) ⌝ }
 {
     let Form::Good(l) = read_form(file) else {
-        return 3;
+        return BAD_FORM;
     };
     judge_arenas(box_at(file, 1), c, d, render, fills, depth)
 }
@@ -79,7 +84,7 @@ pub fn refuse_recording(
     ensures { λ r. ⌜ r ≡ refused-at (now (state .entry)) (λ (s : Numbers). file-number (now (file .entry)) c d (arenas render fills depth)) ⌝ }
 {
     if state.len() != STATE {
-        return 4;
+        return BAD_RECORD;
     }
     before_4(judge_file(file, c, d, render, fills, depth))
 }
@@ -89,7 +94,7 @@ pub fn refuse_build(state: &[u32], rows: usize, render: usize, fills: usize) -> 
     ensures { λ r. ⌜ r ≡ refused-at (now (state .entry)) (λ (s : Numbers). judged s rows render fills) ⌝ }
 {
     if state.len() != STATE {
-        return 4;
+        return BAD_RECORD;
     }
     before_4(judge_screen(screen_at(state), rows, render, fills))
 }
@@ -98,7 +103,7 @@ pub fn refuse_begin(state: &[u32], depth: usize, painting: usize) -> u32
     ensures { λ r. ⌜ r ≡ refused-at (now (state .entry)) (λ (s : Numbers). begin-number s depth painting) ⌝ }
 {
     if state.len() != STATE {
-        return 4;
+        return BAD_RECORD;
     }
     before_4(judge_begin(screen_at(state), depth, painting))
 }
@@ -118,7 +123,7 @@ pub fn refuse_step(
     ensures { λ r. ⌜ r ≡ refused-at (now (state .entry)) (λ (s : Numbers). step-number s row (arenas-long s render fills depth) (tables-long s rows painting «paint_attrs» «layer_attrs»)) ⌝ }
 {
     if state.len() != STATE {
-        return 4;
+        return BAD_RECORD;
     }
     before_4(judge_step(
         screen_at(state),
@@ -138,7 +143,7 @@ pub fn refuse_runs(state: &[u32], row: usize, depth: usize) -> u32
     ensures { λ r. ⌜ r ≡ refused-at (now (state .entry)) (λ (s : Numbers). runs-number s row depth) ⌝ }
 {
     if state.len() != STATE {
-        return 4;
+        return BAD_RECORD;
     }
     before_4(judge_runs(screen_at(state), row, depth))
 }
@@ -147,7 +152,7 @@ pub fn refuse_skip(state: &[u32], row: usize, rows: usize) -> u32
     ensures { λ r. ⌜ r ≡ refused-at (now (state .entry)) (λ (s : Numbers). skip-number s row rows) ⌝ }
 {
     if state.len() != STATE {
-        return 4;
+        return BAD_RECORD;
     }
     before_4(judge_skip(screen_at(state), row, rows))
 }

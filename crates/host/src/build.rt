@@ -16,7 +16,7 @@ use step_fill::fill;
 use step_filter::Pixmap;
 use step_filter::Placement;
 use step_filter::filter_fill;
-use step_pop::pop_layer;
+use step_pop_call::pop_layer;
 use step_push::push_layer;
 ghost use mathlib.Core.Path.{_≡_};
 ghost use Rattle.rules.specs.Answers.{answer};

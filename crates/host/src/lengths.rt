@@ -8,6 +8,10 @@ use sizes::OPACITIES;
 use sizes::OPEN_TABLE;
 use sizes::PAINT_TABLE;
 use sizes::ROW;
+use sizes::answers::BAD_ARENA;
+use sizes::answers::BAD_RECORD;
+use sizes::answers::BAD_VIEWPORT;
+use sizes::answers::DONE;
 ghost use mathlib.Core.Path.{_≡_};
 ghost use mathlib.Core.List.{_∷_};
 ghost use lib.ListN.{length};
@@ -55,16 +59,16 @@ pub extern "C" fn coarse_sizes(
 {
     let viewport = Rect { x0, y0, x1, y1 };
     if !viewport.is_good_viewport() {
-        return 2;
+        return BAD_VIEWPORT;
     }
     if !is_good_room(c) {
-        return 1;
+        return BAD_ARENA;
     }
     if !is_good_room(d) {
-        return 1;
+        return BAD_ARENA;
     }
     if sizes.len() != 10 {
-        return 4;
+        return BAD_RECORD;
     }
     let screen = fresh(viewport, c, d);
     let n = screen.rows();
@@ -72,5 +76,5 @@ pub extern "C" fn coarse_sizes(
     let render = n * (4 * (c as usize));
     let fills = n * (2 * (d as usize));
     put_sizes(sizes, render, fills, n * b, n * ROW, n * 2);
-    0
+    DONE
 }

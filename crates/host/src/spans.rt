@@ -3,6 +3,7 @@
 use crate::painting::coarse_visible_runs;
 use depth_forms::write_runs;
 use sizes::BUCKET_END;
+use sizes::answers::DONE;
 use span::TileSpan;
 ghost use mathlib.Core.Path.{_≡_};
 ghost use Prim.Native.Nat.{_*_, min};
@@ -41,7 +42,7 @@ fn found_spans(
     let mut words = [0u32; BUCKET_END];
     let n = words_for(room);
     let number = coarse_visible_runs(state, row, depth, first, end, id, &mut words[..n], count);
-    if number != 0 {
+    if number != DONE {
         return Found {
             number,
             count: 0,

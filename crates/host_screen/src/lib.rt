@@ -4,6 +4,8 @@ use rect::Rect;
 use screen::Built;
 use screen::Screen;
 use sizes::STATE;
+use sizes::answers::BAD_RECORD;
+use sizes::answers::DONE;
 ghost use mathlib.Core.Path.{_≡_};
 ghost use lib.ListN.{length};
 ghost use Rattle.sizes.specs.Sizes.{state-size};
@@ -66,11 +68,11 @@ pub fn screen_of(state: &[u32], good: bool) -> Held
 pub fn before_4(n: u32) -> u32
     ensures { λ r. ⌜ r ≡ before-4 n ⌝ }
 {
-    if n == 0 {
-        return 4;
+    if n == DONE {
+        return BAD_RECORD;
     }
-    if 4 <= n {
-        return 4;
+    if BAD_RECORD <= n {
+        return BAD_RECORD;
     }
     n
 }

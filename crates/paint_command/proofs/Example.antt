@@ -14,7 +14,7 @@ use Rattle.rules.specs.Commands.{paint-fill, pop-buf}
 use Rattle.cmd.specs.Reading.{command-of, depth-fill-of}
 use Rattle.rules.specs.Depth.{no-depth, can-skip, bucket-runs, runs-in, runs, visible-runs, write-runs, written}
 use Rattle.rules.specs.Painting.{no-fill, paint-depth, paint-command}
-use Rattle.paint_command.specs.declared.Painted.{Painted}
+use Rattle.paint_pieces.specs.declared.Painted.{Painted}
 use Rattle.paint_command.specs.Painting.{attrs-at, painter-at, good-paint, command-at, depth-fill-at, lent, StepOut, out, refused, settled, fill-shown, command-shown, depth-step, command-step, next-step, painted-row}
 use Rattle.paint_runs.specs.Summaries.{shown-runs}
 use Rattle.paint_command.specs.Standing.{Stands, PainterReady}

@@ -23,12 +23,13 @@ use Rattle.span.specs.declared.Alpha.the-variants.{Solid}
 use Rattle.span.specs.Spans.{tiles, buckets, alpha, Moves}
 use Rattle.depth.specs.declared.runs.Runs.{Runs}
 use Rattle.depth.specs.Listing as depth
-use Rattle.paint_command.specs.declared.Painted.{Painted}
-use Rattle.paint_command.specs.declared.pieces.Brush.{Brush}
-use Rattle.paint_command.specs.Pieces.{laid, Fits, run-at, runs-at}
+use Rattle.paint_pieces.specs.declared.Painted.{Painted}
+use Rattle.paint_pieces.specs.declared.Brush.{Brush}
+use Rattle.paint_pieces.specs.Pieces.{laid, Fits, run-at, runs-at}
 use Rattle.paint_runs.specs.Summaries.{listing-out, shown-runs}
-use Rattle.paint_command.specs.Painting.{word, out, painter-at, refused, listed, Advanced, advanced, fill-shown, settled}
-use Rattle.paint_command.proofs.Spreading.{piece}
+use Rattle.paint_pieces.specs.Answers.{Advanced, advanced}
+use Rattle.paint_command.specs.Painting.{word, out, painter-at, refused, listed, fill-shown, settled}
+use Rattle.paint_pieces.proofs.Spreading.{piece}
 use Rattle.paint_command.proofs.Within.{shown-fits, depth-fits}
 use Rattle.paint_command.proofs.Listing.{lent, lent-room, back, Listed, listed-room, listed-at, listed-spread, when-refused, when-listed}
 

@@ -17,7 +17,7 @@ use Rattle.rules.specs.Rows.{Row}
 use Rattle.rules.specs.Attributes.{Attrs}
 use Rattle.rules.specs.Painting as rules
 use Rattle.rules.specs.Painting.{paint-depth, paint-command, paint-step}
-use Rattle.paint_command.specs.declared.Painted.{Painted}
+use Rattle.paint_pieces.specs.declared.Painted.{Painted}
 use Rattle.paint_command.specs.Painting.{word, attrs-at, RowLent, lent, StepOut, out, painter-at, good-paint, good-command, fill-shown, command-shown, depth-step, command-step, depth-fill-at, command-at, bad-row, refused, left, next-step, settled, painted-row}
 use Rattle.paint_runs.specs.Summaries.{good-summary, summary-at, Sound}
 use Rattle.paint_command.specs.Standing.{Stands, PainterReady, Holds}

@@ -1,4 +1,3 @@
-pub mod Spreading
 pub mod Judging
 pub mod Within
 pub mod Listing

@@ -17,9 +17,9 @@ use Rattle.rules.specs.Painting.{Piece}
 use Rattle.depth.specs.declared.runs.Runs.{Runs}
 use Rattle.depth.specs.Listing.{RunsOut, out, numbers, over, listing}
 use Rattle.depth.proofs.Filling.{length-numbers}
-use Rattle.paint_command.specs.declared.pieces.Brush.{Brush}
-use Rattle.paint_command.specs.Pieces.{piece-words, laid, run-at, runs-at}
-use Rattle.paint_command.proofs.Spreading.{length-pieces, piece}
+use Rattle.paint_pieces.specs.declared.Brush.{Brush}
+use Rattle.paint_pieces.specs.Pieces.{piece-words, laid, run-at, runs-at}
+use Rattle.paint_pieces.proofs.Spreading.{length-pieces, piece}
 use Rattle.paint_command.proofs.Within.{Each, each-at}
 
 -- the part of the list that is lent for runs: two words for each piece that the list has room for

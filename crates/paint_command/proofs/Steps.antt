@@ -31,10 +31,12 @@ use Rattle.cmd.specs.Commands.{command, read-of}
 use Rattle.cmd.specs.DepthFills.{depth-fill, read-depth-of}
 use Rattle.cmd.specs.Good.{GoodAlpha, GoodCommand}
 use Rattle.cmd.proofs.BothWays.{depth-reads-good, reads-good}
-use Rattle.paint_command.specs.declared.Painted.{Painted}
-use Rattle.paint_command.specs.Painting.{word, attrs-at, RowLent, lent, StepOut, out, painter-at, good-id, given, fill-shown, command-shown, depth-step, command-step, depth-fill-at, command-at, bad-row, next-step, refused, listed, Advanced, advanced, settled, painted-row}
+use Rattle.paint_pieces.specs.declared.Painted.{Painted}
+use Rattle.paint_pieces.specs.Answers.{Advanced, advanced}
+use Rattle.paint_command.specs.Painting.{word, attrs-at, RowLent, lent, StepOut, out, painter-at, good-id, given, fill-shown, command-shown, depth-step, command-step, depth-fill-at, command-at, bad-row, next-step, refused, listed, settled, painted-row}
 use Rattle.paint_runs.specs.Summaries.{good-summary, summary-at}
-use Rattle.paint_command.proofs.Judging.{given-none, given-some, paint-id-is, layer-id-is, good-paint-is, good-layer-is, two-same}
+use Rattle.paint_pieces.proofs.Two.{two-same}
+use Rattle.paint_command.proofs.Judging.{given-none, given-some, paint-id-is, layer-id-is, good-paint-is, good-layer-is}
 
 module _ (D P l : List ℕ) where
   -- no step: 4

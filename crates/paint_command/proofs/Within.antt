@@ -14,8 +14,8 @@ use Rattle.rules.specs.Depth.{Summary, join-run, bucket-runs, runs-in, runs, ti
 use Rattle.span.specs.declared.Alpha.{Alpha}
 use Rattle.span.specs.declared.Alpha.the-variants.{Solid, At}
 use Rattle.span.specs.Spans.{Moves}
-use Rattle.paint_command.specs.declared.pieces.Brush.{Brush}
-use Rattle.paint_command.specs.Pieces.{Fits}
+use Rattle.paint_pieces.specs.declared.Brush.{Brush}
+use Rattle.paint_pieces.specs.Pieces.{Fits}
 use Rattle.paint_runs.specs.Summaries.{whole-run, is-clear, shown-runs}
 
 -- what holds of each run

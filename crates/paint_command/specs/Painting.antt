@@ -16,12 +16,10 @@ use Rattle.cmd.specs.Reading.{command-of, depth-fill-of, only-if}
 use Rattle.rules.specs.Attributes.{PaintAttr, LayerAttr, Attrs}
 use Rattle.rules.specs.Painting as rules
 use Rattle.rules.specs.Painting.{Painter, paint-id, layer-id, gives, fill-piece, paint-depth, paint-command}
-use Rattle.paint_command.specs.declared.Painted.{Painted}
-use Rattle.paint_command.specs.Pieces.{laid}
+use Rattle.paint_pieces.specs.declared.Painted.{Painted}
+use Rattle.paint_pieces.specs.Pieces.{laid}
+pub use Rattle.paint_pieces.specs.Answers.{word, refused, listed}
 use Rattle.paint_runs.specs.Summaries.{good-summary, summary-at, shown-runs}
-
-abbrev pub word : List ℕ → ℕ → ℕ
-word ws i = getD ws i 0
 
 -- The attributes as far as a step reads them: their ids, word 4 of 8 and word 3 of 6.
 abbrev pub paint-at : List ℕ → ℕ → PaintAttr
@@ -137,20 +135,6 @@ next-step attrs w =
     (some (record { finished = true; pieces = []; painter = p }))))
 
 -- What the step leaves in the words: 4 if there is none, 14 if the list has no room for its pieces. A refusal changes nothing.
-abbrev pub refused : ℕ → Painted
-refused n = record { number = n; finished = false; pieces = 0 }
-
-abbrev pub listed : ℕ → Painted
-listed n = record { number = Done; finished = false; pieces = n }
-
--- an answer with the painting words alone
-pub record Advanced : Type 0 where
-  pub answer : Painted
-  pub painting : List ℕ
-
-abbrev pub advanced : Painted → List ℕ → Advanced
-advanced r p = record { answer = r; painting = p }
-
 abbrev pub left : rules.Painted → List ℕ → StepOut
 left o l =
     out (record { number = Done; finished = o .finished; pieces = length (o .pieces) })

@@ -1,15 +1,16 @@
 // The doing halves of a step: the runs of a judged fill become pieces, and the row's steps go up by one.
-use crate::Painted;
-use crate::advance;
-use crate::pieces::Brush;
-use crate::pieces::spread;
-use crate::refused;
 use cmd::command::Fill;
 use cmd::depth_fill::DepthFill;
 use depth::DepthState;
 use depth::unset_runs_and_write;
+use paint_pieces::Brush;
+use paint_pieces::Painted;
+use paint_pieces::advance;
+use paint_pieces::refused;
+use paint_pieces::spread;
 use paint_runs::shown_runs;
 use sizes::BUCKET;
+use sizes::answers::DONE;
 use span::Alpha;
 ghost use mathlib.Core.Path.{_≡_};
 ghost use mathlib.Core.List.{map};
@@ -40,7 +41,7 @@ pub fn paint_depth(
     let range = fill.buckets;
     let found = unset_runs_and_write(depth, range, id, &mut list[..2 * room]);
     let number = found.number;
-    if number != 0 {
+    if number != DONE {
         return refused(number);
     }
     let n = found.count;
@@ -74,7 +75,7 @@ pub fn paint_fill(
     let span = fill.span;
     let found = shown_runs(depth, sum, span, id, &mut list[..2 * room]);
     let number = found.number;
-    if number != 0 {
+    if number != DONE {
         return refused(number);
     }
     let n = found.count;

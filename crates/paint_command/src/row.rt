@@ -1,9 +1,6 @@
 // One step of one row: judged first, then done.
-use crate::Painted;
-use crate::advance;
 use crate::fills::paint_depth;
 use crate::fills::paint_fill;
-use crate::refused;
 use cmd::attrs::layer_id;
 use cmd::attrs::paint_id;
 use cmd::command::CmdWords;
@@ -12,12 +9,17 @@ use cmd::command::RenderCmd;
 use cmd::depth_fill::DepthWords;
 use cmd::depth_fill::ReadDepth;
 use depth::DepthState;
+use paint_pieces::Painted;
+use paint_pieces::advance;
+use paint_pieces::refused;
 use paint_runs::is_good_summary;
 use paint_runs::summary_of;
 use sizes::DEPTHS;
 use sizes::LAST_ID;
 use sizes::MOST_LAYERS;
 use sizes::RENDERS;
+use sizes::answers::BAD_RECORD;
+use sizes::answers::DONE;
 use sizes::wide;
 ghost use mathlib.Core.Path.{_≡_};
 ghost use mathlib.Core.Bool.{true};
@@ -81,11 +83,11 @@ fn step_depth(
         attrs_idx: fills[at + 1],
     };
     match words.read(depth.len() as u32) {
-        ReadDepth::Bad => refused(4),
+        ReadDepth::Bad => refused(BAD_RECORD),
         ReadDepth::Fill(fill) => {
             let id = paint_taken(paint_attrs, paints, fill.attrs_idx);
             if id == 0 {
-                return refused(4);
+                return refused(BAD_RECORD);
             }
             paint_depth(depth, painting, fill, id, list)
         }
@@ -112,14 +114,14 @@ fn step_command(
         RenderCmd::PaintFill(fill) => {
             let id = paint_taken(paint_attrs, paints, fill.attrs_idx);
             if id == 0 {
-                return refused(4);
+                return refused(BAD_RECORD);
             }
             paint_fill(depth, painting, sum, false, fill, id, list)
         }
         RenderCmd::LayerFill(fill) => {
             let id = layer_taken(layer_attrs, layers, fill.attrs_idx);
             if id == 0 {
-                return refused(4);
+                return refused(BAD_RECORD);
             }
             paint_fill(depth, painting, sum, true, fill, id, list)
         }
@@ -128,14 +130,14 @@ fn step_command(
             if nesting < MOST_LAYERS {
                 return advance(painting, nesting + 1, 0);
             }
-            refused(4)
+            refused(BAD_RECORD)
         }
         RenderCmd::PopBuf => {
             let nesting = painting[1];
             if 0 < nesting {
                 return advance(painting, nesting - 1, 0);
             }
-            refused(4)
+            refused(BAD_RECORD)
         }
     }
 }
@@ -176,19 +178,19 @@ pub fn step_row(
     let depths = state[DEPTHS];
     let steps = painting[0];
     if render.len() < 4 * wide(renders) {
-        return refused(4);
+        return refused(BAD_RECORD);
     }
     if fills.len() < 2 * wide(depths) {
-        return refused(4);
+        return refused(BAD_RECORD);
     }
     if MOST_LAYERS < painting[1] {
-        return refused(4);
+        return refused(BAD_RECORD);
     }
     if depths + renders < steps {
-        return refused(4);
+        return refused(BAD_RECORD);
     }
     if !is_good_summary(state) {
-        return refused(4);
+        return refused(BAD_RECORD);
     }
     if steps < depths {
         let k = wide(depths - (steps + 1));
@@ -197,7 +199,7 @@ pub fn step_row(
     let k = steps - depths;
     if k < renders {
         return match read_command(render, wide(k)) {
-            ReadCmd::Bad => refused(4),
+            ReadCmd::Bad => refused(BAD_RECORD),
             ReadCmd::Cmd(cmd) => step_command(
                 cmd,
                 summary_of(state),
@@ -212,7 +214,7 @@ pub fn step_row(
         };
     }
     Painted {
-        number: 0,
+        number: DONE,
         finished: true,
         pieces: 0,
     }

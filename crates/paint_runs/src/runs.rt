@@ -3,6 +3,8 @@ use depth::DepthState;
 use depth::Runs;
 use depth::visible_runs;
 use sizes::BUCKET_TILES;
+use sizes::answers::DONE;
+use sizes::answers::NO_ROOM;
 use span::TileSpan;
 ghost use mathlib.Core.Path.{_≡_};
 ghost use mathlib.Core.Bool.{false};
@@ -33,20 +35,20 @@ fn list_whole(span: TileSpan, list: &mut [u32]) -> Runs
 {
     if span.end <= span.first {
         return Runs {
-            number: 0,
+            number: DONE,
             count: 0,
         };
     }
     if list.len() < 2 {
         return Runs {
-            number: 14,
+            number: NO_ROOM,
             count: 0,
         };
     }
     list[0] = span.first;
     list[1] = span.end;
     Runs {
-        number: 0,
+        number: DONE,
         count: 1,
     }
 }

@@ -12,7 +12,7 @@ use Rattle.rect.specs.declared.Rect.{Rect}
 use Rattle.screen.specs.declared.Screen.{Screen}
 use Rattle.screen.specs.Screens.{good-clip, good-screen}
 use Rattle.paint_runs.specs.Summaries.{shown-runs}
-use Rattle.paint_command.specs.declared.Painted.{Painted}
+use Rattle.paint_pieces.specs.declared.Painted.{Painted}
 use Rattle.paint_command.specs.Painting.{attrs-at, lent, StepOut, out, settled, fill-shown, command-shown, depth-step, command-step, next-step, painted-row}
 use Rattle.paint_screen.specs.Judging.{judged, step-number}
 use Rattle.paint_screen.specs.Stepping.{Attributes, attributes, row-step, stepped}

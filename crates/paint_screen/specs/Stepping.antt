@@ -9,7 +9,7 @@ use borrow.Rule.Slice.PartMut.{putMid}
 use Rattle.sizes.specs.Sizes.{most-room, most-attrs, row-size, paint-attr-table, layer-attr-table}
 use Rattle.rules.specs.Answers.{Done}
 use Rattle.screen.specs.declared.Screen.{Screen}
-use Rattle.paint_command.specs.declared.Painted.{Painted}
+use Rattle.paint_pieces.specs.declared.Painted.{Painted}
 use Rattle.paint_command.specs.Painting.{attrs-at, RowLent, lent, StepOut, out, refused, painted-row}
 use Rattle.paint_screen.specs.declared.step.Stepped.{Stepped}
 use Rattle.paint_screen.specs.Judging.{wide, arenas-long, tables-long, step-number}

@@ -3,6 +3,7 @@ use crate::judge::judge_begin;
 use screen::Built;
 use screen::Screen;
 use screen::clear;
+use sizes::answers::DONE;
 ghost use mathlib.Core.Path.{_≡_};
 ghost use Rattle.rules.specs.Answers.{answer};
 ghost use Rattle.paint_screen.specs.Beginning.{canvas, begun, beginning};
@@ -21,13 +22,13 @@ pub fn begin_painting(screen: Screen, depth: &mut [u32], painting: &mut [u32]) -
     ensures { λ r. ⌜ answer (r .number) (canvas (r .screen) (now (depth .exit)) (now (painting .exit))) ≡ beginning (canvas screen (now (depth .entry)) (now (painting .entry))) ⌝ }
 {
     let n = judge_begin(screen, depth.len(), painting.len());
-    if n != 0 {
+    if n != DONE {
         return Built { number: n, screen };
     }
     clear(depth);
     clear(painting);
     Built {
-        number: 0,
+        number: DONE,
         screen: with_painting(screen, true),
     }
 }

@@ -4,6 +4,12 @@ use screen::is_good_room;
 use sizes::LAYER_TABLE;
 use sizes::PAINT_TABLE;
 use sizes::ROW;
+use sizes::answers::BAD_ARENA;
+use sizes::answers::BAD_RECORD;
+use sizes::answers::BAD_RUN;
+use sizes::answers::BAD_VIEWPORT;
+use sizes::answers::DONE;
+use sizes::answers::OPEN;
 ghost use mathlib.Core.Path.{_≡_};
 ghost use mathlib.Core.Bool.{true};
 ghost use Rattle.paint_screen.specs.Judging.{depth-long, arenas-long, tables-long, judged, of-row, begin-number, step-number, runs-number, skip-number};
@@ -58,37 +64,37 @@ fn judge(screen: Screen, arenas: bool, tables: bool) -> u32
 {
     let viewport = screen.viewport;
     if !viewport.is_good_viewport() {
-        return 2;
+        return BAD_VIEWPORT;
     }
     if !is_good_room(screen.c) {
-        return 1;
+        return BAD_ARENA;
     }
     if !is_good_room(screen.d) {
-        return 1;
+        return BAD_ARENA;
     }
     if !arenas {
-        return 1;
+        return BAD_ARENA;
     }
     if !tables {
-        return 4;
+        return BAD_RECORD;
     }
     if !screen.is_good() {
-        return 4;
+        return BAD_RECORD;
     }
-    0
+    DONE
 }
 
 // After the number n, 12 where there is no such row.
 fn judge_row(n: u32, screen: Screen, row: usize) -> u32
     ensures { λ r. ⌜ r ≡ of-row n screen row ⌝ }
 {
-    if n != 0 {
+    if n != DONE {
         return n;
     }
     if screen.rows() <= row {
-        return 12;
+        return BAD_RUN;
     }
-    0
+    DONE
 }
 
 // 2, 1, 4, then 13 with a layer open.
@@ -100,13 +106,13 @@ pub fn judge_begin(screen: Screen, depth: usize, painting: usize) -> u32
         is_depth(screen, depth),
         painting == screen.rows() * 2,
     );
-    if n != 0 {
+    if n != DONE {
         return n;
     }
     if screen.layers != 0 {
-        return 13;
+        return OPEN;
     }
-    0
+    DONE
 }
 
 // 2, 1, 4, 12, then 13 where painting has not begun.
@@ -126,16 +132,16 @@ pub fn judge_step(
     let arenas = is_arenas(screen, render, fills, depth);
     let tables = is_tables(screen, rows, painting, paint_attrs, layer_attrs);
     let n = judge_row(judge(screen, arenas, tables), screen, row);
-    if n != 0 {
+    if n != DONE {
         return n;
     }
     if 0 < screen.layers {
-        return 13;
+        return OPEN;
     }
     if !screen.painting {
-        return 13;
+        return OPEN;
     }
-    0
+    DONE
 }
 
 // 2, 1, 4, 12 of a call that is lent the depth words.

@@ -8,6 +8,8 @@ use paint_runs::is_good_summary;
 use paint_runs::summary_of;
 use screen::Screen;
 use sizes::ROW;
+use sizes::answers::BAD_RECORD;
+use sizes::answers::DONE;
 use span::BucketRange;
 use span::TileSpan;
 ghost use mathlib.Core.Path.{_≡_};
@@ -35,7 +37,7 @@ pub fn unset_runs(
     ensures { λ r. ⌜ out r (now (list .exit)) ≡ unset-of screen row (now (depth .entry)) (tiles span) (now (list .entry)) ⌝ }
 {
     let n = judge_runs(screen, row, depth.len());
-    if n != 0 {
+    if n != DONE {
         return Runs {
             number: n,
             count: 0,
@@ -58,7 +60,7 @@ pub fn visible_runs(
     ensures { λ r. ⌜ out r (now (list .exit)) ≡ visible-of screen row (now (depth .entry)) (tiles span) «draw_id» (now (list .entry)) ⌝ }
 {
     let n = judge_runs(screen, row, depth.len());
-    if n != 0 {
+    if n != DONE {
         return Runs {
             number: n,
             count: 0,
@@ -81,7 +83,7 @@ pub fn unset_runs_and_write(
     ensures { λ r. ⌜ wrote r (now (list .exit)) (now (depth .exit)) ≡ write-of screen row (now (depth .entry)) «draw_id» (buckets range) (now (list .entry)) ⌝ }
 {
     let n = judge_runs(screen, row, depth.len());
-    if n != 0 {
+    if n != DONE {
         let none = Runs {
             number: n,
             count: 0,
@@ -91,7 +93,7 @@ pub fn unset_runs_and_write(
     let b = screen.buckets();
     let at = row * b;
     let runs = depth::unset_runs_and_write(&mut depth[at..at + b], range, draw_id, list);
-    if runs.number != 0 {
+    if runs.number != DONE {
         return Written { runs, screen };
     }
     Written {
@@ -107,7 +109,7 @@ fn skip_by(state: &[u32], span: TileSpan, draw_id: u32) -> Skip
 {
     if !is_good_summary(state) {
         return Skip {
-            number: 4,
+            number: BAD_RECORD,
             yes: false,
         };
     }
@@ -120,7 +122,7 @@ pub fn can_skip(screen: Screen, row: usize, rows: &[u32], span: TileSpan, draw_i
     ensures { λ r. ⌜ skip-of r ≡ skip-of-row screen row (now (rows .entry)) (tiles span) «draw_id» ⌝ }
 {
     let n = judge_skip(screen, row, rows.len());
-    if n != 0 {
+    if n != DONE {
         return Skip {
             number: n,
             yes: false,

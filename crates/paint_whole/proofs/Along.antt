@@ -17,7 +17,7 @@ use Rattle.depth.specs.Listing.{over}
 use Rattle.paint_command.specs.Painting.{word, StepOut, out, listed, next-step, painted-row}
 use Rattle.paint_whole.specs.Running.{one-more, run, own-step}
 use Rattle.paint_whole.specs.Kinds.{runs-met, run-words, step-to, Said, Calm, Onward, Place, place, stands, Reaches}
-use Rattle.paint_command.proofs.Judging.{two-both, two-same}
+use Rattle.paint_pieces.proofs.Two.{two-both, two-same}
 use Rattle.paint_whole.proofs.Runs.{more}
 use Rattle.paint_whole.proofs.Putting.{length-runs}
 

@@ -15,7 +15,7 @@ use Rattle.rules.specs.Attributes.{Attrs}
 use Rattle.rules.specs.Painting as rules
 use Rattle.row_screen.proofs.Laws.{put-length}
 use Rattle.screen.specs.declared.Screen.{Screen}
-use Rattle.paint_command.specs.declared.Painted.{Painted}
+use Rattle.paint_pieces.specs.declared.Painted.{Painted}
 use Rattle.paint_command.specs.Painting.{attrs-at, RowLent, lent, StepOut, out, refused, left, settled, painted-row}
 use Rattle.paint_command.proofs.Laws.{same-lengths}
 use Rattle.paint_screen.specs.Judging.{wide}

@@ -12,7 +12,7 @@ use borrow.Author.Tests.{ltb-false, eq-eqb, ne-eqb}
 use borrow.Rule.Slice.PartMut.{putMid, post-is}
 use Rattle.rules.specs.Attributes.{Attrs}
 use Rattle.rules.specs.Painting as rules
-use Rattle.paint_command.specs.declared.Painted.{Painted}
+use Rattle.paint_pieces.specs.declared.Painted.{Painted}
 use Rattle.paint_command.specs.Painting.{RowLent, lent, StepOut, out, listed, settled, painted-row}
 use Rattle.paint_whole.specs.Running.{goes-on, ended, one-more, run, own-step}
 use Rattle.paint_whole.specs.Kinds.{Onward}

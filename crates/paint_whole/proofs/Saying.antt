@@ -21,7 +21,7 @@ use Rattle.depth.specs.Listing.{over}
 use Rattle.rules.proofs.All.{and-left, and-both}
 use Rattle.cmd.proofs.Commands.{tag-1, tag-2, tag-3, tag-4, tag-5, tag-6, tag-7}
 use Rattle.paint_runs.specs.Summaries.{shown-runs}
-use Rattle.paint_command.specs.Pieces.{tag-of, index-of, piece-words}
+use Rattle.paint_pieces.specs.Pieces.{tag-of, index-of, piece-words}
 use Rattle.paint_command.specs.Painting.{word, attrs-at, StepOut, out, good-id, given, good-paint, good-layer, fill-shown, command-shown, command-step, settled, listed}
 use Rattle.paint_command.proofs.Judging.{given-some, paint-id-is, layer-id-is, good-paint-is, good-layer-is}
 use Rattle.paint_command.proofs.Steps.{bare}

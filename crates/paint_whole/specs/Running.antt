@@ -7,7 +7,7 @@ use lib.Dec.{eqb}
 use Rattle.rules.specs.Answers.{Done}
 use Rattle.rules.specs.Attributes.{Attrs}
 use Rattle.screen.specs.declared.Screen.{Screen}
-use Rattle.paint_command.specs.declared.Painted.{Painted}
+use Rattle.paint_pieces.specs.declared.Painted.{Painted}
 use Rattle.paint_command.specs.Painting.{attrs-at, RowLent, lent, StepOut, out, listed, painted-row}
 use Rattle.paint_screen.specs.Stepping.{Attributes, own, in-place, stepped}
 

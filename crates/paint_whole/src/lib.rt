@@ -6,6 +6,7 @@ use paint_screen::step::Stepped;
 use row_screen::part;
 use screen::Screen;
 use sizes::ROW;
+use sizes::answers::DONE;
 ghost use mathlib.Core.Path.{_≡_};
 ghost use Prim.Native.Nat.{_≤_};
 ghost use Rattle.paint_command.specs.Painting.{lent, out};
@@ -84,7 +85,7 @@ pub fn paint_step(
         paint_attrs.len(),
         layer_attrs.len(),
     );
-    if n != 0 {
+    if n != DONE {
         return Stepped {
             number: n,
             finished: false,
@@ -134,7 +135,7 @@ pub fn paint_row(
         paint_attrs.len(),
         layer_attrs.len(),
     );
-    if n != 0 {
+    if n != DONE {
         return Stepped {
             number: n,
             finished: false,

@@ -1,4 +1,5 @@
 // Pieces in the list, six words each. Parts: where a function asks something, its callers have judged it.
+use paint_pieces::put_words;
 use sizes::BUCKET;
 use sizes::BUCKET_ROUND;
 use sizes::BUCKET_TILES;
@@ -17,20 +18,6 @@ ghost use Rattle.rules.specs.Depth.{is-visible, runs-in};
 ghost use Rattle.cmd.specs.Attrs.{words-at};
 ghost use Rattle.paint_command.specs.Painting.{word};
 ghost use Rattle.paint_whole.specs.Kinds.{Fills, low-met, high-met, moved-index, run-words, runs-met, Looked};
-
-// Six words at place k of the list.
-pub fn put_words(list: &mut [u32], k: usize, a: u32, b: u32, c: u32, d: u32, e: u32, f: u32)
-    requires { ⌜ 6 * k + 6 ≤ length (now list) ⌝ }
-    ensures { λ _. ⌜ now (list .exit) ≡ words-at (now (list .entry)) (6 * k) (a ∷ b ∷ c ∷ d ∷ e ∷ f ∷ []) ⌝ }
-{
-    let at = 6 * k;
-    list[at] = a;
-    list[at + 1] = b;
-    list[at + 2] = c;
-    list[at + 3] = d;
-    list[at + 4] = e;
-    list[at + 5] = f;
-}
 
 // The alpha index of a fill's tile, so many tiles after its first. A solid fill has none.
 fn moved_index(tag: u32, alpha: u32, tiles: u32) -> u32

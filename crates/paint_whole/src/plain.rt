@@ -2,7 +2,7 @@
 // Parts: where a function asks something, its callers have judged it.
 use crate::pieces::most_runs;
 use crate::pieces::put_fill;
-use crate::pieces::put_words;
+use paint_pieces::put_words;
 use paint_runs::is_good_summary;
 use sizes::BUCKET;
 use sizes::BUCKET_ROUND;

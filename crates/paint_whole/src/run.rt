@@ -1,7 +1,8 @@
 // The steps of one row, over its own words. Parts: where a function asks something, its callers have judged it.
 use crate::plain::run_plain;
-use paint_command::Painted;
 use paint_command::step_row;
+use paint_pieces::Painted;
+use sizes::answers::DONE;
 ghost use mathlib.Core.Path.{_≡_};
 ghost use Prim.Native.Nat.{_*_, _≤_};
 ghost use lib.ListN.{length};
@@ -88,7 +89,7 @@ pub fn run_row(
         let k = steps + gone.steps;
         if limit <= k {
             return Painted {
-                number: 0,
+                number: DONE,
                 finished: false,
                 pieces: gone.pieces,
             };
@@ -106,12 +107,12 @@ pub fn run_row(
             list,
             gone.pieces,
         );
-        if done.number != 0 {
+        if done.number != DONE {
             if k == 0 {
                 return done;
             }
             return Painted {
-                number: 0,
+                number: DONE,
                 finished: done.finished,
                 pieces: done.pieces,
             };
@@ -123,7 +124,7 @@ pub fn run_row(
         steps = k + 1;
     }
     Painted {
-        number: 0,
+        number: DONE,
         finished: false,
         pieces,
     }

@@ -18,7 +18,7 @@ use Rattle.rules.proofs.All.{All}
 use Rattle.refine_steps.specs.Sound.{Sound}
 use Rattle.refine_steps.specs.Lent.{screen-of, table, attr-words, rows-of}
 use Rattle.depth.specs.Listing.{listing}
-use Rattle.paint_command.specs.Pieces.{laid}
+use Rattle.paint_pieces.specs.Pieces.{laid}
 use Rattle.paint_command.specs.Painting.{RowLent, lent, StepOut, out}
 use Rattle.paint_screen.specs.Stepping.{Attributes, attributes}
 use Rattle.paint_screen.specs.Beginning.{Canvas, canvas}

@@ -23,6 +23,10 @@ use sizes::OPACITIES;
 use sizes::OPEN_TABLE;
 use sizes::PAINT_TABLE;
 use sizes::ROW;
+use sizes::answers::BAD_ARENA;
+use sizes::answers::BAD_RECORD;
+use sizes::answers::BAD_VIEWPORT;
+use sizes::answers::DONE;
 
 pub struct Screen {
     pub viewport: Rect,
@@ -170,19 +174,19 @@ pub fn judge_screen(screen: Screen, rows: usize, render: usize, fills: usize) ->
 {
     let viewport = screen.viewport;
     if !viewport.is_good_viewport() {
-        return 2;
+        return BAD_VIEWPORT;
     }
     let n = screen.rows();
     if !is_good_rooms(n, screen.c, screen.d, render, fills) {
-        return 1;
+        return BAD_ARENA;
     }
     if rows != n * ROW {
-        return 4;
+        return BAD_RECORD;
     }
     if !screen.is_good() {
-        return 4;
+        return BAD_RECORD;
     }
-    0
+    DONE
 }
 
 pub fn clear(words: &mut [u32])
@@ -259,26 +263,26 @@ fn judge_reset(viewport: Rect, c: u32, d: u32, lent: Lengths) -> u32
     ensures { λ r. ⌜ r ≡ judged-reset viewport c d lent ⌝ }
 {
     if !viewport.is_good_viewport() {
-        return 2;
+        return BAD_VIEWPORT;
     }
     let screen = fresh(viewport, c, d);
     let n = screen.rows();
     if !is_good_rooms(n, c, d, lent.render, lent.fills) {
-        return 1;
+        return BAD_ARENA;
     }
     if lent.depth != n * screen.buckets() {
-        return 1;
+        return BAD_ARENA;
     }
     if lent.rows != n * ROW {
-        return 4;
+        return BAD_RECORD;
     }
     if lent.painting != n * 2 {
-        return 4;
+        return BAD_RECORD;
     }
     if !lent.is_good_fixed() {
-        return 4;
+        return BAD_RECORD;
     }
-    0
+    DONE
 }
 
 // Rule 1.
@@ -314,7 +318,7 @@ pub fn reset(
         filter_paints: filter_paints.len(),
     };
     let n = judge_reset(viewport, c, d, lent);
-    if n != 0 {
+    if n != DONE {
         return Built { number: n, screen };
     }
     clear(render);
@@ -328,7 +332,7 @@ pub fn reset(
     clear(layer_attrs);
     clear_signed(filter_paints);
     Built {
-        number: 0,
+        number: DONE,
         screen: fresh(viewport, c, d),
     }
 }

@@ -11,6 +11,9 @@ ghost use Rattle.segments.specs.Segs.{segment-of, seg-at, segs, placed-o
 use rect::Rect;
 use sizes::TILE_ALPHAS;
 use sizes::TILE_END;
+use sizes::answers::BAD_ORDER;
+use sizes::answers::BAD_RECORD;
+use sizes::answers::DONE;
 use span::Alpha;
 use span::Cut;
 use span::Stretch;
@@ -102,18 +105,18 @@ pub fn judge_segments(list: &[u32], start: usize, end: usize) -> u32
     ensures { λ r. ⌜ r ≡ judge-segments false (segs (now (list .entry)) start («end» - start)) ⌝ }
 {
     if end <= start {
-        return 0;
+        return DONE;
     }
     let mut last = segment_at(list, start);
     if !last.is_good() {
-        return 4;
+        return BAD_RECORD;
     }
     let mut ordered = true;
     let mut i = start + 1;
     while i < end {
         let next = segment_at(list, i);
         if !next.is_good() {
-            return 4;
+            return BAD_RECORD;
         }
         if !last.precedes(next) {
             ordered = false;
@@ -121,7 +124,7 @@ pub fn judge_segments(list: &[u32], start: usize, end: usize) -> u32
         last = next;
         i += 1;
     }
-    if ordered { 0 } else { 5 }
+    if ordered { DONE } else { BAD_ORDER }
 }
 
 // The viewport's origin in pixels, and the clip box in scene tiles.

@@ -1,4 +1,6 @@
-// Every size, limit, table length and place of a field, once, for code; `specs/Sizes` has the same for contracts, and `tied` ties the two.
+// Every size, limit, table length and place of a field, once, for code; `specs/Sizes` has the same for contracts, and `tied` ties the two. `answers` has the answer numbers.
+pub mod answers;
+
 ghost use mathlib.Core.Path.{_≡_};
 ghost use mathlib.Core.List.{[], _∷_};
 ghost use Rattle.sizes.specs.Sizes.{bucket-tiles, tile-end, bucket-end, tile-alphas, most-width, most-height, most-rows, most-runs, most-room, most-layers, most-attrs, most-filters, thread-end, handle-end, last-id, most-records, file-bytes};

@@ -9,6 +9,11 @@ use segments::scene_of;
 use sizes::LAST_ID;
 use sizes::MOST_ATTRS;
 use sizes::PAINT_TABLE;
+use sizes::answers::BAD_ORDER;
+use sizes::answers::BAD_RECORD;
+use sizes::answers::DONE;
+use sizes::answers::FULL_ATTRS;
+use sizes::answers::IDS;
 use step_fill_judge::judge_list;
 use step_fill_rows::Job;
 use step_fill_rows::fill_rows;
@@ -125,19 +130,19 @@ fn judge_lent(
     ensures { λ r. ⌜ r ≡ first-number screen rows render fills table paints segments ⌝ }
 {
     let n = judge_screen(screen, rows, render, fills);
-    if n != 0 {
+    if n != DONE {
         return n;
     }
     if table != PAINT_TABLE {
-        return 4;
+        return BAD_RECORD;
     }
     if paints % 4 != 0 {
-        return 4;
+        return BAD_RECORD;
     }
     if segments % 5 != 0 {
-        return 4;
+        return BAD_RECORD;
     }
-    0
+    DONE
 }
 
 // A fill's number, before anything is done.
@@ -162,30 +167,30 @@ fn judge_fill(
         paints.len(),
         segments.len(),
     );
-    if first != 0 {
+    if first != DONE {
         return first;
     }
     if !is_good_fill(paints, segments, draw) {
-        return 4;
+        return BAD_RECORD;
     }
     let start = draw.start;
     let end = draw.end;
     let job = job_of(screen, paints, draw);
     let n = judge_list(rows, segments, start, end, job);
-    if n == 4 {
-        return 4;
+    if n == BAD_RECORD {
+        return BAD_RECORD;
     }
-    if n == 5 {
-        return 5;
+    if n == BAD_ORDER {
+        return BAD_ORDER;
     }
     if LAST_ID < screen.next_draw_id {
-        return 8;
+        return IDS;
     }
     if start == end {
-        return 0;
+        return DONE;
     }
     if MOST_ATTRS <= screen.paint_attrs {
-        return 9;
+        return FULL_ATTRS;
     }
     n
 }
@@ -235,14 +240,14 @@ pub fn fill(
         segments,
         draw,
     );
-    if n != 0 {
+    if n != DONE {
         return Built { number: n, screen };
     }
     let start = draw.start;
     let end = draw.end;
     if start == end {
         return Built {
-            number: 0,
+            number: DONE,
             screen: taken(screen, 0),
         };
     }
@@ -261,7 +266,7 @@ pub fn fill(
     put_paint_attrs(paint_attrs, screen.paint_attrs as usize, attrs);
     fill_rows(rows, render, fills, segments, start, end, job);
     Built {
-        number: 0,
+        number: DONE,
         screen: taken(screen, 1),
     }
 }

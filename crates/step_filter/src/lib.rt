@@ -27,6 +27,10 @@ use sizes::HANDLE_END;
 use sizes::MOST_ATTRS;
 use sizes::MOST_FILTERS;
 use sizes::PAINT_TABLE;
+use sizes::answers::BAD_RECORD;
+use sizes::answers::DONE;
+use sizes::answers::FULL_ATTRS;
+use sizes::answers::IDS;
 use step_rows::judge_rows;
 use step_rows::paint_rows;
 
@@ -176,24 +180,24 @@ fn judge_filter(
     ensures { λ r. ⌜ r ≡ filter-number (given placement (picture-of pixmap) «paint_count») (lent screen (words (now (rows .entry)) (now (render .entry)) (now (fills .entry))) (now («paint_attrs» .entry)) (now («filter_paints» .entry))) ⌝ }
 {
     let n = judge_screen(screen, rows.len(), render.len(), fills.len());
-    if n != 0 {
+    if n != DONE {
         return n;
     }
     if paint_attrs.len() != PAINT_TABLE {
-        return 4;
+        return BAD_RECORD;
     }
     if filter_paints.len() != FILTER_TABLE {
-        return 4;
+        return BAD_RECORD;
     }
     if !is_good_filter(placement, pixmap, paint_count) {
-        return 4;
+        return BAD_RECORD;
     }
     let viewport = screen.viewport;
     let clip = screen.clip_bbox;
     let dest = placement.dest;
     let bbox = filter_box(viewport, clip, dest);
     if draws_nothing(pixmap, bbox) {
-        return 0;
+        return DONE;
     }
     let k = judge_rows(
         screen,
@@ -201,17 +205,17 @@ fn judge_filter(
         (bbox.y0 / 4) as usize,
         ((bbox.y1 + 3) / 4) as usize,
     );
-    if k == 4 {
-        return 4;
+    if k == BAD_RECORD {
+        return BAD_RECORD;
     }
     if 1048577 <= screen.next_draw_id {
-        return 8;
+        return IDS;
     }
     if MOST_ATTRS <= screen.paint_attrs {
-        return 9;
+        return FULL_ATTRS;
     }
     if MOST_FILTERS <= screen.filter_paints {
-        return 9;
+        return FULL_ATTRS;
     }
     k
 }
@@ -279,7 +283,7 @@ pub fn filter_fill(
         pixmap,
         paint_count,
     );
-    if n != 0 {
+    if n != DONE {
         return Built { number: n, screen };
     }
     let viewport = screen.viewport;
@@ -289,7 +293,7 @@ pub fn filter_fill(
     if draws_nothing(pixmap, bbox) {
         let same = taken(screen, 0);
         return Built {
-            number: 0,
+            number: DONE,
             screen: same,
         };
     }
@@ -306,7 +310,7 @@ pub fn filter_fill(
         bbox,
     );
     Built {
-        number: 0,
+        number: DONE,
         screen: next,
     }
 }

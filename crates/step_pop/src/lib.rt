@@ -1,8 +1,7 @@
-// A pop (bucketer.rs, pop_layer; rules 9 and 10). `pop_layer` is a public call; the others are its parts.
+// A pop's two halves, judged and done (bucketer.rs, pop_layer; rules 9 and 10). Parts: where a function asks something, its callers have judged it.
 use cmd::attrs::LayerFillAttrs;
 use cmd::attrs::put_layer_attrs;
 use rect::Rect;
-use screen::Built;
 use screen::Screen;
 use screen::judge_screen;
 use screen_layers::OpenLayer;
@@ -19,6 +18,12 @@ use sizes::LAYER_TABLE;
 use sizes::MOST_ATTRS;
 use sizes::OPACITIES;
 use sizes::OPEN_TABLE;
+use sizes::answers::BAD_RECORD;
+use sizes::answers::DONE;
+use sizes::answers::FULL_ATTRS;
+use sizes::answers::FULL_ROW;
+use sizes::answers::IDS;
+use sizes::answers::NO_LAYER;
 use sizes::wide;
 use span::TileSpan;
 use step_pop_rows::close_segments;
@@ -122,18 +127,18 @@ fn judge_plain(
         (full-by (screen .c) 2 (rows-at (frame-of screen) (words (now (rows .entry)) (now (render .entry)) (now (fills .entry)))) (touched-in (screen .layers) (rows-at (frame-of screen) (words (now (rows .entry)) (now (render .entry)) (now (fills .entry)))) (range a b))) ⌝ }
 {
     if !judge_pop_rows(screen, rows, render, fills, a, b) {
-        return 4;
+        return BAD_RECORD;
     }
     if LAST_ID < screen.next_draw_id {
-        return 8;
+        return IDS;
     }
     if MOST_ATTRS <= screen.layer_attrs {
-        return 9;
+        return FULL_ATTRS;
     }
     if is_full(screen, rows, render, fills, a, b, 2) {
-        return 10;
+        return FULL_ROW;
     }
-    0
+    DONE
 }
 
 // With a clip: the rows from a to b, the segments from start to end, 8, 9 and 10.
@@ -155,25 +160,25 @@ fn judge_clip(
         || runs-full (screen .c) (touched-in (screen .layers) (rows-at (frame-of screen) (words (now (rows .entry)) (now (render .entry)) (now (fills .entry)))) (range a b)) (rows-at (frame-of screen) (words (now (rows .entry)) (now (render .entry)) (now (fills .entry)))) 0 0 (join (cut-in (origin scene) (bounds scene)) (segs (now (list .entry)) start («end» - start)))) ⌝ }
 {
     if !judge_pop_rows(screen, rows, render, fills, a, b) {
-        return 4;
+        return BAD_RECORD;
     }
     let listed = judge_segments(list, start, end);
-    if listed != 0 {
+    if listed != DONE {
         return listed;
     }
     if LAST_ID < screen.next_draw_id {
-        return 8;
+        return IDS;
     }
     if MOST_ATTRS <= screen.layer_attrs {
-        return 9;
+        return FULL_ATTRS;
     }
     if is_full(screen, rows, render, fills, a, b, 1) {
-        return 10;
+        return FULL_ROW;
     }
     if is_full_clip(screen, rows, render, fills, list, start, end, scene, a, b) {
-        return 10;
+        return FULL_ROW;
     }
-    0
+    DONE
 }
 
 // With a layer open: 4 for it, then its rows and its list, 8, 9 and 10.
@@ -192,7 +197,7 @@ fn judge_open(
     let layer = open_layer(layers, screen.layers - 1);
     let parent = parent_box(viewport, layers, screen.layers);
     if !is_good_open(viewport, layer, parent) {
-        return 4;
+        return BAD_RECORD;
     }
     let bbox = layer.bbox;
     let a = first_row(bbox);
@@ -203,14 +208,14 @@ fn judge_open(
     let start = wide(layer.start);
     let end = wide(layer.end);
     if list.len() / 5 < end {
-        return 4;
+        return BAD_RECORD;
     }
     let scene = scene_of(viewport, parent);
     judge_clip(screen, rows, render, fills, list, start, end, scene, a, b)
 }
 
 // A pop's number.
-fn judge_pop(
+pub fn judge_pop(
     screen: Screen,
     rows: &[u32],
     render: &[u32],
@@ -223,14 +228,14 @@ fn judge_pop(
     ensures { λ r. ⌜ r ≡ number screen (lent (words (now (rows .entry)) (now (render .entry)) (now (fills .entry))) (now (layers .entry)) (now (opacities .entry)) (now («layer_attrs» .entry))) (now (list .entry)) ⌝ }
 {
     let first = judge_screen(screen, rows.len(), render.len(), fills.len());
-    if first != 0 {
+    if first != DONE {
         return first;
     }
     if !is_good_lengths(layers.len(), opacities.len(), layer_attrs.len(), list.len()) {
-        return 4;
+        return BAD_RECORD;
     }
     if screen.layers == 0 {
-        return 7;
+        return NO_LAYER;
     }
     judge_open(screen, rows, render, fills, layers, list)
 }
@@ -321,7 +326,7 @@ fn do_tables(screen: Screen, layers: &mut [u32], opacities: &mut [f32], layer_at
 }
 
 // A pop that is not refused.
-fn do_pop(
+pub fn do_pop(
     screen: Screen,
     rows: &mut [u32],
     render: &mut [u32],
@@ -350,48 +355,5 @@ fn do_pop(
         filter_paints: screen.filter_paints,
         layers: screen.layers - 1,
         painting: false,
-    }
-}
-
-// Rules 9 and 10. The list has the segments of the layer's clip.
-pub fn pop_layer(
-    screen: Screen,
-    rows: &mut [u32],
-    render: &mut [u32],
-    fills: &mut [u32],
-    layers: &mut [u32],
-    opacities: &mut [f32],
-    layer_attrs: &mut [u32],
-    list: &[u32],
-) -> Built
-    ensures { λ r. ⌜ out (r .number) (r .screen) (lent (words (now (rows .exit)) (now (render .exit)) (now (fills .exit))) (now (layers .exit)) (now (opacities .exit)) (now («layer_attrs» .exit)))
-        ≡ popped screen (lent (words (now (rows .entry)) (now (render .entry)) (now (fills .entry))) (now (layers .entry)) (now (opacities .entry)) (now («layer_attrs» .entry))) (now (list .entry)) ⌝ }
-{
-    let n = judge_pop(
-        screen,
-        rows,
-        render,
-        fills,
-        layers,
-        opacities,
-        layer_attrs,
-        list,
-    );
-    if n != 0 {
-        return Built { number: n, screen };
-    }
-    let next = do_pop(
-        screen,
-        rows,
-        render,
-        fills,
-        layers,
-        opacities,
-        layer_attrs,
-        list,
-    );
-    Built {
-        number: 0,
-        screen: next,
     }
 }

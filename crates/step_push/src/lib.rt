@@ -18,6 +18,9 @@ use screen_layers::put_layer;
 use sizes::MOST_LAYERS;
 use sizes::OPACITIES;
 use sizes::OPEN_TABLE;
+use sizes::answers::BAD_RECORD;
+use sizes::answers::DEEP;
+use sizes::answers::DONE;
 use step_rows::judge_rows;
 use step_rows::touch_rows;
 
@@ -69,17 +72,17 @@ fn judge_push(
     ensures { λ r. ⌜ r ≡ push-number props (lent screen (words (now (rows .entry)) (now (render .entry)) (now (fills .entry))) (now (layers .entry)) (now (opacities .entry))) ⌝ }
 {
     let n = judge_screen(screen, rows.len(), render.len(), fills.len());
-    if n != 0 {
+    if n != DONE {
         return n;
     }
     if layers.len() != OPEN_TABLE {
-        return 4;
+        return BAD_RECORD;
     }
     if opacities.len() != OPACITIES {
-        return 4;
+        return BAD_RECORD;
     }
     if !is_good_props(props) {
-        return 4;
+        return BAD_RECORD;
     }
     let viewport = screen.viewport;
     let parent = screen.clip_bbox;
@@ -88,11 +91,11 @@ fn judge_push(
     let bbox = layer_box(viewport, parent, clip);
     let run = touch_run(blend, bbox);
     let k = judge_rows(screen, rows, run.a, run.b);
-    if k == 4 {
-        return 4;
+    if k == BAD_RECORD {
+        return BAD_RECORD;
     }
     if MOST_LAYERS <= screen.layers {
-        return 6;
+        return DEEP;
     }
     k
 }
@@ -138,12 +141,12 @@ pub fn push_layer(
         ≡ pushed props (lent screen (words (now (rows .entry)) (now (render .entry)) (now (fills .entry))) (now (layers .entry)) (now (opacities .entry))) ⌝ }
 {
     let n = judge_push(screen, rows, render, fills, layers, opacities, props);
-    if n != 0 {
+    if n != DONE {
         return Built { number: n, screen };
     }
     let next = do_push(screen, rows, render, fills, layers, opacities, props);
     Built {
-        number: 0,
+        number: DONE,
         screen: next,
     }
 }

@@ -12,7 +12,7 @@ use step_fill::fill;
 use step_filter::Pixmap;
 use step_filter::Placement;
 use step_filter::filter_fill;
-use step_pop::pop_layer;
+use step_pop_call::pop_layer;
 use step_push::push_layer;
 use test_words::Turn;
 use test_words::after;

@@ -8,6 +8,7 @@ use sizes::LAYER_TABLE;
 use sizes::OPACITIES;
 use sizes::OPEN_TABLE;
 use sizes::PAINT_TABLE;
+use sizes::answers::DONE;
 ghost use mathlib.Core.Path.{_≡_};
 ghost use Prim.Native.Nat.{_+_, _*_, _≤_, _<_};
 ghost use lib.ListN.{length};
@@ -44,7 +45,7 @@ fn report(out: &[u32], p: usize, m: usize) {
     let number = word(out, p);
     io::write_all(STDOUT_FILENO, b" ");
     io::print_decimal(STDOUT_FILENO, number as u64);
-    if number == 0 {
+    if number == DONE {
         return;
     }
     if 1 <= p {

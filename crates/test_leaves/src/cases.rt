@@ -14,6 +14,7 @@ use depth::split::Split;
 use depth::split::split_opaque_span;
 use depth::state::DepthState;
 use depth::state::Skip;
+use sizes::answers::DONE;
 use span::BucketRange;
 use span::TileSpan;
 ghost use mathlib.Core.Path.{_≡_};
@@ -107,7 +108,7 @@ fn listed(s: &[u8], at: usize, runs: Runs, list: &[u32]) -> bool
     requires { ⌜ at < 2 ^ 63 ⌝ }
 {
     let n = word(s, at) as usize;
-    if runs.number != 0 {
+    if runs.number != DONE {
         return false;
     }
     if runs.count != n {
@@ -197,7 +198,7 @@ fn summed(s: &[u8], at: usize, k: usize) -> DepthState
 
 // 1 is due for yes, 0 for no.
 fn is_due(skip: Skip, due: u32) -> bool {
-    if skip.number != 0 {
+    if skip.number != DONE {
         return false;
     }
     if skip.yes {

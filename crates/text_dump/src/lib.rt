@@ -5,6 +5,7 @@ use screen::Screen;
 use sizes::PROGRAM_DEPTHS;
 use sizes::PROGRAM_RENDERS;
 use sizes::ROW;
+use sizes::answers::DONE;
 use text::put_byte;
 use text::put_text;
 use text_file::file_text;
@@ -240,7 +241,7 @@ fn tables_text(
         out,
     );
     let k = text.bytes;
-    if text.number != 0 {
+    if text.number != DONE {
         return k;
     }
     let screen = text.screen;

@@ -17,6 +17,10 @@ use sizes::PROGRAM_RENDERS;
 use sizes::PROGRAM_ROOM;
 use sizes::PROGRAM_ROWS;
 use sizes::ROW;
+use sizes::answers::BAD_FORM;
+use sizes::answers::BAD_RECORD;
+use sizes::answers::BAD_VIEWPORT;
+use sizes::answers::DONE;
 use text_screen::list_screen;
 use text_screen::refusal_line;
 ghost use mathlib.Core.Path.{_≡_};
@@ -65,11 +69,11 @@ fn show(screen: Screen, rows: &[u32], render: &[u32], fills: &[u32], out: &mut [
     ensures { λ r. ⌜ showed r (now (out .exit)) ≡ showing screen (words (now (rows .entry)) (now (render .entry)) (now (fills .entry))) (now (out .entry)) ⌝ }
 {
     let text = list_screen(screen, rows, render, fills, out);
-    if text.number != 0 {
+    if text.number != DONE {
         return refuse(text.number, screen, out);
     }
     FileText {
-        number: 0,
+        number: DONE,
         bytes: text.bytes,
         screen,
     }
@@ -113,7 +117,7 @@ pub fn recording_text(
     );
     let screen = built.screen;
     let n = built.number;
-    if n != 0 {
+    if n != DONE {
         return refuse(n, screen, out);
     }
     show(screen, rows, render, fills, out)
@@ -126,7 +130,7 @@ pub fn size_of(file: &[u32]) -> Size
 {
     let Form::Good(_) = read_form(file) else {
         return Size {
-            number: 3,
+            number: BAD_FORM,
             rows: 0,
             buckets: 0,
         };
@@ -136,20 +140,20 @@ pub fn size_of(file: &[u32]) -> Size
     let rows = screen.rows();
     if !viewport.is_good_viewport() {
         return Size {
-            number: 2,
+            number: BAD_VIEWPORT,
             rows: 0,
             buckets: 0,
         };
     }
     if PROGRAM_ROWS < rows {
         return Size {
-            number: 2,
+            number: BAD_VIEWPORT,
             rows: 0,
             buckets: 0,
         };
     }
     Size {
-        number: 0,
+        number: DONE,
         rows,
         buckets: screen.buckets(),
     }
@@ -234,7 +238,7 @@ fn words_text(
         (tables (now (render .entry)) (now (fills .entry)) (now (depth .entry)) (now (rows .entry)) (now (painting .entry)) (now (layers .entry)) (now (opacities .entry)) (now («paint_attrs» .entry)) (now («layer_attrs» .entry)) (now («filter_paints» .entry))) (now (out .entry)) ⌝ }
 {
     let size = size_of(file);
-    if size.number != 0 {
+    if size.number != DONE {
         return refuse(size.number, no_screen(), out);
     }
     if !is_roomy(
@@ -244,7 +248,7 @@ fn words_text(
         rows.len(),
         painting.len(),
     ) {
-        return refuse(4, no_screen(), out);
+        return refuse(BAD_RECORD, no_screen(), out);
     }
     front_text(
         file,
@@ -302,7 +306,7 @@ pub fn file_text(
         (tables (now (render .entry)) (now (fills .entry)) (now (depth .entry)) (now (rows .entry)) (now (painting .entry)) (now (layers .entry)) (now (opacities .entry)) (now («paint_attrs» .entry)) (now («layer_attrs» .entry)) (now («filter_paints» .entry))) (now (out .entry)) ⌝ }
 {
     if !is_good_bytes(file.len()) {
-        return refuse(3, no_screen(), out);
+        return refuse(BAD_FORM, no_screen(), out);
     }
     let mut words = no_words();
     let n = words_of_bytes(file, &mut words);

@@ -11,7 +11,7 @@ use Rattle.rules.specs.Answers.{Done}
 use Rattle.rules.specs.Painting as rules
 use Rattle.screen.specs.declared.Screen.{Screen}
 use Rattle.paint_command.specs.Painting.{RowLent, lent, StepOut, out, refused, left, settled, painted-row}
-use Rattle.paint_command.proofs.Spreading.{length-pieces}
+use Rattle.paint_pieces.proofs.Spreading.{length-pieces}
 use Rattle.paint_screen.specs.Stepping.{Attributes, number, row-step, stepped}
 use Rattle.paint_whole.specs.Running.{goes-on, ended, one-more, run, most, standing, call-step, row-painted}
 

@@ -8,6 +8,9 @@ use sizes::MOST_ATTRS;
 use sizes::MOST_FILTERS;
 use sizes::OPACITIES;
 use sizes::PAINT_TABLE;
+use sizes::answers::BAD_RECORD;
+use sizes::answers::DONE;
+use sizes::answers::NO_ROOM;
 use span::Alpha;
 use text::put_byte;
 use text::put_number;
@@ -144,18 +147,21 @@ fn write_pieces(row: u32, list: &[u32], n: usize, out: &mut [u8]) -> Listing
 {
     if 65536 < n {
         return Listing {
-            number: 14,
+            number: NO_ROOM,
             bytes: 0,
         };
     }
     if is_short_row(row, list, n, out.len()) {
         return Listing {
-            number: 14,
+            number: NO_ROOM,
             bytes: 0,
         };
     }
     let bytes = put_pieces(out, row, list, n);
-    Listing { number: 0, bytes }
+    Listing {
+        number: DONE,
+        bytes,
+    }
 }
 
 // The number of the step that a row stands at, which is refused: it is tried with no list.
@@ -223,7 +229,7 @@ pub fn row_text(
         list,
     );
     let n = done.number;
-    if n != 0 {
+    if n != DONE {
         return Listing {
             number: n,
             bytes: 0,
@@ -350,7 +356,7 @@ pub fn attrs_text(
         filter_paints.len(),
     ) {
         return Listing {
-            number: 4,
+            number: BAD_RECORD,
             bytes: 0,
         };
     }
@@ -363,7 +369,7 @@ pub fn attrs_text(
         out.len(),
     ) {
         return Listing {
-            number: 14,
+            number: NO_ROOM,
             bytes: 0,
         };
     }
@@ -375,5 +381,8 @@ pub fn attrs_text(
         opacities,
         filter_paints,
     );
-    Listing { number: 0, bytes }
+    Listing {
+        number: DONE,
+        bytes,
+    }
 }

@@ -10,6 +10,9 @@ use screen::judge_screen;
 use sizes::DEPTHS;
 use sizes::RENDERS;
 use sizes::ROW;
+use sizes::answers::BAD_RECORD;
+use sizes::answers::DONE;
+use sizes::answers::NO_ROOM;
 use sizes::wide;
 use text_lines::LINE;
 use text_lines::put_command_line;
@@ -319,15 +322,15 @@ fn judge_list(screen: Screen, rows: &[u32], render: &[u32], fills: &[u32]) -> u3
     ensures { λ r. ⌜ r ≡ list-number screen (words (now (rows .entry)) (now (render .entry)) (now (fills .entry))) ⌝ }
 {
     let n = judge_screen(screen, rows.len(), render.len(), fills.len());
-    if n != 0 {
+    if n != DONE {
         return n;
     }
     let m = screen.rows();
     let buckets = screen.buckets() as u32;
     if !judge_rows(rows, render, fills, m, screen.c, screen.d, buckets) {
-        return 4;
+        return BAD_RECORD;
     }
-    0
+    DONE
 }
 
 // The lines of a screen that is judged.
@@ -364,7 +367,7 @@ pub fn list_screen(
     ensures { λ r. ⌜ left r (now (out .exit)) ≡ listed screen (words (now (rows .entry)) (now (render .entry)) (now (fills .entry))) (now (out .entry)) ⌝ }
 {
     let n = judge_list(screen, rows, render, fills);
-    if n != 0 {
+    if n != DONE {
         return Listing {
             number: n,
             bytes: 0,
@@ -372,12 +375,15 @@ pub fn list_screen(
     }
     if is_short(screen, rows, render, fills, out.len()) {
         return Listing {
-            number: 14,
+            number: NO_ROOM,
             bytes: 0,
         };
     }
     let bytes = put_screen(out, screen, rows, render, fills);
-    Listing { number: 0, bytes }
+    Listing {
+        number: DONE,
+        bytes,
+    }
 }
 
 // The line of a refusal.
@@ -387,10 +393,13 @@ pub fn refusal_line(n: u32, out: &mut [u8]) -> Listing
     let mut none = [0u8; 0];
     if out.len() < put_refused(&mut none, 0, n) {
         return Listing {
-            number: 14,
+            number: NO_ROOM,
             bytes: 0,
         };
     }
     let bytes = put_refused(out, 0, n);
-    Listing { number: 0, bytes }
+    Listing {
+        number: DONE,
+        bytes,
+    }
 }

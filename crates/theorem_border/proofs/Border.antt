@@ -18,7 +18,8 @@ use Rattle.rules_picture.specs.Turns.{Gave, from, said-finished}
 use Rattle.rules_picture.proofs.Cases.{by}
 use Rattle.paint_screen.specs.Rows.{skip-of-row}
 use Rattle.host_screen.specs.State.{bit}
-use Rattle.host.specs.Painting.{step-left, skip-left}
+use Rattle.host_results.specs.Results.{skip-left}
+use Rattle.host.specs.Painting.{step-left}
 use Rattle.theorem_picture.specs.Turns as turns
 use Rattle.theorem_picture.specs.Reached as reached
 use Rattle.theorem_picture.specs.Rows as rows

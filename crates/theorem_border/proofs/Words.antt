@@ -37,7 +37,8 @@ use Rattle.host_screen.specs.declared.Held.the-variants as held
 use Rattle.host_screen.specs.State.{screen-words, screen-at, screen-of, before-4, refused-at, at-held, on}
 use Rattle.host_screen.proofs.Words.{read-back, written-back}
 use Rattle.host.specs.Building.{tables-left, reset-call, recording-call, fill-left, fill-call, props, push-left, push-call, pop-left, pop-call, picture, filter-left, filter-call}
-use Rattle.host.specs.Painting.{begin-left, begin-call, step-left, step-call, row-call, write-call, skip-left, skip-call}
+use Rattle.host_results.specs.Results.{skip-left}
+use Rattle.host.specs.Painting.{begin-left, begin-call, step-left, step-call, row-call, write-call, skip-call}
 use Rattle.host.proofs.Kept.{step-refused, row-refused, write-refused}
 use Rattle.theorem_picture.specs.Calls as calls
 use Rattle.theorem_picture.specs.Reached as reached

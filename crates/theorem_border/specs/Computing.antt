@@ -12,7 +12,7 @@ use Rattle.row_judge.specs.Building.{good-row, good-rows}
 use Rattle.step_fill.specs.Fills.{paints, first-number, fill-number, fill-done}
 use Rattle.paint_runs.specs.Summaries.{shown-runs}
 use Rattle.paint_command.specs.Painting.{attrs-at, given, fill-shown, command-shown, depth-step, command-step, next-step, settled, painted-row}
-use Rattle.paint_command.specs.Pieces.{runs-at}
+use Rattle.paint_pieces.specs.Pieces.{runs-at}
 use Rattle.paint_screen.specs.Judging as painter
 use Rattle.paint_screen.specs.Judging.{begin-number}
 use Rattle.paint_screen.specs.Beginning.{beginning}

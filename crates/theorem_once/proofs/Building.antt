@@ -39,7 +39,7 @@ use Rattle.step_filter.specs.Filter.{picture-of, filtered, given}
 use Rattle.screen.proofs.reset as reset-call
 use Rattle.step_fill.proofs.fill as fill-call
 use Rattle.step_push.proofs.push_layer as push-call
-use Rattle.step_pop.proofs.pop_layer as pop-call
+use Rattle.step_pop_call.proofs.pop_layer as pop-call
 use Rattle.step_filter.proofs.filter_fill as filter-call
 
 -- an answer and a screen are a result

@@ -8,7 +8,7 @@ use lib.Dec.{leb, eqb}
 use lib.ListN.{length}
 use Rattle.rules.specs.Lists.{join}
 use Rattle.rules.specs.Painting.{Piece}
-use Rattle.paint_command.specs.Pieces.{tag-of, index-of, piece-words, laid}
+use Rattle.paint_pieces.specs.Pieces.{tag-of, index-of, piece-words, laid}
 use Rattle.theorem_picture.specs.Turns.{pieces-in}
 
 layer-back : (b : Bool) (a : Option ℕ) → leb 3 (tag-of b a) ≡ b

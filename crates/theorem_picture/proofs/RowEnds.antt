@@ -17,9 +17,9 @@ use Rattle.rules.specs.Painting.{Piece, Painted, paint-steps}
 use Rattle.rules.specs.Calls.{paints-on, Canvas, Given, painter-of, paint-call}
 use Rattle.screen.specs.Tables.{ScreenLent}
 use Rattle.refine_steps.specs.Lent.{lent-of}
-use Rattle.paint_command.specs.Pieces.{piece-words, laid}
+use Rattle.paint_pieces.specs.Pieces.{piece-words, laid}
 use Rattle.paint_command.specs.Painting.{StepOut}
-use Rattle.paint_command.proofs.Spreading.{length-pieces}
+use Rattle.paint_pieces.proofs.Spreading.{length-pieces}
 use Rattle.paint_whole.specs.Running.{one-more, run, most, standing, row-painted}
 use Rattle.refine_paint.specs.Canvases.{given-out, WholeCanvas}
 use Rattle.refine_paint.proofs.Whole.{paint-whole}

@@ -22,7 +22,7 @@ use Rattle.screen.specs.declared.Screen as declared
 use Rattle.screen.specs.Tables.{ScreenLent}
 use Rattle.paint_command.specs.Painting as paint
 use Rattle.paint_command.specs.Painting.{StepOut, out, refused, left, settled, painted-row}
-use Rattle.paint_command.proofs.Spreading.{length-pieces}
+use Rattle.paint_pieces.proofs.Spreading.{length-pieces}
 use Rattle.paint_screen.specs.Stepping.{Attributes, attributes, number, row-step, stepped}
 use Rattle.paint_whole.specs.Running.{goes-on, ended, one-more, run, most, standing, row-painted}
 use Rattle.text_screen.specs.Listed.{written, begun-with}

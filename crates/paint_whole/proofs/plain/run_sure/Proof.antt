@@ -12,7 +12,7 @@ use Rattle.paint_whole.proofs.plain.run_sure.Tie as tie
 use Rattle.paint_whole.proofs.plain.run_sure.Reads as reads
 use Rattle.paint_whole.proofs.plain.run_sure.Lts as lts
 use Rattle.paint_whole.proofs.plain.sure_kind.Reads as sure-kind-reads
-use Rattle.paint_whole.proofs.pieces.put_words.Reads as put-words-reads
+use Rattle.paint_pieces.proofs.put_words.Reads as put-words-reads
 
 abbrev Inv-loop : tie.InvT-loop
 Inv-loop state render fills depth paint-attrs paints layer-attrs layers list₀ start stop pieces nesting from to largest at₀ n₀ level₀ list at n level =

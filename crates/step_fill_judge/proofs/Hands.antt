@@ -2,12 +2,13 @@
 use mathlib.Core.Path.{_≡_, refl, sym, ap, _∙_}
 use mathlib.Core.Bool.{Bool, true, false, _&&_, _||_, cond}
 use mathlib.Core.List.{List, [], _∷_, _++_}
-use mathlib.Core.Option.{none, some}
+use mathlib.Core.Option.{Option, none, some}
 use Prim.Native.Nat.{ℕ, zero, suc, _+_, _-_, _*_, _≤_, _<_}
 use native.Mathlib.Omega.{arith}
 use lib.Dec.{leb, ltb, eqb}
-use lib.ListN.{length, getD}
+use lib.ListN.{length}
 use borrow.Author.Tests.{eqb-true, eqb-false, eq-eqb, ne-eqb, lt-ltb, le-leb}
+use Rattle.rules.specs.Spans.{Span}
 use Rattle.rules.specs.Segments.{Segment, good-segment, follows, ordered-after, ordered, judge-segments, Cut, cut-in}
 use Rattle.row_counts.specs.Counts.{Counts, counts}
 use Rattle.row_judge.specs.Building.{good-row}
@@ -16,9 +17,12 @@ use Rattle.segments.proofs.Laws.{segs-end, segs-first}
 use Rattle.segments.proofs.Judging as list
 use Rattle.segments.proofs.Judging.{AtPlace, judging}
 use Rattle.step_fill_rows.specs.declared.Job.{Job}
-use Rattle.step_fill_judge.specs.declared.Hand.{Hand}
-use Rattle.step_fill_judge.specs.Tallies.{Tally, added, stored, known, tallied, record-at, tally-cuts, verdict, cuts-of, none-yet, Rowed, list-number, noted, marked-by, turned-to, stretched, hand-cuts, Low}
-use Rattle.step_fill_judge.proofs.Laws.{good-small, turned, Fits, took-none, took-bad, took-good, tally-more, tally-stop, at-most-one, fits-after, lands}
+use Rattle.row_room.specs.declared.Limits.{Limits}
+use Rattle.row_room.specs.declared.Hand.{Hand}
+use Rattle.row_room.specs.Room.{record-at, hand-of, loaded, turned-to, noted, added-to, Low}
+use Rattle.row_room.proofs.Laws.{good-small}
+use Rattle.step_fill_judge.specs.Tallies.{Tally, added, known, tallied, tally-cuts, verdict, cuts-of, none-yet, Rowed, list-number, marked-by, limits-of, stretched, counted-cut, hand-cuts}
+use Rattle.step_fill_judge.proofs.Laws.{turned, Fits, took-none, took-bad, took-good, tally-more, tally-stop, at-most-one, fits-after, lands}
 
 -- the number for an order that is kept if ok, and for rows that are full or deep
 abbrev code-of : Bool → Bool → Bool → ℕ
@@ -77,74 +81,75 @@ module _ (j : Job) (rows : List ℕ) (h : Hand) (ok : Bool) (t : Tally) (o : Hol
   not-four : h .code ≡ 4 → ⊥
   not-four e = never-four ok (t .full) (t .deep) (sym (o .code) ∙ e)
 
+  -- what the row of a cut segment has before it: at hand, or by its record
   module _ (r : ℕ) (b : r ≤ 8191) where
-    bad-turned : turned-to j (record-at rows r) h r .code ≡ 4 → good-row (j .c) (j .d) (j .layers) (record-at rows r) ≡ false
-    unfolding turned-to
-    bad-turned e = go (eqb (h .row) r) (good-row (j .c) (j .d) (j .layers) (record-at rows r)) refl e
-      where
-        go : (x g : Bool) → good-row (j .c) (j .d) (j .layers) (record-at rows r) ≡ g
-            → cond x h (cond g (record { row = r; renders = getD (record-at rows r) 0 0 + (j .layers - getD (record-at rows r) 5 0); depths = getD (record-at rows r) 1 0; code = h .code }) (record { row = r; renders = 0; depths = 0; code = 4 })) .code ≡ 4
-            → good-row (j .c) (j .d) (j .layers) (record-at rows r) ≡ false
-        go true g q e = absurd (not-four e)
-        go false true q e = absurd (not-four e)
-        go false false q e = q
+    good-held : h .row ≡ r → good-row (j .c) (j .d) (j .layers) (record-at rows r) ≡ true
+    good-held p = let e : t .row ≡ r = sym (o .row) ∙ p in rw e at (o .good (omega arith))
 
-    good-turned : (turned-to j (record-at rows r) h r .code ≡ 4 → ⊥) → good-row (j .c) (j .d) (j .layers) (record-at rows r) ≡ true
-    unfolding turned-to
-    good-turned n = go (eqb (h .row) r) refl (good-row (j .c) (j .d) (j .layers) (record-at rows r)) refl n
-      where
-        go : (x : Bool) → eqb (h .row) r ≡ x → (g : Bool) → good-row (j .c) (j .d) (j .layers) (record-at rows r) ≡ g
-            → (cond x h (cond g (record { row = r; renders = getD (record-at rows r) 0 0 + (j .layers - getD (record-at rows r) 5 0); depths = getD (record-at rows r) 1 0; code = h .code }) (record { row = r; renders = 0; depths = 0; code = 4 })) .code ≡ 4 → ⊥)
-            → good-row (j .c) (j .d) (j .layers) (record-at rows r) ≡ true
-        go true p g q n =
-            let e : t .row ≡ r = sym (o .row) ∙ eqb-true (h .row) r p in
-            rw e at (o .good (omega arith))
-        go false p true q n = q
-        go false p false q n = absurd (n refl)
+    held-is : h .row ≡ r → Turned j h (h .code) r (known t (record-at rows r) r)
+    unfolding known
+    held-is p =
+        let e : t .row ≡ r = sym (o .row) ∙ p in
+        let l : t .levels ≡ j .layers = o .levels (omega arith) in
+        rw (eq-eqb (t .row) r e) (record { row = p; renders = omega (arith, o .renders); depths = o .depths; code = refl; levels = omega arith })
 
-    module _ (g : good-row (j .c) (j .d) (j .layers) (record-at rows r) ≡ true) where
-      turned-is : Turned j (turned-to j (record-at rows r) h r) (h .code) r (known t (record-at rows r) r)
-      unfolding turned-to known
-      turned-is = rw (g, ← o .row) (go (eqb (h .row) r) refl)
-        where
-          go : (x : Bool) → eqb (h .row) r ≡ x
-              → Turned j (cond x h (record { row = r; renders = getD (record-at rows r) 0 0 + (j .layers - getD (record-at rows r) 5 0); depths = getD (record-at rows r) 1 0; code = h .code })) (h .code) r (cond x (counts (t .renders) (t .depths) (t .levels)) (stored (record-at rows r)))
-          go true p =
-              let e : h .row ≡ r = eqb-true (h .row) r p in
-              let l : t .levels ≡ j .layers = o .levels (omega (arith, o .row)) in
-              record { row = e; renders = omega (arith, o .renders); depths = o .depths; code = refl; levels = omega arith }
-          go false p = record { row = refl; renders = refl; depths = refl; code = refl; levels = good-small (j .c) (j .d) (j .layers) (record-at rows r) g .levels }
+    loaded-is : (h .row ≡ r → ⊥) → good-row (j .c) (j .d) (j .layers) (record-at rows r) ≡ true → Turned j (loaded (limits-of j) (record-at rows r) (h .code) r) (h .code) r (known t (record-at rows r) r)
+    unfolding known
+    loaded-is p g =
+        rw (ne-eqb (t .row) r (λ e. p (o .row ∙ e)))
+        (record { row = refl; renders = omega arith; depths = refl; code = refl; levels = good-small (j .c) (j .d) (j .layers) (record-at rows r) g .levels })
 
   -- one more cut segment, on a row whose record is good
-  module _ (k : Cut) (b : k .row ≤ 8191) (g : good-row (j .c) (j .d) (j .layers) (record-at rows (k .row)) ≡ true) where
-    more-held : Holds j rows (stretched j (turned-to j (record-at rows (k .row)) h (k .row)) (k .stretch .tiles) (k .stretch .alpha)) ok (tallied j (record-at rows (k .row)) t k)
-    unfolding stretched
+  module _ (k : Cut) (g : good-row (j .c) (j .d) (j .layers) (record-at rows (k .row)) ≡ true) {u : Hand} (v : Turned j u (h .code) (k .row) (known t (record-at rows (k .row)) (k .row))) where
+    more-held : Holds j rows (stretched j u (k .stretch .tiles) (k .stretch .alpha)) ok (tallied j (record-at rows (k .row)) t k)
+    unfolding stretched added-to
     more-held =
-        let u = turned-is (k .row) b g in
-        rw (← turned j (record-at rows (k .row)) t k (known t (record-at rows (k .row)) (k .row)) refl (u .levels))
+        rw (← turned j (record-at rows (k .row)) t k (known t (record-at rows (k .row)) (k .row)) refl (v .levels))
         (record {
-          row = u .row;
-          renders = ap (λ (x : ℕ). x + added (j .eligible) (k .stretch .tiles) (k .stretch .alpha) .renders) (u .renders);
-          depths = ap (λ (x : ℕ). x + added (j .eligible) (k .stretch .tiles) (k .stretch .alpha) .depths) (u .depths);
-          code = rw (u .renders, u .depths, u .code, o .code) (noted-is ok (t .full) (t .deep) _ _);
+          row = v .row;
+          renders = ap (λ (x : ℕ). x + added (j .eligible) (k .stretch .tiles) (k .stretch .alpha) .renders) (v .renders);
+          depths = ap (λ (x : ℕ). x + added (j .eligible) (k .stretch .tiles) (k .stretch .alpha) .depths) (v .depths);
+          code = rw (v .renders, v .depths, v .code, o .code) (noted-is ok (t .full) (t .deep) _ _);
           levels = λ z. refl;
           good = λ z. g;
         })
 
+-- a cut segment was counted in the hand u, or its row's record is bad
+data Told : Job → List ℕ → Bool → Tally → Cut → Hand → Type 0 where
+  bad : {j : Job} {rows : List ℕ} {ok : Bool} {t : Tally} {k : Cut} {u : Hand}
+      → good-row (j .c) (j .d) (j .layers) (record-at rows (k .row)) ≡ false → u .code ≡ 4 → Told j rows ok t k u
+  fine : {j : Job} {rows : List ℕ} {ok : Bool} {t : Tally} {k : Cut} {u : Hand}
+      → good-row (j .c) (j .d) (j .layers) (record-at rows (k .row)) ≡ true → Holds j rows u ok (tallied j (record-at rows (k .row)) t k) → Told j rows ok t k u
+
+module _ (j : Job) (rows : List ℕ) (h : Hand) (ok : Bool) (t : Tally) (o : Holds j rows h ok t) where
+  told-cut : (k : Cut) → k .row ≤ 8191 → Told j rows ok t k (counted-cut j rows h k)
+  unfolding counted-cut turned-to
+  told-cut k b = go (eqb (h .row) (k .row)) refl (good-row (j .c) (j .d) (j .layers) (record-at rows (k .row))) refl
+    where
+      own : Hand
+      own = loaded (limits-of j) (record-at rows (k .row)) (h .code) (k .row)
+
+      go : (x : Bool) → eqb (h .row) (k .row) ≡ x → (g : Bool) → good-row (j .c) (j .d) (j .layers) (record-at rows (k .row)) ≡ g
+          → Told j rows ok t k (cond x (stretched j h (k .stretch .tiles) (k .stretch .alpha))
+          (cond (eqb (cond g own (hand-of 0 0 (k .row) 4) .code) 4) (cond g own (hand-of 0 0 (k .row) 4)) (stretched j (cond g own (hand-of 0 0 (k .row) 4)) (k .stretch .tiles) (k .stretch .alpha))))
+      go true p g q =
+          let e = eqb-true (h .row) (k .row) p in
+          let y = good-held j rows h ok t o (k .row) b e in
+          fine y (more-held j rows h ok t o k y (held-is j rows h ok t o (k .row) b e))
+      go false p true q =
+          rw (ne-eqb (h .code) 4 (not-four j rows h ok t o))
+          (fine q (more-held j rows h ok t o k q (loaded-is j rows h ok t o (k .row) b (eqb-false (h .row) (k .row) p) q)))
+      go false p false q = bad q refl
+
   -- what is left of a segment: nothing or one
   bad-cuts : (ks : List Cut) → length ks ≤ 1 → ((k : Cut) → k ∷ [] ≡ ks → k .row ≤ 8191) → hand-cuts j rows h ks .code ≡ 4 → none ≡ tally-cuts j rows t ks
   unfolding hand-cuts
-  bad-cuts [] l b e = absurd (not-four e)
-  bad-cuts (k ∷ []) l b e = took-bad j rows t (k ∷ []) k refl (go (eqb (turned-to j (record-at rows (k .row)) h (k .row) .code) 4) refl e)
+  bad-cuts [] l b e = absurd (not-four j rows h ok t o e)
+  bad-cuts (k ∷ []) l b e = by (told-cut k (b k refl)) e
     where
-      go : (x : Bool) → eqb (turned-to j (record-at rows (k .row)) h (k .row) .code) 4 ≡ x
-          → cond x (turned-to j (record-at rows (k .row)) h (k .row)) (stretched j (turned-to j (record-at rows (k .row)) h (k .row)) (k .stretch .tiles) (k .stretch .alpha)) .code ≡ 4
-          → good-row (j .c) (j .d) (j .layers) (record-at rows (k .row)) ≡ false
-      go true p e = bad-turned (k .row) (b k refl) e
-      go false p e =
-          let g = good-turned (k .row) (b k refl) (eqb-false _ 4 p) in
-          let m = more-held k (b k refl) g in
-          absurd (never-four ok (tallied j (record-at rows (k .row)) t k .full) (tallied j (record-at rows (k .row)) t k .deep) (sym (m .code) ∙ e))
+      by : {u : Hand} → Told j rows ok t k u → u .code ≡ 4 → none ≡ tally-cuts j rows t (k ∷ [])
+      by (bad g q) e = took-bad j rows t (k ∷ []) k refl g
+      by (fine g m) e = absurd (never-four ok (tallied j (record-at rows (k .row)) t k .full) (tallied j (record-at rows (k .row)) t k .deep) (sym (m .code) ∙ e))
   bad-cuts (k ∷ m ∷ ks) l b e = absurd (omega arith)
 
 as-hand : {j : Job} {rows : List ℕ} {u w : Hand} {ok : Bool} {t : Tally} → u ≡ w → Holds j rows w ok t → Holds j rows u ok t
@@ -160,16 +165,17 @@ module _ (j : Job) (rows : List ℕ) (h : Hand) (ok : Bool) (t : Tally) (o : Hol
   held-cuts : (ks : List Cut) → length ks ≤ 1 → ((k : Cut) → k ∷ [] ≡ ks → k .row ≤ 8191) → (hand-cuts j rows h ks .code ≡ 4 → ⊥) → Held j rows ok t ks (hand-cuts j rows h ks)
   unfolding hand-cuts
   held-cuts [] l b n = record { tally = t; taken = took-none j rows t [] refl; holds = o }
-  held-cuts (k ∷ []) l b n = go (eqb (turned-to j (record-at rows (k .row)) h (k .row) .code) 4) refl n
+  held-cuts (k ∷ []) l b n = by (told-cut j rows h ok t o k (b k refl)) n
     where
-      go : (x : Bool) → eqb (turned-to j (record-at rows (k .row)) h (k .row) .code) 4 ≡ x
-          → (cond x (turned-to j (record-at rows (k .row)) h (k .row)) (stretched j (turned-to j (record-at rows (k .row)) h (k .row)) (k .stretch .tiles) (k .stretch .alpha)) .code ≡ 4 → ⊥)
-          → Held j rows ok t (k ∷ []) (cond x (turned-to j (record-at rows (k .row)) h (k .row)) (stretched j (turned-to j (record-at rows (k .row)) h (k .row)) (k .stretch .tiles) (k .stretch .alpha)))
-      go true p n = absurd (n (eqb-true _ 4 p))
-      go false p n =
-          let g = good-turned j rows h ok t o (k .row) (b k refl) (eqb-false _ 4 p) in
-          record { tally = tallied j (record-at rows (k .row)) t k; taken = took-good j rows t (k ∷ []) k refl (tallied j (record-at rows (k .row)) t k) g refl; holds = more-held j rows h ok t o k (b k refl) g }
+      by : {u : Hand} → Told j rows ok t k u → (u .code ≡ 4 → ⊥) → Held j rows ok t (k ∷ []) u
+      by (bad g q) n = absurd (n q)
+      by (fine g m) n = record { tally = tallied j (record-at rows (k .row)) t k; taken = took-good j rows t (k ∷ []) k refl (tallied j (record-at rows (k .row)) t k) g refl; holds = m }
   held-cuts (k ∷ m ∷ ks) l b n = absurd (omega arith)
+
+-- a stretch, as the code adds it
+pub stretch-is : (j : Job) (h : Hand) (s : Span) (a : Option ℕ) {l : Limits} {x y : ℕ} {w : Hand} → l ≡ limits-of j → counts x y 0 ≡ added (j .eligible) s a → w ≡ added-to l h x y → w ≡ stretched j h s a
+unfolding stretched
+stretch-is j h s a p q e = rw (← q, ← p) e
 
 -- what is left of a segment, as the code takes it
 module _ (j : Job) (rows : List ℕ) (h : Hand) {ks : List Cut} where
@@ -177,27 +183,19 @@ module _ (j : Job) (rows : List ℕ) (h : Hand) {ks : List Cut} where
   unfolding hand-cuts
   took-nothing e = rw (← e)
 
-  module _ (k : Cut) {u : Hand} (e : k ∷ [] ≡ ks) (p : u ≡ turned-to j (record-at rows (k .row)) h (k .row)) where
-    pub took-four : u .code ≡ 4 → u ≡ hand-cuts j rows h ks
-    unfolding hand-cuts
-    took-four c = rw (← e, ← p, eq-eqb (u .code) 4 c)
+  module _ (k : Cut) (e : k ∷ [] ≡ ks) where
+    pub took-held : {w : Hand} → h .row ≡ k .row → w ≡ stretched j h (k .stretch .tiles) (k .stretch .alpha) → w ≡ hand-cuts j rows h ks
+    unfolding hand-cuts counted-cut
+    took-held p q = rw (← e, eq-eqb (h .row) (k .row) p, q)
 
-    pub took-one : {w : Hand} → (u .code ≡ 4 → ⊥) → w ≡ stretched j u (k .stretch .tiles) (k .stretch .alpha) → w ≡ hand-cuts j rows h ks
-    unfolding hand-cuts
-    took-one c q = rw (← e, ← p, ne-eqb (u .code) 4 c, q)
+    module _ (n : h .row ≡ k .row → ⊥) {u : Hand} (p : u ≡ turned-to (limits-of j) (record-at rows (k .row)) (h .code) (k .row)) where
+      pub took-four : u .code ≡ 4 → u ≡ hand-cuts j rows h ks
+      unfolding hand-cuts counted-cut
+      took-four c = rw (← e, ne-eqb (h .row) (k .row) n, ← p, eq-eqb (u .code) 4 c)
 
--- the counts of a row at hand can grow
-pub low-turned : (j : Job) (n : ℕ) (rows : List ℕ) (h : Hand) (r : ℕ) → Rowed j n rows → Low h → Low (turned-to j (record-at rows r) h r)
-unfolding turned-to
-low-turned j n rows h r o l = go (eqb (h .row) r) (good-row (j .c) (j .d) (j .layers) (record-at rows r)) refl
-  where
-    go : (x g : Bool) → good-row (j .c) (j .d) (j .layers) (record-at rows r) ≡ g
-        → Low (cond x h (cond g (record { row = r; renders = getD (record-at rows r) 0 0 + (j .layers - getD (record-at rows r) 5 0); depths = getD (record-at rows r) 1 0; code = h .code }) (record { row = r; renders = 0; depths = 0; code = 4 })))
-    go true g q = l
-    go false true q =
-        let s = good-small (j .c) (j .d) (j .layers) (record-at rows r) q in
-        record { renders = omega (arith, s .renders, o .c, o .layers); depths = omega (arith, s .depths, o .d) }
-    go false false q = record { renders = omega arith; depths = omega arith }
+      pub took-one : {w : Hand} → (u .code ≡ 4 → ⊥) → w ≡ stretched j u (k .stretch .tiles) (k .stretch .alpha) → w ≡ hand-cuts j rows h ks
+      unfolding hand-cuts counted-cut
+      took-one c q = rw (← e, ne-eqb (h .row) (k .row) n, ← p, ne-eqb (u .code) 4 c, q)
 
 -- numbers of the whole list
 pub bad-either : (a : ℕ) → 4 ≡ list-number a 4

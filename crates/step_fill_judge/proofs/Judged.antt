@@ -25,8 +25,10 @@ use Rattle.row_judge.specs.Building.{good-row, good-at, good-rows}
 use Rattle.segments.specs.Segs.{origin, bounds}
 use Rattle.step_fill_rows.specs.declared.Job.{Job}
 use Rattle.step_fill_rows.specs.Filling.{draws, puts-of, done, Roomy, none-put, one-more}
-use Rattle.step_fill_judge.specs.Tallies.{Tally, stored, known, drawn-counts, tally-of, tallied, record-at, tally-cuts, verdict, none-yet, Rowed}
-use Rattle.step_fill_judge.proofs.Laws.{good-small, at-most-one, lands}
+use Rattle.row_room.specs.Room.{record-at}
+use Rattle.row_room.proofs.Laws.{good-small}
+use Rattle.step_fill_judge.specs.Tallies.{Tally, stored, known, drawn-counts, tally-of, tallied, tally-cuts, verdict, none-yet, Rowed}
+use Rattle.step_fill_judge.proofs.Laws.{at-most-one, lands}
 use Rattle.step_fill_judge.proofs.Running.{full-at, running, SaneAt, sane-after, runs, passes-are}
 use Rattle.step_fill_judge.proofs.Rising.{Rising, then}
 

@@ -1,15 +1,14 @@
 -- What a stretch adds to the counts of a row, and the tally's turns. Assumes nothing.
 use mathlib.Core.Path.{_≡_, refl, ap, _∙_}
-use mathlib.Core.Bool.{Bool, true, false, _&&_, _||_, cond}
+use mathlib.Core.Bool.{Bool, true, false, _||_, cond}
 use mathlib.Core.List.{List, [], _∷_, _++_, foldl}
 use mathlib.Core.Option.{Option, none, some}
 use Prim.Native.Nat.{ℕ, zero, suc, _+_, _-_, _*_, _/_, _≤_, _<_}
 use native.Mathlib.Omega.{arith}
 use lib.Dec.{leb, ltb, eqb}
-use lib.ListN.{length, getD}
+use lib.ListN.{length}
 use borrow.Author.Tests.{le-leb, lt-leb, leb-true, leb-false}
 use Rattle.rules.specs.Lists.{times, keep}
-use Rattle.rules.proofs.All.{both}
 use Rattle.rules.specs.Spans.{Span, span, Stretch, cut-to}
 use Rattle.rules.specs.Split.{Part, regular, buckets, split, raised, lowered}
 use Rattle.rules.specs.Boxes.{Box}
@@ -18,10 +17,12 @@ use Rattle.rules.specs.Plans.{draw-act}
 use Rattle.rules.specs.Steps.{do-act, put-part, ensure}
 use Rattle.row_counts.specs.Counts.{Counts, counts, count-ops}
 use Rattle.step_fill_rows.specs.declared.Job.{Job}
-use Rattle.row_judge.specs.Building.{good-row, good-summary, good-top}
+use Rattle.row_judge.specs.Building.{good-row}
 use Rattle.segments.specs.Segs.{origin, bounds}
 use Rattle.segments.proofs.Laws.{landed}
-use Rattle.step_fill_judge.specs.Tallies.{Tally, edge-count, added, stored, known, tallied, record-at, tally-cuts, Rowed}
+use Rattle.row_room.specs.Room.{record-at}
+use Rattle.row_room.proofs.Laws.{good-small}
+use Rattle.step_fill_judge.specs.Tallies.{Tally, edge-count, added, stored, known, tallied, tally-cuts, Rowed}
 
 -- the parts of a split span: how many are regular, and how many are depth fills
 abbrev regulars : List Part → ℕ
@@ -128,23 +129,11 @@ few-commands e s a = few-added e s a .0
 pub few-depths : (e : Bool) (s : Span) (a : Option ℕ) → added e s a .depths ≤ 1
 few-depths e s a = few-added e s a .1
 
--- a good record's counts
-pub record Small (c d n : ℕ) (s : List ℕ) : Type 0 where
-  pub renders : getD s 0 0 ≤ c
-  pub depths : getD s 1 0 ≤ d
-  pub levels : getD s 5 0 ≤ n
-
-pub good-small : (c d n : ℕ) (s : List ℕ) → good-row c d n s ≡ true → Small c d n s
-unfolding good-row
-good-small c d n s g =
-    let r = leb (getD s 0 0) c in
-    let f = leb (getD s 1 0) d in
-    let l = leb (getD s 5 0) n in
-    let h4 = both (r && f && l && good-summary s) (good-top (getD s 5 0) s) g in
-    let h3 = both (r && f && l) (good-summary s) (h4 .0) in
-    let h2 = both (r && f) l (h3 .0) in
-    let h1 = both r f (h2 .0) in
-    record { renders = leb-true _ _ (h1 .0); depths = leb-true _ _ (h1 .1); levels = leb-true _ _ (h2 .1) }
+pub few-more : (e : Bool) (s : Span) (a : Option ℕ) {x y : ℕ} → counts x y 0 ≡ added e s a → (x ≤ 1024) × (y ≤ 1024)
+few-more e s a q = (
+  omega (arith, ap (λ (k : Counts). k .renders) q, few-commands e s a),
+  omega (arith, ap (λ (k : Counts). k .depths) q, few-depths e s a),
+)
 
 -- the counts at hand are small before segment i
 pub record Fits (j : Job) (i : ℕ) (t : Tally) : Type 0 where
@@ -263,3 +252,7 @@ pub lands : (j : Job) (n : ℕ) (rows : List ℕ) (g : Segment) (k : Cut) → Ro
 lands j n rows g k o t e =
     let l = landed (origin (j .scene)) (bounds (j .scene)) g k t (o .starts) e in
     (omega (arith, l .row, o .bottom), omega (arith, l .order, l .ends), l .ends)
+
+-- .. whose record is there
+pub row-there : (j : Job) (n : ℕ) (rows : List ℕ) (r : ℕ) → Rowed j n rows → r < n → r * 54 + 54 ≤ length rows
+row-there j n rows r o h = omega (arith, o .long)

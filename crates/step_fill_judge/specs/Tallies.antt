@@ -5,7 +5,7 @@ use mathlib.Core.Bool.{Bool, false, _||_, cond}
 use mathlib.Core.List.{List, [], _∷_}
 use mathlib.Core.Option.{Option, none, some}
 use lib.Dec.{ltb, eqb}
-use lib.ListN.{getD, length, take, drop}
+use lib.ListN.{getD, length}
 use Rattle.sizes.specs.Sizes.{bucket-tiles, tile-end, most-layers, most-room, most-rows, row-size, renders-at, depths-at, levels-at}
 use Rattle.rules.specs.Lists.{join}
 use Rattle.rules.specs.Answers.{Done, BadRecord, BadOrder, FullRow, FullDepth}
@@ -18,7 +18,9 @@ use Rattle.row_counts.specs.Counts.{counts, count-ops}
 use Rattle.row_judge.specs.Building.{good-row}
 use Rattle.segments.specs.Segs.{segs, origin, bounds, Starts}
 use Rattle.step_fill_rows.specs.declared.Job.{Job}
-use Rattle.step_fill_judge.specs.declared.Hand.{Hand}
+use Rattle.row_room.specs.declared.Limits.{Limits}
+use Rattle.row_room.specs.declared.Hand.{Hand}
+use Rattle.row_room.specs.Room.{record-at, limits, turned-to, added-to}
 
 -- the counts of the row at hand, and whether a row has passed its room so far
 pub record Tally : Type 0 where
@@ -63,10 +65,6 @@ tally-of j t r c =
 unfoldable pub tallied : Job → List ℕ → Tally → Cut → Tally
 tallied j s t k = tally-of j t (k .row) (drawn-counts j k (known t s (k .row)))
 
--- the record of row r
-abbrev pub record-at : List ℕ → ℕ → List ℕ
-record-at rows r = take row-size (drop (r * row-size) rows)
-
 -- none where a row's record is bad
 unfoldable pub tally-cuts : Job → List ℕ → Tally → List Cut → Option Tally
 tally-cuts j rows t [] = some t
@@ -101,36 +99,27 @@ pub record Rowed (j : Job) (n : ℕ) (rows : List ℕ) : Type 0 where
 abbrev pub list-number : ℕ → ℕ → ℕ
 list-number a v = cond (eqb a BadRecord) BadRecord (cond (eqb v BadRecord) BadRecord (cond (eqb a Done) v a))
 
--- the number n, after counts that pass c if f, and d if g
-abbrev pub noted : ℕ → Bool → Bool → ℕ
-noted n f g = cond f (cond (eqb n BadOrder) BadOrder FullRow) (cond g (cond (eqb n Done) FullDepth n) n)
-
+-- the same hand, and 5 from here on unless the order is kept
 abbrev pub marked-by : Hand → Bool → Hand
 marked-by h follows = cond follows h (record { row = h .row; renders = h .renders; depths = h .depths; code = BadOrder })
 
--- row r at hand, whose record at entry is s, with its layers
-unfoldable pub turned-to : Job → List ℕ → Hand → ℕ → Hand
-turned-to j s h r =
-    let read : Hand = record { row = r; renders = getD s renders-at 0 + (j .layers - getD s levels-at 0); depths = getD s depths-at 0; code = h .code } in
-    let bad : Hand = record { row = r; renders = 0; depths = 0; code = BadRecord } in
-    cond (eqb (h .row) r) h (cond (good-row (j .c) (j .d) (j .layers) s) read bad)
+-- what its rows have room for
+abbrev pub limits-of : Job → Limits
+limits-of j = limits (j .c) (j .d) (j .layers) 0
 
 -- one more stretch on the row at hand
 unfoldable pub stretched : Job → Hand → Span → Option ℕ → Hand
-stretched j h s a =
-    let renders = h .renders + added (j .eligible) s a .renders in
-    let depths = h .depths + added (j .eligible) s a .depths in
-    record { row = h .row; renders = renders; depths = depths; code = noted (h .code) (ltb (j .c) renders) (ltb (j .d) depths) }
+stretched j h s a = added-to (limits-of j) h (added (j .eligible) s a .renders) (added (j .eligible) s a .depths)
 
--- more cut segments; a bad record ends it
+-- one more cut segment: on the row at hand, or on its own, whose record is judged
+unfoldable pub counted-cut : Job → List ℕ → Hand → Cut → Hand
+counted-cut j rows h k =
+    let u = turned-to (limits-of j) (record-at rows (k .row)) (h .code) (k .row) in
+    let more = stretched j u (k .stretch .tiles) (k .stretch .alpha) in
+    let held = stretched j h (k .stretch .tiles) (k .stretch .alpha) in
+    cond (eqb (h .row) (k .row)) held (cond (eqb (u .code) BadRecord) u more)
+
+-- what is left of a segment: nothing, or one cut segment more
 unfoldable pub hand-cuts : Job → List ℕ → Hand → List Cut → Hand
 hand-cuts j rows h [] = h
-hand-cuts j rows h (k ∷ ks) =
-    let u = turned-to j (record-at rows (k .row)) h (k .row) in
-    let more = hand-cuts j rows (stretched j u (k .stretch .tiles) (k .stretch .alpha)) ks in
-    cond (eqb (u .code) BadRecord) u more
-
--- counts that can grow by one stretch
-pub record Low (h : Hand) : Type 0 where
-  pub renders : h .renders ≤ 9223372036854775808
-  pub depths : h .depths ≤ 9223372036854775808
+hand-cuts j rows h (k ∷ ks) = hand-cuts j rows (counted-cut j rows h k) ks

@@ -1,6 +1,10 @@
 // Judging a fill's segments and the rows that they come to (answers 4, 5, 10 and 11), in one pass, before anything is done. Parts.
-use row_judge::is_good_row;
-use row_screen::part;
+use row_room::Counts;
+use row_room::Hand;
+use row_room::Limits;
+use row_room::NO_ROW;
+use row_room::add;
+use row_room::turn_to;
 use segments::NO_SEGMENT;
 use segments::Placed;
 use segments::Segment;
@@ -8,19 +12,14 @@ use segments::place;
 use segments::segment_at;
 use sizes::BUCKET;
 use sizes::BUCKET_ROUND;
-use sizes::DEPTHS;
-use sizes::LEVELS;
-use sizes::RENDERS;
-use sizes::ROW;
-use sizes::TILE_END;
-use sizes::wide;
+use sizes::answers::BAD_ORDER;
+use sizes::answers::BAD_RECORD;
 use span::Alpha;
 use span::Stretch;
 use step_fill_rows::Job;
 ghost use mathlib.Core.Path.{_≡_};
 ghost use mathlib.Core.Bool.{true, false};
-ghost use Prim.Native.Nat.{_-_, _*_, _≤_, _<_};
-ghost use lib.Dec.{ltb};
+ghost use Prim.Native.Nat.{_-_, _*_, _≤_};
 ghost use lib.ListN.{length};
 ghost use Rattle.sizes.specs.Sizes.{tile-end};
 ghost use Rattle.rules.specs.Segments.{cut-in, good-segment, judge-segments};
@@ -28,21 +27,8 @@ ghost use Rattle.span.specs.Spans.{tiles, alpha};
 ghost use Rattle.row_counts.specs.Counts.{counts};
 ghost use Rattle.segments.specs.Segs.{segs, segment-of, origin, bounds};
 ghost use Rattle.row_screen.specs.Arena.{count-rows};
-ghost use Rattle.step_fill_judge.specs.Tallies.{edge-count, added, record-at, tally-cuts, verdict, cuts-of, none-yet, noted, marked-by, turned-to, stretched, hand-cuts, list-number, Low, Rowed};
-
-// Commands and depth fills.
-pub struct Counts {
-    pub renders: usize,
-    pub depths: usize,
-}
-
-// The row at hand with its counts so far, and the number of what was found so far: 4, 5, 10, 11 or 0.
-pub struct Hand {
-    pub row: u32,
-    pub renders: usize,
-    pub depths: usize,
-    pub code: u32,
-}
+ghost use Rattle.row_room.specs.Room.{Low};
+ghost use Rattle.step_fill_judge.specs.Tallies.{edge-count, added, tally-cuts, verdict, cuts-of, none-yet, marked-by, limits-of, hand-cuts, list-number, Rowed};
 
 fn edge(first: u32, end: u32) -> usize
     ensures { λ r. ⌜ r ≡ edge-count first «end» ⌝ }
@@ -85,25 +71,6 @@ fn added_by(eligible: bool, stretch: Stretch) -> Counts
     }
 }
 
-// The number after counts that may pass their limits: a broken order stays first, then 10, then 11.
-fn note(code: u32, c: u32, d: u32, renders: usize, depths: usize) -> u32
-    ensures { λ r. ⌜ r ≡ noted code (ltb c renders) (ltb d depths) ⌝ }
-{
-    if wide(c) < renders {
-        if code == 5 {
-            return 5;
-        }
-        return 10;
-    }
-    if wide(d) < depths {
-        if code == 0 {
-            return 11;
-        }
-        return code;
-    }
-    code
-}
-
 // 5 from here on, unless the order is kept.
 fn mark(hand: Hand, follows: bool) -> Hand
     ensures { λ r. ⌜ r ≡ marked-by hand follows ⌝ }
@@ -112,52 +79,22 @@ fn mark(hand: Hand, follows: bool) -> Hand
         return hand;
     }
     Hand {
-        row: hand.row,
         renders: hand.renders,
         depths: hand.depths,
-        code: 5,
-    }
-}
-
-// Row r at hand, with its layers: as it is, or from its record; 4 for a bad record.
-fn turn_to(rows: &[u32], job: Job, hand: Hand, r: u32) -> Hand
-    requires { ⌜ Rowed job (count-rows (now rows)) (now rows) × (r < count-rows (now rows)) ⌝ }
-    ensures { λ u. ⌜ u ≡ turned-to job (record-at (now (rows .entry)) r) hand r ⌝ }
-{
-    if hand.row == r {
-        return hand;
-    }
-    let state = part(rows, ROW, r as usize);
-    if is_good_row(state, job.c, job.d, job.layers) {
-        let lacking = wide(job.layers - state[LEVELS]);
-        return Hand {
-            row: r,
-            renders: wide(state[RENDERS]) + lacking,
-            depths: wide(state[DEPTHS]),
-            code: hand.code,
-        };
-    }
-    Hand {
-        row: r,
-        renders: 0,
-        depths: 0,
-        code: 4,
-    }
-}
-
-// One more stretch, on the row at hand.
-fn tally_on(job: Job, hand: Hand, stretch: Stretch) -> Hand
-    requires { ⌜ Low hand × (stretch .tiles .first ≤ tile-end) × (stretch .tiles .«end» ≤ tile-end) ⌝ }
-    ensures { λ u. ⌜ u ≡ stretched job hand (tiles (stretch .tiles)) (alpha (stretch .alpha)) ⌝ }
-{
-    let more = added_by(job.eligible, stretch);
-    let renders = hand.renders + more.renders;
-    let depths = hand.depths + more.depths;
-    Hand {
         row: hand.row,
-        renders,
-        depths,
-        code: note(hand.code, job.c, job.d, renders, depths),
+        code: BAD_ORDER,
+    }
+}
+
+// What the rows of a fill have room for.
+fn limits_of(job: Job) -> Limits
+    ensures { λ r. ⌜ r ≡ limits-of job ⌝ }
+{
+    Limits {
+        c: job.c,
+        d: job.d,
+        layers: job.layers,
+        once: 0,
     }
 }
 
@@ -171,11 +108,16 @@ fn judge_segment(rows: &[u32], job: Job, hand: Hand, segment: Segment) -> Hand
     match placed {
         Placed::Nothing => hand,
         Placed::On(r, stretch) => {
-            let turned = turn_to(rows, job, hand, r);
-            if turned.code == 4 {
+            let limits = limits_of(job);
+            let more = added_by(job.eligible, stretch);
+            if hand.row == r {
+                return add(limits, hand, more);
+            }
+            let turned = turn_to(rows, limits, hand.code, r);
+            if turned.code == BAD_RECORD {
                 return turned;
             }
-            tally_on(job, turned, stretch)
+            add(limits, turned, more)
         }
     }
 }
@@ -187,21 +129,16 @@ pub fn judge_list(rows: &[u32], list: &[u32], start: usize, end: usize, job: Job
     ensures { λ r. ⌜ r ≡ list-number (judge-segments false (segs (now (list .entry)) start («end» - start))) (verdict (tally-cuts job (now (rows .entry)) none-yet (cuts-of job (now (list .entry)) start «end»))) ⌝ }
 {
     let mut last = NO_SEGMENT;
-    let mut hand = Hand {
-        row: TILE_END,
-        renders: 0,
-        depths: 0,
-        code: 0,
-    };
+    let mut hand = NO_ROW;
     let mut i = start;
     while i < end {
         let next = segment_at(list, i);
         if !next.is_good() {
-            return 4;
+            return BAD_RECORD;
         }
         hand = judge_segment(rows, job, mark(hand, last.precedes(next)), next);
-        if hand.code == 4 {
-            return 4;
+        if hand.code == BAD_RECORD {
+            return BAD_RECORD;
         }
         last = next;
         i += 1;

@@ -38,6 +38,7 @@ use Rattle.screen.specs.Judging.{judged}
 use Rattle.rect.proofs.Boxes.{view}
 use Rattle.screen.proofs.Laws.{bounds, clip, good-clip-of, clip-of, same-layers, paint-count, layer-attr-count, filter-count, layer-count}
 use Rattle.screen.proofs.Passed.{Passed, passed}
+use Rattle.row_room.specs.Room.{rows-told}
 use Rattle.step_rows.specs.Band.{band-number, each, OnRows}
 use Rattle.step_rows.proofs.Laws.{puts-each}
 use Rattle.step_rows.proofs.Numbers.{band-answer, band-step, band-room, paint-adds, run-told}
@@ -177,7 +178,7 @@ module _ (g : FilterGiven) (s : Screen) (w : Words) (ps : List ℕ) (fs : List �
 
       module _ (h : good-given g ≡ true) where
         pub nothing-number : draws-nothing (filter-of g) (own-box g s) ≡ true → 0 ≡ filter-number g (lent s w ps fs)
-        unfolding band-answer band-number
+        unfolding band-answer band-number rows-told
         nothing-number d =
             let q = plan-nothing g s (fit .screen) h d in
             let b = bounds s (fit .screen) in

@@ -32,12 +32,11 @@ use Rattle.segments.specs.Segs.{segs, segs-of, origin, bounds as scene-bounds, 
 use Rattle.segments.proofs.Laws.{segs-slice, segs-count, cut-in-scene, judged as judged-list}
 use Rattle.row_judge.specs.Building.{rows-at, Whole, screen-at, step-number}
 use Rattle.screen_layers.specs.Layers.{layer-at, open-at, good-layer, good-own-box}
-use Rattle.step_pop_rows.specs.Closing.{row-of, touched-in, good-pops, full-by, runs-full, done-puts}
+use Rattle.step_pop_rows.specs.Closing.{row-of, touched-in, good-pops, full-by, pops-number, runs-full, done-puts}
 use Rattle.step_pop_rows.proofs.Closed.{Close, Closing, closing as a-closing, members}
 use Rattle.step_pop_rows.proofs.Running.{Sorted, cuts-sorted}
 use Rattle.step_pop_rows.proofs.Rooms.{touched-inside}
 use Rattle.step_pop_rows.proofs.Clipping.{close-all, close-in}
-use Rattle.step_pop_rows.proofs.Judging.{not-true, not-false}
 use Rattle.step_pop.specs.Pop.{PopLent, lent, layers-in, own-rows, good-open, good-lengths, late, first, state-in, own, touched-own, pop-plan, number-after, number, Judged}
 use Rattle.step_pop.proofs.Ready.{Closeable, all-fine, full-is, deep-is, full-plain, full-clip, full-test}
 
@@ -398,35 +397,75 @@ late-zero true r n a f z = go (eqb r 0) refl (ltb 1048576 n) refl (leb 1024 a) r
     go false p c q d h e i z = absurd (eqb-false r 0 p z)
 
 -- the numbers after the first, test by test
+-- the number k of the rows: 4 if one is not good, 10 if one is full with x commands more
+module _ (c d n x : ℕ) (rs : List Words) (is : List ℕ) {k : ℕ} (e : k ≡ pops-number c d n x rs is) where
+  pub rows-bad : k ≡ 4 → good-pops c d n rs is ≡ false
+  unfolding pops-number
+  rows-bad h = go (good-pops c d n rs is) (full-by c x rs (touched-in n rs is)) (sym e ∙ h)
+    where
+      go : (g f : Bool) → _≡_ {A = ℕ} (cond g (cond f 10 0) 4) 4 → g ≡ false
+      go true true h = absurd (omega arith)
+      go true false h = absurd (omega arith)
+      go false f h = refl
+
+  pub rows-good : (k ≡ 4 → ⊥) → good-pops c d n rs is ≡ true
+  unfolding pops-number
+  rows-good h = go (good-pops c d n rs is) (full-by c x rs (touched-in n rs is)) (λ z. h (e ∙ z))
+    where
+      go : (g f : Bool) → (_≡_ {A = ℕ} (cond g (cond f 10 0) 4) 4 → ⊥) → g ≡ true
+      go true f h = refl
+      go false f h = absurd (h refl)
+
+  pub rows-full : k ≡ 10 → full-by c x rs (touched-in n rs is) ≡ true
+  unfolding pops-number
+  rows-full h = go (good-pops c d n rs is) (full-by c x rs (touched-in n rs is)) (sym e ∙ h)
+    where
+      go : (g f : Bool) → _≡_ {A = ℕ} (cond g (cond f 10 0) 4) 10 → f ≡ true
+      go true true h = refl
+      go true false h = absurd (omega arith)
+      go false f h = absurd (omega arith)
+
+  module _ (p : k ≡ 4 → ⊥) where
+    pub rows-roomy : (k ≡ 10 → ⊥) → full-by c x rs (touched-in n rs is) ≡ false
+    unfolding pops-number
+    rows-roomy h = go (good-pops c d n rs is) (full-by c x rs (touched-in n rs is)) (λ z. p (e ∙ z)) (λ z. h (e ∙ z))
+      where
+        go : (g f : Bool) → (_≡_ {A = ℕ} (cond g (cond f 10 0) 4) 4 → ⊥) → (_≡_ {A = ℕ} (cond g (cond f 10 0) 4) 10 → ⊥) → f ≡ false
+        go true true p h = absurd (h refl)
+        go true false p h = refl
+        go false f p h = absurd (p refl)
+
+    -- nothing comes between
+    pub rows-last : (next attrs : ℕ) → next ≤ 1048576 → attrs < 1024 → k ≡ late (good-pops c d n rs is) 0 next attrs (full-by c x rs (touched-in n rs is))
+    unfolding pops-number late
+    rows-last next attrs i j = e ∙ rw (rows-good p, le-ltb 1048576 next i, lt-leb 1024 attrs j)
+
 module _ (g : Bool) (r n a : ℕ) (f : Bool) where
-  pub late-rows : {t : Bool} → t ≡ g → not t ≡ true → 4 ≡ late g r n a f
+  pub late-rows : g ≡ false → 4 ≡ late g r n a f
   unfolding late
-  late-rows {t} e h = let z : g ≡ false = sym e ∙ not-true t h in rw z
+  late-rows h = rw h
 
-  module _ {t : Bool} (e : t ≡ g) (h : not t ≡ false) where
-    good-is : g ≡ true
-    good-is = sym e ∙ not-false t h
-
+  module _ (h : g ≡ true) where
     pub late-list : {k : ℕ} → k ≡ r → (k ≡ 0 → ⊥) → k ≡ late g r n a f
     unfolding late
-    late-list {k} i j = i ∙ rw (good-is, ne-eqb r 0 (λ (z : r ≡ 0). j (i ∙ z)))
+    late-list {k} i j = i ∙ rw (h, ne-eqb r 0 (λ (z : r ≡ 0). j (i ∙ z)))
 
     module _ (z : r ≡ 0) where
       pub late-ids : 1048576 < n → 8 ≡ late g r n a f
       unfolding late
-      late-ids i = rw (good-is, z, lt-ltb 1048576 n i)
+      late-ids i = rw (h, z, lt-ltb 1048576 n i)
 
       pub late-attrs : n ≤ 1048576 → 1024 ≤ a → 9 ≡ late g r n a f
       unfolding late
-      late-attrs i j = rw (good-is, z, le-ltb 1048576 n i, le-leb 1024 a j)
+      late-attrs i j = rw (h, z, le-ltb 1048576 n i, le-leb 1024 a j)
 
       pub late-full : n ≤ 1048576 → a < 1024 → f ≡ true → 10 ≡ late g r n a f
       unfolding late
-      late-full i j k = rw (good-is, z, le-ltb 1048576 n i, lt-leb 1024 a j, k)
+      late-full i j k = rw (h, z, le-ltb 1048576 n i, lt-leb 1024 a j, k)
 
       pub late-done : n ≤ 1048576 → a < 1024 → f ≡ false → 0 ≡ late g r n a f
       unfolding late
-      late-done i j k = rw (good-is, z, le-ltb 1048576 n i, lt-leb 1024 a j, k)
+      late-done i j k = rw (h, z, le-ltb 1048576 n i, lt-leb 1024 a j, k)
 
 pub either-one : (a b : Bool) → a ≡ true → (a || b) ≡ true
 either-one a b e = rw e

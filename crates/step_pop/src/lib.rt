@@ -28,7 +28,6 @@ use sizes::wide;
 use span::TileSpan;
 use step_pop_rows::close_segments;
 use step_pop_rows::close_spans;
-use step_pop_rows::is_full;
 use step_pop_rows::is_full_clip;
 use step_pop_rows::judge_pop_rows;
 use step_pop_rows::pop_rows;
@@ -126,7 +125,8 @@ fn judge_plain(
     ensures { λ r. ⌜ r ≡ late (good-pops (screen .c) (screen .d) (screen .layers) (rows-at (frame-of screen) (words (now (rows .entry)) (now (render .entry)) (now (fills .entry)))) (range a b)) 0 (screen .«next_draw_id») (screen .«layer_attrs»)
         (full-by (screen .c) 2 (rows-at (frame-of screen) (words (now (rows .entry)) (now (render .entry)) (now (fills .entry)))) (touched-in (screen .layers) (rows-at (frame-of screen) (words (now (rows .entry)) (now (render .entry)) (now (fills .entry)))) (range a b))) ⌝ }
 {
-    if !judge_pop_rows(screen, rows, render, fills, a, b) {
+    let found = judge_pop_rows(screen, rows, render, fills, a, b, 1);
+    if found == BAD_RECORD {
         return BAD_RECORD;
     }
     if LAST_ID < screen.next_draw_id {
@@ -135,10 +135,7 @@ fn judge_plain(
     if MOST_ATTRS <= screen.layer_attrs {
         return FULL_ATTRS;
     }
-    if is_full(screen, rows, render, fills, a, b, 2) {
-        return FULL_ROW;
-    }
-    DONE
+    found
 }
 
 // With a clip: the rows from a to b, the segments from start to end, 8, 9 and 10.
@@ -159,7 +156,8 @@ fn judge_clip(
         (full-by (screen .c) 1 (rows-at (frame-of screen) (words (now (rows .entry)) (now (render .entry)) (now (fills .entry)))) (touched-in (screen .layers) (rows-at (frame-of screen) (words (now (rows .entry)) (now (render .entry)) (now (fills .entry)))) (range a b))
         || runs-full (screen .c) (touched-in (screen .layers) (rows-at (frame-of screen) (words (now (rows .entry)) (now (render .entry)) (now (fills .entry)))) (range a b)) (rows-at (frame-of screen) (words (now (rows .entry)) (now (render .entry)) (now (fills .entry)))) 0 0 (join (cut-in (origin scene) (bounds scene)) (segs (now (list .entry)) start («end» - start)))) ⌝ }
 {
-    if !judge_pop_rows(screen, rows, render, fills, a, b) {
+    let found = judge_pop_rows(screen, rows, render, fills, a, b, 0);
+    if found == BAD_RECORD {
         return BAD_RECORD;
     }
     let listed = judge_segments(list, start, end);
@@ -172,7 +170,7 @@ fn judge_clip(
     if MOST_ATTRS <= screen.layer_attrs {
         return FULL_ATTRS;
     }
-    if is_full(screen, rows, render, fills, a, b, 1) {
+    if found == FULL_ROW {
         return FULL_ROW;
     }
     if is_full_clip(screen, rows, render, fills, list, start, end, scene, a, b) {

@@ -6,7 +6,7 @@ use Prim.Native.Nat.{ℕ, zero, suc, _+_, _-_, _*_, _≤_, _<_}
 use native.Mathlib.Omega.{arith}
 use lib.Dec.{ltb, eqb}
 use lib.ListN.{length, getD}
-use borrow.Author.Tests.{ltb-false}
+use borrow.Author.Tests.{eq-eqb, ne-eqb, le-ltb, ltb-false}
 use Rattle.rules.specs.Lists.{some-of, every, join, change, range}
 use Rattle.rules.specs.Boxes.{Box, rows-of}
 use Rattle.rules.specs.Segments.{Segment, good-segment, Cut, cut-in}
@@ -23,8 +23,9 @@ use Rattle.segments.specs.declared.Scene.{Scene}
 use Rattle.segments.specs.declared.Placed.{Placed}
 use Rattle.segments.specs.Segs.{seg-at, segs, origin, bounds, placed-of, Starts}
 use Rattle.segments.proofs.Laws.{segs-end, segs-first, good-first, good-rest, landed}
-use Rattle.step_pop_rows.specs.declared.Count.{Count}
-use Rattle.step_pop_rows.specs.Closing.{row-of, touched-in, so-far, runs-full, done-puts, Roomy, Fillable, clip-puts, Clips, Counted}
+use Rattle.row_room.specs.declared.Hand.{Hand}
+use Rattle.row_room.specs.Room.{hand-of, limits, loaded, added-to}
+use Rattle.step_pop_rows.specs.Closing.{row-of, touched-in, so-far, runs-full, runs-on, done-puts, Roomy, Fillable, clip-puts, Clips, Clean, Counted}
 use Rattle.step_pop_rows.proofs.Touched.{touched-same}
 use Rattle.step_pop_rows.proofs.Closed.{Records, Closing, closing, Close, closes-row}
 use Rattle.step_pop_rows.proofs.Running.{at-found}
@@ -158,33 +159,79 @@ module _ {f : Frame} {n k : ℕ} {ws : List ℕ} {start j : ℕ} {e : Scene} {a 
           all = rw (t, p) (sym (puts-append Words word-ops 32 (n - 1) one more (rows-at f w)) ∙ (rw split-puts at (v .all)));
         }
 
--- counting
-module _ (c : ℕ) (xs : List ℕ) (rs : List Words) (next m : ℕ) (cs : List Cut) (small : m ≤ 1024) where
-  pub counted-none : [] ≡ cs → Counted c xs rs next m cs (record { next = next; n = m; full = false })
-  counted-none e = record { runs = λ ks. rw (← e); few = λ z. small }
+-- counting, with n layers open
+module _ (c d n : ℕ) (xs : List ℕ) (rs : List Words) (h : Hand) (o : Clean d h) (cs : List Cut) where
+  no-ten : eqb (h .code) 10 ≡ false
+  no-ten = rw (o .code)
+
+  pub counted-none : [] ≡ cs → Counted c d xs rs h cs h
+  counted-none e = record { runs = λ ks. rw (← e, no-ten); clean = λ z. o }
 
   module _ (k : Cut) (e : k ∷ [] ≡ cs) where
-    pub counted-out : some-of (eqb (k .row)) xs ≡ false → Counted c xs rs next m cs (record { next = next; n = m; full = false })
+    pub counted-out : some-of (eqb (k .row)) xs ≡ false → Counted c d xs rs h cs h
     unfolding runs-full
-    counted-out h = record { runs = λ ks. rw (← e, h); few = λ z. small }
+    counted-out g = record { runs = λ ks. rw (← e, g, no-ten); clean = λ z. o }
 
-    pub counted-in : some-of (eqb (k .row)) xs ≡ true → c ≤ 1024 → (q : ℕ) → q ≡ so-far rs next m (k .row) → Counted c xs rs next m cs (record { next = k .row + 1; n = q + 1; full = ltb c (q + 1 + 1) })
-    unfolding runs-full
-    counted-in h g q p = record { runs = λ ks. rw (← e, h, p); few = λ z. omega (arith, ltb-false c (q + 1 + 1) z) }
+    module _ (g : some-of (eqb (k .row)) xs ≡ true) (b : k .row ≤ 8191) (small : c ≤ 1024) where
+      -- the row's commands so far
+      so : ℕ
+      so = so-far rs (cond (eqb (h .row) 8192) 0 (h .row + 1)) (h .renders - 1) (k .row)
+
+      last : (q : ℕ) → q + 1 + 1 - 1 ≡ q + 1
+      last q = omega arith
+
+      counted-by : (q y : ℕ) → q ≡ so → y ≤ d → (f : Bool) → ltb c (q + 1 + 1) ≡ f → Counted c d xs rs h cs (hand-of (q + 1 + 1) y (k .row) (cond f 10 0))
+      unfolding runs-full so
+      counted-by q y i m true p = record { runs = λ ks. rw (← e, g, ← i, p); clean = λ z. never z }
+      counted-by q y i m false p =
+          record {
+            runs = λ ks. rw (← e, g, ← i, p, ne-eqb (k .row) 8192 (λ (z : k .row ≡ 8192). omega arith), last q);
+            clean = λ z. record { renders = omega (arith, ltb-false c (q + 1 + 1) p); depths = m; code = refl; popped = λ z. omega arith };
+          }
+
+      -- one command more on the row at hand, u
+      module _ {u w : Hand} (q : ℕ) (i : q ≡ so) (r : u .row ≡ k .row) (t : u .renders ≡ q + 1) (m : u .depths ≤ d) (z : u .code ≡ 0) where
+        counted-in : w ≡ added-to (limits c d n 1) u 1 0 → Counted c d xs rs h cs w
+        unfolding added-to
+        counted-in p =
+            let v : u .depths + 0 ≤ d = omega arith in
+            rw p (rw (r, t, z, le-ltb d (u .depths + 0) v) (counted-by q (u .depths + 0) i v (ltb c (q + 1 + 1)) refl))
+
+      pub counted-held : {w : Hand} → h .row ≡ k .row → w ≡ added-to (limits c d n 1) h 1 0 → Counted c d xs rs h cs w
+      unfolding so
+      counted-held r p =
+          let v : 1 ≤ h .renders = o .popped (omega arith) in
+          counted-in (h .renders - 1) (rw (r, ne-eqb (k .row) 8192 (λ (z : k .row ≡ 8192). omega arith), eq-eqb (k .row + 1) (k .row + 1) refl)) r (omega arith) (o .depths) (o .code) p
+
+      else-so : (h .row ≡ k .row → ⊥) → word 0 (row-of rs (k .row)) ≡ so
+      unfolding so
+      else-so r = go (eqb (h .row) 8192)
+        where
+          go : (x : Bool) → word 0 (row-of rs (k .row)) ≡ so-far rs (cond x 0 (h .row + 1)) (h .renders - 1) (k .row)
+          go true = rw (ne-eqb (k .row + 1) 0 (λ (z : k .row + 1 ≡ 0). omega arith))
+          go false = rw (ne-eqb (k .row + 1) (h .row + 1) (λ (z : k .row + 1 ≡ h .row + 1). r (omega arith)))
+
+      -- .. or on another, whose record is s
+      pub counted-else : {u w : Hand} (s : List ℕ) → (h .row ≡ k .row → ⊥) → u ≡ loaded (limits c d n 1) s (h .code) (k .row)
+          → getD s 0 0 ≡ word 0 (row-of rs (k .row)) → getD s 5 0 ≡ n → getD s 1 0 ≤ d → w ≡ added-to (limits c d n 1) u 1 0 → Counted c d xs rs h cs w
+      counted-else {u} {w} s r i x y m p =
+          let t : getD s 0 0 + (n - getD s 5 0) + 1 ≡ getD s 0 0 + 1 = omega arith in
+          counted-in (getD s 0 0) (x ∙ else-so r) refl t m (o .code) (p ∙ ap (λ (v : Hand). added-to (limits c d n 1) v 1 0) i)
 
 -- the counting loop over the segments from start to j, at segment i
-pub record Counting (c : ℕ) (xs : List ℕ) (rs : List Words) (ws : List ℕ) (start j : ℕ) (e : Scene) (i : ℕ) (r : Count) : Type 0 where
+pub record Counting (c d : ℕ) (xs : List ℕ) (rs : List Words) (ws : List ℕ) (start j : ℕ) (e : Scene) (i : ℕ) (h : Hand) : Type 0 where
   pub before : i ≤ j
   pub good : every good-segment (segs ws i (j - i)) ≡ true
-  pub few : r .n ≤ 1024
-  pub rest : runs-full c xs rs (r .next) (r .n) (join (cut-in (origin e) (bounds e)) (segs ws i (j - i)))
+  pub clean : Clean d h
+  pub rest : runs-on c xs rs h (join (cut-in (origin e) (bounds e)) (segs ws i (j - i)))
       ≡ runs-full c xs rs 0 0 (join (cut-in (origin e) (bounds e)) (segs ws start (j - start)))
 
-pub counting-start : (c : ℕ) (xs : List ℕ) (rs : List Words) (ws : List ℕ) (start j : ℕ) (e : Scene) → start ≤ j → every good-segment (segs ws start (j - start)) ≡ true
-    → Counting c xs rs ws start j e start (record { next = 0; n = 0; full = false })
-counting-start c xs rs ws start j e h g = record { before = h; good = g; few = omega arith; rest = refl }
+pub counting-start : (c d : ℕ) (xs : List ℕ) (rs : List Words) (ws : List ℕ) (start j : ℕ) (e : Scene) → start ≤ j → every good-segment (segs ws start (j - start)) ≡ true
+    → Counting c d xs rs ws start j e start (hand-of 0 0 8192 0)
+counting-start c d xs rs ws start j e h g =
+    record { before = h; good = g; clean = record { renders = omega arith; depths = omega arith; code = refl; popped = λ z. absurd (omega arith) }; rest = refl }
 
-module _ {c : ℕ} {xs : List ℕ} {rs : List Words} {ws : List ℕ} {start j : ℕ} {e : Scene} {i : ℕ} {r : Count} (v : Counting c xs rs ws start j e i r) where
+module _ {c d : ℕ} {xs : List ℕ} {rs : List Words} {ws : List ℕ} {start j : ℕ} {e : Scene} {i : ℕ} {r : Hand} (v : Counting c d xs rs ws start j e i r) where
   pub counting-done : j ≤ i → false ≡ runs-full c xs rs 0 0 (join (cut-in (origin e) (bounds e)) (segs ws start (j - start)))
   unfolding runs-full
   counting-done h = rw (segs-end ws i j h) at (v .rest)
@@ -193,13 +240,21 @@ module _ {c : ℕ} {xs : List ℕ} {rs : List Words} {ws : List ℕ} {start j : 
     pub counting-good : good-segment (seg-at ws i) ≡ true
     counting-good = good-first ws i j h (v .good)
 
-    module _ {u : Count} (o : Counted c xs rs (r .next) (r .n) (cut-in (origin e) (bounds e) (seg-at ws i)) u) where
-      here : (u .full || runs-full c xs rs (u .next) (u .n) (join (cut-in (origin e) (bounds e)) (segs ws (i + 1) (j - (i + 1)))))
+    module _ {u : Hand} (o : Counted c d xs rs r (cut-in (origin e) (bounds e) (seg-at ws i)) u) where
+      here : (eqb (u .code) 10 || runs-on c xs rs u (join (cut-in (origin e) (bounds e)) (segs ws (i + 1) (j - (i + 1)))))
           ≡ runs-full c xs rs 0 0 (join (cut-in (origin e) (bounds e)) (segs ws start (j - start)))
       here = sym (o .runs (join (cut-in (origin e) (bounds e)) (segs ws (i + 1) (j - (i + 1))))) ∙ (rw (segs-first ws i j h) at (v .rest))
 
-      pub counting-full : u .full ≡ true → true ≡ runs-full c xs rs 0 0 (join (cut-in (origin e) (bounds e)) (segs ws start (j - start)))
-      counting-full p = rw p at here
+      pub counting-full : (u .code ≡ 0 → ⊥) → true ≡ runs-full c xs rs 0 0 (join (cut-in (origin e) (bounds e)) (segs ws start (j - start)))
+      counting-full p = go (eqb (u .code) 10) refl here
+        where
+          go : (x : Bool) → eqb (u .code) 10 ≡ x → (x || runs-on c xs rs u (join (cut-in (origin e) (bounds e)) (segs ws (i + 1) (j - (i + 1)))))
+              ≡ runs-full c xs rs 0 0 (join (cut-in (origin e) (bounds e)) (segs ws start (j - start)))
+              → true ≡ runs-full c xs rs 0 0 (join (cut-in (origin e) (bounds e)) (segs ws start (j - start)))
+          go true q t = t
+          go false q t = absurd (p (o .clean q .code))
 
-      pub counting-on : u .full ≡ false → Counting c xs rs ws start j e (i + 1) u
-      counting-on p = record { before = omega arith; good = good-rest ws i j h (v .good); few = o .few p; rest = rw p at here }
+      pub counting-on : u .code ≡ 0 → Counting c d xs rs ws start j e (i + 1) u
+      counting-on p =
+          let q : eqb (u .code) 10 ≡ false = rw p in
+          record { before = omega arith; good = good-rest ws i j h (v .good); clean = o .clean q; rest = rw q at here }

@@ -14,19 +14,23 @@ use Rattle.rules.specs.Commands.{layer-fill}
 use Rattle.rules.specs.Segments.{Segment, good-segment, Cut, cut-in}
 use Rattle.rules.specs.Plans.{Act, close, pop, on, close-puts}
 use Rattle.rules.specs.Steps.{do-act, do-puts}
-use Rattle.rules.proofs.All.{All, nil, cons, head, both, all-map, never}
+use Rattle.rules.proofs.All.{All, nil, cons, head, both, all-map, every-all, never}
 use Rattle.row.specs.Words.{Words, word, put-command, end-buf}
 use Rattle.row.specs.Cmds.{Short}
 use Rattle.row_screen.specs.Arena.{sizes, cut, Arenas}
 use Rattle.row_screen.proofs.Laws.{within}
 use Rattle.row_acts.specs.Acts.{acted}
 use Rattle.row_judge.specs.Building.{good-union, good-level, good-top, good-summary, good-row}
+use Rattle.row_room.specs.declared.Limits.{Limits}
+use Rattle.row_room.specs.declared.Hand.{Hand}
+use Rattle.row_room.specs.Room.{record-at, limits, loaded, added-to, rows-told, Found}
+use Rattle.row_room.proofs.Laws.{good-small, commands-told}
 use Rattle.segments.specs.declared.Scene.{Scene}
 use Rattle.segments.specs.Segs.{origin, bounds, Starts}
-use Rattle.step_pop_rows.specs.Closing.{row-of, touched-in, good-pop, good-pops, full-by, so-far, done-puts, Roomy, Fillable, Each, touched-word}
-use Rattle.step_pop_rows.proofs.Touched.{range-first, range-end, all-range, all-touched, touched-none, touched-cons}
+use Rattle.step_pop_rows.specs.Closing.{row-of, touched-in, good-pop, good-pops, full-by, full-pop, pops-number, done-puts, Roomy, Fillable, Each, touched-word, ShallowRow}
+use Rattle.step_pop_rows.proofs.Touched.{all-range, all-touched, touched-none, touched-cons}
 use Rattle.step_pop_rows.proofs.Running.{at-found}
-use Rattle.step_pop_rows.proofs.Rooms.{rows-count, row-word, row-word-0, touched-is, touched-inside}
+use Rattle.step_pop_rows.proofs.Rooms.{rows-count, row-is, row-word, touched-is, touched-inside}
 use Rattle.step_pop_rows.proofs.Clipping.{placed-short, one-fillable}
 
 pub not-true : (b : Bool) → not b ≡ true → b ≡ false
@@ -83,23 +87,6 @@ module _ (c d n : ℕ) (w : Words) (g : good-row c d n (w .state) ≡ true) (e :
   pub tag-at : eqb (getD (w .render) (4 * p) 0) 5 ≡ good-pop c d n w
   tag-at = rw at-place (pop-tag c d n w e g)
 
--- the rows from r on
-module _ (c d n : ℕ) (rs : List Words) (r b : ℕ) where
-  pub pops-end : b ≤ r → true ≡ good-pops c d n rs (range r b)
-  unfolding good-pops
-  pops-end h = rw (range-end r b h)
-
-  module _ (h : r < b) where
-    pops-step : good-pops c d n rs (range r b) ≡ (good-pop c d n (row-of rs r) && good-pops c d n rs (range (r + 1) b))
-    unfolding good-pops
-    pops-step = rw (range-first r b h)
-
-    pub pops-bad : {x t : Bool} → t ≡ good-pop c d n (row-of rs r) → not t ≡ true → good-pops c d n rs (range r b) ≡ x → false ≡ x
-    pops-bad {x} {t} e p v = let q : good-pop c d n (row-of rs r) ≡ false = sym e ∙ not-true t p in rw (pops-step, q) at v
-
-    pub pops-on : {x t : Bool} → t ≡ good-pop c d n (row-of rs r) → not t ≡ false → good-pops c d n rs (range r b) ≡ x → good-pops c d n rs (range (r + 1) b) ≡ x
-    pops-on {x} {t} e p v = let q : good-pop c d n (row-of rs r) ≡ true = sym e ∙ not-false t p in rw (pops-step, q) at v
-
 or-none : (b : Bool) → b ≡ (b || false)
 or-none true = refl
 or-none false = refl
@@ -123,10 +110,6 @@ module _ {cs ds rows : ℕ} {w : Words} (o : Arenas cs ds rows w) (n r : ℕ) (i
     out-here : touched-in n (cut (sizes cs ds) rows w) (r ∷ []) ≡ []
     out-here = not-here n (cut (sizes cs ds) rows w) r (λ (e : word 5 (row-of (cut (sizes cs ds) rows w) r) ≡ n). h (sym level ∙ e))
 
-    pub full-other : (c k : ℕ) → false ≡ full-by c k (cut (sizes cs ds) rows w) (touched-in n (cut (sizes cs ds) rows w) (r ∷ []))
-    unfolding full-by
-    full-other c k = rw out-here
-
     pub act-other : (m : ℕ) (t : Act) → cut (sizes cs ds) rows w ≡ done-puts m (map (on t) (touched-in n (cut (sizes cs ds) rows w) (r ∷ []))) (cut (sizes cs ds) rows w)
     unfolding do-puts
     act-other m t = rw out-here
@@ -134,12 +117,6 @@ module _ {cs ds rows : ℕ} {w : Words} (o : Arenas cs ds rows w) (n r : ℕ) (i
   module _ (h : getD (w .state) (r * 54 + 5) 0 ≡ n) where
     in-here : touched-in n (cut (sizes cs ds) rows w) (r ∷ []) ≡ r ∷ []
     in-here = is-here n (cut (sizes cs ds) rows w) r (level ∙ h)
-
-    pub full-here : (c k q : ℕ) → q ≡ getD (w .state) (r * 54) 0 → ltb c (q + k) ≡ full-by c k (cut (sizes cs ds) rows w) (touched-in n (cut (sizes cs ds) rows w) (r ∷ []))
-    unfolding full-by
-    full-here c k q e =
-        let z : q ≡ word 0 (row-of (cut (sizes cs ds) rows w) r) = e ∙ row-word-0 o r i in
-        rw (in-here, z) (or-none (ltb c (word 0 (row-of (cut (sizes cs ds) rows w) r) + k)))
 
     pub close-here : (m : ℕ) (s : Span) (j : ℕ) → change (put-command (layer-fill s none j)) r (cut (sizes cs ds) rows w) ≡ done-puts m (map (on (close s none j)) (touched-in n (cut (sizes cs ds) rows w) (r ∷ []))) (cut (sizes cs ds) rows w)
     unfolding do-puts do-act
@@ -152,30 +129,60 @@ module _ {cs ds rows : ℕ} {w : Words} (o : Arenas cs ds rows w) (n r : ℕ) (i
     pub each-here : (P : Words → Type 0) → Each P (cut (sizes cs ds) rows w) (touched-in n (cut (sizes cs ds) rows w) (r ∷ [])) → P (row-of (cut (sizes cs ds) rows w) r)
     each-here P a = let b : All (λ (x : ℕ). P (row-of (cut (sizes cs ds) rows w) x)) (r ∷ []) = rw in-here at a in head b
 
--- the touched rows from r on, and k commands more
-module _ (c k n : ℕ) (rs : List Words) (r b : ℕ) where
-  pub full-end : b ≤ r → false ≡ full-by c k rs (touched-in n rs (range r b))
-  unfolding full-by
-  full-end h = rw (range-end r b h, touched-none)
+-- the touched ones of some rows, and k commands more, by their records
+module _ (c k n : ℕ) (rs : List Words) where
+  full-keep : (t : Bool) (r : ℕ) (xs : List ℕ) → some-of (λ (i : ℕ). ltb c (word 0 (row-of rs i) + k)) (keep t r xs) ≡ ((t && ltb c (word 0 (row-of rs r) + k)) || some-of (λ (i : ℕ). ltb c (word 0 (row-of rs i) + k)) xs)
+  full-keep true r xs = refl
+  full-keep false r xs = refl
 
-  module _ (h : r < b) where
-    full-keep : (t : Bool) (xs : List ℕ) → full-by c k rs (keep t r xs) ≡ (full-by c k rs (keep t r []) || full-by c k rs xs)
-    unfolding full-by
-    full-keep true xs = ap (λ (y : Bool). y || some-of (λ (i : ℕ). ltb c (word 0 (row-of rs i) + k)) xs) (or-none (ltb c (word 0 (row-of rs r) + k)))
-    full-keep false xs = refl
+  full-pops : (is : List ℕ) → some-of (λ (i : ℕ). full-pop c n k (row-of rs i .state)) is ≡ full-by c k rs (touched-in n rs is)
+  unfolding full-by touched-in
+  full-pops [] = refl
+  full-pops (i ∷ is) = rw (full-pops is) (sym (full-keep (eqb (word 5 (row-of rs i)) n) i (touched-in n rs is)))
 
-    full-step : full-by c k rs (touched-in n rs (range r b)) ≡ (full-by c k rs (touched-in n rs (r ∷ [])) || full-by c k rs (touched-in n rs (range (r + 1) b)))
-    full-step =
-        ap (λ (is : List ℕ). full-by c k rs (touched-in n rs is)) (range-first r b h)
-        ∙ ap (full-by c k rs) (touched-cons n rs r (range (r + 1) b))
-        ∙ full-keep (eqb (word 5 (row-of rs r)) n) (touched-in n rs (range (r + 1) b))
-        ∙ ap (λ (is : List ℕ). full-by c k rs is || full-by c k rs (touched-in n rs (range (r + 1) b))) (sym (one-touched n rs r))
+  pub pops-told : (d : ℕ) (is : List ℕ) → rows-told (λ (i : ℕ). good-pop c d n (row-of rs i)) (λ (i : ℕ). full-pop c n k (row-of rs i .state)) 0 is ≡ pops-number c d n k rs is
+  unfolding rows-told pops-number good-pops
+  pops-told d is = rw (full-pops is)
 
-    pub full-found : {x t : Bool} → t ≡ full-by c k rs (touched-in n rs (r ∷ [])) → t ≡ true → full-by c k rs (touched-in n rs (range r b)) ≡ x → true ≡ x
-    full-found {x} {t} e p v = let q : full-by c k rs (touched-in n rs (r ∷ [])) ≡ true = sym e ∙ p in rw (full-step, q) at v
+-- a row that is good and touched has no more depth fills than d
+module _ (c d n : ℕ) where
+  pub pop-shallow : (w : Words) → good-pop c d n w ≡ true → word 5 w ≡ n → word 1 w ≤ d
+  unfolding good-pop
+  pop-shallow w g e =
+      let h : (good-row c d n (w .state) && eqb (getD (w .render) (4 * word (3 + 3 * n) w) 0) 5) ≡ true = rw (eq-eqb (word 5 w) n e) at g in
+      good-small c d n (w .state) (both (good-row c d n (w .state)) _ h .0) .depths
 
-    pub full-on : {x t : Bool} → t ≡ full-by c k rs (touched-in n rs (r ∷ [])) → t ≡ false → full-by c k rs (touched-in n rs (range r b)) ≡ x → full-by c k rs (touched-in n rs (range (r + 1) b)) ≡ x
-    full-on {x} {t} e p v = let q : full-by c k rs (touched-in n rs (r ∷ [])) ≡ false = sym e ∙ p in rw (full-step, q) at v
+  pub pops-shallow : (rs : List Words) (is : List ℕ) → good-pops c d n rs is ≡ true → All (λ (x : ℕ). (word 1 (row-of rs x) ≤ d) × (word 5 (row-of rs x) ≡ n)) (touched-in n rs is)
+  unfolding good-pops
+  pops-shallow rs is g =
+      all-map (λ (x : ℕ) (p : (good-pop c d n (row-of rs x) ≡ true) × (word 5 (row-of rs x) ≡ n)). (pop-shallow (row-of rs x) (p .0) (p .1), p .1))
+      (all-touched n rs (every-all (λ (i : ℕ). good-pop c d n (row-of rs i)) is g))
+
+-- one row's PopBuf and x commands more, as the one judge of room counts them
+module _ (c d n : ℕ) (s : List ℕ) (code : ℕ) where
+  pub count-other : (k : ℕ) → (getD s 5 0 ≡ n → ⊥) → code ≡ cond (full-pop c n k s) 10 code
+  count-other k h = rw (ne-eqb (getD s 5 0) n h)
+
+  pub count-here : (r x : ℕ) {l : Limits} {h u : Hand} → Found code → getD s 5 0 ≡ n → getD s 1 0 ≤ d → l ≡ limits c d n 1 → h ≡ loaded l s code r → u ≡ added-to l h x 0
+      → u .code ≡ cond (full-pop c n (x + 1) s) 10 code
+  count-here r x {u = u} o e g p q z =
+      let t : getD s 0 0 + (n - getD s 5 0) + 1 + x ≡ getD s 0 0 + (x + 1) = omega arith in
+      let y : u ≡ added-to (limits c d n 1) (loaded (limits c d n 1) s code r) x 0 = z ∙ rw (q, p) in
+      ap (λ (u : Hand). u .code) y ∙ commands-told (limits c d n 1) s code r x o g ∙ rw (t, eq-eqb (getD s 5 0) n e)
+
+-- row r among all
+module _ {cs ds rows : ℕ} {w : Words} (o : Arenas cs ds rows w) (n r : ℕ) (h : r < rows) where
+  state-is : row-of (cut (sizes cs ds) rows w) r .state ≡ record-at (w .state) r
+  state-is = ap (λ (u : Words). u .state) (row-is o r h)
+
+  pub row-there : r * 54 + 54 ≤ length (w .state)
+  row-there = omega (arith, within r rows 54 h, o .long .state)
+
+  pub row-shallow : good-pop cs ds n (row-of (cut (sizes cs ds) rows w) r) ≡ true → ShallowRow ds n (record-at (w .state) r)
+  row-shallow g e = rw state-is at (pop-shallow cs ds n (row-of (cut (sizes cs ds) rows w) r) g (rw state-is e))
+
+  pub row-counted : (k code : ℕ) {m : ℕ} → m ≡ cond (full-pop cs n k (record-at (w .state) r)) 10 code → m ≡ cond (full-pop cs n k (row-of (cut (sizes cs ds) rows w) r .state)) 10 code
+  row-counted k code e = rw state-is e
 
 -- a cut segment's row, as the code tests it
 module _ {cs ds rows : ℕ} {w : Words} (o : Arenas cs ds rows w) (a b n : ℕ) (h : b ≤ rows) (k : ℕ) where
@@ -189,14 +196,23 @@ module _ {cs ds rows : ℕ} {w : Words} (o : Arenas cs ds rows w) (a b n : ℕ) 
     pub touched-row : k < rows
     touched-row = rw (rows-count o) at (at-found (touched-inside o a b n h) k g)
 
-    pub touched-few : k < 512
-    touched-few = omega (arith, touched-row, o .rows)
-
-    pub touched-long : k * 54 < length (w .state)
+    pub touched-long : k * 54 + 54 ≤ length (w .state)
     touched-long = omega (arith, within k rows 54 touched-row, o .long .state)
 
-    pub touched-so-far : (q next m : ℕ) → q ≡ cond (eqb (k + 1) next) m (getD (w .state) (k * 54) 0) → q ≡ so-far (cut (sizes cs ds) rows w) next m k
-    touched-so-far q next m e = e ∙ ap (λ (z : ℕ). cond (eqb (k + 1) next) m z) (row-word-0 o k touched-row)
+    record-is : record-at (w .state) k ≡ row-of (cut (sizes cs ds) rows w) k .state
+    record-is = ap (λ (u : Words). u .state) (sym (row-is o k touched-row))
+
+    pub touched-levels : getD (record-at (w .state) k) 5 0 ≡ n
+    touched-levels = ap (λ (s : List ℕ). getD s 5 0) record-is ∙ at-found (all-touched n (cut (sizes cs ds) rows w) (all-range a b)) k g .1
+
+    pub touched-most : getD (record-at (w .state) k) 5 0 ≤ n
+    touched-most = omega (arith, touched-levels)
+
+    pub touched-renders : getD (record-at (w .state) k) 0 0 ≡ word 0 (row-of (cut (sizes cs ds) rows w) k)
+    touched-renders = ap (λ (s : List ℕ). getD s 0 0) record-is
+
+    pub touched-depths : good-pops cs ds n (cut (sizes cs ds) rows w) (range a b) ≡ true → getD (record-at (w .state) k) 1 0 ≤ ds
+    touched-depths h = rw record-is (at-found (pops-shallow cs ds n (cut (sizes cs ds) rows w) (range a b) h) k g .0)
 
 -- what closing by a cut segment asks
 pub clip-here : {cs ds rows : ℕ} {w : Words} (o : Arenas cs ds rows w) (a b n m i : ℕ) (e : Scene) (g : Segment) (k : Cut) → b ≤ rows → good-segment g ≡ true → Starts (origin e) (bounds e)

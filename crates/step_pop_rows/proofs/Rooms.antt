@@ -28,7 +28,7 @@ module _ {cs ds rows : ℕ} {w : Words} (o : Arenas cs ds rows w) where
   pub rows-count : length (cut (sizes cs ds) rows w) ≡ rows
   rows-count = cut-length (sizes cs ds) rows w
 
-  row-is : (r : ℕ) → r < rows → row-of (cut (sizes cs ds) rows w) r ≡ row-at (sizes cs ds) r w
+  pub row-is : (r : ℕ) → r < rows → row-of (cut (sizes cs ds) rows w) r ≡ row-at (sizes cs ds) r w
   row-is r h = cut-at (sizes cs ds) rows r w nowhere h
 
   pub records : Records (cut (sizes cs ds) rows w)
@@ -42,9 +42,6 @@ module _ {cs ds rows : ℕ} {w : Words} (o : Arenas cs ds rows w) where
   -- word i of row r's record
   pub row-word : (r i : ℕ) → r < rows → i < 54 → getD (w .state) (r * 54 + i) 0 ≡ word i (row-of (cut (sizes cs ds) rows w) r)
   row-word r i h g = sym (ap (word i) (row-is r h) ∙ part-word (w .state) (r * 54) i g)
-
-  pub row-word-0 : (r : ℕ) → r < rows → getD (w .state) (r * 54) 0 ≡ word 0 (row-of (cut (sizes cs ds) rows w) r)
-  row-word-0 r h = let e : r * 54 + 0 ≡ r * 54 = omega arith in ap (λ (i : ℕ). getD (w .state) i 0) (sym e) ∙ row-word r 0 h (omega arith)
 
   pub rows-long : (b : ℕ) → b ≤ rows → b * 54 ≤ length (w .state)
   rows-long b h = rw (o .long .state) (mul-le-mul-right 54 h)

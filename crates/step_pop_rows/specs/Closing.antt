@@ -1,13 +1,14 @@
 -- A closing layer's rows (rules 9 and 10): which are touched, what is judged of them (answers 4 and 10), and what the doing half requires.
-use Prim.Native.Nat.{ℕ, _+_, _-_, _*_, _≤_}
+use Prim.Native.Nat.{ℕ, _+_, _-_, _*_, _≤_, _<_}
 use mathlib.Core.Bool.{Bool, true, false, _&&_, _||_, cond}
 use mathlib.Core.Path.{_≡_}
 use mathlib.Core.List.{List, [], _∷_, _++_}
 use mathlib.Core.Option.{Option}
 use lib.ListN.{length, getD}
 use lib.Dec.{leb, ltb, eqb}
-use Rattle.sizes.specs.Sizes.{bucket-tiles, most-layers, most-room, row-size, renders-at, levels-at, level-at}
+use Rattle.sizes.specs.Sizes.{bucket-tiles, tile-end, most-layers, most-room, row-size, renders-at, depths-at, levels-at, level-at}
 use Rattle.rules.specs.Lists.{every, some-of, keep, join, range}
+use Rattle.rules.specs.Answers.{Done, BadRecord, FullRow}
 use Rattle.rules.specs.Boxes.{rows-of}
 use Rattle.rules.specs.Spans.{Span}
 use Rattle.rules.specs.Segments.{Segment, good-segment, Cut, cut-in}
@@ -18,9 +19,12 @@ use Rattle.rules.proofs.All.{All}
 use Rattle.row.specs.Words.{Words, word, word-ops, put-command, end-buf, Room, Ends}
 use Rattle.row_screen.specs.Arena.{nowhere}
 use Rattle.row_judge.specs.Building.{rows-at, Whole, good-row}
+use Rattle.row_room.specs.declared.Limits.{Limits}
+use Rattle.row_room.specs.declared.Hand.{Hand}
+use Rattle.row_room.specs.Room.{limits}
+use Rattle.screen.specs.declared.Screen.{Screen}
 use Rattle.segments.specs.declared.Scene.{Scene}
 use Rattle.segments.specs.Segs.{segs, origin, bounds, Starts}
-use Rattle.step_pop_rows.specs.declared.Count.{Count}
 
 -- row i
 abbrev pub row-of : List Words → ℕ → Words
@@ -43,6 +47,18 @@ good-pops c d n rs is = every (λ (i : ℕ). good-pop c d n (row-of rs i)) is
 -- answer 10: k commands more take one of some rows past c
 unfoldable pub full-by : ℕ → ℕ → List Words → List ℕ → Bool
 full-by c k rs is = some-of (λ (i : ℕ). ltb c (word renders-at (row-of rs i) + k)) is
+
+-- 4 for one of some rows, then 10 if k commands more take a touched one past c
+unfoldable pub pops-number : ℕ → ℕ → ℕ → ℕ → List Words → List ℕ → ℕ
+pops-number c d n k rs is = cond (good-pops c d n rs is) (cond (full-by c k rs (touched-in n rs is)) FullRow Done) BadRecord
+
+-- a row by its record s: touched, and full with k commands more
+abbrev pub full-pop : ℕ → ℕ → ℕ → List ℕ → Bool
+full-pop c n k s = eqb (getD s levels-at 0) n && ltb c (getD s renders-at 0 + k)
+
+-- .. which has no more depth fills than d, if it is touched
+abbrev pub ShallowRow : ℕ → ℕ → List ℕ → Type 0
+ShallowRow d n s = getD s levels-at 0 ≡ n → getD s depths-at 0 ≤ d
 
 -- the commands of row i so far, if it is the row before `next`, else those that stand there
 abbrev pub so-far : List Words → ℕ → ℕ → ℕ → ℕ
@@ -94,7 +110,22 @@ pub record Clips (f : Frame) (n k : ℕ) (ws : List ℕ) (i j : ℕ) (e : Scene)
   pub good : every good-segment (segs ws i (j - i)) ≡ true
   pub room : Roomy (n - 1) (clip-puts k (touched-in n (rows-at f w) (range a b)) e (segs ws i (j - i))) (rows-at f w)
 
--- the count after a segment whose cut is cs, before the cuts that follow
-pub record Counted (c : ℕ) (touched : List ℕ) (rs : List Words) (next m : ℕ) (cs : List Cut) (r : Count) : Type 0 where
-  pub runs : (ks : List Cut) → runs-full c touched rs next m (cs ++ ks) ≡ (r .full || runs-full c touched rs (r .next) (r .n) ks)
-  pub few : r .full ≡ false → r .n ≤ most-room
+-- what its rows have room for: each touched one gets a PopBuf
+abbrev pub pop-limits : Screen → Limits
+pop-limits s = limits (s .c) (s .d) (s .layers) 1
+
+-- answer 10 as cut segments run, from the hand h on, in which the PopBuf is counted
+abbrev pub runs-on : ℕ → List ℕ → List Words → Hand → List Cut → Bool
+runs-on c touched rs h ks = runs-full c touched rs (cond (eqb (h .row) tile-end) 0 (h .row + 1)) (h .renders - 1) ks
+
+-- no row was full so far; the row at hand has its PopBuf
+pub record Clean (d : ℕ) (h : Hand) : Type 0 where
+  pub renders : h .renders ≤ most-room
+  pub depths : h .depths ≤ d
+  pub code : h .code ≡ Done
+  pub popped : h .row < tile-end → 1 ≤ h .renders
+
+-- the hand u after a segment whose cut is cs, before the cuts that follow
+pub record Counted (c d : ℕ) (touched : List ℕ) (rs : List Words) (h : Hand) (cs : List Cut) (u : Hand) : Type 0 where
+  pub runs : (ks : List Cut) → runs-on c touched rs h (cs ++ ks) ≡ (eqb (u .code) FullRow || runs-on c touched rs u ks)
+  pub clean : eqb (u .code) FullRow ≡ false → Clean d u

@@ -4,6 +4,13 @@ use cmd::command::Fill;
 use row::pop_buf;
 use row::push_closing;
 use row_judge::is_good_row;
+use row_room::Counts;
+use row_room::Hand;
+use row_room::Limits;
+use row_room::NO_ROW;
+use row_room::ONE_COMMAND;
+use row_room::add;
+use row_room::load;
 use row_screen::part;
 use row_screen::place_of;
 use screen::Screen;
@@ -15,6 +22,8 @@ use sizes::LEVEL;
 use sizes::LEVEL_BASE;
 use sizes::LEVELS;
 use sizes::ROW;
+use sizes::answers::BAD_RECORD;
+use sizes::answers::DONE;
 use sizes::wide;
 use span::Alpha;
 use span::TileSpan;
@@ -23,10 +32,10 @@ ghost use mathlib.Core.Bool.{true, cond};
 ghost use mathlib.Core.List.{[], _∷_, map};
 ghost use mathlib.Core.Option.{none};
 ghost use Prim.Native.Nat.{_+_, _-_, _*_, _≤_, _<_};
-ghost use lib.ListN.{length, getD};
-ghost use lib.Dec.{eqb};
-ghost use Rattle.sizes.specs.Sizes.{most-layers, most-room, most-rows, row-size};
+ghost use lib.ListN.{length};
+ghost use Rattle.sizes.specs.Sizes.{most-layers, most-rows, row-size};
 ghost use Rattle.rules.specs.Lists.{change, join, range, every};
+ghost use Rattle.rules.specs.Answers.{FullRow};
 ghost use Rattle.rules.specs.Boxes.{rows-of};
 ghost use Rattle.rules.specs.Commands.{layer-fill};
 ghost use Rattle.rules.specs.Segments.{good-segment, cut-in};
@@ -38,7 +47,20 @@ ghost use Rattle.segments.specs.Segs.{seg-at, segs, origin, bounds, Starts};
 ghost use Rattle.row.specs.Words.{words, put-command, end-buf, Room};
 ghost use Rattle.row.specs.Cmds.{Short};
 ghost use Rattle.row_judge.specs.Building.{rows-at, Whole};
-ghost use Rattle.step_pop_rows.specs.Closing.{row-of, touched-in, good-pop, good-pops, full-by, so-far, runs-full, done-puts, Roomy, Fillable, Poppable, Each, touched-word, clip-puts, Clips, Counted};
+ghost use Rattle.row_room.specs.Room.{record-at, Found};
+ghost use Rattle.step_pop_rows.specs.Closing.{row-of, touched-in, good-pop, good-pops, full-pop, pops-number, runs-full, done-puts, Roomy, Fillable, Poppable, Each, touched-word, clip-puts, Clips, pop-limits, ShallowRow, Clean, Counted};
+
+// What the rows of a closing layer have room for; each touched one gets a PopBuf.
+fn limits_of(screen: Screen) -> Limits
+    ensures { λ r. ⌜ r ≡ pop-limits screen ⌝ }
+{
+    Limits {
+        c: screen.c,
+        d: screen.d,
+        layers: screen.layers,
+        once: 1,
+    }
+}
 
 // Answer 4: a row of the layer's box, by its words.
 fn is_good_pop(state: &[u32], render: &[u32], fills: &[u32], c: u32, d: u32, open: u32) -> bool
@@ -71,7 +93,25 @@ fn judge_pop_row(screen: Screen, rows: &[u32], render: &[u32], fills: &[u32], r:
     )
 }
 
-// Answer 4: the rows from a to b.
+// Answer 10: row r, whose words are good, if it is touched: its PopBuf and `more` commands.
+fn count_pop_row(screen: Screen, rows: &[u32], code: u32, r: usize, more: usize) -> u32
+    requires { ⌜ (r < most-rows) × (r * row-size + row-size ≤ length (now rows)) × (more ≤ 1) × Found code × ShallowRow (screen .d) (screen .layers) (record-at (now rows) r) ⌝ }
+    ensures { λ n. ⌜ n ≡ cond (full-pop (screen .c) (screen .layers) (more + 1) (record-at (now (rows .entry)) r)) FullRow code ⌝ }
+{
+    let state = part(rows, ROW, r);
+    if state[LEVELS] != screen.layers {
+        return code;
+    }
+    let limits = limits_of(screen);
+    let added = Counts {
+        renders: more,
+        depths: 0,
+    };
+    let next = add(limits, load(state, limits, code, r as u32), added);
+    next.code
+}
+
+// The rows from a to b: 4 for one of them, then 10 for a touched one, its PopBuf and `more` commands, else 0.
 pub fn judge_pop_rows(
     screen: Screen,
     rows: &[u32],
@@ -79,60 +119,21 @@ pub fn judge_pop_rows(
     fills: &[u32],
     a: usize,
     b: usize,
-) -> bool
-    requires { ⌜ Whole (frame-of screen) (words (now rows) (now render) (now fills)) × (b ≤ rows-of (box-of (screen .viewport))) × (1 ≤ screen .layers) × (screen .layers ≤ most-layers) ⌝ }
-    ensures { λ t. ⌜ t ≡ good-pops (screen .c) (screen .d) (screen .layers) (rows-at (frame-of screen) (words (now (rows .entry)) (now (render .entry)) (now (fills .entry)))) (range a b) ⌝ }
+    more: usize,
+) -> u32
+    requires { ⌜ Whole (frame-of screen) (words (now rows) (now render) (now fills)) × (b ≤ rows-of (box-of (screen .viewport))) × (1 ≤ screen .layers) × (screen .layers ≤ most-layers) × (more ≤ 1) ⌝ }
+    ensures { λ n. ⌜ n ≡ pops-number (screen .c) (screen .d) (screen .layers) (more + 1) (rows-at (frame-of screen) (words (now (rows .entry)) (now (render .entry)) (now (fills .entry)))) (range a b) ⌝ }
 {
+    let mut code: u32 = 0;
     let mut r = a;
     while r < b {
         if !judge_pop_row(screen, rows, render, fills, r) {
-            return false;
+            return BAD_RECORD;
         }
+        code = count_pop_row(screen, rows, code, r, more);
         r += 1;
     }
-    true
-}
-
-// Answer 10: row r, if it is touched, and `more` commands.
-fn is_full_row(
-    screen: Screen,
-    rows: &[u32],
-    render: &[u32],
-    fills: &[u32],
-    r: usize,
-    more: usize,
-) -> bool
-    requires { ⌜ Whole (frame-of screen) (words (now rows) (now render) (now fills)) × (r < rows-of (box-of (screen .viewport))) × (more ≤ 2) ⌝ }
-    ensures { λ t. ⌜ t ≡ full-by (screen .c) more (rows-at (frame-of screen) (words (now (rows .entry)) (now (render .entry)) (now (fills .entry)))) (touched-in (screen .layers) (rows-at (frame-of screen) (words (now (rows .entry)) (now (render .entry)) (now (fills .entry)))) (r ∷ [])) ⌝ }
-{
-    let x = r * ROW;
-    if rows[x + LEVELS] != screen.layers {
-        return false;
-    }
-    (screen.c as usize) < wide(rows[x]) + more
-}
-
-// Answer 10: the touched rows from a to b, and `more` commands in each.
-pub fn is_full(
-    screen: Screen,
-    rows: &[u32],
-    render: &[u32],
-    fills: &[u32],
-    a: usize,
-    b: usize,
-    more: usize,
-) -> bool
-    requires { ⌜ Whole (frame-of screen) (words (now rows) (now render) (now fills)) × (b ≤ rows-of (box-of (screen .viewport))) × (more ≤ 2) ⌝ }
-    ensures { λ t. ⌜ t ≡ full-by (screen .c) more (rows-at (frame-of screen) (words (now (rows .entry)) (now (render .entry)) (now (fills .entry)))) (touched-in (screen .layers) (rows-at (frame-of screen) (words (now (rows .entry)) (now (render .entry)) (now (fills .entry)))) (range a b)) ⌝ }
-{
-    let mut r = a;
-    while r < b {
-        if is_full_row(screen, rows, render, fills, r, more) {
-            return true;
-        }
-        r += 1;
-    }
-    false
+    code
 }
 
 // Row r lies from a to b, and has the innermost layer's PushBuf.
@@ -149,26 +150,7 @@ fn is_touched(rows: &[u32], r: usize, a: usize, b: usize, open: u32) -> bool
     rows[r * ROW + LEVELS] == open
 }
 
-// The commands of the row before `next` so far, and whether a row was full.
-pub struct Count {
-    pub next: u32,
-    pub n: usize,
-    pub full: bool,
-}
-
-// The commands of row k so far.
-fn so_far(rows: &[u32], count: Count, k: u32) -> usize
-    requires { ⌜ (k < most-rows) × (k * row-size < length (now rows)) × (count .n ≤ most-room) ⌝ }
-    ensures { λ m. ⌜ (m ≡ cond (eqb (k + 1) (count .next)) (count .n) (getD (now (rows .entry)) (k * row-size) 0)) × (m < 4294967296) ⌝ }
-{
-    if k + 1 == count.next {
-        return count.n;
-    }
-    let x = wide(k) * ROW;
-    wide(rows[x])
-}
-
-// Answer 10: segment i, if it is cut to something in a touched row.
+// Segment i, if it is cut to something in a touched row: one LayerFill more there.
 fn count_segment(
     screen: Screen,
     rows: &[u32],
@@ -179,32 +161,27 @@ fn count_segment(
     scene: Scene,
     a: usize,
     b: usize,
-    count: Count,
-) -> Count
-    requires { ⌜ Whole (frame-of screen) (words (now rows) (now render) (now fills)) × (b ≤ rows-of (box-of (screen .viewport))) × (5 * i + 5 ≤ length (now list)) × (good-segment (seg-at (now list) i) ≡ true) × Starts (origin scene) (bounds scene) × (count .n ≤ most-room) ⌝ }
-    ensures { λ r. ⌜ Counted (screen .c) (touched-in (screen .layers) (rows-at (frame-of screen) (words (now (rows .entry)) (now (render .entry)) (now (fills .entry)))) (range a b)) (rows-at (frame-of screen) (words (now (rows .entry)) (now (render .entry)) (now (fills .entry)))) (count .next) (count .n) (cut-in (origin scene) (bounds scene) (seg-at (now (list .entry)) i)) r ⌝ }
+    hand: Hand,
+) -> Hand
+    requires { ⌜ Whole (frame-of screen) (words (now rows) (now render) (now fills)) × (b ≤ rows-of (box-of (screen .viewport))) × (5 * i + 5 ≤ length (now list)) × (good-segment (seg-at (now list) i) ≡ true) × Starts (origin scene) (bounds scene)
+        × (good-pops (screen .c) (screen .d) (screen .layers) (rows-at (frame-of screen) (words (now rows) (now render) (now fills))) (range a b) ≡ true) × Clean (screen .d) hand ⌝ }
+    ensures { λ r. ⌜ Counted (screen .c) (screen .d) (touched-in (screen .layers) (rows-at (frame-of screen) (words (now (rows .entry)) (now (render .entry)) (now (fills .entry)))) (range a b)) (rows-at (frame-of screen) (words (now (rows .entry)) (now (render .entry)) (now (fills .entry))))
+        hand (cut-in (origin scene) (bounds scene) (seg-at (now (list .entry)) i)) r ⌝ }
 {
     let placed = place(segment_at(list, i), scene);
     match placed {
-        Placed::Nothing => Count {
-            next: count.next,
-            n: count.n,
-            full: false,
-        },
+        Placed::Nothing => hand,
         Placed::On(k, _) => {
-            if !is_touched(rows, wide(k), a, b, screen.layers) {
-                return Count {
-                    next: count.next,
-                    n: count.n,
-                    full: false,
-                };
+            let r = wide(k);
+            if !is_touched(rows, r, a, b, screen.layers) {
+                return hand;
             }
-            let n = so_far(rows, count, k) + 1;
-            Count {
-                next: k + 1,
-                n,
-                full: (screen.c as usize) < n + 1,
+            let limits = limits_of(screen);
+            if hand.row == k {
+                return add(limits, hand, ONE_COMMAND);
             }
+            let loaded = load(part(rows, ROW, r), limits, hand.code, k);
+            add(limits, loaded, ONE_COMMAND)
         }
     }
 }
@@ -222,18 +199,16 @@ pub fn is_full_clip(
     a: usize,
     b: usize,
 ) -> bool
-    requires { ⌜ Whole (frame-of screen) (words (now rows) (now render) (now fills)) × (b ≤ rows-of (box-of (screen .viewport))) × (start ≤ «end») × (5 * «end» ≤ length (now list)) × (every good-segment (segs (now list) start («end» - start)) ≡ true) × Starts (origin scene) (bounds scene) ⌝ }
-    ensures { λ t. ⌜ t ≡ runs-full (screen .c) (touched-in (screen .layers) (rows-at (frame-of screen) (words (now (rows .entry)) (now (render .entry)) (now (fills .entry)))) (range a b)) (rows-at (frame-of screen) (words (now (rows .entry)) (now (render .entry)) (now (fills .entry)))) 0 0 (join (cut-in (origin scene) (bounds scene)) (segs (now (list .entry)) start («end» - start))) ⌝ }
+    requires { ⌜ Whole (frame-of screen) (words (now rows) (now render) (now fills)) × (b ≤ rows-of (box-of (screen .viewport))) × (start ≤ «end») × (5 * «end» ≤ length (now list)) × (every good-segment (segs (now list) start («end» - start)) ≡ true) × Starts (origin scene) (bounds scene)
+        × (good-pops (screen .c) (screen .d) (screen .layers) (rows-at (frame-of screen) (words (now rows) (now render) (now fills))) (range a b) ≡ true) ⌝ }
+    ensures { λ t. ⌜ t ≡ runs-full (screen .c) (touched-in (screen .layers) (rows-at (frame-of screen) (words (now (rows .entry)) (now (render .entry)) (now (fills .entry)))) (range a b)) (rows-at (frame-of screen) (words (now (rows .entry)) (now (render .entry)) (now (fills .entry))))
+        0 0 (join (cut-in (origin scene) (bounds scene)) (segs (now (list .entry)) start («end» - start))) ⌝ }
 {
-    let mut count = Count {
-        next: 0,
-        n: 0,
-        full: false,
-    };
+    let mut hand = NO_ROW;
     let mut i = start;
     while i < end {
-        count = count_segment(screen, rows, render, fills, list, i, scene, a, b, count);
-        if count.full {
+        hand = count_segment(screen, rows, render, fills, list, i, scene, a, b, hand);
+        if hand.code != DONE {
             return true;
         }
         i += 1;

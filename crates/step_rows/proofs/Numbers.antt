@@ -27,9 +27,10 @@ use Rattle.row_judge.specs.Building.{Whole, rows-at, screen-at, good-row, good-
 use Rattle.rect.specs.Rects.{box-of}
 use Rattle.screen.specs.declared.Screen.{Screen}
 use Rattle.screen.specs.Screens.{frame-of, state-of}
-use Rattle.step_rows.specs.Band.{record-of, is-full, band-number, each, OnRows}
+use Rattle.row_room.specs.Room.{record-at, rows-told}
+use Rattle.row_room.proofs.Laws.{Small, good-small}
+use Rattle.step_rows.specs.Band.{is-full, band-number, each, OnRows}
 use Rattle.step_rows.proofs.Laws.{each-length, each-at, puts-each}
-use Rattle.step_rows.proofs.Judging.{Counted, counted}
 
 -- facts of the numbers of a run
 run-all : {P : ℕ → Type 0} (x k : ℕ) → ((i : ℕ) → x ≤ i → i < x + k → P i) → All P (count-from x k)
@@ -87,7 +88,7 @@ Adding n f = (w : Words) → length (w .state) ≡ 54 → word 5 w ≤ n → Add
 
 module _ (s : Screen) (w : Words) (o : Whole (frame-of s) w) where
   module _ (i : ℕ) (h : i < rows-of (box-of (s .viewport))) where
-    row-is : getD (rows-at (frame-of s) w) i nowhere .state ≡ record-of (w .state) i
+    row-is : getD (rows-at (frame-of s) w) i nowhere .state ≡ record-at (w .state) i
     row-is = ap (λ (u : Words). u .state) (cut-at (sizes (s .c) (s .d)) (rows-of (box-of (s .viewport))) i w nowhere h)
 
     in-rows : i < length (rows-at (frame-of s) w)
@@ -106,16 +107,16 @@ module _ (s : Screen) (w : Words) (o : Whole (frame-of s) w) where
     in-run : {P : ℕ → Type 0} → ((i : ℕ) → x ≤ i → i < b → P i) → All P (range x b)
     in-run f = run-all x (b - x) (λ i g k. f i g (omega arith))
 
-    good-is : (n : ℕ) (a : Act) → good-rows (frame-of s) n (map (on a) (range x b)) (rows-at (frame-of s) w) ≡ every (λ (r : ℕ). good-row (s .c) (s .d) n (record-of (w .state) r)) (range x b)
+    good-is : (n : ℕ) (a : Act) → good-rows (frame-of s) n (map (on a) (range x b)) (rows-at (frame-of s) w) ≡ every (λ (r : ℕ). good-row (s .c) (s .d) n (record-at (w .state) r)) (range x b)
     unfolding good-rows
     good-is n a =
         every-map (on a) (λ (p : Put). good-at (frame-of s) n (p .row) (rows-at (frame-of s) w)) (range x b)
         ∙ every-same (in-run (λ i g k. good-get s n i (rows-at (frame-of s) w) (in-rows i (omega arith)) ∙ ap (good-row (s .c) (s .d) n) (row-is i (omega arith))))
 
-    module _ (n : ℕ) (f : Words → Words) (ad : Adding n f) (good : every (λ (r : ℕ). good-row (s .c) (s .d) n (record-of (w .state) r)) (range x b) ≡ true) where
+    module _ (n : ℕ) (f : Words → Words) (ad : Adding n f) (good : every (λ (r : ℕ). good-row (s .c) (s .d) n (record-at (w .state) r)) (range x b) ≡ true) where
       module _ (i : ℕ) (g : x ≤ i) (k : i < b) where
-        facts : Counted (s .c) (s .d) n (record-of (w .state) i)
-        facts = counted (s .c) (s .d) n (record-of (w .state) i) (all-run x (b - x) (every-all (λ (r : ℕ). good-row (s .c) (s .d) n (record-of (w .state) r)) (range x b) good) i g (omega arith))
+        facts : Small (s .c) (s .d) n (record-at (w .state) i)
+        facts = good-small (s .c) (s .d) n (record-at (w .state) i) (all-run x (b - x) (every-all (λ (r : ℕ). good-row (s .c) (s .d) n (record-at (w .state) r)) (range x b) good) i g (omega arith))
 
         row-levels : word 5 (getD (rows-at (frame-of s) w) i nowhere) ≤ n
         row-levels = rw (row-is i (omega arith)) (facts .levels)
@@ -129,13 +130,13 @@ module _ (s : Screen) (w : Words) (o : Whole (frame-of s) w) where
         in-after : i < length (each f (range x b) (rows-at (frame-of s) w))
         in-after = rw (each-length f (range x b) (rows-at (frame-of s) w)) (in-rows i (omega arith))
 
-        one-full : row-passes Words word-ops 32 (word 0) (s .c) i (each f (range x b) (rows-at (frame-of s) w)) ≡ is-full (s .c) n (record-of (w .state) i)
+        one-full : row-passes Words word-ops 32 (word 0) (s .c) i (each f (range x b) (rows-at (frame-of s) w)) ≡ is-full (s .c) n (record-at (w .state) i)
         one-full = passes-get 0 (s .c) i (each f (range x b) (rows-at (frame-of s) w)) in-after ∙ rw (row-after, row-adds .renders, row-is i (omega arith))
 
         one-deep : row-passes Words word-ops 32 (word 1) (s .d) i (each f (range x b) (rows-at (frame-of s) w)) ≡ false
         one-deep = passes-get 1 (s .d) i (each f (range x b) (rows-at (frame-of s) w)) in-after ∙ rw (row-after, row-adds .depths, row-is i (omega arith)) (le-ltb _ _ (facts .depths))
 
-      full-is : (a : Act) → passes Words word-ops 32 (word 0) (s .c) (map (on a) (range x b)) (each f (range x b) (rows-at (frame-of s) w)) ≡ some-of (λ (r : ℕ). is-full (s .c) n (record-of (w .state) r)) (range x b)
+      full-is : (a : Act) → passes Words word-ops 32 (word 0) (s .c) (map (on a) (range x b)) (each f (range x b) (rows-at (frame-of s) w)) ≡ some-of (λ (r : ℕ). is-full (s .c) n (record-at (w .state) r)) (range x b)
       unfolding passes
       full-is a = some-map (on a) (λ (p : Put). row-passes Words word-ops 32 (word 0) (s .c) (p .row) (each f (range x b) (rows-at (frame-of s) w))) (range x b) ∙ some-same (in-run one-full)
 
@@ -164,10 +165,10 @@ then-full false ids attrs = refl
 
 module _ (s : Screen) (w : Words) (o : Whole (frame-of s) w) (a : Act) (x b : ℕ) (m : b ≤ rows-of (box-of (s .viewport))) where
   abbrev good-run : Bool
-  good-run = every (λ (r : ℕ). good-row (s .c) (s .d) (s .layers) (record-of (w .state) r)) (range x b)
+  good-run = every (λ (r : ℕ). good-row (s .c) (s .d) (s .layers) (record-at (w .state) r)) (range x b)
 
   abbrev full-run : Bool
-  full-run = some-of (λ (r : ℕ). is-full (s .c) (s .layers) (record-of (w .state) r)) (range x b)
+  full-run = some-of (λ (r : ℕ). is-full (s .c) (s .layers) (record-at (w .state) r)) (range x b)
 
   abbrev pub run-number : ℕ
   run-number = band-number (s .c) (s .d) (s .layers) (w .state) (range x b)
@@ -198,7 +199,7 @@ module _ (s : Screen) (w : Words) (o : Whole (frame-of s) w) (a : Act) (x b : �
     numbered false e = refl
 
     pub band-step : step-number 0 (good-rows (frame-of s) (s .layers) (p .puts) (rows-at (frame-of s) w)) p (screen-at (state-of s) w) ≡ band-answer run-number p
-    unfolding step-number band-number
+    unfolding step-number band-number rows-told
     band-step =
         ap (λ (g : Bool). cond g (refusal Words word-ops 32 p (done Words word-ops 32 p (screen-at (state-of s) w))) 4)
         (ap (λ (ps : List Put). good-rows (frame-of s) (s .layers) ps (rows-at (frame-of s) w)) puts ∙ good-is s w o x b m (s .layers) a)
@@ -217,11 +218,11 @@ module _ (s : Screen) (w : Words) (o : Whole (frame-of s) w) (a : Act) (x b : �
           room = λ i g k.
               let h : i < rows-of (box-of (s .viewport)) = omega arith in
               let e = row-is s w o i h in
-              let t : word 0 (acted n a (getD (rows-at (frame-of s) w) i nowhere)) ≡ getD (record-of (w .state) i) 0 0 + (s .layers + 1 - getD (record-of (w .state) i) 5 0) =
+              let t : word 0 (acted n a (getD (rows-at (frame-of s) w) i nowhere)) ≡ getD (record-at (w .state) i) 0 0 + (s .layers + 1 - getD (record-at (w .state) i) 5 0) =
               rw e at (row-adds s w o x b m (s .layers) (acted n a) ad p i g k .renders) in
-              let v : word 1 (acted n a (getD (rows-at (frame-of s) w) i nowhere)) ≡ getD (record-of (w .state) i) 1 0 = rw e at (row-adds s w o x b m (s .layers) (acted n a) ad p i g k .depths) in
+              let v : word 1 (acted n a (getD (rows-at (frame-of s) w) i nowhere)) ≡ getD (record-at (w .state) i) 1 0 = rw e at (row-adds s w o x b m (s .layers) (acted n a) ad p i g k .depths) in
               let c = facts s w o x b m (s .layers) (acted n a) ad p i g k in
-              let u = ltb-false (s .c) (getD (record-of (w .state) i) 0 0 + (s .layers + 1 - getD (record-of (w .state) i) 5 0)) (all-run x (b - x) (none-of (λ (r : ℕ). is-full (s .c) (s .layers) (record-of (w .state) r)) (range x b) q) i g (omega arith)) in
+              let u = ltb-false (s .c) (getD (record-at (w .state) i) 0 0 + (s .layers + 1 - getD (record-at (w .state) i) 5 0)) (all-run x (b - x) (none-of (λ (r : ℕ). is-full (s .c) (s .layers) (record-at (w .state) r)) (range x b) q) i g (omega arith)) in
               record {
                 state = row-state s w o i h;
                 render = omega (arith, row-render s w o i h, o .c);
@@ -233,7 +234,7 @@ module _ (s : Screen) (w : Words) (o : Whole (frame-of s) w) (a : Act) (x b : �
         }
 
     pub band-room : run-number ≡ 0 → OnRows s n (acted n a) x b w
-    unfolding band-number
+    unfolding band-number rows-told
     band-room z = room-of good-run full-run refl refl z
 
 -- rule 5 alone, with one layer more than before
@@ -262,9 +263,9 @@ paint-adds n t i h w l k =
 
 -- a run's number is 4, 10 or 0
 pub run-told : (c d n : ℕ) (ws rs : List ℕ) → (band-number c d n ws rs ≡ 4 → ⊥) → cond (eqb (band-number c d n ws rs) 10) 10 0 ≡ band-number c d n ws rs
-unfolding band-number
+unfolding band-number rows-told
 run-told c d n ws rs h =
-    by (every (λ (r : ℕ). good-row c d n (record-of ws r)) rs) (some-of (λ (r : ℕ). is-full c n (record-of ws r)) rs) h
+    by (every (λ (r : ℕ). good-row c d n (record-at ws r)) rs) (some-of (λ (r : ℕ). is-full c n (record-at ws r)) rs) h
   where
     by : (g f : Bool) → (told g f ≡ 4 → ⊥) → cond (eqb (told g f) 10) 10 0 ≡ told g f
     by true true h = refl

@@ -1,18 +1,19 @@
 -- A run of rows: what is judged of their records, and something done on each.
-use Prim.Native.Nat.{ℕ, _≤_, _<_, _+_, _-_, _*_}
-use mathlib.Core.Bool.{Bool, cond}
+use Prim.Native.Nat.{ℕ, _≤_, _<_, _+_, _-_}
+use mathlib.Core.Bool.{Bool}
 use mathlib.Core.List.{List, [], _∷_}
 use mathlib.Core.Option.{none}
-use lib.ListN.{getD, take, drop}
+use lib.ListN.{getD}
 use lib.Dec.{ltb}
-use Rattle.sizes.specs.Sizes.{most-layers, row-size, renders-at, levels-at}
-use Rattle.rules.specs.Lists.{every, some-of, change}
-use Rattle.rules.specs.Answers.{Done, BadRecord, FullRow}
+use Rattle.sizes.specs.Sizes.{most-layers, renders-at, levels-at}
+use Rattle.rules.specs.Lists.{change}
+use Rattle.rules.specs.Answers.{Done}
 use Rattle.rules.specs.Boxes.{rows-of}
 use Rattle.row.specs.Words.{Words, Room}
 use Rattle.row.specs.Cmds.{Short}
 use Rattle.row_screen.specs.Arena.{nowhere}
 use Rattle.row_judge.specs.Building.{rows-at, Whole, good-row}
+use Rattle.row_room.specs.Room.{record-at, rows-told}
 use Rattle.rect.specs.Rects.{box-of}
 use Rattle.screen.specs.declared.Screen.{Screen}
 use Rattle.screen.specs.Screens.{frame-of}
@@ -22,23 +23,13 @@ use Rattle.rules.specs.Plans.{touch, paint}
 use Rattle.step_rows.specs.declared.Act.{Act}
 use Rattle.step_rows.specs.declared.Act.the-variants.{Touch, Paint}
 
--- row r's record among all
-abbrev pub record-of : List ℕ → ℕ → List ℕ
-record-of ws r = take row-size (drop (r * row-size) ws)
-
 -- one more command, with what the row lacks of n open layers, passes c
 abbrev pub is-full : ℕ → ℕ → List ℕ → Bool
 is-full c n s = ltb c (getD s renders-at 0 + (n + 1 - getD s levels-at 0))
 
--- 4 for a record, then 10
-abbrev pub row-number : ℕ → ℕ → ℕ → List ℕ → ℕ
-row-number c d n s = cond (good-row c d n s) (cond (is-full c n s) FullRow Done) BadRecord
-
--- the same of the rows rs
+-- the rows rs: 4 for a record, then 10
 unfoldable pub band-number : ℕ → ℕ → ℕ → List ℕ → List ℕ → ℕ
-band-number c d n ws rs =
-    cond (every (λ (r : ℕ). good-row c d n (record-of ws r)) rs)
-    (cond (some-of (λ (r : ℕ). is-full c n (record-of ws r)) rs) FullRow Done) BadRecord
+band-number c d n ws rs = rows-told (λ (r : ℕ). good-row c d n (record-at ws r)) (λ (r : ℕ). is-full c n (record-at ws r)) Done rs
 
 -- f done on each of the rows rs
 unfoldable pub each : (Words → Words) → List ℕ → List Words → List Words

@@ -14,51 +14,42 @@ ghost use Rattle.row_screen.specs.Arena.{lay};
 ghost use Rattle.row_acts.specs.Acts.{acted, drawn};
 ghost use Rattle.row_judge.specs.Building.{rows-at};
 ghost use Rattle.screen.specs.Screens.{frame-of};
-ghost use Rattle.step_rows.specs.Band.{row-number, band-number, act-of, ShortAct, OnRow, OnRows, each};
+ghost use Rattle.step_rows.specs.Band.{band-number, act-of, ShortAct, OnRow, OnRows, each};
 use row::push_paint;
 use row_acts::ensure_row_layers;
-use row_judge::is_good_row;
-use row_screen::part;
+use row_room::Limits;
+use row_room::ONE_COMMAND;
+use row_room::add;
+use row_room::turn_to;
 use row_screen::place_of;
 use screen::Screen;
-use sizes::LEVELS;
-use sizes::RENDERS;
-use sizes::ROW;
+use sizes::answers::BAD_RECORD;
 use span::Alpha;
 use span::TileSpan;
 
-// A row's record: 4 if it is not good; 10 if one more command, with what the row lacks of the open layers, passes C; or 0.
-fn judge_row(state: &[u32], c: u32, d: u32, open: u32) -> u32
-    requires { ⌜ (length (now state) ≡ row-size) × («open» ≤ most-layers) × (c ≤ most-room) ⌝ }
-    ensures { λ r. ⌜ r ≡ row-number c d «open» (now (state .entry)) ⌝ }
-{
-    if !is_good_row(state, c, d, open) {
-        return 4;
-    }
-    if c < state[RENDERS] + (open + 1 - state[LEVELS]) {
-        return 10;
-    }
-    0
-}
-
-// The rows a to b: 4 for the record of one of them, then 10.
+// The rows a to b: 4 for the record of one of them, then 10 if one more command, with what the row lacks of the open layers, passes C.
 pub fn judge_rows(screen: Screen, rows: &[u32], a: usize, b: usize) -> u32
     requires { ⌜ (screen .layers ≤ most-layers) × (screen .c ≤ most-room) × (b ≤ most-rows) × (b * row-size ≤ length (now rows)) ⌝ }
     ensures { λ r. ⌜ r ≡ band-number (screen .c) (screen .d) (screen .layers) (now (rows .entry)) (range a b) ⌝ }
 {
-    let mut number: u32 = 0;
+    let limits = Limits {
+        c: screen.c,
+        d: screen.d,
+        layers: screen.layers,
+        once: 0,
+    };
+    let mut code: u32 = 0;
     let mut r = a;
     while r < b {
-        let k = judge_row(part(rows, ROW, r), screen.c, screen.d, screen.layers);
-        if k == 4 {
-            return 4;
+        let turned = turn_to(rows, limits, code, r as u32);
+        if turned.code == BAD_RECORD {
+            return BAD_RECORD;
         }
-        if k == 10 {
-            number = 10;
-        }
+        let next = add(limits, turned, ONE_COMMAND);
+        code = next.code;
         r += 1;
     }
-    number
+    code
 }
 
 // What is done on each row of a run, with n layers open.

@@ -1,60 +1,62 @@
--- Judging the rows from r to b with the number so far gives what judging all from a would (`going`).
-use mathlib.Core.Path.{_≡_, sym, _∙_}
-use mathlib.Core.Logic.{⊎-elim}
-use Prim.Native.Nat.{_-_, _*_}
+-- Judging the rows from r to b with the number so far gives what judging all from a would (`Going`); each row is turned to, and gets one command.
+use Prim.Native.Nat.{ℕ, _-_}
 use native.Mathlib.Omega.{arith}
-use Rattle.rules.specs.Lists.{range}
-use Rattle.step_rows.proofs.Judging.{going, going-all, going-end, going-bad, going-full, going-fine, record-long}
-use Rattle.step_rows.specs.Band.{band-number}
-use borrow.Author.Needs.{needs}
+use Rattle.row_judge.specs.Building.{good-row}
+use Rattle.row_room.specs.Room.{record-at}
+use Rattle.row_room.proofs.Rows.{Going, going-start, going-end, going-bad, going-on}
+use Rattle.step_rows.specs.Band.{is-full, band-number}
+use Rattle.step_rows.proofs.Judging.{row-bad, row-good, row-counted}
 use Rattle.step_rows.proofs.judge_rows.Statement.{statement}
 use Rattle.step_rows.proofs.judge_rows.Tie as tie
 
 abbrev Inv-loop : tie.InvT-loop
-Inv-loop screen rows a b number₀ r₀ number r = going (screen .c) (screen .d) (screen .layers) rows number (range r b) ≡ band-number (screen .c) (screen .d) (screen .layers) rows (range a b)
+Inv-loop rows a b limits code₀ r₀ code r =
+    Going (λ (i : ℕ). good-row (limits .c) (limits .d) (limits .layers) (record-at rows i)) (λ (i : ℕ). is-full (limits .c) (limits .layers) (record-at rows i)) a b code r
 
 abbrev μ-loop : tie.MeasureT-loop
-μ-loop screen rows a b number₀ r₀ number r = b - r
+μ-loop rows a b limits code₀ r₀ code r = b - r
 
 loop-holds : tie.Need-loop-holds Inv-loop μ-loop
-loop-holds c = going-all _ _ _ _ _
+loop-holds c = going-start _ _ _ _
 
-part-requires : tie.Need-part-requires Inv-loop μ-loop
-part-requires c κs = omega arith
+cast-turn-to : tie.Need-cast-turn-to Inv-loop μ-loop
+cast-turn-to c = omega arith
 
-judge-row-requires : tie.Need-judge-row-requires Inv-loop μ-loop
-judge-row-requires c κs =
-    let start = c .before .before .before .before in
-    (rw (c .part .ensures) (record-long (start .args .rows .now) _ (start .args .b) (c .before .loop-test .taken) (start .pre .3)), start .pre .0, start .pre .1)
+turn-to-requires : tie.Need-turn-to-requires Inv-loop μ-loop
+turn-to-requires c κs =
+    let at-pre = c .before .before .before in
+    (at-pre .pre .0, omega (arith, c .loop-test .taken, at-pre .pre .3))
 
 returns : tie.Need-returns Inv-loop μ-loop
+unfolding band-number
 returns c =
-    let at-part = c .before .before in
-    let at-loop-test = at-part .before in
-    let at-loop = at-loop-test .before in
-    going-bad _ _ _ _ _ _ _ _ _ (at-loop-test .loop-test .taken) (at-part .part .ensures) (c .before .judge-row .ensures) (c .if1 .taken) ∙ at-loop .loop .inv
+    let at-turn-to = c .before .before in
+    let at-loop-test = at-turn-to .before in
+    let v = at-loop-test .before .loop .inv in
+    going-bad v (at-loop-test .loop-test .taken) (row-bad _ _ _ _ _ _ (v .found) (at-turn-to .turn-to .ensures .0) (c .if1 .taken))
+
+add-requires : tie.Need-add-requires Inv-loop μ-loop
+add-requires c κs = (c .before .before .turn-to .ensures .1, omega arith, omega arith)
 
 add-r : tie.Need-add-r Inv-loop μ-loop
-add-r c = record { fits = omega arith }
+add-r c = omega arith
 
 loop-less : tie.Need-loop-less Inv-loop μ-loop
 loop-less c = omega arith
 
 loop-again : tie.Need-loop-again Inv-loop μ-loop
 loop-again c =
-    let at-judge-row = c .before .before in
-    let at-part = at-judge-row .before in
-    let at-loop-test = at-part .before in
-    let at-loop = at-loop-test .before in
-    let here = at-loop-test .loop-test .taken in
-    let own = at-part .part .ensures in
-    let told = at-judge-row .judge-row .ensures in
-    let held = at-loop .loop .inv in
-    ⊎-elim (λ w. rw (w .1) (going-full _ _ _ _ _ _ _ _ _ here own told (w .0 .taken) ∙ held)) (λ w. rw (w .1) (going-fine _ _ _ _ _ _ _ _ _ here own told
-    (c .before .if1 .left) (w .0 .left) ∙ held)) (c .if2 .came)
+    let at-if1 = c .before in
+    let at-turn-to = at-if1 .before .before in
+    let at-loop-test = at-turn-to .before in
+    let v = at-loop-test .before .loop .inv in
+    let turned = at-turn-to .turn-to .ensures .0 in
+    let fine = at-if1 .if1 .left in
+    going-on v (at-loop-test .loop-test .taken) (row-good _ _ _ _ _ _ (v .found) turned fine) (row-counted _ _ _ _ _ _ (v .found) turned fine (c .add .ensures))
 
 returns-2 : tie.Need-returns-2 Inv-loop μ-loop
-returns-2 c = sym (going-end _ _ _ _ _ _ _ (c .loop-test .left)) ∙ c .before .loop .inv
+unfolding band-number
+returns-2 c = going-end (c .before .loop .inv) (c .loop-test .left)
 
 pub judge-rows-spec : {M : Type 1} → statement M
 judge-rows-spec =
@@ -63,9 +65,10 @@ judge-rows-spec =
     Inv-loop
     μ-loop
     loop-holds
-    part-requires
-    judge-row-requires
+    cast-turn-to
+    turn-to-requires
     returns
+    add-requires
     add-r
     loop-less
     loop-again

@@ -1,10 +1,8 @@
+-- By cases, in the order of the tests.
 use borrow.Author.Tests.{lt-ltb, le-ltb, eq-eqb, ne-eqb}
 use borrow.Author.Needs.{needs}
-use Rattle.step_fill_judge.proofs.note.Statement.{statement}
-use Rattle.step_fill_judge.proofs.note.Tie as tie
-use Rattle.step_fill_judge.proofs.note.Reads as reads
-use Rattle.step_fill_judge.proofs.note.Lts as lts
-use Rattle.sizes.proofs.wide.Reads as wide-reads
+use Rattle.row_room.proofs.note.Statement.{statement}
+use Rattle.row_room.proofs.note.Tie as tie
 
 wide-requires : tie.Need-wide-requires
 wide-requires c κs = search needs

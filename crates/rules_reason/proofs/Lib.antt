@@ -1,2 +1,3 @@
 -- Tests by computation.
 pub mod Cases
+pub mod Printed

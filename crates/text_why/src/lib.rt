@@ -1,24 +1,26 @@
 // What `why` prints: the reasons of a tile's attributes, in words. Parts: where a function asks something, its callers have seen to it.
+ghost use mathlib.Core.Path.{_≡_};
+ghost use Prim.Native.Nat.{_+_, _*_, _≤_};
+ghost use lib.ListN.{length, take};
+ghost use Rattle.sizes.specs.Sizes.{most-attrs, file-bytes};
+ghost use Rattle.rules.specs.Lines.{rowlist-screen};
+ghost use Rattle.rules_reason.specs.Answers.{reason-bytes, kind-text, asked-bytes, attribute-line, kind-lines, answer-lines, why-words, why-text};
+ghost use Rattle.file_form.specs.Words.{words-in};
+ghost use Rattle.text.specs.Texts.{text, far, Wrote};
+ghost use Rattle.tile_steps.specs.Sizes.{line-size, line-table};
+ghost use Rattle.tile_steps.specs.Places.{Low};
+ghost use Rattle.tile_reason.specs.Reasons.{reason-of as said-of, asked-of};
+ghost use Rattle.text_why.specs.Questions.{question-of, read-by, line-most, answer-most};
 use file_form::Form;
 use file_form::read_form;
 use file_form::words_of_bytes;
-use rect::Rect;
+use file_judge::box_at;
 use sizes::wide;
 use text::put_byte;
 use text::put_number;
 use text::put_text;
-use text_dump::put_digits;
-use text_file::file_text;
-use text_programs::tables::depth_words;
-use text_programs::tables::fill_words;
-use text_programs::tables::filter_words;
-use text_programs::tables::layer_attr_words;
-use text_programs::tables::layer_words;
-use text_programs::tables::opacity_words;
-use text_programs::tables::painting_words;
-use text_programs::tables::render_words;
-use text_programs::tables::row_words;
-use text_screen::refusal_line;
+use text_lines::put_refused;
+use text_programs::list_file;
 use tile_call::is_off_screen;
 use tile_call::tell_tile;
 use tile_reason::Asked;
@@ -40,7 +42,10 @@ pub enum Question {
 }
 
 // A reason in words, and a line feed.
-fn put_reason(out: &mut [u8], at: usize, reason: Reason) -> usize {
+fn put_reason(out: &mut [u8], at: usize, reason: Reason) -> usize
+    requires { ⌜ at + 51 ≤ far ⌝ }
+    ensures { λ r. ⌜ Wrote (reason-bytes (said-of reason)) 51 (text (now (out .entry)) at) (text (now (out .exit)) r) ⌝ }
+{
     match reason {
         Reason::UnknownAttribute => put_text(out, at, b"unknown attribute\n"),
         Reason::NoSegment => put_text(out, at, b"no segment covers the tile\n"),
@@ -59,18 +64,33 @@ fn put_reason(out: &mut [u8], at: usize, reason: Reason) -> usize {
     }
 }
 
+fn put_kind(out: &mut [u8], at: usize, layer: bool) -> usize
+    requires { ⌜ at + 5 ≤ far ⌝ }
+    ensures { λ r. ⌜ Wrote (kind-text layer) 5 (text (now (out .entry)) at) (text (now (out .exit)) r) ⌝ }
+{
+    if layer {
+        return put_text(out, at, b"layer");
+    }
+    put_text(out, at, b"draw")
+}
+
 // Which attribute a reason is about.
-fn put_asked(out: &mut [u8], at: usize, asked: Asked) -> usize {
+fn put_asked(out: &mut [u8], at: usize, asked: Asked) -> usize
+    requires { ⌜ at + 18 ≤ far ⌝ }
+    ensures { λ r. ⌜ Wrote (asked-bytes (asked-of asked)) 18 (text (now (out .entry)) at) (text (now (out .exit)) r) ⌝ }
+{
     let p = put_kind(out, at, asked.layer);
     let q = put_number(out, p, asked.attribute);
     put_text(out, q, b": ")
 }
 
-fn put_kind(out: &mut [u8], at: usize, layer: bool) -> usize {
-    if layer {
-        return put_text(out, at, b"layer");
-    }
-    put_text(out, at, b"draw")
+// An attribute's line, by the n lines told of the tile.
+fn put_line(out: &mut [u8], at: usize, lines: &[u32], n: usize, asked: Asked) -> usize
+    requires { ⌜ (at + line-most ≤ far) × (n ≤ most-attrs + most-attrs) × (line-size * n ≤ length (now lines)) ⌝ }
+    ensures { λ r. ⌜ Wrote (attribute-line (read-by (now (lines .entry)) n) (asked-of asked)) line-most (text (now (out .entry)) at) (text (now (out .exit)) r) ⌝ }
+{
+    let p = put_asked(out, at, asked);
+    put_reason(out, p, reason_of(lines, n, asked))
 }
 
 // A line for each attribute of a kind.
@@ -81,7 +101,10 @@ fn put_kind_lines(
     n: usize,
     layer: bool,
     count: u32,
-) -> usize {
+) -> usize
+    requires { ⌜ (at + line-most * count ≤ far) × (n ≤ most-attrs + most-attrs) × (line-size * n ≤ length (now lines)) ⌝ }
+    ensures { λ r. ⌜ Wrote (kind-lines (read-by (now (lines .entry)) n) layer count) (line-most * count) (text (now (out .entry)) at) (text (now (out .exit)) r) ⌝ }
+{
     let mut place = at;
     let mut i = 0;
     while i < count {
@@ -89,15 +112,17 @@ fn put_kind_lines(
             layer,
             attribute: i,
         };
-        let p = put_asked(out, place, asked);
-        place = put_reason(out, p, reason_of(lines, n, asked));
+        place = put_line(out, place, lines, n, asked);
         i += 1;
     }
     place
 }
 
 // The answer to a question, from the lines told of the tile.
-fn put_answer(out: &mut [u8], lines: &[u32], tale: Tale, question: Question) -> usize {
+fn put_answer(out: &mut [u8], lines: &[u32], tale: Tale, question: Question) -> usize
+    requires { ⌜ Low tale × (length (now lines) ≡ line-table) ⌝ }
+    ensures { λ r. ⌜ Wrote (answer-lines (read-by (now (lines .entry)) (tale .paints + tale .layers)) (tale .paints) (tale .layers) (question-of question)) answer-most (text (now (out .entry)) 0) (text (now (out .exit)) r) ⌝ }
+{
     let n = wide(tale.paints + tale.layers);
     match question {
         Question::Every => {
@@ -108,74 +133,47 @@ fn put_answer(out: &mut [u8], lines: &[u32], tale: Tale, question: Question) -> 
     }
 }
 
-fn put_refusal(out: &mut [u8], number: u32) -> usize {
-    let line = refusal_line(number, out);
-    line.bytes
-}
-
-// The text of a question about a recording that was accepted, from its words.
-fn words_answer(
-    file: &[u32],
-    viewport: Rect,
-    row: u32,
-    tile: u32,
-    question: Question,
-    out: &mut [u8],
-) -> usize {
+// The text of a question about a recording that is accepted, from its words.
+fn words_text(file: &[u32], row: u32, tile: u32, question: Question, out: &mut [u8]) -> usize
+    requires { ⌜ rowlist-screen (now file) .number ≡ 0 ⌝ }
+    ensures { λ r. ⌜ Wrote (why-words (now (file .entry)) row tile (question-of question)) answer-most (text (now (out .entry)) 0) (text (now (out .exit)) r) ⌝ }
+{
     let Form::Good(l) = read_form(file) else {
-        return put_refusal(out, BAD_FORM);
+        return put_refused(out, 0, BAD_FORM);
     };
+    let viewport = box_at(file, 1);
     if is_off_screen(viewport, row, tile) {
-        return put_refusal(out, BAD_RUN);
+        return put_refused(out, 0, BAD_RUN);
     }
     let mut lines = [0u32; LINE_TABLE];
     let told = tell_tile(file, l, viewport, row, tile, &mut lines);
     if told.number != DONE {
-        return put_refusal(out, told.number);
+        return put_refused(out, 0, told.number);
     }
     let tale = told.tale;
     put_answer(out, &lines, tale, question)
 }
 
-// The text that `why` prints of a question about a file's bytes, put first; how long it is.
-pub fn why_text(file: &[u8], row: u32, tile: u32, question: Question, out: &mut [u8]) -> usize {
-    let mut render = render_words();
-    let mut fills = fill_words();
-    let mut depth = depth_words();
-    let mut rows = row_words();
-    let mut painting = painting_words();
-    let mut layers = layer_words();
-    let mut opacities = opacity_words();
-    let mut paint_attrs = render_words();
-    let mut layer_attrs = layer_attr_words();
-    let mut filter_paints = filter_words();
-    let text = file_text(
-        file,
-        &mut render,
-        &mut fills,
-        &mut depth,
-        &mut rows,
-        &mut painting,
-        &mut layers,
-        &mut opacities,
-        &mut paint_attrs,
-        &mut layer_attrs,
-        &mut filter_paints,
-        out,
-    );
+// The same, from its bytes.
+fn accepted_text(file: &[u8], row: u32, tile: u32, question: Question, out: &mut [u8]) -> usize
+    requires { ⌜ (length (now file) ≤ file-bytes) × (rowlist-screen (words-in (now file)) .number ≡ 0) ⌝ }
+    ensures { λ r. ⌜ Wrote (why-words (words-in (now (file .entry))) row tile (question-of question)) answer-most (text (now (out .entry)) 0) (text (now (out .exit)) r) ⌝ }
+{
+    let mut words = [0u32; 16384];
+    let n = words_of_bytes(file, &mut words);
+    words_text(&words[..n], row, tile, question, out)
+}
+
+// The text that `why` prints of a question about a file's bytes, put first; how long it is. The room is that of the longest text of `rowlist`,
+// which is written there before; what stands after the text is free.
+pub fn why_text(file: &[u8], row: u32, tile: u32, question: Question, out: &mut [u8]) -> usize
+    requires { ⌜ 264256 ≤ length (now out) ⌝ }
+    ensures { λ r. ⌜ r ≡ length (why-text (now (file .entry)) row tile (question-of question)) ⌝ }
+    ensures { λ r. ⌜ take r (now (out .exit)) ≡ why-text (now (file .entry)) row tile (question-of question) ⌝ }
+{
+    let text = list_file(file, out);
     if text.number != DONE {
         return text.bytes;
     }
-    let screen = text.screen;
-    let viewport = screen.viewport;
-    let mut words = [0u32; 16384];
-    let n = words_of_bytes(file, &mut words);
-    words_answer(&words[..n], viewport, row, tile, question, out)
-}
-
-// The line that a question's text begins with in a stream.
-pub fn question_text(i: u64, out: &mut [u8]) -> usize {
-    let a = put_text(out, 0, b"question ");
-    let b = put_digits(out, a, i, 20);
-    put_byte(out, b, b'\n')
+    accepted_text(file, row, tile, question, out)
 }

@@ -1,9 +1,9 @@
 -- The tables have the programs' lengths, so that what the file's call writes is the rules' text.
 use Rattle.screen.specs.Tables.{tables}
-use Rattle.text_programs.proofs.Laws.{rowlist-shown}
+use Rattle.text_programs.proofs.Laws.{Long, rowlist-shown, number-shown}
 use borrow.Author.Needs.{needs}
-use Rattle.text_programs.proofs.rowlist_text.Statement.{statement}
-use Rattle.text_programs.proofs.rowlist_text.Tie as tie
+use Rattle.text_programs.proofs.list_file.Statement.{statement}
+use Rattle.text_programs.proofs.list_file.Tie as tie
 
 render-words-requires : tie.Need-render-words-requires
 render-words-requires c κs = search needs
@@ -86,27 +86,27 @@ returns c =
     let at-fill-words = at-depth-words .before in
     let at-render-words = at-fill-words .before in
     let entry = at-render-words .before .before .before in
-    rowlist-shown (tables (at-render-words .render-words .result) (at-fill-words .fill-words .result) (at-depth-words .depth-words .result)
+    let t = tables (at-render-words .render-words .result) (at-fill-words .fill-words .result) (at-depth-words .depth-words .result)
     (at-row-words .row-words .result) (at-painting-words .painting-words .result) (at-layer-words .layer-words .result)
     (at-opacity-words .opacity-words .result) (at-render-words2 .render-words2 .result) (at-layer-attr-words .layer-attr-words .result)
-    (at-filter-words .filter-words .result)) (record {
+    (at-filter-words .filter-words .result) in
+    let h : Long t = record {
       render = at-render-words .render-words .ensures;
       fills = at-fill-words .fill-words .ensures;
-      depth =
-          at-depth-words .depth-words .ensures;
+      depth = at-depth-words .depth-words .ensures;
       rows = at-row-words .row-words .ensures;
       painting = at-painting-words .painting-words .ensures;
-      layers =
-          at-layer-words .layer-words .ensures;
+      layers = at-layer-words .layer-words .ensures;
       opacities = at-opacity-words .opacity-words .ensures;
       paint-attrs = at-render-words2 .render-words2 .ensures;
       layer-attrs = at-layer-attr-words .layer-attr-words .ensures;
       filter-paints = at-filter-words .filter-words .ensures;
-    }) (entry .args .file .now)
-    (entry .args .out .now) (entry .pre) (at-file-text .file-text .ensures)
+    } in
+    let lines = rowlist-shown t h (entry .args .file .now) (entry .args .out .now) (entry .pre) (at-file-text .file-text .ensures) in
+    ((number-shown t h (entry .args .file .now) (entry .args .out .now) (entry .pre) (at-file-text .file-text .ensures), lines .0), lines .1)
 
-pub rowlist-text-spec : {M : Type 1} → statement M
-rowlist-text-spec =
+pub list-file-spec : {M : Type 1} → statement M
+list-file-spec =
     tie.close
     (tie.spec
     render-words-requires

@@ -1,9 +1,11 @@
--- Into the first bytes, as far as there are so many.
+-- Into the first bytes, as far as there are so many: what is read there is no longer than they are.
 use mathlib.Core.Path.{sym}
+use native.Mathlib.Omega.{arith}
+use lib.ListN.{length-append}
 use lib.Seq.{length-take-le}
 use borrow.Author.Needs.{needs}
-use Rattle.rowdump.proofs.read.Statement.{statement}
-use Rattle.rowdump.proofs.read.Tie as tie
+use Rattle.text_programs.proofs.stream.read.Statement.{statement}
+use Rattle.text_programs.proofs.stream.read.Tie as tie
 
 slice-relend-prefix-read-all : tie.Need-slice-relend-prefix-read-all
 slice-relend-prefix-read-all c = search needs
@@ -18,7 +20,7 @@ same-length : tie.Need-same-length
 same-length c = search needs
 
 returns : tie.Need-returns
-returns c = search needs
+returns c = rw (length-append) (omega (arith, c .before .before .read-all .ensures))
 
 read-all-requires-2 : tie.Need-read-all-requires-2
 read-all-requires-2 c κs = search needs

@@ -2,8 +2,8 @@
 use Prim.Native.Nat.{_≤_}
 use native.Mathlib.Omega.{arith}
 use borrow.Author.Needs.{needs}
-use Rattle.rowdump.proofs.skip.Statement.{statement}
-use Rattle.rowdump.proofs.skip.Tie as tie
+use Rattle.text_programs.proofs.stream.skip.Statement.{statement}
+use Rattle.text_programs.proofs.stream.skip.Tie as tie
 
 abbrev Inv-loop : tie.InvT-loop
 Inv-loop n left₀ left = left ≤ n

@@ -12,7 +12,7 @@ use Rattle.rules.specs.Recording.{Recording}
 use Rattle.rules.specs.Walk.{walk-all}
 use Rattle.rules.proofs.Logged.{walk-logged}
 use Rattle.rules_reason.specs.Reasons.{Asked, reason}
-use Rattle.tile_steps.specs.Sizes.{line-size}
+use Rattle.sizes.specs.Sizes.{line-size}
 use Rattle.tile_steps.specs.Telling.{Telling, tell-at, nothing-told}
 use Rattle.tile_reason.specs.Reading.{reason-read}
 use Rattle.refine_tile.specs.Retold.{Retold}

@@ -7,7 +7,7 @@ ghost use Rattle.rules.specs.Lines.{rowlist-screen};
 ghost use Rattle.rules_reason.specs.Answers.{reason-bytes, kind-text, asked-bytes, attribute-line, kind-lines, answer-lines, why-words, why-text};
 ghost use Rattle.file_form.specs.Words.{words-in};
 ghost use Rattle.text.specs.Texts.{text, far, Wrote};
-ghost use Rattle.tile_steps.specs.Sizes.{line-size, line-table};
+ghost use Rattle.sizes.specs.Sizes.{line-size, line-table};
 ghost use Rattle.tile_steps.specs.Places.{Low};
 ghost use Rattle.tile_reason.specs.Reasons.{reason-of as said-of, asked-of};
 ghost use Rattle.text_why.specs.Questions.{question-of, read-by, line-most, answer-most};
@@ -15,6 +15,10 @@ use file_form::Form;
 use file_form::read_form;
 use file_form::words_of_bytes;
 use file_judge::box_at;
+use sizes::LINE_TABLE;
+use sizes::answers::BAD_FORM;
+use sizes::answers::BAD_RUN;
+use sizes::answers::DONE;
 use sizes::wide;
 use text::put_byte;
 use text::put_number;
@@ -27,13 +31,6 @@ use tile_reason::Asked;
 use tile_reason::Reason;
 use tile_reason::reason_of;
 use tile_steps::Tale;
-use tile_steps::lines::LINE_TABLE;
-
-const DONE: u32 = 0;
-
-const BAD_FORM: u32 = 3;
-
-const BAD_RUN: u32 = 12;
 
 // One attribute, or every attribute.
 pub enum Question {

@@ -13,7 +13,7 @@ use Rattle.rules.specs.Walk.{walk-all}
 use Rattle.rules_reason.specs.Reasons.{Reason, unknown-attribute, Asked}
 use Rattle.screen.specs.Tables.{ScreenLent}
 use Rattle.file_call.specs.Recorded.{recorded}
-use Rattle.tile_steps.specs.Sizes.{line-table}
+use Rattle.sizes.specs.Sizes.{line-table}
 use Rattle.tile_steps.specs.Telling.{Telling, tell-at, nothing-told}
 use Rattle.tile_reason.specs.Reading.{reason-read}
 

@@ -10,7 +10,7 @@ ghost use Rattle.rect.specs.Rects.{box-of};
 ghost use Rattle.screen.specs.Tables.{Tables, tables, lent};
 ghost use Rattle.file_form.specs.Places as file;
 ghost use Rattle.file_nodes.specs.Ready.{WalkReady};
-ghost use Rattle.tile_steps.specs.Sizes.{line-table};
+ghost use Rattle.sizes.specs.Sizes.{line-table};
 ghost use Rattle.tile_steps.specs.Telling.{Telling, tell-at, nothing-told};
 ghost use Rattle.tile_steps.specs.Places.{Low, Says, telling};
 ghost use Rattle.tile_reason.specs.Reasons.{reason-of as said-of, asked-of};
@@ -22,7 +22,11 @@ use file_form::read_form;
 use rect::Rect;
 use screen::Screen;
 use sizes::BUCKET;
+use sizes::LINE_TABLE;
 use sizes::MOST_LAYERS;
+use sizes::answers::BAD_FORM;
+use sizes::answers::BAD_RUN;
+use sizes::answers::DONE;
 use sizes::wide;
 use tile_reason::Asked;
 use tile_reason::Reason;
@@ -31,14 +35,7 @@ use tile_steps::Spot;
 use tile_steps::Tale;
 use tile_steps::Told;
 use tile_steps::Within;
-use tile_steps::lines::LINE_TABLE;
 use tile_walk::tell_nodes;
-
-const DONE: u32 = 0;
-
-const BAD_FORM: u32 = 3;
-
-const BAD_RUN: u32 = 12;
 
 // number: document 01's answer. screen: the screen afterwards. reason: with a refusal it says nothing.
 pub struct Explained {

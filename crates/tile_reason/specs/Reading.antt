@@ -5,7 +5,7 @@ use mathlib.Core.List.{List, [], _∷_}
 use lib.ListN.{getD}
 use lib.Dec.{leb, eqb}
 use Rattle.rules_reason.specs.Reasons.{Reason, unknown-attribute, no-segment, cut-away, row-untouched, hidden-by, shown-at, Asked}
-use Rattle.tile_steps.specs.Sizes.{line-size}
+use Rattle.sizes.specs.Sizes.{line-size}
 
 -- what a reason goes by of a line: layer (1) or draw (0), attribute, standing
 pub record Mark : Type 0 where

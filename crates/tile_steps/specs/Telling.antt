@@ -12,10 +12,10 @@ use Rattle.rules.specs.Answers.{Answer, settle, first-of, Done, Deep, NoLayer, 
 use Rattle.rules.specs.Boxes.{Box, span-of, scene-tiles}
 use Rattle.rules.specs.Spans.{Span, span, Stretch, covers, moved}
 use Rattle.rules.specs.Segments.{Segment, Cut, cut-in}
-use Rattle.rules.specs.Inputs.{Paint, Draw, draw-segments, draw-paint, Clip, Props, Filter}
+use Rattle.rules.specs.Inputs.{draw-segments, draw-paint, Clip, Props, Filter}
 use Rattle.rules.specs.Plans.{Layer, Step, a-fill, a-push, a-pop, a-filter, clip-box, eligible, layer-box, touches-all, clip-segments, filter-box, draws-nothing}
 use Rattle.cmd.specs.Attrs.{words-at}
-use Rattle.tile_steps.specs.Sizes.{line-size}
+use Rattle.sizes.specs.Sizes.{line-size}
 
 -- What is known after some steps: the next id, how many paint attributes, layer attributes and filter paints there are, for how many of the open
 -- layers, from the outermost, the row is touched; the open layers, the innermost first; the lines

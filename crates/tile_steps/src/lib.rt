@@ -18,7 +18,7 @@ ghost use Rattle.span.specs.Spans.{alpha as alpha-of};
 ghost use Rattle.cmd.specs.Blends.{blend-of};
 ghost use Rattle.segments.specs.Segs.{segs, segs-of};
 ghost use Rattle.screen_layers.specs.Layers.{clip-of};
-ghost use Rattle.tile_steps.specs.Sizes.{line-table};
+ghost use Rattle.sizes.specs.Sizes.{line-table};
 ghost use Rattle.tile_steps.specs.Telling as tell;
 ghost use Rattle.step_filter.specs.Filter.{picture-of};
 ghost use Rattle.tile_steps.specs.Telling.{in-row};
@@ -38,19 +38,15 @@ use sizes::LAST_ID;
 use sizes::MOST_ATTRS;
 use sizes::MOST_FILTERS;
 use sizes::MOST_LAYERS;
+use sizes::answers::DEEP;
+use sizes::answers::DONE;
+use sizes::answers::FULL_ATTRS;
+use sizes::answers::IDS;
 use sizes::wide;
 use span::Alpha;
 use step_filter::Pixmap;
 use step_filter::draws_nothing;
 use step_filter::filter_box;
-
-const DONE: u32 = 0;
-
-const DEEP: u32 = 6;
-
-const IDS: u32 = 8;
-
-const FULL_ATTRS: u32 = 9;
 
 pub mod lines;
 pub mod looks;

@@ -7,17 +7,12 @@ ghost use Prim.Native.Nat.{_+_, _*_, _<_};
 ghost use lib.ListN.{length};
 ghost use Rattle.sizes.specs.Sizes.{most-attrs};
 ghost use Rattle.cmd.specs.Attrs.{words-at};
-ghost use Rattle.tile_steps.specs.Sizes.{line-size, line-table};
+ghost use Rattle.sizes.specs.Sizes.{line-size, line-table};
 ghost use Rattle.span.specs.Spans.{alpha as alpha-of};
 ghost use Rattle.tile_steps.specs.Telling.{alpha-words, line-words, standing-of};
 ghost use Rattle.tile_steps.specs.Places.{line-of};
-use sizes::MOST_ATTRS;
+use sizes::LINE;
 use span::Alpha;
-
-// The words of a line, and of the lines of all attributes.
-pub const LINE: usize = 6;
-
-pub const LINE_TABLE: usize = LINE * (MOST_ATTRS as usize + MOST_ATTRS as usize);
 
 // How an attribute's step stands to the tile.
 pub const NO_SEGMENT: u32 = 0;

@@ -9,7 +9,7 @@ use Rattle.file_nodes.specs.Ready.{WalkReady}
 use Rattle.tile_steps.specs.declared.Spot.{Spot}
 use Rattle.tile_steps.specs.declared.Within.{Within}
 use Rattle.tile_steps.specs.declared.Tale.{Tale}
-use Rattle.tile_steps.specs.Sizes.{line-table}
+use Rattle.sizes.specs.Sizes.{line-table}
 use Rattle.tile_steps.specs.Places.{Spotted, Bounded, Low}
 
 -- the form is good, and so is every record; the tile is one of the screen's; counts are within their limits, and there is a line for each attribute

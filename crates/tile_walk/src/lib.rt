@@ -14,7 +14,7 @@ ghost use Rattle.rules.specs.Plans.{Layer, a-fill};
 ghost use Rattle.rules.specs.Walk.{when, each, walk-filter, walk-layer, walk-nodes};
 ghost use Rattle.rect.specs.Rects.{box-of};
 ghost use Rattle.file_form.specs.Places as file;
-ghost use Rattle.tile_steps.specs.Sizes.{line-table};
+ghost use Rattle.sizes.specs.Sizes.{line-table};
 ghost use Rattle.tile_steps.specs.Telling.{Telling, tell-at, tell-filter};
 ghost use Rattle.tile_steps.specs.Places.{Spotted, Bounded, Holds, Low, Says, telling};
 ghost use Rattle.tile_walk.specs.Ready.{TaleReady, Deep};
@@ -24,6 +24,7 @@ use file_read::draw_at;
 use file_read::needs_buffer;
 use file_read::props_at;
 use file_steps::pixmap_of;
+use sizes::answers::DONE;
 use sizes::wide;
 use step_fill::is_eligible;
 use tile_steps::Spot;
@@ -34,8 +35,6 @@ use tile_steps::tell_fill;
 use tile_steps::tell_filter;
 use tile_steps::tell_pop;
 use tile_steps::tell_push;
-
-const DONE: u32 = 0;
 
 // What draw i says of the tile.
 fn tell_draw(

@@ -55,7 +55,7 @@ pub const NO_ROW: Hand = Hand {
     code: DONE,
 };
 
-// Row r by its record, which lacks no more layers than are open.
+// Row r by its record, which has no more levels than layers are open.
 pub fn load(state: &[u32], limits: Limits, code: u32, r: u32) -> Hand
     requires { ⌜ (length (now state) ≡ row-size) × (getD (now state) levels-at 0 ≤ limits .layers) ⌝ }
     ensures { λ u. ⌜ (u ≡ loaded limits (now (state .entry)) code r) × Low u ⌝ }

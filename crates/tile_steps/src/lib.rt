@@ -10,7 +10,7 @@ ghost use Rattle.sizes.specs.Sizes.{last-id};
 ghost use Rattle.rules.specs.Lists.{every, is-none};
 ghost use Rattle.rules.specs.Boxes.{empty-box};
 ghost use Rattle.rules.specs.Blends.{destructive};
-ghost use Rattle.rules.specs.Inputs.{Props, Filter};
+ghost use Rattle.rules.specs.Inputs.{Props, Filter, all-good};
 ghost use Rattle.rules.specs.Segments.{good-segment};
 ghost use Rattle.rules.specs.Plans.{Layer};
 ghost use Rattle.rect.specs.Rects.{box-of, Small};
@@ -180,7 +180,7 @@ fn touches(blend: Blend, bbox: Rect, row: u32) -> bool
 
 // Rule 8: a layer with this blend and this clip is pushed; a destructive one touches the rows of its box.
 pub fn tell_push(spot: Spot, within: Within, tale: Tale, blend: Blend, clip: LayerClip) -> Pushed
-    requires { ⌜ Spotted spot × Bounded within × Low tale ⌝ }
+    requires { ⌜ Spotted spot × Bounded within × Low tale × (all-good (clip-of clip) ≡ true) ⌝ }
     ensures { λ r. ⌜ ((p : Props) (ls : List Layer) (ws : List ℕ) → p .blend ≡ blend-of blend → p .clip ≡ clip-of clip → Holds (box-of (spot .viewport)) within ls
         → Says (tell.tell-push (spot .width) (box-of (spot .viewport)) (spot .row) (spot .tile) p (telling tale ls ws)) (r .number) (telling (r .tale) (layer-in p (r .within) ∷ ls) ws)
         × (r .number ≡ 0 → Holds (box-of (spot .viewport)) (r .within) (layer-in p (r .within) ∷ ls))) × Low (r .tale) × Bounded (r .within) × (r .number ≡ 0 → r .within .«open» ≡ within .«open» + 1) ⌝ }

@@ -132,9 +132,9 @@ module _ (fs : List ℕ) (row tile : ℕ) (q : Question) where
           }
 
 -- a text that was written at the start of bytes with room for it
-pub written-first : (ws : List ℕ) (cs : List ℕ) {r : ℕ} {ds : List ℕ} → 141312 ≤ length cs → Wrote ws 141312 (text cs 0) (text ds r) → (r ≡ length ws) × (take r ds ≡ ws)
+pub written-first : (ws : List ℕ) (most : ℕ) (cs : List ℕ) {r : ℕ} {ds : List ℕ} → most ≤ length cs → Wrote ws most (text cs 0) (text ds r) → (r ≡ length ws) × (take r ds ≡ ws)
 unfolding put
-written-first ws cs {r} {ds} room w =
+written-first ws most cs {r} {ds} room w =
     let z : 0 + length ws ≡ length ws = omega arith in
     let moved = w .moved in
     let near = w .near in

@@ -4,7 +4,7 @@ ghost use Prim.Native.Nat.{_+_, _*_, _≤_};
 ghost use lib.ListN.{length, take};
 ghost use Rattle.sizes.specs.Sizes.{most-attrs, file-bytes};
 ghost use Rattle.rules.specs.Lines.{rowlist-screen};
-ghost use Rattle.rules_reason.specs.Answers.{reason-bytes, kind-text, asked-bytes, attribute-line, kind-lines, answer-lines, why-words, why-text};
+ghost use Rattle.rules_reason.specs.Answers.{reason-bytes, kind-text, asked-bytes, attribute-line, kind-lines, answer-lines, why-words, why-text, question-line};
 ghost use Rattle.file_form.specs.Words.{words-in};
 ghost use Rattle.text.specs.Texts.{text, far, Wrote};
 ghost use Rattle.sizes.specs.Sizes.{line-size, line-table};
@@ -21,6 +21,7 @@ use sizes::answers::BAD_RUN;
 use sizes::answers::DONE;
 use sizes::wide;
 use text::put_byte;
+use text::put_digits;
 use text::put_number;
 use text::put_text;
 use text_lines::put_refused;
@@ -173,4 +174,15 @@ pub fn why_text(file: &[u8], row: u32, tile: u32, question: Question, out: &mut 
         return text.bytes;
     }
     accepted_text(file, row, tile, question, out)
+}
+
+// The line before a question's answer in a stream, put first.
+pub fn question_text(i: u64, out: &mut [u8]) -> usize
+    requires { ⌜ 30 ≤ length (now out) ⌝ }
+    ensures { λ r. ⌜ r ≡ length (question-line i) ⌝ }
+    ensures { λ r. ⌜ take r (now (out .exit)) ≡ question-line i ⌝ }
+{
+    let a = put_text(out, 0, b"question ");
+    let b = put_digits(out, a, i, 20);
+    put_byte(out, b, b'\n')
 }

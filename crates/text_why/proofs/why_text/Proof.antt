@@ -37,7 +37,7 @@ returns-2 c =
     let a = entry .args in
     let listed = c .before .before .before .before .before .before .before .before .list-file .ensures in
     let accepted = accepted-file (a .file .now) (a .row) (a .tile) (question-of (a .question)) (sym (listed .0 .0) ∙ c .before .before .before .before .if1 .left) in
-    rw (accepted .text) (written-first _ _ (omega (arith, c .before .before .before .before .before .before .before .out .given, entry .pre)) (c .before .before .accepted-text .ensures))
+    rw (accepted .text) (written-first _ _ _ (omega (arith, c .before .before .before .before .before .before .before .out .given, entry .pre)) (c .before .before .accepted-text .ensures))
 
 pub why-text-spec : {M : Type 1} → statement M
 why-text-spec =

@@ -21,7 +21,7 @@ use Rattle.rect.specs.declared.Rect.{Rect}
 use Rattle.rect.specs.Rects.{box-of}
 use Rattle.file_form.proofs.Reading.{reads}
 use Rattle.file_call.specs.Recorded.{recorded}
-use Rattle.tile_steps.specs.Sizes.{line-table}
+use Rattle.sizes.specs.Sizes.{line-table}
 use Rattle.tile_steps.specs.Telling.{Telling, tell-at, nothing-told}
 use Rattle.tile_steps.specs.Places.{Says}
 use Rattle.tile_reason.specs.Reading.{reason-read}

@@ -23,7 +23,7 @@ use Rattle.file_nodes.proofs.Places.{node-count}
 use Rattle.tile_steps.specs.declared.Spot.{Spot}
 use Rattle.tile_steps.specs.declared.Within.{Within}
 use Rattle.tile_steps.specs.declared.Tale.{Tale}
-use Rattle.tile_steps.specs.Sizes.{line-table}
+use Rattle.sizes.specs.Sizes.{line-table}
 use Rattle.tile_steps.specs.Telling.{Telling, tell-at}
 use Rattle.tile_steps.specs.Places.{Spotted, Bounded, Holds, Says}
 use Rattle.tile_walk.specs.Ready.{TaleReady}

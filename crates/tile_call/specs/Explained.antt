@@ -1,17 +1,19 @@
 -- Why a tile of a recording shows what it shows, at a screen and all its words: the recording call, then the tile's story (T-01).
 use Prim.Native.Nat.{ℕ, _+_, _/_}
-use mathlib.Core.Bool.{Bool, true, false, _||_, cond}
+use mathlib.Core.Path.{_≡_}
+use mathlib.Core.Bool.{Bool, _||_, cond}
 use mathlib.Core.List.{List}
 use mathlib.Core.Option.{Option, none, some}
 use lib.ListN.{replicate}
 use lib.Dec.{leb, eqb}
 use Rattle.sizes.specs.Sizes.{bucket-tiles}
-use Rattle.rules.specs.Answers.{Answer, Done, BadForm, BadRun}
+use Rattle.rules.specs.Answers.{Answer, answer, Done, BadForm, BadRun}
 use Rattle.rules.specs.Boxes.{Box, width, rows-of}
 use Rattle.rules.specs.Recording.{Recording, shape, sections, recording}
 use Rattle.rules.specs.Walk.{walk-all}
 use Rattle.rules_reason.specs.Reasons.{Reason, unknown-attribute, Asked}
-use Rattle.screen.specs.Tables.{ScreenLent}
+use Rattle.screen.specs.declared.Screen.{Screen}
+use Rattle.screen.specs.Tables.{Tables, ScreenLent, lent}
 use Rattle.file_call.specs.Recorded.{recorded}
 use Rattle.tile_steps.specs.Sizes.{line-table}
 use Rattle.tile_steps.specs.Telling.{Telling, tell-at, nothing-told}
@@ -57,3 +59,11 @@ unfoldable pub explained : List ℕ → ℕ → ℕ → ℕ → ℕ → Asked �
 explained ws c d row tile a l =
     let b = recorded ws c d l in
     cond (eqb (b .number) Done) (explained-in (sections shape ws) row tile a (b .value)) (no-reason (b .number) (b .value))
+
+-- a number and a screen that the recording call gave of a file
+pub record GivenBy (ws : List ℕ) (n : ℕ) (s : Screen) : Type 0 where
+  pub c : ℕ
+  pub d : ℕ
+  pub before : ScreenLent
+  pub after : Tables
+  pub same : answer n (lent s after) ≡ recorded ws c d before

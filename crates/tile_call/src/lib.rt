@@ -1,4 +1,5 @@
 // Why a tile of a recording shows what it shows (T-01). `why` is a public call; the others are parts of it.
+ghost use Prim.Native.Nat.{ℕ};
 ghost use mathlib.Core.Path.{_≡_};
 ghost use mathlib.Core.Bool.{true, false};
 ghost use mathlib.Core.List.{[]};
@@ -7,19 +8,23 @@ ghost use Rattle.sizes.specs.Sizes.{bucket-tiles};
 ghost use Rattle.rules.specs.Boxes.{good-viewport};
 ghost use Rattle.rules.specs.Walk.{walk-all};
 ghost use Rattle.rect.specs.Rects.{box-of};
-ghost use Rattle.screen.specs.Tables.{Tables, tables, lent};
+ghost use Rattle.rules.specs.Answers.{answer};
+ghost use Rattle.screen.specs.Tables.{Tables, ScreenLent, tables, lent};
 ghost use Rattle.file_form.specs.Places as file;
+ghost use Rattle.file_call.specs.Recorded.{recorded};
 ghost use Rattle.file_nodes.specs.Ready.{WalkReady};
 ghost use Rattle.tile_steps.specs.Sizes.{line-table};
 ghost use Rattle.tile_steps.specs.Telling.{Telling, tell-at, nothing-told};
 ghost use Rattle.tile_steps.specs.Places.{Low, Says, telling};
 ghost use Rattle.tile_reason.specs.Reasons.{reason-of as said-of, asked-of};
-ghost use Rattle.tile_call.specs.Explained.{off-screen, explained-as, reason-told, told-of, explained};
+ghost use Rattle.tile_call.specs.Explained.{off-screen, explained-as, reason-told, told-of, explained, GivenBy};
 use file_call::bucket_recording;
 use file_form::Form;
 use file_form::Layout;
 use file_form::read_form;
+use file_judge::box_at;
 use rect::Rect;
+use screen::Built;
 use screen::Screen;
 use sizes::BUCKET;
 use sizes::MOST_LAYERS;
@@ -93,13 +98,20 @@ pub fn tell_tile(
     tell_nodes(MOST_LAYERS, spot, within, tale, w, l, first, end, lines)
 }
 
-// The reason of an attribute at a tile of the screen, of a recording that was judged.
-fn reason_at(w: &[u32], l: Layout, screen: Screen, row: u32, tile: u32, asked: Asked) -> Explained
-    requires { ⌜ WalkReady (now w) l × (good-viewport (box-of (screen .viewport)) ≡ true) × (off-screen (box-of (screen .viewport)) row tile ≡ false) ⌝ }
-    ensures { λ r. ⌜ (r .screen ≡ screen) × ((t : Tables) → file.recorded l (now (w .entry)) .viewport ≡ box-of (screen .viewport)
-        → explained-as (r .number) (lent screen t) (said-of (r .reason)) ≡ reason-told (asked-of asked) (told-of bucket-tiles (file.recorded l (now (w .entry))) row tile) (lent screen t)) ⌝ }
+// The reason of an attribute at a tile of the screen, of a recording that was judged and has this viewport.
+fn reason_at(
+    w: &[u32],
+    l: Layout,
+    viewport: Rect,
+    screen: Screen,
+    row: u32,
+    tile: u32,
+    asked: Asked,
+) -> Explained
+    requires { ⌜ WalkReady (now w) l × (file.recorded l (now w) .viewport ≡ box-of viewport) × (good-viewport (box-of viewport) ≡ true) × (off-screen (box-of viewport) row tile ≡ false) ⌝ }
+    ensures { λ r. ⌜ ((t : Tables) → explained-as (r .number) (lent (r .screen) t) (said-of (r .reason))
+        ≡ reason-told (asked-of asked) (told-of bucket-tiles (file.recorded l (now (w .entry))) row tile) (lent screen t)) ⌝ }
 {
-    let viewport = screen.viewport;
     let mut lines = [0u32; LINE_TABLE];
     let told = tell_tile(w, l, viewport, row, tile, &mut lines);
     if told.number != DONE {
@@ -116,6 +128,38 @@ fn reason_at(w: &[u32], l: Layout, screen: Screen, row: u32, tile: u32, asked: A
         screen,
         reason: reason_of(&lines, n, asked),
     }
+}
+
+// What the recording call gave of a file answers for one attribute at one tile.
+fn explain(file: &[u32], built: Built, row: u32, tile: u32, asked: Asked) -> Explained
+    requires { ⌜ GivenBy (now file) (built .number) (built .screen) ⌝ }
+    ensures { λ r. ⌜ ((c d : ℕ) (old : ScreenLent) (t : Tables) → answer (built .number) (lent (built .screen) t) ≡ recorded (now (file .entry)) c d old
+        → explained-as (r .number) (lent (r .screen) t) (said-of (r .reason)) ≡ explained (now (file .entry)) c d row tile (asked-of asked) old) ⌝ }
+{
+    let after = built.screen;
+    if built.number != DONE {
+        return Explained {
+            number: built.number,
+            screen: after,
+            reason: Reason::UnknownAttribute,
+        };
+    }
+    let Form::Good(l) = read_form(file) else {
+        return Explained {
+            number: BAD_FORM,
+            screen: after,
+            reason: Reason::UnknownAttribute,
+        };
+    };
+    let viewport = box_at(file, 1);
+    if is_off_screen(viewport, row, tile) {
+        return Explained {
+            number: BAD_RUN,
+            screen: after,
+            reason: Reason::UnknownAttribute,
+        };
+    }
+    reason_at(file, l, viewport, after, row, tile, asked)
 }
 
 // A recording is bucketed, and answers for one attribute at one tile. The recording's own number comes first, then 12 for a row or a tile off the
@@ -158,28 +202,5 @@ pub fn why(
         layer_attrs,
         filter_paints,
     );
-    let after = built.screen;
-    if built.number != DONE {
-        return Explained {
-            number: built.number,
-            screen: after,
-            reason: Reason::UnknownAttribute,
-        };
-    }
-    let Form::Good(l) = read_form(file) else {
-        return Explained {
-            number: BAD_FORM,
-            screen: after,
-            reason: Reason::UnknownAttribute,
-        };
-    };
-    let viewport = after.viewport;
-    if is_off_screen(viewport, row, tile) {
-        return Explained {
-            number: BAD_RUN,
-            screen: after,
-            reason: Reason::UnknownAttribute,
-        };
-    }
-    reason_at(file, l, after, row, tile, asked)
+    explain(file, built, row, tile, asked)
 }

@@ -7,7 +7,7 @@ use Prim.Native.Nat.{ℕ, _+_, _%_, _/_, _≤_, _<_}
 use native.Mathlib.Omega.{arith}
 use lib.Dec.{leb, ltb, eqb}
 use lib.ListN.{length, take, drop}
-use lib.Seq.{take-at}
+use lib.Seq.{take-at, take-all}
 use borrow.Author.Tests.{le-ltb, lt-ltb, leb-true, leb-false, eqb-true}
 use Rattle.rules.specs.Answers.{Answer, Done, BadForm}
 use Rattle.rules.specs.Rows.{Row}
@@ -155,3 +155,15 @@ module _ (fs ws : List ℕ) (few : length fs ≤ 65536) (long : 16384 ≡ length
 
   pub words-first : take n vs ≡ words-in fs
   words-first = rw (words, count) (first-words fs ws)
+
+-- a text that was taken from bytes is no longer than they are
+pub taken-fits : (ts cs : List ℕ) (n : ℕ) → n ≡ length ts → take n cs ≡ ts → n ≤ length cs
+taken-fits ts cs n h e = go (leb n (length cs)) refl
+  where
+    go : (b : Bool) → leb n (length cs) ≡ b → n ≤ length cs
+    go true p = leb-true _ _ p
+    go false p =
+        let g : length cs < n = leb-false n (length cs) p in
+        let s : length (take n cs) ≡ length cs = ap (λ (xs : List ℕ). length xs) (take-all n cs (omega arith)) in
+        let t : length (take n cs) ≡ length ts = ap (λ (xs : List ℕ). length xs) e in
+        absurd (omega arith)

@@ -3,14 +3,46 @@
 use libc::STDERR_FILENO;
 use libc::STDIN_FILENO;
 use libc::STDOUT_FILENO;
-use text_programs::Input;
+use sizes::wide;
 use text_programs::read_all;
+use text_programs::stream::read;
+use text_programs::stream::skip_rest;
+use text_programs::stream::word;
 use text_programs::tables::file_buffer;
 use text_programs::tables::text_buffer;
 use text_why::Question;
 use text_why::question_text;
 use text_why::why_text;
 use tile_reason::Asked;
+ghost use mathlib.Core.Path.{_≡_};
+ghost use Rattle.rules_reason.specs.Answers.{why-text, question-line};
+ghost use Rattle.text_why.specs.Questions.{question-of};
+
+// Writes the answer to a question about a file's bytes: no other bytes can be handed to it. Whether that could be done.
+fn print(file: &[u8], row: u32, tile: u32, question: Question, text: &[u8]) -> bool
+    requires { ⌜ now text ≡ why-text (now file) row tile (question-of question) ⌝ }
+{
+    io::write_all(STDOUT_FILENO, text)
+}
+
+// Writes the line before question i's answer in a stream, and no other bytes.
+fn print_line(i: u64, line: &[u8]) -> bool
+    requires { ⌜ now line ≡ question-line i ⌝ }
+{
+    io::write_all(STDOUT_FILENO, line)
+}
+
+fn print_answer(file: &[u8], row: u32, tile: u32, question: Question) -> bool {
+    let mut out = text_buffer();
+    let n = why_text(file, row, tile, question, &mut out);
+    print(file, row, tile, question, &out[..n])
+}
+
+fn print_question(i: u64) -> bool {
+    let mut out = [0u8; 32];
+    let n = question_text(i, &mut out);
+    print_line(i, &out[..n])
+}
 
 fn usage() {
     io::write_all(
@@ -27,8 +59,71 @@ fn no_write() {
     io::write_all(STDERR_FILENO, b"why: cannot write\n");
 }
 
+// One question about the file on standard input.
+fn ask(row: u32, tile: u32, question: Question) {
+    let mut bytes = file_buffer();
+    let got = read_all(STDIN_FILENO, &mut bytes);
+    let n = got.count;
+    if got.failed {
+        no_read();
+        return;
+    }
+    if !print_answer(&bytes[..n], row, tile, question) {
+        no_write();
+    }
+}
+
+// The file of question i, after its head; whether the stream goes on.
+fn next_file(i: u64, size: usize, row: u32, tile: u32) -> bool {
+    let mut bytes = file_buffer();
+    let got = read(&mut bytes, size);
+    let n = got.count;
+    if got.failed {
+        no_read();
+        return false;
+    }
+    if !print_question(i) {
+        no_write();
+        return false;
+    }
+    if !print_answer(&bytes[..n], row, tile, Question::Every) {
+        no_write();
+        return false;
+    }
+    if !skip_rest(size) {
+        no_read();
+        return false;
+    }
+    true
+}
+
+// Whether there was another question: the file's length, the row and the tile, then the file.
+fn next(i: u64) -> bool {
+    let mut head = [0u8; 12];
+    let got = read_all(STDIN_FILENO, &mut head);
+    if got.failed {
+        no_read();
+        return false;
+    }
+    if got.count < 12 {
+        return false;
+    }
+    next_file(i, wide(word(&head, 0)), word(&head, 4), word(&head, 8))
+}
+
+// A proved loop has to end, and nothing says that a stream does: it counts up to a number that no run reaches.
+fn ask_all() {
+    let mut i: u64 = 0;
+    while i < u64::MAX {
+        if !next(i) {
+            return;
+        }
+        i += 1;
+    }
+}
+
 // An argument that is a number: decimal digits, at most 4,294,967,295.
-pub enum Number {
+enum Number {
     Bad,
     Good(u32),
 }
@@ -60,10 +155,7 @@ fn number_of(text: &[u8]) -> Number {
 fn number_at(i: usize) -> Number {
     let mut buf = [0u8; 64];
     let n = os::arg(i, &mut buf);
-    if n <= buf.len() {
-        return number_of(&buf[..n]);
-    }
-    Number::Bad
+    number_of(&buf[..n])
 }
 
 fn same(a: &[u8], b: &[u8]) -> bool {
@@ -84,116 +176,11 @@ fn same(a: &[u8], b: &[u8]) -> bool {
 fn is_word(i: usize, word: &[u8]) -> bool {
     let mut buf = [0u8; 64];
     let n = os::arg(i, &mut buf);
-    if n <= buf.len() {
-        return same(&buf[..n], word);
-    }
-    false
+    same(&buf[..n], word)
 }
 
-// The question's text, written. Whether that could be done.
-fn print(file: &[u8], row: u32, tile: u32, question: Question) -> bool {
-    let mut out = text_buffer();
-    let n = why_text(file, row, tile, question, &mut out);
-    io::write_all(STDOUT_FILENO, &out[..n])
-}
-
-// One question about the file on standard input.
-fn ask(row: u32, tile: u32, question: Question) {
-    let mut bytes = file_buffer();
-    let input = read_all(STDIN_FILENO, &mut bytes);
-    let n = input.count;
-    if input.failed {
-        no_read();
-        return;
-    }
-    if !print(&bytes[..n], row, tile, question) {
-        no_write();
-    }
-}
-
-// Reads up to k bytes to the start of the buffer.
-fn read(buf: &mut [u8], k: usize) -> Input {
-    if k <= buf.len() {
-        return read_all(STDIN_FILENO, &mut buf[..k]);
-    }
-    read_all(STDIN_FILENO, buf)
-}
-
-// Reads on over n bytes; whether no read failed.
-fn skip(n: usize) -> bool {
-    let mut left = n;
-    while 0 < left {
-        let mut buf = io::buffer();
-        let got = read(&mut buf, left);
-        if got.failed {
-            return false;
-        }
-        if got.count == 0 {
-            return true;
-        }
-        if left <= got.count {
-            return true;
-        }
-        left -= got.count;
-    }
-    true
-}
-
-fn word(b: &[u8], at: usize) -> u32 {
-    if b.len() < at + 4 {
-        return 0;
-    }
-    (b[at] as u32)
-        + 256 * ((b[at + 1] as u32) + 256 * ((b[at + 2] as u32) + 256 * (b[at + 3] as u32)))
-}
-
-fn next(i: u64) -> bool {
-    let mut head = [0u8; 12];
-    let got = read_all(STDIN_FILENO, &mut head);
-    if got.failed {
-        no_read();
-        return false;
-    }
-    if got.count < 12 {
-        return false;
-    }
-    let size = word(&head, 0) as usize;
-    let row = word(&head, 4);
-    let tile = word(&head, 8);
-    let mut bytes = file_buffer();
-    let body = read(&mut bytes, size);
-    if body.failed {
-        no_read();
-        return false;
-    }
-    let n = body.count;
-    let mut first = [0u8; 64];
-    let k = question_text(i, &mut first);
-    if !io::write_all(STDOUT_FILENO, &first[..k]) {
-        no_write();
-        return false;
-    }
-    if !print(&bytes[..n], row, tile, Question::Every) {
-        no_write();
-        return false;
-    }
-    if 65537 < size {
-        if !skip(size - 65537) {
-            no_read();
-            return false;
-        }
-    }
-    true
-}
-
-fn stream() {
-    let mut i: u64 = 0;
-    while i < u64::MAX {
-        if !next(i) {
-            return;
-        }
-        i += 1;
-    }
+fn ask_of(row: u32, tile: u32, layer: bool, attribute: u32) {
+    ask(row, tile, Question::One(Asked { layer, attribute }));
 }
 
 // A question about one attribute; the third argument says of which kind.
@@ -203,25 +190,11 @@ fn ask_one(row: u32, tile: u32) {
         return;
     };
     if is_word(3, b"draw") {
-        ask(
-            row,
-            tile,
-            Question::One(Asked {
-                layer: false,
-                attribute,
-            }),
-        );
+        ask_of(row, tile, false, attribute);
         return;
     }
     if is_word(3, b"layer") {
-        ask(
-            row,
-            tile,
-            Question::One(Asked {
-                layer: true,
-                attribute,
-            }),
-        );
+        ask_of(row, tile, true, attribute);
         return;
     }
     usage();
@@ -231,7 +204,7 @@ fn main() {
     let n = os::arg_count();
     if n == 2 {
         if is_word(1, b"--stream") {
-            stream();
+            ask_all();
             return;
         }
         usage();

@@ -3,6 +3,7 @@ use crate::border::refuse_recording;
 use host_screen::Held;
 use host_screen::put_screen;
 use host_screen::screen_of;
+use sizes::answers::DONE;
 use tile_call::Explained;
 use tile_call::why;
 use tile_reason::Asked;
@@ -50,14 +51,14 @@ fn put_reason(told: Explained, result: &mut [u32]) -> u32
     ensures { λ r. ⌜ answer r (now (result .exit)) ≡ result-left (told .number) (reason-of (told .reason)) (now (result .entry)) ⌝ }
 {
     let number = told.number;
-    if number != 0 {
+    if number != DONE {
         return number;
     }
     let reason = told.reason;
     let words = words_of(reason);
     result[0] = words.case;
     result[1] = words.number;
-    0
+    DONE
 }
 
 // A question says draw or layer, and has two words for its answer.

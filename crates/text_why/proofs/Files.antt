@@ -56,10 +56,10 @@ module _ (fs : List ℕ) (row tile : ℕ) (q : Question) where
       | false ↦ elim (words-of fs) [ none ↦ refused-bytes BadForm | some ws ↦ why-words ws row tile q ]
     ],
     text-of
-    (elim b [
-      | true ↦ refused BadForm ∷ []
-      | false ↦ elim (words-of fs) [ none ↦ refused BadForm ∷ [] | some ws ↦ rowlist-words ws ]
-    ]),
+        (elim b [
+          | true ↦ refused BadForm ∷ []
+          | false ↦ elim (words-of fs) [ none ↦ refused BadForm ∷ [] | some ws ↦ rowlist-words ws ]
+        ]),
   )
 
   sized : both ≡ by-size (ltb 65536 (length fs))

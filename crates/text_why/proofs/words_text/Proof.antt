@@ -61,8 +61,7 @@ tell-tile-requires : tie.Need-tell-tile-requires
 tell-tile-requires c κs =
     let entry = c .before .before .before .before .before .before .before .before .before .before in
     let a = entry .args in
-    let good = sym (c .before .before .before .before .before .l .given .1) ∙ c .before .before .before .before .before .before .before .read-form .ensures in
-    (
+    let good = sym (c .before .before .before .before .before .l .given .1) ∙ c .before .before .before .before .before .before .before .read-form .ensures in (
       ready (a .file .now) (entry .pre) (a .row) (a .tile) (question-of (a .question)) _ good,
       good-view (a .file .now) (entry .pre) (a .row) (a .tile) (question-of (a .question)) _ good (box-of (c .before .before .before .box-at .result)) (c .before .before .before .box-at .ensures),
       sym (c .before .before .is-off-screen .ensures) ∙ c .before .if1 .left,

@@ -50,6 +50,7 @@ coded (rule.hidden-by a) = said.HiddenBy a
 coded (rule.shown-at p) = said.ShownAt p
 
 same-coded : (r : Reason) → coded (reason-of r) ≡ r
+unfolding coded
 same-coded said.UnknownAttribute = refl
 same-coded said.NoSegment = refl
 same-coded said.CutAway = refl

@@ -78,7 +78,7 @@ impl Answer {
             Answer::FullAttrs => "FullAttrs: no room is left for an attribute or a filter paint",
             Answer::FullRow => "FullRow: a row would have more than C render commands",
             Answer::FullDepth => "FullDepth: a row would have more than D depth fills",
-            Answer::BadRun => "BadRun: no such row, or a range out of order or past its limit, or id 0 where an id is written",
+            Answer::BadRun => "BadRun: no such row or tile, or a range out of order or past its limit, or id 0 where an id is written",
             Answer::Open => "Open: a layer is still open, or painting has not begun",
             Answer::NoRoom => "NoRoom: the result list is shorter than the result",
             Answer::Unknown(_) => "an answer that no call of this library gives",

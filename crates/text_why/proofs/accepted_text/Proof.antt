@@ -15,19 +15,32 @@ words-of-bytes-requires : tie.Need-words-of-bytes-requires
 words-of-bytes-requires c κs = search needs
 
 array-share-prefix-words : tie.Need-array-share-prefix-words
-array-share-prefix-words c = filled-in (c .before .before .before .before .before .args .file .now) _ (c .before .before .before .before .before .pre .0) (sym (length-replicate {A = ℕ} 16384 0)) (c .before .words-of-bytes .ensures)
+array-share-prefix-words c =
+    let at-words = c .before in
+    let entry = at-words .before .before .before .before in
+    filled-in (entry .args .file .now) _ (entry .pre .0) (sym (length-replicate {A = ℕ} 16384 0)) (at-words .words-of-bytes .ensures)
 
 slice-aggregate-words-text : tie.Need-slice-aggregate-words-text
-slice-aggregate-words-text c = sym (length-take-le _ _ (filled-in (c .before .before .before .before .before .before .args .file .now) _ (c .before .before .before .before .before .before .pre .0) (sym (length-replicate {A = ℕ} 16384 0)) (c .before .before .words-of-bytes .ensures)))
+slice-aggregate-words-text c =
+    let at-words = c .before .before in
+    let entry = at-words .before .before .before .before in
+    sym (length-take-le _ _ (filled-in (entry .args .file .now) _ (entry .pre .0) (sym (length-replicate {A = ℕ} 16384 0)) (at-words .words-of-bytes .ensures)))
 
 words-text-requires : tie.Need-words-text-requires
-words-text-requires c κs = rw (words-first (c .before .before .before .before .before .before .before .args .file .now) _ (c .before .before .before .before .before .before .before .pre .0) (sym (length-replicate {A = ℕ} 16384 0)) (c .before .before .before .words-of-bytes .ensures)) (c .before .before .before .before .before .before .before .pre .1)
+words-text-requires c κs =
+    let at-words = c .before .before .before in
+    let entry = at-words .before .before .before .before in
+    rw (words-first (entry .args .file .now) _ (entry .pre .0) (sym (length-replicate {A = ℕ} 16384 0)) (at-words .words-of-bytes .ensures)) (entry .pre .1)
 
 same-length : tie.Need-same-length
 same-length c = search needs
 
 returns : tie.Need-returns
-returns c = rw (words-first (c .before .before .before .before .before .before .before .before .before .before .args .file .now) _ (c .before .before .before .before .before .before .before .before .before .before .pre .0) (sym (length-replicate {A = ℕ} 16384 0)) (c .before .before .before .before .before .before .words-of-bytes .ensures)) at (c .before .before .words-text .ensures)
+returns c =
+    let at-text = c .before .before in
+    let at-words = at-text .before .before .before .before in
+    let entry = at-words .before .before .before .before in
+    rw (words-first (entry .args .file .now) _ (entry .pre .0) (sym (length-replicate {A = ℕ} 16384 0)) (at-words .words-of-bytes .ensures)) at (at-text .words-text .ensures)
 
 pub accepted-text-spec : {M : Type 1} → statement M
 accepted-text-spec =

@@ -33,20 +33,28 @@ same-length c = search needs
 
 returns : tie.Need-returns
 returns c =
-    let entry = c .before .before .before .before .before .before .before .before .before .before .before .before .before .before in
+    let at-layers = c .before .before in
+    let at-draws = at-layers .before .before .before .before in
+    let at-every = at-draws .before .before in
+    let at-wide = at-every .before .before in
+    let entry = at-wide .before .before .before .before in
     let t = entry .args .tale in
-    rw (c .before .before .before .before .before .before .before .before .enum-told .given .1)
-    (every-line (entry .args .lines .now) _ (t .paints) (t .layers) (c .before .before .before .before .before .before .before .before .before .before .wide .ensures) (entry .pre .0 .paints) (entry .pre .0 .layers) (c .before .before .before .before .before .before .put-kind-lines .ensures) (c .before .before .put-kind-lines2 .ensures))
+    let low = entry .pre .0 in
+    rw (at-every .enum-told .given .1)
+    (every-line (entry .args .lines .now) _ (t .paints) (t .layers) (at-wide .wide .ensures) (low .paints) (low .layers) (at-draws .put-kind-lines .ensures) (at-layers .put-kind-lines2 .ensures))
 
 same-length-2 : tie.Need-same-length-2
 same-length-2 c = search needs
 
 returns-2 : tie.Need-returns-2
 returns-2 c =
-    let entry = c .before .before .before .before .before .before .before .before .before .before .before .before in
+    let at-reason = c .before .before in
+    let at-one = at-reason .before .before .before .before in
+    let at-wide = at-one .before .before in
+    let entry = at-wide .before .before .before .before in
     let t = entry .args .tale in
-    rw (c .before .before .before .before .before .before .question .given .1)
-    (one-line (entry .args .lines .now) _ (t .paints) (t .layers) (c .before .before .before .before .before .before .before .before .wide .ensures) _ _ (c .before .before .before .reason-of .ensures) (c .before .before .put-reason .ensures))
+    rw (at-one .question .given .1)
+    (one-line (entry .args .lines .now) _ (t .paints) (t .layers) (at-wide .wide .ensures) _ _ (at-reason .before .reason-of .ensures) (at-reason .put-reason .ensures))
 
 pub put-answer-spec : {M : Type 1} → statement M
 put-answer-spec =

@@ -23,7 +23,11 @@ same-length c = search needs
 
 returns : tie.Need-returns
 unfolding asked-bytes
-returns c = within (omega arith) (then (c .before .before .before .before .before .before .before .before .before .before .before .put-kind .ensures) (then (c .before .before .before .before .before .before .before .put-number .ensures) (c .before .before .put-text .ensures)))
+returns c =
+    let at-text = c .before .before in
+    let at-number = at-text .before .before .before .before .before in
+    let at-kind = at-number .before .before .before .before in
+    within (omega arith) (then (at-kind .put-kind .ensures) (then (at-number .put-number .ensures) (at-text .put-text .ensures)))
 
 pub put-asked-spec : {M : Type 1} → statement M
 put-asked-spec =

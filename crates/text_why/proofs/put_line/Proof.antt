@@ -18,7 +18,10 @@ same-length : tie.Need-same-length
 same-length c = search needs
 
 returns : tie.Need-returns
-returns c = within (omega arith) (then (c .before .before .before .before .before .before .before .put-asked .ensures) (rw (c .before .before .before .reason-of .ensures) at (c .before .before .put-reason .ensures)))
+returns c =
+    let at-reason = c .before .before in
+    let at-asked = at-reason .before .before .before .before .before in
+    within (omega arith) (then (at-asked .put-asked .ensures) (rw (at-reason .before .reason-of .ensures) at (at-reason .put-reason .ensures)))
 
 pub put-line-spec : {M : Type 1} → statement M
 put-line-spec =

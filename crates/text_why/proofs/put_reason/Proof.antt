@@ -105,14 +105,26 @@ same-length-5 c = search needs
 
 returns-5 : tie.Need-returns-5
 unfolding reason-bytes
-returns-5 c = rw (c .before .before .before .before .before .before .before .before .before .before .before .before .before .before .reason .given .1) (within (omega arith) (then (then (c .before .before .before .before .before .before .before .before .before .before .put-text5 .ensures) (c .before .before .before .before .before .before .put-number .ensures)) (c .before .before .put-byte .ensures)))
+returns-5 c =
+    let at-byte = c .before .before in
+    let at-number = at-byte .before .before .before .before in
+    let at-text = at-number .before .before .before .before in
+    let at-reason = at-text .before .before .before .before in
+    rw (at-reason .reason .given .1)
+    (within (omega arith) (then (then (at-text .put-text5 .ensures) (at-number .put-number .ensures)) (at-byte .put-byte .ensures)))
 
 same-length-6 : tie.Need-same-length-6
 same-length-6 c = search needs
 
 returns-6 : tie.Need-returns-6
 unfolding reason-bytes
-returns-6 c = rw (c .before .before .before .before .before .before .before .before .before .before .before .before .before .before .reason2 .given .1) (within (omega arith) (then (then (c .before .before .before .before .before .before .before .before .before .before .put-text6 .ensures) (c .before .before .before .before .before .before .put-number2 .ensures)) (c .before .before .put-byte2 .ensures)))
+returns-6 c =
+    let at-byte = c .before .before in
+    let at-number = at-byte .before .before .before .before in
+    let at-text = at-number .before .before .before .before in
+    let at-reason = at-text .before .before .before .before in
+    rw (at-reason .reason2 .given .1)
+    (within (omega arith) (then (then (at-text .put-text6 .ensures) (at-number .put-number2 .ensures)) (at-byte .put-byte2 .ensures)))
 
 pub put-reason-spec : {M : Type 1} → statement M
 put-reason-spec =

@@ -29,10 +29,13 @@ same-length c = search needs
 
 returns : tie.Need-returns
 returns c =
-    let entry = c .before .before .before .before .before .before .before .before .before in
+    let at-refused = c .before .before in
+    let at-bad = at-refused .before .before in
+    let at-form = at-bad .before .before in
+    let entry = at-form .before .before .before in
     let a = entry .args in
-    rw (formless (a .file .now) (entry .pre) (a .row) (a .tile) (question-of (a .question)) (sym (c .before .before .before .before .enum-told .given .1) ∙ c .before .before .before .before .before .before .read-form .ensures))
-    (within (omega arith) (c .before .before .put-refused .ensures))
+    let bad = sym (at-bad .enum-told .given .1) ∙ at-form .read-form .ensures in
+    rw (formless (a .file .now) (entry .pre) (a .row) (a .tile) (question-of (a .question)) bad) (within (omega arith) (at-refused .put-refused .ensures))
 
 box-at-requires : tie.Need-box-at-requires
 box-at-requires c κs = good-form (c .before .before .before .before .before .before .args .file .now) _ (sym (c .before .l .given .1) ∙ c .before .before .before .read-form .ensures) .fits .viewport .ends
@@ -48,23 +51,35 @@ same-length-2 c = search needs
 
 returns-2 : tie.Need-returns-2
 returns-2 c =
-    let entry = c .before .before .before .before .before .before .before .before .before .before .before .before .before in
+    let at-refused = c .before .before in
+    let at-if1 = at-refused .before .before in
+    let at-off = at-if1 .before in
+    let at-box = at-off .before in
+    let at-l = at-box .before .before in
+    let at-form = at-l .before .before in
+    let entry = at-form .before .before .before in
     let a = entry .args in
-    let good = sym (c .before .before .before .before .before .before .before .before .l .given .1) ∙ c .before .before .before .before .before .before .before .before .before .before .read-form .ensures in
-    rw (off-answer (a .file .now) (entry .pre) (a .row) (a .tile) (question-of (a .question)) _ good (box-of (c .before .before .before .before .before .before .box-at .result)) (c .before .before .before .before .before .before .box-at .ensures) (sym (c .before .before .before .before .before .is-off-screen .ensures) ∙ c .before .before .before .before .if1 .taken))
-    (within (omega arith) (c .before .before .put-refused2 .ensures))
+    let good = sym (at-l .l .given .1) ∙ at-form .read-form .ensures in
+    let off = sym (at-off .is-off-screen .ensures) ∙ at-if1 .if1 .taken in
+    rw (off-answer (a .file .now) (entry .pre) (a .row) (a .tile) (question-of (a .question)) _ good (box-of (at-box .box-at .result)) (at-box .box-at .ensures) off)
+    (within (omega arith) (at-refused .put-refused2 .ensures))
 
 slice-aggregate-tell-tile : tie.Need-slice-aggregate-tell-tile
 slice-aggregate-tell-tile c = search needs
 
 tell-tile-requires : tie.Need-tell-tile-requires
 tell-tile-requires c κs =
-    let entry = c .before .before .before .before .before .before .before .before .before .before in
+    let at-if1 = c .before in
+    let at-off = at-if1 .before in
+    let at-box = at-off .before in
+    let at-l = at-box .before .before in
+    let at-form = at-l .before .before in
+    let entry = at-form .before .before .before in
     let a = entry .args in
-    let good = sym (c .before .before .before .before .before .l .given .1) ∙ c .before .before .before .before .before .before .before .read-form .ensures in (
+    let good = sym (at-l .l .given .1) ∙ at-form .read-form .ensures in (
       ready (a .file .now) (entry .pre) (a .row) (a .tile) (question-of (a .question)) _ good,
-      good-view (a .file .now) (entry .pre) (a .row) (a .tile) (question-of (a .question)) _ good (box-of (c .before .before .before .box-at .result)) (c .before .before .before .box-at .ensures),
-      sym (c .before .before .is-off-screen .ensures) ∙ c .before .if1 .left,
+      good-view (a .file .now) (entry .pre) (a .row) (a .tile) (question-of (a .question)) _ good (box-of (at-box .box-at .result)) (at-box .box-at .ensures),
+      sym (at-off .is-off-screen .ensures) ∙ at-if1 .if1 .left,
       length-replicate {A = ℕ} 12288 0,
     )
 
@@ -76,10 +91,18 @@ same-length-3 c = search needs
 
 returns-3 : tie.Need-returns-3
 returns-3 c =
-    let entry = c .before .before .before .before .before .before .before .before .before .before .before .before .before .before .before .before .before .before in
+    let at-if2 = c .before .before .before .before in
+    let at-tell = at-if2 .before .before .before in
+    let at-if1 = at-tell .before .before in
+    let at-off = at-if1 .before in
+    let at-box = at-off .before in
+    let at-l = at-box .before .before in
+    let at-form = at-l .before .before in
+    let entry = at-form .before .before .before in
     let a = entry .args in
-    let good = sym (c .before .before .before .before .before .before .before .before .before .before .before .before .before .l .given .1) ∙ c .before .before .before .before .before .before .before .before .before .before .before .before .before .before .before .read-form .ensures in
-    absurd (c .before .before .before .before .if2 .taken (told-done (a .file .now) (entry .pre) (a .row) (a .tile) (question-of (a .question)) _ good (box-of (c .before .before .before .before .before .before .before .before .before .before .before .box-at .result)) (c .before .before .before .before .before .before .before .before .before .before .before .box-at .ensures) (sym (c .before .before .before .before .before .before .before .before .before .before .is-off-screen .ensures) ∙ c .before .before .before .before .before .before .before .before .before .if1 .left) _ (c .before .before .before .before .before .before .before .tell-tile .ensures .0)))
+    let good = sym (at-l .l .given .1) ∙ at-form .read-form .ensures in
+    let on = sym (at-off .is-off-screen .ensures) ∙ at-if1 .if1 .left in
+    absurd (at-if2 .if2 .taken (told-done (a .file .now) (entry .pre) (a .row) (a .tile) (question-of (a .question)) _ good (box-of (at-box .box-at .result)) (at-box .box-at .ensures) on _ (at-tell .tell-tile .ensures .0)))
 
 slice-aggregate-put-answer : tie.Need-slice-aggregate-put-answer
 slice-aggregate-put-answer c = search needs
@@ -92,11 +115,19 @@ same-length-4 c = search needs
 
 returns-4 : tie.Need-returns-4
 returns-4 c =
-    let entry = c .before .before .before .before .before .before .before .before .before .before .before .before .before .before .before .before .before .before .before .before in
+    let at-answer = c .before .before in
+    let at-tell = at-answer .before .before .before .before .before .before .before in
+    let at-if1 = at-tell .before .before in
+    let at-off = at-if1 .before in
+    let at-box = at-off .before in
+    let at-l = at-box .before .before in
+    let at-form = at-l .before .before in
+    let entry = at-form .before .before .before in
     let a = entry .args in
-    let good = sym (c .before .before .before .before .before .before .before .before .before .before .before .before .before .before .before .l .given .1) ∙ c .before .before .before .before .before .before .before .before .before .before .before .before .before .before .before .before .before .read-form .ensures in
-    rw (answered (a .file .now) (entry .pre) (a .row) (a .tile) (question-of (a .question)) _ good (box-of (c .before .before .before .before .before .before .before .before .before .before .before .before .before .box-at .result)) (c .before .before .before .before .before .before .before .before .before .before .before .before .before .box-at .ensures) (sym (c .before .before .before .before .before .before .before .before .before .before .before .before .is-off-screen .ensures) ∙ c .before .before .before .before .before .before .before .before .before .before .before .if1 .left) _ (c .before .before .before .before .before .before .before .before .before .tell-tile .ensures .0))
-    (c .before .before .put-answer .ensures)
+    let good = sym (at-l .l .given .1) ∙ at-form .read-form .ensures in
+    let on = sym (at-off .is-off-screen .ensures) ∙ at-if1 .if1 .left in
+    rw (answered (a .file .now) (entry .pre) (a .row) (a .tile) (question-of (a .question)) _ good (box-of (at-box .box-at .result)) (at-box .box-at .ensures) on _ (at-tell .tell-tile .ensures .0))
+    (at-answer .put-answer .ensures)
 
 pub words-text-spec : {M : Type 1} → statement M
 words-text-spec =

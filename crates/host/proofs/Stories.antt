@@ -25,7 +25,8 @@ use Rattle.screen.specs.Judging as judging
 use Rattle.screen.specs.Tables.{ScreenLent, lengths}
 use Rattle.file_call.specs.Recorded.{recorded-in, of-sections, recorded}
 use Rattle.tile_steps.specs.Telling.{Telling, tell-fill, tell-push, tell-pop, tell-filter, tell-at}
-use Rattle.tile_call.specs.Explained.{no-reason, off-screen, told-of, explained-of, explained-in, explained}
+use Rattle.rules_reason.specs.Answers.{off-screen}
+use Rattle.tile_call.specs.Explained.{no-reason, told-of, explained-of, explained-in, explained}
 use Rattle.host_screen.specs.State.{before-4}
 use Rattle.host.specs.Border.{file-number}
 use Rattle.host.proofs.Early.{after, recorded-is-early}

@@ -37,7 +37,8 @@ use Rattle.refine_file.specs.Played.{place}
 use Rattle.tile_steps.specs.Telling.{Telling, tell-at, nothing-told}
 use Rattle.refine_tile.proofs.Walked.{tile-told}
 use Rattle.refine_tile.proofs.Reasons as read
-use Rattle.tile_call.specs.Explained.{Explained, off-screen, told-of, reason-told, explained-of, explained-in, explained-as, no-reason, explained}
+use Rattle.rules_reason.specs.Answers.{off-screen}
+use Rattle.tile_call.specs.Explained.{Explained, told-of, reason-told, explained-of, explained-in, explained-as, no-reason, explained}
 use Rattle.theorem_picture.specs.Reached.{Reached, begin-at}
 use Rattle.theorem_picture.specs.Turns.{Turn, log}
 use Rattle.theorem_picture.specs.Picture.{finished}

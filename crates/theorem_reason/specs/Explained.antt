@@ -16,7 +16,8 @@ use Rattle.refine_file.specs.Played.{place}
 use Rattle.theorem_picture.specs.Reached.{begin-at}
 use Rattle.theorem_picture.specs.Turns.{Turn, log}
 use Rattle.theorem_picture.specs.Picture.{finished}
-use Rattle.tile_call.specs.Explained.{off-screen, explained-as, explained}
+use Rattle.rules_reason.specs.Answers.{off-screen}
+use Rattle.tile_call.specs.Explained.{explained-as, explained}
 use Rattle.theorem_reason.specs.Reasons.{Painted}
 
 -- A recording that is accepted, a row and a tile of its screen: the call is done, leaves what the recording call leaves, and gives the reason of the

@@ -25,7 +25,8 @@ use Rattle.sizes.specs.Sizes.{line-table}
 use Rattle.tile_steps.specs.Telling.{Telling, tell-at, nothing-told}
 use Rattle.tile_steps.specs.Places.{Says}
 use Rattle.tile_reason.specs.Reading.{reason-read}
-use Rattle.tile_call.specs.Explained.{Explained, explained-as, no-reason, off-screen, told-of, reason-told, explained-of, explained}
+use Rattle.rules_reason.specs.Answers.{off-screen}
+use Rattle.tile_call.specs.Explained.{Explained, explained-as, no-reason, told-of, reason-told, explained-of, explained}
 
 -- a story told to its end, or refused: the reason that it gives
 module _ (r : Recording) (v : Box) (row tile : ℕ) (a : Asked) (l : ScreenLent) (e : r .viewport ≡ v) (n : ℕ) (t : Telling)

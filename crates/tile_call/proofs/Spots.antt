@@ -27,7 +27,7 @@ use Rattle.sizes.specs.Sizes.{line-table}
 use Rattle.tile_steps.specs.Telling.{Telling, tell-at}
 use Rattle.tile_steps.specs.Places.{Spotted, Bounded, Holds, Says}
 use Rattle.tile_walk.specs.Ready.{TaleReady}
-use Rattle.tile_call.specs.Explained.{off-screen}
+use Rattle.rules_reason.specs.Answers.{off-screen}
 
 neither : (a b : Bool) → (a || b) ≡ false → (a ≡ false) × (b ≡ false)
 neither true b e = let z : _≡_ {A = ℕ} 0 1 = cc in absurd (omega arith)

@@ -1,21 +1,20 @@
 -- Why a tile of a recording shows what it shows, at a screen and all its words: the recording call, then the tile's story (T-01).
-use Prim.Native.Nat.{ℕ, _+_, _/_}
+use Prim.Native.Nat.{ℕ, _+_}
 use mathlib.Core.Path.{_≡_}
-use mathlib.Core.Bool.{Bool, _||_, cond}
+use mathlib.Core.Bool.{cond}
 use mathlib.Core.List.{List}
 use mathlib.Core.Option.{Option, none, some}
 use lib.ListN.{replicate}
-use lib.Dec.{leb, eqb}
-use Rattle.sizes.specs.Sizes.{bucket-tiles}
+use lib.Dec.{eqb}
+use Rattle.sizes.specs.Sizes.{bucket-tiles, line-table}
 use Rattle.rules.specs.Answers.{Answer, answer, Done, BadForm, BadRun}
-use Rattle.rules.specs.Boxes.{Box, width, rows-of}
 use Rattle.rules.specs.Recording.{Recording, shape, sections, recording}
 use Rattle.rules.specs.Walk.{walk-all}
+use Rattle.rules_reason.specs.Answers.{off-screen}
 use Rattle.rules_reason.specs.Reasons.{Reason, unknown-attribute, Asked}
 use Rattle.screen.specs.declared.Screen.{Screen}
 use Rattle.screen.specs.Tables.{Tables, ScreenLent, lent}
 use Rattle.file_call.specs.Recorded.{recorded}
-use Rattle.sizes.specs.Sizes.{line-table}
 use Rattle.tile_steps.specs.Telling.{Telling, tell-at, nothing-told}
 use Rattle.tile_reason.specs.Reading.{reason-read}
 
@@ -30,10 +29,6 @@ explained-as n l r = record { number = n; lent = l; reason = r }
 
 abbrev pub no-reason : ℕ → ScreenLent → Explained
 no-reason n l = explained-as n l unknown-attribute
-
--- 12: a row or a tile off the screen of the viewport v
-abbrev pub off-screen : Box → ℕ → ℕ → Bool
-off-screen v row tile = leb (rows-of v) row || leb (width v / 4) tile
 
 -- the story of a tile of a recording's screen, w tiles a bucket, into blank lines
 unfoldable pub told-of : ℕ → Recording → ℕ → ℕ → Answer Telling

@@ -1,6 +1,6 @@
 -- A refusal leaves the result; else it is the reason's two words.
 use borrow.Author.Tests.{ne-eqb}
-use Rattle.host.proofs.Results.{two-stored}
+use Rattle.host_results.proofs.Stored.{two-stored}
 use borrow.Author.Needs.{needs}
 use Rattle.host.proofs.reasons.put_reason.Statement.{statement}
 use Rattle.host.proofs.reasons.put_reason.Tie as tie

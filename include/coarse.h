@@ -4,8 +4,9 @@
  * that the call writes. With length 0 the pointer may be null. Nothing is allocated, and no call keeps a pointer. Every call takes
  * any numbers, words and lengths, and ends. coarse_bucketer.h owns the tables and hands them over: with it these duties are kept.
  *
- * Each call returns one of the answers below. A refused call changes no word; only coarse_bucket_recording, refused for its
- * records or its steps, leaves a freshly reset screen. */
+ * Each call returns one of the answers below. A refused call changes no word; only coarse_bucket_recording and
+ * coarse_why, refused for the recording's records or its steps, leave a freshly reset screen, and coarse_why refused with 12 leaves
+ * the recording's. */
 #ifndef COARSE_H
 #define COARSE_H
 
@@ -29,7 +30,7 @@ enum coarse_answer {
     COARSE_FULL_ATTRS = 9,   /* no room for an attribute or a filter paint */
     COARSE_FULL_ROW = 10,    /* a row's render commands pass C */
     COARSE_FULL_DEPTH = 11,  /* a row's depth fills pass D */
-    COARSE_BAD_RUN = 12,     /* no such row, a range out of order or past its end, or id 0 where it is written */
+    COARSE_BAD_RUN = 12,     /* no such row or tile, a range out of order or past its end, or id 0 where it is written */
     COARSE_OPEN = 13,        /* painting with a layer open, or a step with painting not begun */
     COARSE_NO_ROOM = 14      /* the list is shorter than the result */
 };
@@ -49,7 +50,7 @@ static inline const char *coarse_answer_text(uint32_t answer) {
     case COARSE_FULL_ATTRS: return "FullAttrs: no room is left for an attribute or a filter paint";
     case COARSE_FULL_ROW: return "FullRow: a row would have more than C render commands";
     case COARSE_FULL_DEPTH: return "FullDepth: a row would have more than D depth fills";
-    case COARSE_BAD_RUN: return "BadRun: no such row, or a range out of order or past its limit, or id 0 where an id is written";
+    case COARSE_BAD_RUN: return "BadRun: no such row or tile, or a range out of order or past its limit, or id 0 where an id is written";
     case COARSE_OPEN: return "Open: a layer is still open, or painting has not begun";
     case COARSE_NO_ROOM: return "NoRoom: the result list is shorter than the result";
     default: return "an answer that no call of this library gives";
@@ -73,6 +74,17 @@ static inline const char *coarse_answer_text(uint32_t answer) {
 #define COARSE_SEGMENT 5 /* a segment: 0 solid or 1 alpha, tile row, first tile, end tile, alpha index or 0 */
 #define COARSE_PIECE 6   /* a piece: 1 paint solid, 2 paint alpha, 3 layer solid, 4 layer alpha; attribute; first tile; end tile; alpha index or 0; nesting */
 #define COARSE_RUN 2     /* a run: first, end */
+#define COARSE_REASON 2  /* a reason: one of the cases below, and its number or 0 */
+
+/* Why an attribute is shown at a tile or not: the first that holds. */
+enum coarse_reason_case {
+    COARSE_UNKNOWN_ATTRIBUTE = 0, /* the recording has no such draw or layer attribute */
+    COARSE_NO_SEGMENT = 1,        /* no segment of it covers the tile */
+    COARSE_CUT_AWAY = 2,          /* one covers it, and a clip box cuts it away */
+    COARSE_ROW_UNTOUCHED = 3,     /* the row was never touched within the layer that closes */
+    COARSE_HIDDEN = 4,            /* hidden by a newer depth fill; number: the attribute of the newest one */
+    COARSE_SHOWN = 5              /* number: its place in the tile's list, from 0 */
+};
 
 /* The lengths of the ten tables for a viewport, C and D, in the order that coarse_reset takes them. sizes_len is 10. */
 uint32_t coarse_sizes(uint32_t x0, uint32_t y0, uint32_t x1, uint32_t y1, uint32_t c, uint32_t d,
@@ -106,6 +118,25 @@ uint32_t coarse_bucket_recording(uint32_t *state, size_t state_len,
                                  uint32_t *paint_attrs, size_t paint_attrs_len,
                                  uint32_t *layer_attrs, size_t layer_attrs_len,
                                  int32_t *filter_paints, size_t filter_paints_len);
+
+/* Why does this tile show that? A recording is bucketed as by coarse_bucket_recording, and answers for one attribute at one row and
+ * tile of its screen: a draw's (layer 0) or a layer's (layer 1; above 1 is answer 4 after 3, 2 and 1). The answer is the recording's
+ * own, then 12 for a row or tile off the screen; the state and the tables are what coarse_bucket_recording leaves. result_len is
+ * COARSE_REASON; result is written only with answer 0. */
+uint32_t coarse_why(uint32_t *state, size_t state_len,
+                    const uint32_t *file, size_t file_len, uint32_t c, uint32_t d,
+                    uint32_t row, uint32_t tile, uint32_t layer, uint32_t attribute,
+                    uint32_t *render, size_t render_len,
+                    uint32_t *fills, size_t fills_len,
+                    uint32_t *depth, size_t depth_len,
+                    uint32_t *rows, size_t rows_len,
+                    uint32_t *painting, size_t painting_len,
+                    uint32_t *layers, size_t layers_len,
+                    float *opacities, size_t opacities_len,
+                    uint32_t *paint_attrs, size_t paint_attrs_len,
+                    uint32_t *layer_attrs, size_t layer_attrs_len,
+                    int32_t *filter_paints, size_t filter_paints_len,
+                    uint32_t *result, size_t result_len);
 
 /* The segments start to end of a list, filled with the paint at a place of a paint list. Default blend is mix 0, compose 3; mask 0 is
  * none. */

@@ -40,6 +40,9 @@ typedef struct { uint32_t tag, attribute, first, end, alpha, nesting; } coarse_p
 
 typedef coarse_span coarse_run;
 
+/* reason: a case of coarse_reason_case. number: with COARSE_HIDDEN the attribute that hides, with COARSE_SHOWN the place, else 0. */
+typedef struct { uint32_t reason, number; } coarse_reason;
+
 typedef struct { uint32_t paint; coarse_blend blend; uint32_t mask, draw_id, thread, origin_x, origin_y; } coarse_paint_attrs;
 typedef struct { coarse_blend blend; float opacity; uint32_t mask, draw_id, thread; } coarse_layer_attrs;
 
@@ -122,35 +125,58 @@ static inline void coarse_bucketer_free(coarse_bucketer *b) {
     memset(b, 0, sizeof *b);
 }
 
-/* Rule 2: the words of a recording file, on a fresh screen of its own viewport. */
-static inline uint32_t coarse_bucketer_bucket_commands(coarse_bucketer *b, const uint32_t *file, size_t words) {
-    coarse_bucketer next = *b;
+/* The bucketer for a recording: with tables of its own where the file's viewport asks for other lengths than `b` has. */
+static inline uint32_t coarse_bucketer_for(const coarse_bucketer *b, const uint32_t *file, size_t words, coarse_bucketer *next) {
     size_t sizes[10];
-    uint32_t answer;
-    int moved = 0;
+    *next = *b;
     if (words > 4) {
         coarse_rect v = {file[1], file[2], file[3], file[4]};
-        if (coarse_bucketer_sizes(v, b->c, b->d, sizes) == COARSE_DONE && memcmp(sizes, b->sizes, sizeof sizes) != 0) {
-            answer = coarse_bucketer_tables(&next, sizes);
-            if (answer != COARSE_DONE)
-                return answer;
-            moved = 1;
-        }
+        if (coarse_bucketer_sizes(v, b->c, b->d, sizes) == COARSE_DONE && memcmp(sizes, b->sizes, sizeof sizes) != 0)
+            return coarse_bucketer_tables(next, sizes);
     }
-    answer = coarse_bucket_recording(next.state, COARSE_STATE, file, words, next.c, next.d, next.render, next.sizes[0], next.fills,
-                                     next.sizes[1], next.depth, next.sizes[2], next.rows, next.sizes[3], next.painting,
-                                     next.sizes[4], next.layers, next.sizes[5], next.opacities, next.sizes[6], next.paint_attrs,
-                                     next.sizes[7], next.layer_attrs, next.sizes[8], next.filter_paints, next.sizes[9]);
-    /* Refused with 1 to 3 the screen stays as it was, with its own tables. */
+    return COARSE_DONE;
+}
+
+/* What a recording's answer leaves. Refused with 1 to 3 the screen stays as it was, with its own tables. */
+static inline uint32_t coarse_bucketer_keep(coarse_bucketer *b, const coarse_bucketer *next, uint32_t answer) {
+    int moved = next->block != b->block;
     if (answer == COARSE_BAD_ARENA || answer == COARSE_BAD_VIEWPORT || answer == COARSE_BAD_FORM) {
         if (moved)
-            free(next.block);
+            free(next->block);
         return answer;
     }
     if (moved)
         free(b->block);
-    *b = next;
+    *b = *next;
     return answer;
+}
+
+/* Rule 2: the words of a recording file, on a fresh screen of its own viewport. */
+static inline uint32_t coarse_bucketer_bucket_commands(coarse_bucketer *b, const uint32_t *file, size_t words) {
+    coarse_bucketer next;
+    uint32_t answer = coarse_bucketer_for(b, file, words, &next);
+    if (answer != COARSE_DONE)
+        return answer;
+    answer = coarse_bucket_recording(next.state, COARSE_STATE, file, words, next.c, next.d, next.render, next.sizes[0], next.fills,
+                                     next.sizes[1], next.depth, next.sizes[2], next.rows, next.sizes[3], next.painting,
+                                     next.sizes[4], next.layers, next.sizes[5], next.opacities, next.sizes[6], next.paint_attrs,
+                                     next.sizes[7], next.layer_attrs, next.sizes[8], next.filter_paints, next.sizes[9]);
+    return coarse_bucketer_keep(b, &next, answer);
+}
+
+/* Buckets a recording's words, and says why an attribute (a layer's where `layer` is not 0, else a draw's) is shown at a tile of its
+ * screen or not. The screen is left as coarse_bucketer_bucket_commands leaves it, with 12 too. */
+static inline uint32_t coarse_bucketer_why(coarse_bucketer *b, const uint32_t *file, size_t words, uint32_t row, uint32_t tile, int layer,
+                                           uint32_t attribute, coarse_reason *reason) {
+    coarse_bucketer next;
+    uint32_t answer = coarse_bucketer_for(b, file, words, &next);
+    if (answer != COARSE_DONE)
+        return answer;
+    answer = coarse_why(next.state, COARSE_STATE, file, words, next.c, next.d, row, tile, layer != 0, attribute, next.render,
+                        next.sizes[0], next.fills, next.sizes[1], next.depth, next.sizes[2], next.rows, next.sizes[3], next.painting,
+                        next.sizes[4], next.layers, next.sizes[5], next.opacities, next.sizes[6], next.paint_attrs, next.sizes[7],
+                        next.layer_attrs, next.sizes[8], next.filter_paints, next.sizes[9], (uint32_t *)reason, COARSE_REASON);
+    return coarse_bucketer_keep(b, &next, answer);
 }
 
 /* Rules 3 to 7. */

@@ -93,6 +93,15 @@ static uint32_t filter_fill(coarse_bucketer *b, uint32_t has_pixmap, uint32_t pi
                               b->sizes[7], b->filter_paints, b->sizes[9], 0, 0, 8, 3, 4, 0, has_pixmap, pixmap, 2);
 }
 
+/* The first tile, with any word for draw or layer, and any length of the result. */
+static uint32_t why(coarse_bucketer *b, const uint32_t *file, size_t words, uint32_t layer, size_t room) {
+    uint32_t result[COARSE_REASON];
+    return coarse_why(b->state, COARSE_STATE, file, words, b->c, b->d, 0, 0, layer, 0, b->render, b->sizes[0], b->fills, b->sizes[1],
+                      b->depth, b->sizes[2], b->rows, b->sizes[3], b->painting, b->sizes[4], b->layers, b->sizes[5], b->opacities,
+                      b->sizes[6], b->paint_attrs, b->sizes[7], b->layer_attrs, b->sizes[8], b->filter_paints, b->sizes[9], result,
+                      room);
+}
+
 static void owned_tables(void) {
     coarse_bucketer b;
     coarse_rect narrow = {0, 0, 256, 8}, wide = {0, 0, 4096, 2048}, bad = {0, 0, 2, 4};
@@ -160,6 +169,22 @@ static void owned_tables(void) {
     expect("painted", COARSE_DONE, coarse_bucketer_begin_painting(&b));
     expect("to its end", COARSE_DONE, coarse_bucketer_paint_row(&b, 0, &pieces, &count));
     expect("in one piece", 1, (uint32_t)count);
+
+    /* Why a tile of it shows what it shows: tiles 0 to 128 of one row, filled by one draw. */
+    coarse_reason reason = {7, 7};
+    expect("a tile past the end", COARSE_BAD_RUN, coarse_bucketer_why(&b, file, 32, 0, 128, 0, 0, &reason));
+    expect("a row past the end", COARSE_BAD_RUN, coarse_bucketer_why(&b, file, 32, 1, 0, 0, 0, &reason));
+    expect("a cut recording's tile", COARSE_BAD_FORM, coarse_bucketer_why(&b, file, 31, 1, 0, 0, 0, &reason));
+    expect("refused, no reason", 7, reason.reason);
+    expect("the screen is the recording's", 4, (uint32_t)coarse_bucketer_buckets(&b));
+    expect("its last tile", COARSE_DONE, coarse_bucketer_why(&b, file, 32, 0, 127, 0, 0, &reason));
+    expect("shows the draw", COARSE_SHOWN, reason.reason);
+    expect("in its first place", 0, reason.number);
+    expect("a layer's attribute", COARSE_DONE, coarse_bucketer_why(&b, file, 32, 0, 127, 1, 0, &reason));
+    expect("is not there", COARSE_UNKNOWN_ATTRIBUTE, reason.reason);
+    expect("neither draw nor layer", COARSE_BAD_RECORD, why(&b, file, 32, 2, COARSE_REASON));
+    expect("of a cut recording", COARSE_BAD_FORM, why(&b, file, 31, 2, COARSE_REASON));
+    expect("one word for a reason", COARSE_BAD_RECORD, why(&b, file, 32, 0, 1));
     coarse_bucketer_free(&b);
 }
 

@@ -78,7 +78,7 @@ impl Answer {
             Answer::FullAttrs => "FullAttrs: no room is left for an attribute or a filter paint",
             Answer::FullRow => "FullRow: a row would have more than C render commands",
             Answer::FullDepth => "FullDepth: a row would have more than D depth fills",
-            Answer::BadRun => "BadRun: no such row, or a range out of order or past its limit, or id 0 where an id is written",
+            Answer::BadRun => "BadRun: no such row or tile, or a range out of order or past its limit, or id 0 where an id is written",
             Answer::Open => "Open: a layer is still open, or painting has not begun",
             Answer::NoRoom => "NoRoom: the result list is shorter than the result",
             Answer::Unknown(_) => "an answer that no call of this library gives",
@@ -296,6 +296,43 @@ pub enum DepthSegment {
     Opaque(Run),
 }
 
+/// Which attribute is asked about: a draw's, or a layer's.
+#[derive(Debug, Clone, Copy, PartialEq, Eq)]
+pub enum Attribute {
+    Draw(u32),
+    Layer(u32),
+}
+
+/// Why an attribute is shown at a tile or not: the first that holds.
+#[derive(Debug, Clone, Copy, PartialEq, Eq)]
+pub enum Reason {
+    /// The recording has no such attribute.
+    UnknownAttribute,
+    /// No segment of it covers the tile.
+    NoSegment,
+    /// A segment covers the tile, and a clip box cuts it away.
+    CutAway,
+    /// The row was never touched within the layer that closes.
+    RowUntouched,
+    /// Hidden by a newer depth fill: the attribute of the newest one.
+    HiddenBy(u32),
+    /// Shown, at this place in the tile's list.
+    ShownAt(u32),
+}
+
+impl Reason {
+    fn of(words: [u32; 2]) -> Self {
+        match words[0] {
+            0 => Self::UnknownAttribute,
+            1 => Self::NoSegment,
+            2 => Self::CutAway,
+            3 => Self::RowUntouched,
+            4 => Self::HiddenBy(words[1]),
+            _ => Self::ShownAt(words[1]),
+        }
+    }
+}
+
 /// Rule 7: the parts of an opaque span, left to right.
 pub fn split_opaque_span(first: u32, end: u32) -> Result<Vec<DepthSegment>, Answer> {
     let mut parts = [0; 9];
@@ -489,6 +526,33 @@ impl CommandBucketer {
     ///
     /// Refused by 1 to 3 it changes nothing; by another number it leaves a fresh screen of the file's viewport.
     pub fn bucket_commands(&mut self, file: &[u32]) -> Result<(), Answer> {
+        self.on_own_screen(file, |state, c, d, tables| {
+            record(state, file, c, d, tables)
+        })
+    }
+
+    /// Buckets a recording, and says why an attribute is shown at a tile of its screen or not.
+    ///
+    /// The recording's own refusal comes first, then `BadRun` for a row or a tile off the screen. The screen is left as
+    /// `bucket_commands` leaves it; refused by `BadRun` it is the recording's.
+    pub fn why(
+        &mut self,
+        file: &[u32],
+        row: u32,
+        tile: u32,
+        attribute: Attribute,
+    ) -> Result<Reason, Answer> {
+        self.on_own_screen(file, |state, c, d, tables| {
+            explain(state, file, c, d, row, tile, attribute, tables)
+        })
+    }
+
+    /// A recording call, with tables for the file's own viewport. They are kept unless it is refused by 1 to 3.
+    fn on_own_screen<T>(
+        &mut self,
+        file: &[u32],
+        call: impl FnOnce(&mut [u32; STATE], u32, u32, &mut Tables) -> Result<T, Answer>,
+    ) -> Result<T, Answer> {
         let viewport = match file {
             [_, x0, y0, x1, y1, ..] => Rect::new(*x0, *y0, *x1, *y1),
             _ => return Err(Answer::BadForm),
@@ -496,7 +560,7 @@ impl CommandBucketer {
         match sizes(viewport, self.c, self.d) {
             Ok(sizes) if sizes != self.tables.lens() => {
                 let mut tables = Tables::new(sizes);
-                let done = record(&mut self.state, file, self.c, self.d, &mut tables);
+                let done = call(&mut self.state, self.c, self.d, &mut tables);
                 if !matches!(
                     done,
                     Err(Answer::BadArena | Answer::BadViewport | Answer::BadForm)
@@ -506,7 +570,7 @@ impl CommandBucketer {
                 }
                 done
             }
-            _ => record(&mut self.state, file, self.c, self.d, &mut self.tables),
+            _ => call(&mut self.state, self.c, self.d, &mut self.tables),
         }
     }
 
@@ -987,6 +1051,61 @@ fn record(
             t.filter_paints.len(),
         )
     })
+}
+
+#[allow(clippy::too_many_arguments)]
+fn explain(
+    state: &mut [u32; STATE],
+    file: &[u32],
+    c: u32,
+    d: u32,
+    row: u32,
+    tile: u32,
+    attribute: Attribute,
+    t: &mut Tables,
+) -> Result<Reason, Answer> {
+    let (layer, attribute) = match attribute {
+        Attribute::Draw(attribute) => (0, attribute),
+        Attribute::Layer(attribute) => (1, attribute),
+    };
+    let mut result = [0; 2];
+    Answer::check(unsafe {
+        sys::coarse_why(
+            state.as_mut_ptr(),
+            STATE,
+            file.as_ptr(),
+            file.len(),
+            c,
+            d,
+            row,
+            tile,
+            layer,
+            attribute,
+            t.render.as_mut_ptr(),
+            t.render.len(),
+            t.fills.as_mut_ptr(),
+            t.fills.len(),
+            t.depth.as_mut_ptr(),
+            t.depth.len(),
+            t.rows.as_mut_ptr(),
+            t.rows.len(),
+            t.painting.as_mut_ptr(),
+            t.painting.len(),
+            t.layers.as_mut_ptr(),
+            t.layers.len(),
+            t.opacities.as_mut_ptr(),
+            t.opacities.len(),
+            t.paint_attrs.as_mut_ptr(),
+            t.paint_attrs.len(),
+            t.layer_attrs.as_mut_ptr(),
+            t.layer_attrs.len(),
+            t.filter_paints.as_mut_ptr(),
+            t.filter_paints.len(),
+            result.as_mut_ptr(),
+            result.len(),
+        )
+    })?;
+    Ok(Reason::of(result))
 }
 
 #[cfg(test)]

@@ -116,6 +116,24 @@ fn the_samples() {
     assert_eq!(seen, 10);
 }
 
+/// One draw of the worked example covers tiles 10 to 64 of row 0; row 1 has a layer.
+#[test]
+fn why_a_tile_shows_what_it_shows() {
+    let file = words(include_bytes!("../../samples/worked.rec"));
+    let mut bucketer = CommandBucketer::from_wh(4, 4, 64, 64).unwrap();
+    let mut why = |row, tile, attribute| bucketer.why(&file, row, tile, attribute);
+    assert_eq!(why(0, 10, Attribute::Draw(0)), Ok(Reason::ShownAt(0)));
+    assert_eq!(why(0, 9, Attribute::Draw(0)), Ok(Reason::NoSegment));
+    assert_eq!(why(0, 9, Attribute::Draw(9)), Ok(Reason::UnknownAttribute));
+    assert_eq!(why(2, 0, Attribute::Draw(0)), Err(Answer::BadRun));
+    assert_eq!(why(0, 64, Attribute::Draw(0)), Err(Answer::BadRun));
+    assert_eq!(bucketer.rows(), 2);
+    assert_eq!(
+        bucketer.why(&file[1..], 9, 9, Attribute::Draw(0)),
+        Err(Answer::BadForm)
+    );
+}
+
 #[test]
 fn the_worked_example() {
     let file = words(include_bytes!("../../samples/worked.rec"));

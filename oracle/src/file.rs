@@ -21,12 +21,17 @@ pub struct Recording {
 pub fn stream(mut bytes: &[u8]) -> Vec<&[u8]> {
     let mut recordings = Vec::new();
     while let Some((length, rest)) = bytes.split_first_chunk::<4>() {
-        let length = usize::try_from(u32::from_le_bytes(*length)).expect("a length");
-        let (recording, rest) = rest.split_at(length.min(rest.len()));
+        let (recording, rest) = split(u32::from_le_bytes(*length), rest);
         recordings.push(recording);
         bytes = rest;
     }
     recordings
+}
+
+/// So many bytes, or what is left, and the rest.
+pub(crate) fn split(length: u32, bytes: &[u8]) -> (&[u8], &[u8]) {
+    let length = usize::try_from(length).expect("a length");
+    bytes.split_at(length.min(bytes.len()))
 }
 
 /// A file that is good up to the order of its segment lists, or the number that refuses it.

@@ -5,6 +5,8 @@ mod damage;
 pub mod draft;
 mod edges;
 pub mod forged;
+pub mod questions;
+mod reasons;
 mod scenes;
 
 use crate::random::Random;
@@ -16,36 +18,47 @@ pub struct Made {
     pub bytes: Vec<u8>,
 }
 
-/// Kinds of recordings that can be asked for.
-const KINDS: [&str; 6] = ["all", "edges", "scenes", "damaged", "heavy", "ids"];
-
 /// So many recordings: of the kind `all` the edges first, then a mixture.
 pub fn recordings(seed: u32, count: u32, kind: &str) -> Option<Vec<Made>> {
     let mut random = Random::new(seed);
-    let mut all = match kind {
-        "all" => edges::edges().into_iter().map(|edge| edge.made).collect(),
-        "edges" => return Some(edges::edges().into_iter().map(|edge| edge.made).collect()),
-        "heavy" => return Some(edges::heavy().into_iter().map(|edge| edge.made).collect()),
-        "ids" => return Some(edges::ids().into_iter().map(|edge| edge.made).collect()),
-        _ => Vec::new(),
-    };
-    if !KINDS.contains(&kind) {
-        return None;
-    }
-    all.truncate(count as usize);
-    while all.len() < count as usize {
-        let scene = match kind {
-            "scenes" => true,
-            "damaged" => false,
-            _ => random.chance(60),
-        };
-        all.push(if scene {
-            good(&mut random)
-        } else {
-            damage::damaged(&mut random)
-        });
+    let mut all = fixed(kind)?;
+    if is_endless(kind) {
+        all.truncate(count as usize);
+        while all.len() < count as usize {
+            all.push(another(&mut random, kind));
+        }
     }
     Some(all)
+}
+
+/// The list that a kind is or begins with.
+fn fixed(kind: &str) -> Option<Vec<Made>> {
+    let edges = match kind {
+        "all" | "edges" => edges::edges(),
+        "heavy" => edges::heavy(),
+        "ids" => edges::ids(),
+        "scenes" | "damaged" => Vec::new(),
+        _ => return None,
+    };
+    Some(edges.into_iter().map(|edge| edge.made).collect())
+}
+
+/// Whether a kind goes on after its list.
+fn is_endless(kind: &str) -> bool {
+    ["all", "scenes", "damaged"].contains(&kind)
+}
+
+fn another(random: &mut Random, kind: &str) -> Made {
+    let scene = match kind {
+        "scenes" => true,
+        "damaged" => false,
+        _ => random.chance(60),
+    };
+    if scene {
+        good(random)
+    } else {
+        damage::damaged(random)
+    }
 }
 
 fn good(random: &mut Random) -> Made {

@@ -18,9 +18,11 @@ mod peniko {
     pub(crate) use vello_common::peniko::*;
 }
 pub mod print;
+pub mod questions;
 mod random;
 mod scene;
 pub mod steps;
 pub mod walk;
+pub mod why;
 
 include!(concat!(env!("OUT_DIR"), "/root.rs"));

@@ -1,5 +1,7 @@
 //! Answers of the original Rust, to hold the definitions and the port against.
 
+use oracle::questions::{self, Answerer, Question};
+use oracle::why::Kind;
 use oracle::{calls, file, generate, leaves, print, walk};
 use std::io::{Read, Write};
 
@@ -8,6 +10,9 @@ const USAGE: &str = "usage: oracle rowlist [--first-id N] < FILE
        oracle lines [--first-id N] < STREAM
        oracle generate SEED COUNT [all|edges|scenes|damaged|heavy|ids] > STREAM
        oracle names SEED COUNT [KIND]
+       oracle why [--first-id N] [--tally] ROW TILE [draw|layer N] < FILE
+       oracle why [--first-id N] [--tally] --stream < QUESTIONS
+       oracle questions SEED COUNT [KIND] > QUESTIONS
        oracle leaves [--text] [SEED [COUNT]]
        oracle calls SEED COUNT [MOST] > CALLS
        oracle answers < CALLS
@@ -18,7 +23,15 @@ fn main() {
     let first_id = option(&mut words, "--first-id").unwrap_or(1);
     let mut player = walk::Player::new(first_id);
     let words: Vec<&str> = words.iter().map(String::as_str).collect();
+    let mut agreed = true;
     let out = match words[..] {
+        ["why", ..] => {
+            let (out, answerer) = why(player, &words[1..]);
+            agreed = answerer.disagreements.is_empty();
+            out
+        }
+        ["questions", seed, count] => asked(seed, count, "all"),
+        ["questions", seed, count, kind] => asked(seed, count, kind),
         ["rowlist"] => print::rowlist(&mut player, &input()).into_bytes(),
         ["rowdump"] => dump(|bytes| print::rowdump(&mut player, bytes)),
         ["generate", seed, count] => generate::stream(&made(seed, count, "all")),
@@ -39,19 +52,74 @@ fn main() {
                 .collect::<Vec<_>>(),
         ),
         ["lines"] => dump(|bytes| print::rowlist(&mut player, bytes)),
-        _ => {
-            eprintln!("{USAGE}");
-            std::process::exit(2);
-        }
+        _ => usage(),
     };
     std::io::stdout().write_all(&out).expect("standard output");
+    if !agreed {
+        std::process::exit(1);
+    }
+}
+
+fn usage() -> ! {
+    eprintln!("{USAGE}");
+    std::process::exit(2);
+}
+
+/// The answers to one question or to a stream of them; disagreements and the tally go to standard error.
+fn why(player: walk::Player, words: &[&str]) -> (Vec<u8>, Answerer) {
+    let tally = words.contains(&"--tally");
+    let words: Vec<&str> = words
+        .iter()
+        .copied()
+        .filter(|word| *word != "--tally")
+        .collect();
+    let mut answerer = Answerer::new(player);
+    let out = match words[..] {
+        ["--stream"] => {
+            let mut out = String::new();
+            for (k, question) in questions::stream(&input()).into_iter().enumerate() {
+                out += &format!("question {k}\n{}", answerer.all(question));
+            }
+            out
+        }
+        [row, tile, ref attribute @ ..] => {
+            let (row, tile) = (number(row), number(tile));
+            let attribute = match attribute {
+                [] => None,
+                ["draw", n] => Some((Kind::Draw, number(n))),
+                ["layer", n] => Some((Kind::Layer, number(n))),
+                _ => usage(),
+            };
+            let bytes = &input()[..];
+            let question = Question { row, tile, bytes };
+            match attribute {
+                None => answerer.all(question),
+                Some((kind, n)) => answerer.one(question, kind, n),
+            }
+        }
+        _ => usage(),
+    };
+    for line in &answerer.disagreements {
+        eprintln!("{line}");
+    }
+    if tally {
+        eprint!("{}", answerer.tally);
+    }
+    (out.into_bytes(), answerer)
+}
+
+fn asked(seed: &str, count: &str, kind: &str) -> Vec<u8> {
+    let (seed, count) = (number(seed), number(count));
+    generate::questions::stream(seed, count, kind).unwrap_or_else(|| no_kind(kind))
 }
 
 fn made(seed: &str, count: &str, kind: &str) -> Vec<generate::Made> {
-    generate::recordings(number(seed), number(count), kind).unwrap_or_else(|| {
-        eprintln!("oracle: no kind '{kind}'\n{USAGE}");
-        std::process::exit(2);
-    })
+    generate::recordings(number(seed), number(count), kind).unwrap_or_else(|| no_kind(kind))
+}
+
+fn no_kind(kind: &str) -> ! {
+    eprintln!("oracle: no kind '{kind}'\n{USAGE}");
+    std::process::exit(2);
 }
 
 /// Binary or readable, with seed 1 and 2,400 cases unless told otherwise.
@@ -84,8 +152,10 @@ fn option(words: &mut Vec<String>, name: &str) -> Option<u32> {
     Some(number(&value))
 }
 
+/// Decimal digits alone.
 fn number(word: &str) -> u32 {
-    word.parse().unwrap_or_else(|_| {
+    let digits = word.bytes().all(|byte| byte.is_ascii_digit());
+    word.parse().ok().filter(|_| digits).unwrap_or_else(|| {
         eprintln!("oracle: '{word}' is no number\n{USAGE}");
         std::process::exit(2);
     })

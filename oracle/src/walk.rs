@@ -1,4 +1,4 @@
-//! A recording walked step by step by the Rust's own calls, with document 01's limits looked at after each step.
+//! A recording's steps in draw order, and a screen on which the Rust's own calls take them, with document 01's limits looked at after each step.
 
 use crate::coarse::{probe, CommandBucketer};
 use crate::file;
@@ -6,6 +6,9 @@ use crate::limits::{within, ROOM};
 use crate::peniko::BlendMode;
 use crate::record::RecordedFill;
 use crate::scene::{scene, Scene};
+use std::sync::Arc;
+use vello_common::filter::FilterLayerPlacement;
+use vello_common::pixmap::Pixmap;
 use vello_common::record::{Node, RecordedLayer, RecordedLayerKind};
 
 /// Plays recordings one after another on one screen, reset before each, as the dispatcher does.
@@ -27,7 +30,11 @@ impl Player {
         let scene = scene(&file::judged(bytes)?);
         self.bucketer.reset(scene.viewport);
         probe::set_next_id(&mut self.bucketer, self.first_id);
-        walk_nodes(&mut self.bucketer, &scene, &scene.root)?;
+        let bucketer = &mut self.bucketer;
+        walk(&scene, &mut |step| {
+            take(bucketer, &scene, step);
+            limits(bucketer)
+        })?;
         Ok(&self.bucketer)
     }
 
@@ -41,37 +48,61 @@ impl Player {
     }
 }
 
-fn walk_nodes(bucketer: &mut CommandBucketer, scene: &Scene, nodes: &[Node]) -> Result<(), u32> {
+/// One step of a recording's walk.
+pub(crate) enum Step<'a> {
+    Fill(&'a RecordedFill),
+    Push(&'a RecordedLayer),
+    /// The fill of a filter layer that has a pixmap.
+    Filter(&'a Arc<Pixmap>, FilterLayerPlacement),
+    Pop(&'a RecordedLayer),
+}
+
+/// The steps of a recording in draw order, up to the first that is refused.
+pub(crate) fn walk(
+    scene: &Scene,
+    step: &mut impl FnMut(Step) -> Result<(), u32>,
+) -> Result<(), u32> {
+    walk_nodes(scene, &scene.root, step)
+}
+
+fn walk_nodes(
+    scene: &Scene,
+    nodes: &[Node],
+    step: &mut impl FnMut(Step) -> Result<(), u32>,
+) -> Result<(), u32> {
     for node in nodes {
         for draw in node.draws_in(&scene.draws) {
-            fill(bucketer, scene, draw)?;
+            step(Step::Fill(draw))?;
         }
         if let Some(id) = node.layer {
-            walk_layer(bucketer, scene, id as usize)?;
+            walk_layer(scene, id as usize, step)?;
         }
     }
     Ok(())
 }
 
-fn walk_layer(bucketer: &mut CommandBucketer, scene: &Scene, id: usize) -> Result<(), u32> {
+fn walk_layer(
+    scene: &Scene,
+    id: usize,
+    step: &mut impl FnMut(Step) -> Result<(), u32>,
+) -> Result<(), u32> {
     let layer = &scene.layers[id];
     match &layer.kind {
         RecordedLayerKind::Regular => {
-            push(bucketer, layer)?;
-            walk_nodes(bucketer, scene, &layer.nodes)?;
-            pop(bucketer, scene)
+            step(Step::Push(layer))?;
+            walk_nodes(scene, &layer.nodes, step)?;
+            step(Step::Pop(layer))
         }
         RecordedLayerKind::Filter { placement } => {
             let buffer = needs_buffer(layer);
             if buffer {
-                push(bucketer, layer)?;
+                step(Step::Push(layer))?;
             }
             if let Some(pixmap) = scene.filters.filter_layer(id) {
-                bucketer.generate_filter_layer_fill(pixmap, *placement, scene.paints.len());
-                limits(bucketer)?;
+                step(Step::Filter(&pixmap, *placement))?;
             }
             if buffer {
-                pop(bucketer, scene)?;
+                step(Step::Pop(layer))?;
             }
             Ok(())
         }
@@ -87,24 +118,23 @@ fn needs_buffer(layer: &RecordedLayer) -> bool {
         || props.clip_path.is_some()
 }
 
-fn fill(bucketer: &mut CommandBucketer, scene: &Scene, draw: &RecordedFill) -> Result<(), u32> {
-    let attrs = scene.attrs(draw, probe::take_id(bucketer));
-    bucketer.generate_fill(
-        &scene.strips[draw.strip_range.clone()],
-        &attrs,
-        &scene.paints,
-    );
-    limits(bucketer)
-}
-
-fn push(bucketer: &mut CommandBucketer, layer: &RecordedLayer) -> Result<(), u32> {
-    bucketer.push_layer(&layer.props);
-    limits(bucketer)
-}
-
-fn pop(bucketer: &mut CommandBucketer, scene: &Scene) -> Result<(), u32> {
-    bucketer.pop_layer(&scene.strips);
-    limits(bucketer)
+/// A step by the Rust's own calls.
+fn take(bucketer: &mut CommandBucketer, scene: &Scene, step: Step) {
+    match step {
+        Step::Fill(draw) => {
+            let attrs = scene.attrs(draw, probe::take_id(bucketer));
+            bucketer.generate_fill(
+                &scene.strips[draw.strip_range.clone()],
+                &attrs,
+                &scene.paints,
+            );
+        }
+        Step::Push(layer) => bucketer.push_layer(&layer.props),
+        Step::Filter(pixmap, placement) => {
+            bucketer.generate_filter_layer_fill(pixmap.clone(), placement, scene.paints.len());
+        }
+        Step::Pop(_) => bucketer.pop_layer(&scene.strips),
+    }
 }
 
 /// The limits of `rowlist`, after a step.

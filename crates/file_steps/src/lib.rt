@@ -36,7 +36,7 @@ use step_pop_call::pop_layer;
 use step_push::push_layer;
 
 // The picture that a file's word says: its handle + 1, or 0 for none.
-fn pixmap_of(word: u32) -> Pixmap
+pub fn pixmap_of(word: u32) -> Pixmap
     ensures { λ r. ⌜ picture-of r ≡ pixmap-of word ⌝ }
 {
     if word == 0 {

@@ -80,7 +80,7 @@ unfolding before-4
 zero-4 n e = rw e
 
 -- the number k, then whatever comes after it
-after : (k m : ℕ) → Late m → before-4 k ≡ before-4 (cond (eqb k Done) m k)
+pub after : (k m : ℕ) → Late m → before-4 k ≡ before-4 (cond (eqb k Done) m k)
 after k m h = by (eqb k Done) (λ y. rw y (zero-4 k (eqb-true k Done y) ∙ sym (late-4 m h))) (λ z. rw z)
 
 late-or : (b : Bool) (m : ℕ) → Late m → Late (cond b m BadRecord)

@@ -7,3 +7,5 @@ pub mod Kept
 pub mod Listed
 pub mod Early
 pub mod Unheld
+pub mod Stories
+pub mod Questions

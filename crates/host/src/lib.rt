@@ -4,4 +4,5 @@ mod border;
 pub mod build;
 pub mod lengths;
 pub mod painting;
+pub mod reasons;
 pub mod spans;

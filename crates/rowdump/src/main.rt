@@ -4,12 +4,15 @@
 use libc::STDERR_FILENO;
 use libc::STDIN_FILENO;
 use libc::STDOUT_FILENO;
+use sizes::wide;
 use text_dump::rowdump_text;
-use text_programs::Input;
 use text_programs::read_all;
+use text_programs::stream::read;
+use text_programs::stream::skip_rest;
+use text_programs::stream::word;
 use text_programs::tables::file_buffer;
 ghost use mathlib.Core.Path.{_≡_};
-ghost use Prim.Native.Nat.{_≤_, _<_};
+ghost use Prim.Native.Nat.{_≤_};
 ghost use lib.ListN.{length};
 ghost use Rattle.text_dump.specs.Rowdump.{rowdump-text};
 
@@ -27,48 +30,6 @@ fn print_recording(i: u64, file: &[u8], out: &mut [u8]) -> bool
     print(i, file, &out[..n])
 }
 
-// Reads up to k bytes to the start of the buffer.
-fn read(buf: &mut [u8], k: usize) -> Input {
-    if k <= buf.len() {
-        return read_all(STDIN_FILENO, &mut buf[..k]);
-    }
-    read_all(STDIN_FILENO, buf)
-}
-
-fn wide(x: u8) -> usize
-    ensures { λ r. ⌜ r < 256 ⌝ }
-{
-    x as usize
-}
-
-// A little-endian u32 at the start of some bytes, 0 if there are not four.
-fn length_of(b: &[u8]) -> usize {
-    if b.len() < 4 {
-        return 0;
-    }
-    wide(b[0]) + 256 * (wide(b[1]) + 256 * (wide(b[2]) + 256 * wide(b[3])))
-}
-
-// Reads on over n bytes; whether no read failed.
-fn skip(n: usize) -> bool {
-    let mut left = n;
-    while 0 < left {
-        let mut buf = io::buffer();
-        let got = read(&mut buf, left);
-        if got.failed {
-            return false;
-        }
-        if got.count == 0 {
-            return true;
-        }
-        if left <= got.count {
-            return true;
-        }
-        left -= got.count;
-    }
-    true
-}
-
 fn no_read() {
     io::write_all(STDERR_FILENO, b"rowdump: cannot read\n");
 }
@@ -77,8 +38,7 @@ fn no_write() {
     io::write_all(STDERR_FILENO, b"rowdump: cannot write\n");
 }
 
-// The recording after its length; whether the stream goes on. A file longer than the buffer fills it, which is too long, and the rest is
-// passed over.
+// The recording after its length; whether the stream goes on.
 fn print_next(i: u64, size: usize, out: &mut [u8]) -> bool
     requires { ⌜ 4682240 ≤ length (now out) ⌝ }
 {
@@ -92,11 +52,9 @@ fn print_next(i: u64, size: usize, out: &mut [u8]) -> bool
         no_write();
         return false;
     }
-    if 65537 < size {
-        if !skip(size - 65537) {
-            no_read();
-            return false;
-        }
+    if !skip_rest(size) {
+        no_read();
+        return false;
     }
     true
 }
@@ -123,7 +81,7 @@ fn next(i: u64, out: &mut [u8]) -> bool
     if got.count < 4 {
         return false;
     }
-    print_next(i, length_of(&head), out)
+    print_next(i, wide(word(&head, 0)), out)
 }
 
 // A proved loop has to end, and nothing says that a stream does: it counts up to a number that no run reaches.

@@ -118,6 +118,13 @@ filter-paint-table = most-filters * filter-paint-size
 abbrev pub opacity-count : ℕ
 opacity-count = most-layers + most-attrs
 
+-- the words of one attribute's line in the story of a tile, and of the lines of all attributes
+abbrev pub line-size : ℕ
+line-size = 6
+
+abbrev pub line-table : ℕ
+line-table = line-size * (most-attrs + most-attrs)
+
 -- a host's words of a screen's numbers
 abbrev pub state-size : ℕ
 state-size = 16

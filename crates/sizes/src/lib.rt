@@ -4,7 +4,7 @@ pub mod answers;
 ghost use mathlib.Core.Path.{_≡_};
 ghost use mathlib.Core.List.{[], _∷_};
 ghost use Rattle.sizes.specs.Sizes.{bucket-tiles, tile-end, bucket-end, tile-alphas, most-width, most-height, most-rows, most-runs, most-room, most-layers, most-attrs, most-filters, thread-end, handle-end, last-id, most-records, file-bytes};
-ghost use Rattle.sizes.specs.Sizes.{renders-at, depths-at, first-at, end-at, largest-at, levels-at, level-at, row-size, open-layer-size, open-layer-table, paint-attr-size, paint-attr-table, layer-attr-size, layer-attr-table, filter-paint-size, filter-paint-table, opacity-count, state-size};
+ghost use Rattle.sizes.specs.Sizes.{renders-at, depths-at, first-at, end-at, largest-at, levels-at, level-at, row-size, open-layer-size, open-layer-table, paint-attr-size, paint-attr-table, layer-attr-size, layer-attr-table, filter-paint-size, filter-paint-table, opacity-count, line-size, line-table, state-size};
 ghost use Rattle.sizes.specs.Sizes.{program-rows, program-buckets, program-room, program-render, program-fills, program-depth, program-records, program-painting};
 
 // Tiles in a depth bucket; what rounding up to whole buckets adds; the same as a length.
@@ -88,6 +88,11 @@ pub const FILTER_PAINT: usize = 4;
 
 pub const FILTER_TABLE: usize = MOST_FILTERS as usize * FILTER_PAINT;
 
+// The words of one attribute's line in the story of a tile, and of the lines of all attributes.
+pub const LINE: usize = 6;
+
+pub const LINE_TABLE: usize = LINE * (MOST_ATTRS as usize + MOST_ATTRS as usize);
+
 // Opacities: those of the open layers, then, from OPACITY_BASE on, those of the layer attributes.
 pub const OPACITY_BASE: usize = MOST_LAYERS as usize;
 
@@ -143,8 +148,8 @@ fn tied_limits() -> [usize; 17]
 }
 
 // The words of rows and tables. A level's words stand from `level-at` on.
-fn tied_words() -> [usize; 18]
-    ensures { λ r. ⌜ r ≡ renders-at ∷ depths-at ∷ first-at ∷ end-at ∷ largest-at ∷ levels-at ∷ level-at 0 ∷ level-at 1 ∷ row-size ∷ open-layer-size ∷ open-layer-table ∷ paint-attr-size ∷ paint-attr-table ∷ layer-attr-size ∷ layer-attr-table ∷ filter-paint-table ∷ opacity-count ∷ state-size ∷ [] ⌝ }
+fn tied_words() -> [usize; 20]
+    ensures { λ r. ⌜ r ≡ renders-at ∷ depths-at ∷ first-at ∷ end-at ∷ largest-at ∷ levels-at ∷ level-at 0 ∷ level-at 1 ∷ row-size ∷ open-layer-size ∷ open-layer-table ∷ paint-attr-size ∷ paint-attr-table ∷ layer-attr-size ∷ layer-attr-table ∷ filter-paint-table ∷ opacity-count ∷ line-size ∷ line-table ∷ state-size ∷ [] ⌝ }
 {
     [
         RENDERS,
@@ -164,6 +169,8 @@ fn tied_words() -> [usize; 18]
         LAYER_TABLE,
         FILTER_TABLE,
         OPACITIES,
+        LINE,
+        LINE_TABLE,
         STATE,
     ]
 }

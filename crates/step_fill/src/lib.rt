@@ -81,7 +81,7 @@ fn is_good_fill(paints: &[u32], segments: &[u32], draw: Draw) -> bool
 }
 
 // Rule 6, for the solid segments of a draw.
-fn is_eligible(layers: u32, paints: &[u32], draw: Draw) -> bool
+pub fn is_eligible(layers: u32, paints: &[u32], draw: Draw) -> bool
     requires { ⌜ draw .paint < length (now paints) / 4 ⌝ }
     ensures { λ r. ⌜ r ≡ eligible (eqb layers 0) (draw-paint (paints-of (now (paints .entry))) (draw-of draw)) (draw-of draw) ⌝ }
 {

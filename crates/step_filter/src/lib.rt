@@ -97,7 +97,7 @@ fn is_good_filter(placement: Placement, pixmap: Pixmap, paint_count: u32) -> boo
 }
 
 // The dest box, made local and met with the clip box.
-fn filter_box(viewport: Rect, clip: Rect, dest: Rect) -> Rect
+pub fn filter_box(viewport: Rect, clip: Rect, dest: Rect) -> Rect
     ensures { λ r. ⌜ box-of r ≡ meet (to-local (box-of viewport) (box-of dest)) (box-of clip) ⌝ }
 {
     dest.relative_to_origin(viewport.x0, viewport.y0)
@@ -113,7 +113,7 @@ fn shift(source: u32, dest: u32) -> i32
 }
 
 // Nothing is drawn without a picture, or in an empty box.
-fn draws_nothing(pixmap: Pixmap, bbox: Rect) -> bool
+pub fn draws_nothing(pixmap: Pixmap, bbox: Rect) -> bool
     ensures { λ r. ⌜ r ≡ (is-none (picture-of pixmap) || empty-box (box-of bbox)) ⌝ }
 {
     if is_absent(pixmap) {

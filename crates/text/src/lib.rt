@@ -34,14 +34,14 @@ pub fn put_text(out: &mut [u8], at: usize, s: &[u8]) -> usize
 }
 
 // The last decimal digit of a number, as a byte.
-fn digit(n: u32) -> u8
+fn digit(n: u64) -> u8
     ensures { λ r. ⌜ r ≡ 48 + n % 10 ⌝ }
 {
     (48 + n % 10) as u8
 }
 
 // A number in decimal, its last k digits at most.
-fn put_digits(out: &mut [u8], at: usize, n: u32, k: usize) -> usize
+pub fn put_digits(out: &mut [u8], at: usize, n: u64, k: usize) -> usize
     requires { ⌜ at + k ≤ far ⌝ }
     ensures { λ r. ⌜ Wrote (digits k n) k (text (now (out .entry)) at) (text (now (out .exit)) r) ⌝ }
 {
@@ -61,7 +61,7 @@ pub fn put_number(out: &mut [u8], at: usize, n: u32) -> usize
     ensures { λ r. ⌜ Wrote (number n) 11 (text (now (out .entry)) at) (text (now (out .exit)) r) ⌝ }
 {
     let place = put_byte(out, at, b' ');
-    put_digits(out, place, n, 10)
+    put_digits(out, place, n as u64, 10)
 }
 
 // A space and a dash.
@@ -100,5 +100,5 @@ pub fn put_signed(out: &mut [u8], at: usize, x: i32) -> usize
     ensures { λ r. ⌜ Wrote (signed x) 12 (text (now (out .entry)) at) (text (now (out .exit)) r) ⌝ }
 {
     let place = put_sign(out, at, x);
-    put_digits(out, place, magnitude(x), 10)
+    put_digits(out, place, magnitude(x) as u64, 10)
 }

@@ -7,6 +7,7 @@ use sizes::PROGRAM_RENDERS;
 use sizes::ROW;
 use sizes::answers::DONE;
 use text::put_byte;
+use text::put_digits;
 use text::put_text;
 use text_file::file_text;
 use text_programs::tables::depth_words;
@@ -22,39 +23,16 @@ use text_programs::tables::row_words;
 use text_row::attrs_text;
 use text_row::row_text;
 ghost use mathlib.Core.Path.{_≡_};
-ghost use Prim.Native.Nat.{_+_, _-_, _*_, _%_, _≤_};
+ghost use Prim.Native.Nat.{_-_, _≤_};
 ghost use lib.ListN.{length};
-ghost use Rattle.rules.specs.Lines.{digits};
 ghost use Rattle.screen.specs.Tables.{tables as screen-tables};
-ghost use Rattle.text.specs.Texts.{text, far, Wrote};
+ghost use Rattle.text.specs.Texts.{text, Wrote};
 ghost use Rattle.paint_command.specs.Painting.{lent};
 ghost use Rattle.paint_screen.specs.Stepping.{attributes};
 ghost use Rattle.text_row.specs.Dumped.{tables};
 ghost use Rattle.text_programs.specs.Programs.{first};
 ghost use Rattle.text_dump.specs.Rowdump.{recording-line, file-lines-text, rowdump-text, Printed};
 ghost use Rattle.text_dump.specs.Dumped.{part, rows-dumped, details-dumped, screen-dumped, Wide, Sized};
-
-// The last decimal digit of a number, as a byte.
-fn digit(n: u64) -> u8
-    ensures { λ r. ⌜ r ≡ 48 + n % 10 ⌝ }
-{
-    (48 + n % 10) as u8
-}
-
-// A number in decimal, its last k digits at most.
-fn put_digits(out: &mut [u8], at: usize, n: u64, k: usize) -> usize
-    requires { ⌜ at + k ≤ far ⌝ }
-    ensures { λ r. ⌜ Wrote (digits k n) k (text (now (out .entry)) at) (text (now (out .exit)) r) ⌝ }
-{
-    if k == 0 {
-        return at;
-    }
-    if n < 10 {
-        return put_byte(out, at, digit(n));
-    }
-    let place = put_digits(out, at, n / 10, k - 1);
-    put_byte(out, place, digit(n))
-}
 
 // The line that a recording's text begins with.
 fn put_recording(out: &mut [u8], i: u64) -> usize

@@ -1,18 +1,24 @@
 -- The programs' tables are as long as a file's call asks, so that what it writes is the rules' text. Assumes nothing.
-use mathlib.Core.Path.{_≡_, sym, ap, _∙_}
-use mathlib.Core.Bool.{true}
+use mathlib.Core.Path.{_≡_, refl, sym, ap, _∙_}
+use mathlib.Core.Bool.{Bool, true, false, _&&_, cond}
 use mathlib.Core.List.{List}
-use Prim.Native.Nat.{ℕ, _≤_}
+use mathlib.Core.Option.{Option, none, some}
+use Prim.Native.Nat.{ℕ, _%_, _≤_, _<_}
 use native.Mathlib.Omega.{arith}
 use lib.ListN.{length, take}
 use lib.Seq.{take-at}
-use borrow.Author.Tests.{le-leb, eq-eqb}
+use lib.Dec.{leb, eqb}
+use borrow.Author.Tests.{le-leb, le-ltb, lt-ltb, leb-true, leb-false, eq-eqb}
+use Rattle.rules.specs.Answers.{BadForm}
+use Rattle.rules.specs.Lines.{words-of, rowlist-screen}
 use Rattle.screen.specs.Judging.{good-fixed}
 use Rattle.screen.specs.Tables.{Tables, lengths}
+use Rattle.file_form.specs.Words.{words-in}
+use Rattle.file_form.proofs.Bytes.{rules-words}
 use Rattle.text_file.specs.declared.FileText.{FileText}
-use Rattle.text_file.specs.Files.{FileOut, file-out, showed, is-roomy, bytes-text}
-use Rattle.refine_text.proofs.Files.{shows, file-printed}
-use Rattle.text_programs.specs.Programs.{rowlist-text, first}
+use Rattle.text_file.specs.Files.{FileOut, file-out, showed, is-roomy, refusing, refused-as-is, words-text, bytes-text}
+use Rattle.refine_text.proofs.Files.{shows, file-printed, words-leave}
+use Rattle.text_programs.specs.Programs.{rowlist-number, rowlist-text, first}
 
 -- the lengths of the programs' tables
 pub record Long (t : Tables) : Type 0 where
@@ -53,6 +59,45 @@ module _ (t : Tables) (h : Long t) where
   rowlist-shown fs bs room e =
       let p = ap (λ (o : FileOut). shows (o .showed)) e ∙ file-printed fs t roomy fixed bs room in
       (ap (λ (q : ℕ × List ℕ). q .0) p, ap (λ (q : ℕ × List ℕ). q .1) p)
+
+  -- the number, by the size of the bytes and by their words
+  module _ (fs bs : List ℕ) (room : 264256 ≤ length bs) where
+    abbrev by-size : Bool → ℕ
+    by-size b = elim b [ true ↦ BadForm | false ↦ elim (words-of fs) [ none ↦ BadForm | some ws ↦ rowlist-screen ws .number ] ]
+
+    long-number : 65536 < length fs → rowlist-number fs ≡ 3
+    unfolding rowlist-number
+    long-number g = ap by-size (lt-ltb 65536 (length fs) g)
+
+    by-words : length fs ≤ 65536 → rowlist-number fs ≡ elim (words-of fs) [ none ↦ BadForm | some ws ↦ rowlist-screen ws .number ]
+    unfolding rowlist-number
+    by-words g = ap by-size (le-ltb 65536 (length fs) g)
+
+    word-number : length fs ≤ 65536 → (b : Bool) → eqb (length fs % 4) 0 ≡ b → rowlist-number fs ≡ cond b (rowlist-screen (words-in fs) .number) 3
+    word-number g b q =
+        by-words g ∙ ap (λ (o : Option (List ℕ)). elim o [ none ↦ BadForm | some ws ↦ rowlist-screen ws .number ]) (rules-words fs) ∙ taken b q
+      where
+        taken : (b : Bool) → eqb (length fs % 4) 0 ≡ b
+            → _≡_ {A = ℕ} (elim (cond (eqb (length fs % 4) 0) (some (words-in fs)) none) [ none ↦ BadForm | some ws ↦ rowlist-screen ws .number ]) (cond b (rowlist-screen (words-in fs) .number) 3)
+        taken true q = rw q
+        taken false q = rw q
+
+    bad-number : refused-as-is BadForm t bs .showed .text .number ≡ 3
+    unfolding refusing
+    bad-number = refl
+
+    number-there : bytes-text fs t bs .showed .text .number ≡ rowlist-number fs
+    unfolding bytes-text
+    number-there = go (leb (length fs) 65536) (eqb (length fs % 4) 0) refl refl
+      where
+        go : (x y : Bool) → leb (length fs) 65536 ≡ x → eqb (length fs % 4) 0 ≡ y
+            → cond (x && y) (words-text (words-in fs) t bs) (refused-as-is BadForm t bs) .showed .text .number ≡ rowlist-number fs
+        go false y p q = bad-number ∙ sym (long-number (leb-false _ _ p))
+        go true false p q = bad-number ∙ sym (word-number (leb-true _ _ p) false q)
+        go true true p q = words-leave (words-in fs) t roomy fixed bs room .number ∙ sym (word-number (leb-true _ _ p) true q)
+
+    pub number-shown : {x : FileText} {cs : List ℕ} {u : Tables} → file-out (showed x cs) u ≡ bytes-text fs t bs → x .number ≡ rowlist-number fs
+    number-shown e = ap (λ (o : FileOut). o .showed .text .number) e ∙ number-there
 
 -- a text that stands first is the bytes as far as it goes
 pub first-taken : (ts bs : List ℕ) (n : ℕ) (cs : List ℕ) → n ≡ length ts → cs ≡ first ts bs → take n cs ≡ ts

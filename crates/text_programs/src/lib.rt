@@ -1,11 +1,13 @@
-// What the programs have in common: their tables, the text of a file's bytes, reading to the end. Parts: where a function asks something,
+// What the programs have in common: their tables, the text of a file's bytes, reading to the end, streams. Parts: where a function asks something,
 // the programs have seen to it.
 use text_file::file_text;
+use text_screen::Listing;
 ghost use mathlib.Core.Path.{_≡_};
 ghost use Prim.Native.Nat.{_≤_};
 ghost use lib.ListN.{length};
-ghost use Rattle.text_programs.specs.Programs.{rowlist-text, first};
+ghost use Rattle.text_programs.specs.Programs.{rowlist-number, rowlist-text, first};
 
+pub mod stream;
 pub mod tables;
 
 use crate::tables::depth_words;
@@ -18,10 +20,10 @@ use crate::tables::painting_words;
 use crate::tables::render_words;
 use crate::tables::row_words;
 
-// The text that `rowlist` prints of a file's bytes, put first; how long it is. The room is that of the longest text.
-pub fn rowlist_text(file: &[u8], out: &mut [u8]) -> usize
+// The text that `rowlist` prints of a file's bytes, put first; how long it is, and the recording's number. The room is that of the longest text.
+pub fn list_file(file: &[u8], out: &mut [u8]) -> Listing
     requires { ⌜ 264256 ≤ length (now out) ⌝ }
-    ensures { λ r. ⌜ r ≡ length (rowlist-text (now (file .entry))) ⌝ }
+    ensures { λ r. ⌜ (r .number ≡ rowlist-number (now (file .entry))) × (r .bytes ≡ length (rowlist-text (now (file .entry)))) ⌝ }
     ensures { λ r. ⌜ now (out .exit) ≡ first (rowlist-text (now (file .entry))) (now (out .entry)) ⌝ }
 {
     let mut render = render_words();
@@ -48,6 +50,19 @@ pub fn rowlist_text(file: &[u8], out: &mut [u8]) -> usize
         &mut filter_paints,
         out,
     );
+    Listing {
+        number: text.number,
+        bytes: text.bytes,
+    }
+}
+
+// The same; how long it is.
+pub fn rowlist_text(file: &[u8], out: &mut [u8]) -> usize
+    requires { ⌜ 264256 ≤ length (now out) ⌝ }
+    ensures { λ r. ⌜ r ≡ length (rowlist-text (now (file .entry))) ⌝ }
+    ensures { λ r. ⌜ now (out .exit) ≡ first (rowlist-text (now (file .entry))) (now (out .entry)) ⌝ }
+{
+    let text = list_file(file, out);
     text.bytes
 }
 

@@ -32,10 +32,12 @@ use Rattle.paint_screen.specs.Stepping.{Attributes, attributes}
 use Rattle.host_screen.specs.State.{rect}
 use Rattle.host.specs.Building.{reset-call, recording-call, draw, fill-call, clip, props, push-call, pop-call, placement, picture, filter-call}
 use Rattle.host.specs.Painting.{begin-call, step-call, row-call, unset-call, visible-call, write-call, skip-call, split-call}
+use Rattle.host.specs.Reasons.{why-call}
 use Rattle.host.specs.Sizes.{size-call}
 use Rattle.host.specs.Spans.{spans-call}
 use Rattle.host.proofs.build.coarse_reset as coarse-reset
 use Rattle.host.proofs.build.coarse_bucket_recording as coarse-recording
+use Rattle.host.proofs.reasons.coarse_why as coarse-why
 use Rattle.host.proofs.build.coarse_fill as coarse-fill
 use Rattle.host.proofs.build.coarse_push_layer as coarse-push
 use Rattle.host.proofs.build.coarse_pop_layer as coarse-pop
@@ -70,6 +72,14 @@ module _ (file : List ℕ) (c d : ℕ) (state : List ℕ) (lent : Tables) where
 
   pub one-recording : (r q : ℕ) (x y : List ℕ × Tables) → Records r x → Records q y → (r ≡ q) × (x ≡ y)
   one-recording = once (recording-call file c d state lent)
+
+-- `coarse_why`: all ten tables and the result
+module _ (file : List ℕ) (c d row tile layer attribute : ℕ) (state : List ℕ) (lent : Tables) (result : List ℕ) where
+  abbrev pub Explains : ℕ → List ℕ × Tables × List ℕ → Type 0
+  Explains r x = answer r x ≡ why-call file c d row tile layer attribute state lent result
+
+  pub one-coarse-why : (r q : ℕ) (x y : List ℕ × Tables × List ℕ) → Explains r x → Explains q y → (r ≡ q) × (x ≡ y)
+  one-coarse-why = once (why-call file c d row tile layer attribute state lent result)
 
 -- `coarse_fill`: the rows' words and the paint attributes
 module _ (paints segments : List ℕ) (given : Draw) (state : List ℕ) (rows : Words) (attrs : List ℕ) where
@@ -218,6 +228,25 @@ module _ {M : Type 1} (𝓤 : URA M) (H : Heap 𝓤) (A : Atoms 𝓤) (mem : Mem
             (now (e5 .1 .1 .1 .1 .0)) (now (e10 .0)) (now (e10 .1 .0)) (now (e10 .1 .1 .0)) (now (e10 .1 .1 .1 .0)),
       )))
   recording-source κs a r e = (refl, refl)
+
+  why-source : (κs : Lfts (coarse-why.signature .lifetimes)) (a : Args coarse-why.signature κs) (r : ℕ) (e : AtExit coarse-why.ended κs)
+      → let a5 = a .1 .1 .1 .1 .1 in
+      let a10 = a5 .1 .1 .1 .1 .1 in
+      let a15 = a10 .1 .1 .1 .1 .1 in
+      let e5 = e .1 .1 .1 .1 .1 in
+      let e10 = e5 .1 .1 .1 .1 .1 in
+      let e15 = e10 .1 .1 .1 .1 .1 in
+      (coarse-why.clauses 𝓤 H A mem run κs a .requires tt ≡ emp 𝓤)
+      × (coarse-why.clauses 𝓤 H A mem run κs a .ensures tt r e
+      ≡ fact 𝓤
+      (Explains (now (a .1 .0)) (a .1 .1 .0) (a .1 .1 .1 .0) (a .1 .1 .1 .1 .0) (a5 .0) (a5 .1 .0) (a5 .1 .1 .0) (now (a .0)) (tables (now (a5 .1 .1 .1 .0)) (now (a5 .1 .1 .1 .1 .0)) (now (a10 .0)) (now (a10 .1 .0)) (now (a10 .1 .1 .0))
+      (now (a10 .1 .1 .1 .0)) (now (a10 .1 .1 .1 .1 .0)) (now (a15 .0)) (now (a15 .1 .0)) (now (a15 .1 .1 .0))) (now (a15 .1 .1 .1 .0)) r (
+        now (e .0),
+        tables (now (e5 .1 .1 .1 .0)) (now (e5 .1 .1 .1 .1 .0)) (now (e10 .0)) (now (e10 .1 .0)) (now (e10 .1 .1 .0))
+            (now (e10 .1 .1 .1 .0)) (now (e10 .1 .1 .1 .1 .0)) (now (e15 .0)) (now (e15 .1 .0)) (now (e15 .1 .1 .0)),
+        now (e15 .1 .1 .1 .0),
+      )))
+  why-source κs a r e = (refl, refl)
 
   fill-source : (κs : Lfts (coarse-fill.signature .lifetimes)) (a : Args coarse-fill.signature κs) (r : ℕ) (e : AtExit coarse-fill.ended κs)
       → let a5 = a .1 .1 .1 .1 .1 in

@@ -65,7 +65,7 @@ pub(crate) fn ids() -> Vec<Edge> {
 }
 
 /// Document 01's worked example.
-fn worked() -> Draft {
+pub(super) fn worked() -> Draft {
     let mut draft = Draft::new(256, 8);
     let first = draft.segments(&[solid(0, 10, 64)]);
     let second = draft.segments(&[solid(1, 0, 8)]);
@@ -465,7 +465,7 @@ fn in_clip(list: &[[u32; 5]], is_filter: bool) -> Draft {
 }
 
 /// Layers nested so deep, a draw in the innermost; `innermost` stands in its place.
-fn nest(depth: u32, innermost: impl Fn(Range) -> [u32; 22]) -> Draft {
+pub(super) fn nest(depth: u32, innermost: impl Fn(Range) -> [u32; 22]) -> Draft {
     let mut draft = Draft::new(256, 8);
     let list = draft.segments(&[solid(0, 0, 64)]);
     draft.draw(list);

@@ -10,6 +10,9 @@ put-sign-requires c κs = search needs
 magnitude-requires : tie.Need-magnitude-requires
 magnitude-requires c κs = search needs
 
+cast-put-digits : tie.Need-cast-put-digits
+cast-put-digits c = search needs
+
 put-digits-requires : tie.Need-put-digits-requires
 put-digits-requires c κs = search needs
 
@@ -30,4 +33,4 @@ returns c =
 pub put-signed-spec : {M : Type 1} → statement M
 put-signed-spec =
     tie.close
-    (tie.spec put-sign-requires magnitude-requires put-digits-requires same-length returns)
+    (tie.spec put-sign-requires magnitude-requires cast-put-digits put-digits-requires same-length returns)

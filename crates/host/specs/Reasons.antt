@@ -1,0 +1,40 @@
+-- Why a tile of a recording shows what it shows, on a host's words: the call's own definition at the screen that the words stand for.
+use Prim.Native.Nat.{ℕ}
+use mathlib.Core.Bool.{_&&_}
+use mathlib.Core.List.{List, [], _∷_}
+use lib.ListN.{length}
+use lib.Dec.{leb, eqb}
+use Rattle.rules.specs.Answers.{Answer, answer, settle}
+use Rattle.rules_reason.specs.Reasons.{Reason, unknown-attribute, no-segment, cut-away, row-untouched, hidden-by, shown-at, Asked}
+use Rattle.screen.specs.declared.Screen.{Screen}
+use Rattle.screen.specs.Tables.{Tables, lent}
+use Rattle.tile_call.specs.Explained.{Explained, explained}
+use Rattle.host_screen.specs.State.{screen-words, on}
+
+-- the case, and the attribute that hides or the place in the tile's list
+abbrev pub reason-words : Reason → List ℕ
+reason-words unknown-attribute = 0 ∷ 0 ∷ []
+reason-words no-segment = 1 ∷ 0 ∷ []
+reason-words cut-away = 2 ∷ 0 ∷ []
+reason-words row-untouched = 3 ∷ 0 ∷ []
+reason-words (hidden-by a) = 4 ∷ a ∷ []
+reason-words (shown-at p) = 5 ∷ p ∷ []
+
+-- the result's words: written where the number is 0
+abbrev pub result-left : ℕ → Reason → List ℕ → Answer (List ℕ)
+result-left n r result = settle n result (reason-words r)
+
+abbrev pub asked : ℕ → ℕ → Asked
+asked layer attribute = record { layer = eqb layer 1; attribute = attribute }
+
+-- all tables and the result
+abbrev pub why-left : List ℕ → Explained → Answer (List ℕ × Tables × List ℕ)
+why-left result e =
+    let left = result-left (e .number) (e .reason) result in
+    answer (left .number) (screen-words (e .lent .screen), e .lent .tables, left .value)
+
+-- a word that says neither draw nor layer is refused, and so is a result that has not two words
+unfoldable pub why-call : List ℕ → ℕ → ℕ → ℕ → ℕ → ℕ → ℕ → List ℕ → Tables → List ℕ → Answer (List ℕ × Tables × List ℕ)
+why-call file c d row tile layer attribute st t result =
+    on (leb layer 1 && eqb (length result) 2) st (st, t, result)
+    (λ (s : Screen). why-left result (explained file c d row tile (asked layer attribute) (lent s t)))

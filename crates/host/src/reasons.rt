@@ -1,0 +1,131 @@
+// Why a tile of a recording shows what it shows.
+use crate::border::refuse_recording;
+use host_screen::Held;
+use host_screen::put_screen;
+use host_screen::screen_of;
+use sizes::answers::DONE;
+use tile_call::Explained;
+use tile_call::why;
+use tile_reason::Asked;
+use tile_reason::Reason;
+ghost use mathlib.Core.Path.{_≡_};
+ghost use mathlib.Core.Bool.{_&&_};
+ghost use mathlib.Core.List.{[], _∷_};
+ghost use lib.ListN.{length};
+ghost use lib.Dec.{leb, eqb};
+ghost use Rattle.sizes.specs.Sizes.{state-size};
+ghost use Rattle.rules.specs.Answers.{answer};
+ghost use Rattle.screen.specs.Tables.{tables};
+ghost use Rattle.host_screen.specs.State.{screen-words};
+ghost use Rattle.tile_reason.specs.Reasons.{reason-of};
+ghost use Rattle.host.specs.Reasons.{reason-words, result-left, why-call};
+
+// A reason's case, and the attribute that hides or the place in the tile's list; else 0.
+struct ReasonWords {
+    case: u32,
+    number: u32,
+}
+
+fn words_of(reason: Reason) -> ReasonWords
+    ensures { λ r. ⌜ (r .case ∷ r .number ∷ []) ≡ reason-words (reason-of reason) ⌝ }
+{
+    match reason {
+        Reason::UnknownAttribute => ReasonWords { case: 0, number: 0 },
+        Reason::NoSegment => ReasonWords { case: 1, number: 0 },
+        Reason::CutAway => ReasonWords { case: 2, number: 0 },
+        Reason::RowUntouched => ReasonWords { case: 3, number: 0 },
+        Reason::HiddenBy(attribute) => ReasonWords {
+            case: 4,
+            number: attribute,
+        },
+        Reason::ShownAt(place) => ReasonWords {
+            case: 5,
+            number: place,
+        },
+    }
+}
+
+// Where the question is answered, the reason's two words.
+fn put_reason(told: Explained, result: &mut [u32]) -> u32
+    requires { ⌜ length (now result) ≡ 2 ⌝ }
+    ensures { λ r. ⌜ answer r (now (result .exit)) ≡ result-left (told .number) (reason-of (told .reason)) (now (result .entry)) ⌝ }
+{
+    let number = told.number;
+    if number != DONE {
+        return number;
+    }
+    let reason = told.reason;
+    let words = words_of(reason);
+    result[0] = words.case;
+    result[1] = words.number;
+    DONE
+}
+
+// A question says draw or layer, and has two words for its answer.
+fn is_good_question(layer: u32, n: usize) -> bool
+    ensures { λ r. ⌜ r ≡ (leb layer 1 && eqb n 2) ⌝ }
+{
+    if 1 < layer {
+        return false;
+    }
+    n == 2
+}
+
+// A recording is bucketed, and answers for a draw's attribute (layer 0) or a layer's (1) at one tile. result: the reason's case (0 unknown attribute,
+// 1 no segment, 2 cut away, 3 row untouched, 4 hidden, 5 shown), and the attribute that hides or the place in the tile's list.
+#[no_mangle]
+pub extern "C" fn coarse_why(
+    state: &mut [u32],
+    file: &[u32],
+    c: u32,
+    d: u32,
+    row: u32,
+    tile: u32,
+    layer: u32,
+    attribute: u32,
+    render: &mut [u32],
+    fills: &mut [u32],
+    depth: &mut [u32],
+    rows: &mut [u32],
+    painting: &mut [u32],
+    layers: &mut [u32],
+    opacities: &mut [f32],
+    paint_attrs: &mut [u32],
+    layer_attrs: &mut [u32],
+    filter_paints: &mut [i32],
+    result: &mut [u32],
+) -> u32
+    ensures { λ r. ⌜ answer r (now (state .exit), tables (now (render .exit)) (now (fills .exit)) (now (depth .exit)) (now (rows .exit)) (now (painting .exit)) (now (layers .exit)) (now (opacities .exit)) (now («paint_attrs» .exit)) (now («layer_attrs» .exit)) (now («filter_paints» .exit)), now (result .exit))
+        ≡ why-call (now (file .entry)) c d row tile layer attribute (now (state .entry)) (tables (now (render .entry)) (now (fills .entry)) (now (depth .entry)) (now (rows .entry)) (now (painting .entry)) (now (layers .entry)) (now (opacities .entry)) (now («paint_attrs» .entry)) (now («layer_attrs» .entry)) (now («filter_paints» .entry))) (now (result .entry)) ⌝ }
+{
+    let good = is_good_question(layer, result.len());
+    let Held::Good(screen) = screen_of(state, good) else {
+        return refuse_recording(state, file, c, d, render.len(), fills.len(), depth.len());
+    };
+    let asked = Asked {
+        layer: layer == 1,
+        attribute,
+    };
+    let told = why(
+        screen,
+        file,
+        c,
+        d,
+        row,
+        tile,
+        asked,
+        render,
+        fills,
+        depth,
+        rows,
+        painting,
+        layers,
+        opacities,
+        paint_attrs,
+        layer_attrs,
+        filter_paints,
+    );
+    let after = told.screen;
+    put_screen(state, after);
+    put_reason(told, result)
+}

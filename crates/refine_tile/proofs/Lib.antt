@@ -1,0 +1,11 @@
+pub mod Rows
+pub mod Looks
+pub mod Inside
+pub mod Lines
+pub mod Stories
+pub mod Tells
+pub mod Walked
+pub mod Numbers
+pub mod Shows
+pub mod Searches
+pub mod Reasons

@@ -1,0 +1,98 @@
+-- Tests: the reasons of recordings, each at its edges, by computation.
+use Prim.Native.Nat.{ℕ}
+use mathlib.Core.Path.{_≡_, refl}
+use mathlib.Core.Bool.{true, false}
+use mathlib.Core.List.{List, [], _∷_, map}
+use Rattle.rules.specs.Recording.{Recording}
+use Rattle.rules.proofs.Picture.{walked}
+use Rattle.rules.proofs.Computing.{computing}
+use Rattle.rules.proofs.Cases.{panel, parent-cut, unreached, destructive-push, last-bucket, shifted, left-cut, nan-filter, no-picture, away, clipped-filter}
+use Rattle.rules_reason.specs.Reasons.{Reason, unknown-attribute, no-segment, cut-away, row-untouched, hidden-by, shown-at, Asked, account-step, accounts, account-of, place-of, newest-hider, because, reason}
+
+-- all that has to unfold to compute a reason
+unfoldable pub computing-reasons : Unit {0}
+unfolding computing account-step accounts account-of place-of newest-hider because reason
+computing-reasons = tt
+
+abbrev pub draw-of : ℕ → Asked
+draw-of i = record { layer = false; attribute = i }
+
+abbrev pub layer-of : ℕ → Asked
+layer-of i = record { layer = true; attribute = i }
+
+-- the draws 0 to 2 and the layer 0
+abbrev asked : List Asked
+asked = draw-of 0 ∷ draw-of 1 ∷ draw-of 2 ∷ layer-of 0 ∷ []
+
+-- their reasons at a row and a tile
+abbrev ask : Recording → ℕ → ℕ → List Reason
+ask r row tile = map (reason 32 (r .viewport) row tile (walked 32 r .log)) asked
+
+-- the panel hides in its bucket what came before it, and is first in the tile's list; beside that bucket all is shown
+pub panel-70 : ask panel 0 70 ≡ hidden-by 2 ∷ hidden-by 2 ∷ shown-at 0 ∷ unknown-attribute ∷ []
+unfolding computing-reasons
+panel-70 = refl
+
+pub panel-50 : ask panel 0 50 ≡ shown-at 0 ∷ shown-at 1 ∷ shown-at 2 ∷ unknown-attribute ∷ []
+unfolding computing-reasons
+panel-50 = refl
+
+pub panel-10 : ask panel 0 10 ≡ shown-at 0 ∷ no-segment ∷ no-segment ∷ unknown-attribute ∷ []
+unfolding computing-reasons
+panel-10 = refl
+
+-- the inner layer's clip begins at tile 8: its draw is cut away before it; the inner layer itself is cut by the parent's box, tiles 0 to 16
+pub parent-4 : ask parent-cut 0 4 ≡ cut-away ∷ unknown-attribute ∷ unknown-attribute ∷ shown-at 0 ∷ []
+unfolding computing-reasons
+parent-4 = refl
+
+pub parent-20 : ask parent-cut 0 20 ≡ cut-away ∷ unknown-attribute ∷ unknown-attribute ∷ cut-away ∷ []
+unfolding computing-reasons
+parent-20 = refl
+
+-- row 1 is covered by the clip and never reached
+pub unreached-1 : ask unreached 1 10 ≡ no-segment ∷ unknown-attribute ∷ unknown-attribute ∷ row-untouched ∷ []
+unfolding computing-reasons
+unreached-1 = refl
+
+-- a destructive push touches its rows
+pub destructive-1 : ask destructive-push 1 3 ≡ unknown-attribute ∷ unknown-attribute ∷ unknown-attribute ∷ shown-at 0 ∷ []
+unfolding computing-reasons
+destructive-1 = refl
+
+-- the last bucket is partly off the screen: nothing is hidden in it
+pub last-40 : ask last-bucket 0 40 ≡ shown-at 0 ∷ shown-at 1 ∷ unknown-attribute ∷ unknown-attribute ∷ []
+unfolding computing-reasons
+last-40 = refl
+
+pub last-25 : ask last-bucket 0 25 ≡ hidden-by 1 ∷ shown-at 0 ∷ unknown-attribute ∷ unknown-attribute ∷ []
+unfolding computing-reasons
+last-25 = refl
+
+-- a filter fill's dest box, y 6 to 9, meets the rows 1 and 2, its tiles are 5 to 15
+pub shifted-cases :
+    map (λ (r : ℕ). reason 32 (shifted .viewport) r 5 (walked 32 shifted .log) (draw-of 0)) (0 ∷ 1 ∷ 2 ∷ 3 ∷ [])
+    ≡ no-segment ∷ shown-at 0 ∷ shown-at 0 ∷ no-segment ∷ []
+unfolding computing-reasons
+shifted-cases = refl
+
+-- the screen begins at scene tile 4, the segment ends at scene tile 20
+pub left-cut-cases :
+    map (λ (t : ℕ). reason 32 (left-cut .viewport) 0 t (walked 32 left-cut .log) (draw-of 0)) (0 ∷ 15 ∷ 16 ∷ [])
+    ≡ shown-at 0 ∷ shown-at 0 ∷ no-segment ∷ []
+unfolding computing-reasons
+left-cut-cases = refl
+
+-- a filter layer with a buffer: its fill, then the layer, which has the whole screen
+pub nan-4 : ask nan-filter 0 4 ≡ shown-at 0 ∷ unknown-attribute ∷ unknown-attribute ∷ shown-at 1 ∷ []
+unfolding computing-reasons
+nan-4 = refl
+
+pub nan-10 : ask nan-filter 0 10 ≡ no-segment ∷ unknown-attribute ∷ unknown-attribute ∷ shown-at 0 ∷ []
+unfolding computing-reasons
+nan-10 = refl
+
+-- without a picture nothing is drawn, and the layer closes over rows that nothing has touched
+pub no-picture-0 : ask no-picture 0 0 ≡ unknown-attribute ∷ unknown-attribute ∷ unknown-attribute ∷ row-untouched ∷ []
+unfolding computing-reasons
+no-picture-0 = refl

@@ -1,0 +1,3 @@
+-- Tests by computation.
+pub mod Cases
+pub mod Printed

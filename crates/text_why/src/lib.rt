@@ -1,0 +1,188 @@
+// What `why` prints: the reasons of a tile's attributes, in words. Parts: where a function asks something, its callers have seen to it.
+ghost use mathlib.Core.Path.{_≡_};
+ghost use Prim.Native.Nat.{_+_, _*_, _≤_};
+ghost use lib.ListN.{length, take};
+ghost use Rattle.sizes.specs.Sizes.{most-attrs, file-bytes};
+ghost use Rattle.rules.specs.Lines.{rowlist-screen};
+ghost use Rattle.rules_reason.specs.Answers.{reason-bytes, kind-text, asked-bytes, attribute-line, kind-lines, answer-lines, why-words, why-text, question-line};
+ghost use Rattle.file_form.specs.Words.{words-in};
+ghost use Rattle.text.specs.Texts.{text, far, Wrote};
+ghost use Rattle.sizes.specs.Sizes.{line-size, line-table};
+ghost use Rattle.tile_steps.specs.Places.{Low};
+ghost use Rattle.tile_reason.specs.Reasons.{reason-of as said-of, asked-of};
+ghost use Rattle.text_why.specs.Questions.{question-of, read-by, line-most, answer-most};
+use file_form::Form;
+use file_form::read_form;
+use file_form::words_of_bytes;
+use file_judge::box_at;
+use sizes::LINE_TABLE;
+use sizes::answers::BAD_FORM;
+use sizes::answers::BAD_RUN;
+use sizes::answers::DONE;
+use sizes::wide;
+use text::put_byte;
+use text::put_digits;
+use text::put_number;
+use text::put_text;
+use text_lines::put_refused;
+use text_programs::list_file;
+use tile_call::is_off_screen;
+use tile_call::tell_tile;
+use tile_reason::Asked;
+use tile_reason::Reason;
+use tile_reason::reason_of;
+use tile_steps::Tale;
+
+// One attribute, or every attribute.
+pub enum Question {
+    Every,
+    One(Asked),
+}
+
+// A reason in words, and a line feed.
+fn put_reason(out: &mut [u8], at: usize, reason: Reason) -> usize
+    requires { ⌜ at + 51 ≤ far ⌝ }
+    ensures { λ r. ⌜ Wrote (reason-bytes (said-of reason)) 51 (text (now (out .entry)) at) (text (now (out .exit)) r) ⌝ }
+{
+    match reason {
+        Reason::UnknownAttribute => put_text(out, at, b"unknown attribute\n"),
+        Reason::NoSegment => put_text(out, at, b"no segment covers the tile\n"),
+        Reason::CutAway => put_text(out, at, b"cut away by a clip box\n"),
+        Reason::RowUntouched => put_text(out, at, b"row never touched by the closing layer\n"),
+        Reason::HiddenBy(a) => {
+            let p = put_text(out, at, b"hidden by a newer depth fill, attribute");
+            let q = put_number(out, p, a);
+            put_byte(out, q, b'\n')
+        }
+        Reason::ShownAt(place) => {
+            let p = put_text(out, at, b"shown, place");
+            let q = put_number(out, p, place);
+            put_byte(out, q, b'\n')
+        }
+    }
+}
+
+fn put_kind(out: &mut [u8], at: usize, layer: bool) -> usize
+    requires { ⌜ at + 5 ≤ far ⌝ }
+    ensures { λ r. ⌜ Wrote (kind-text layer) 5 (text (now (out .entry)) at) (text (now (out .exit)) r) ⌝ }
+{
+    if layer {
+        return put_text(out, at, b"layer");
+    }
+    put_text(out, at, b"draw")
+}
+
+// Which attribute a reason is about.
+fn put_asked(out: &mut [u8], at: usize, asked: Asked) -> usize
+    requires { ⌜ at + 18 ≤ far ⌝ }
+    ensures { λ r. ⌜ Wrote (asked-bytes (asked-of asked)) 18 (text (now (out .entry)) at) (text (now (out .exit)) r) ⌝ }
+{
+    let p = put_kind(out, at, asked.layer);
+    let q = put_number(out, p, asked.attribute);
+    put_text(out, q, b": ")
+}
+
+// An attribute's line, by the n lines told of the tile.
+fn put_line(out: &mut [u8], at: usize, lines: &[u32], n: usize, asked: Asked) -> usize
+    requires { ⌜ (at + line-most ≤ far) × (n ≤ most-attrs + most-attrs) × (line-size * n ≤ length (now lines)) ⌝ }
+    ensures { λ r. ⌜ Wrote (attribute-line (read-by (now (lines .entry)) n) (asked-of asked)) line-most (text (now (out .entry)) at) (text (now (out .exit)) r) ⌝ }
+{
+    let p = put_asked(out, at, asked);
+    put_reason(out, p, reason_of(lines, n, asked))
+}
+
+// A line for each attribute of a kind.
+fn put_kind_lines(
+    out: &mut [u8],
+    at: usize,
+    lines: &[u32],
+    n: usize,
+    layer: bool,
+    count: u32,
+) -> usize
+    requires { ⌜ (at + line-most * count ≤ far) × (n ≤ most-attrs + most-attrs) × (line-size * n ≤ length (now lines)) ⌝ }
+    ensures { λ r. ⌜ Wrote (kind-lines (read-by (now (lines .entry)) n) layer count) (line-most * count) (text (now (out .entry)) at) (text (now (out .exit)) r) ⌝ }
+{
+    let mut place = at;
+    let mut i = 0;
+    while i < count {
+        let asked = Asked {
+            layer,
+            attribute: i,
+        };
+        place = put_line(out, place, lines, n, asked);
+        i += 1;
+    }
+    place
+}
+
+// The answer to a question, from the lines told of the tile.
+fn put_answer(out: &mut [u8], lines: &[u32], tale: Tale, question: Question) -> usize
+    requires { ⌜ Low tale × (length (now lines) ≡ line-table) ⌝ }
+    ensures { λ r. ⌜ Wrote (answer-lines (read-by (now (lines .entry)) (tale .paints + tale .layers)) (tale .paints) (tale .layers) (question-of question)) answer-most (text (now (out .entry)) 0) (text (now (out .exit)) r) ⌝ }
+{
+    let n = wide(tale.paints + tale.layers);
+    match question {
+        Question::Every => {
+            let p = put_kind_lines(out, 0, lines, n, false, tale.paints);
+            put_kind_lines(out, p, lines, n, true, tale.layers)
+        }
+        Question::One(asked) => put_reason(out, 0, reason_of(lines, n, asked)),
+    }
+}
+
+// The text of a question about a recording that is accepted, from its words.
+fn words_text(file: &[u32], row: u32, tile: u32, question: Question, out: &mut [u8]) -> usize
+    requires { ⌜ rowlist-screen (now file) .number ≡ 0 ⌝ }
+    ensures { λ r. ⌜ Wrote (why-words (now (file .entry)) row tile (question-of question)) answer-most (text (now (out .entry)) 0) (text (now (out .exit)) r) ⌝ }
+{
+    let Form::Good(l) = read_form(file) else {
+        return put_refused(out, 0, BAD_FORM);
+    };
+    let viewport = box_at(file, 1);
+    if is_off_screen(viewport, row, tile) {
+        return put_refused(out, 0, BAD_RUN);
+    }
+    let mut lines = [0u32; LINE_TABLE];
+    let told = tell_tile(file, l, viewport, row, tile, &mut lines);
+    if told.number != DONE {
+        return put_refused(out, 0, told.number);
+    }
+    let tale = told.tale;
+    put_answer(out, &lines, tale, question)
+}
+
+// The same, from its bytes.
+fn accepted_text(file: &[u8], row: u32, tile: u32, question: Question, out: &mut [u8]) -> usize
+    requires { ⌜ (length (now file) ≤ file-bytes) × (rowlist-screen (words-in (now file)) .number ≡ 0) ⌝ }
+    ensures { λ r. ⌜ Wrote (why-words (words-in (now (file .entry))) row tile (question-of question)) answer-most (text (now (out .entry)) 0) (text (now (out .exit)) r) ⌝ }
+{
+    let mut words = [0u32; 16384];
+    let n = words_of_bytes(file, &mut words);
+    words_text(&words[..n], row, tile, question, out)
+}
+
+// The text that `why` prints of a question about a file's bytes, put first; how long it is. The room is that of the longest text of `rowlist`,
+// which is written there before; what stands after the text is free.
+pub fn why_text(file: &[u8], row: u32, tile: u32, question: Question, out: &mut [u8]) -> usize
+    requires { ⌜ 264256 ≤ length (now out) ⌝ }
+    ensures { λ r. ⌜ r ≡ length (why-text (now (file .entry)) row tile (question-of question)) ⌝ }
+    ensures { λ r. ⌜ take r (now (out .exit)) ≡ why-text (now (file .entry)) row tile (question-of question) ⌝ }
+{
+    let text = list_file(file, out);
+    if text.number != DONE {
+        return text.bytes;
+    }
+    accepted_text(file, row, tile, question, out)
+}
+
+// The line before a question's answer in a stream, put first.
+pub fn question_text(i: u64, out: &mut [u8]) -> usize
+    requires { ⌜ 30 ≤ length (now out) ⌝ }
+    ensures { λ r. ⌜ r ≡ length (question-line i) ⌝ }
+    ensures { λ r. ⌜ take r (now (out .exit)) ≡ question-line i ⌝ }
+{
+    let a = put_text(out, 0, b"question ");
+    let b = put_digits(out, a, i, 20);
+    put_byte(out, b, b'\n')
+}

@@ -1,0 +1,4 @@
+pub mod Places
+pub mod Reasons
+pub mod Painted
+pub mod Explained

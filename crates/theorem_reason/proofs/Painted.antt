@@ -1,0 +1,15 @@
+-- Reasons beside painting: what demand 3 has a tile receive is what its reasons say.
+use mathlib.Core.Path.{sym, subst}
+use mathlib.Core.List.{List}
+use Rattle.rules.specs.Painting.{Entry}
+use Rattle.rules_picture.proofs.Picture.{picture}
+use Rattle.theorem_reason.specs.Reasons.{Listed, Unlisted, Reason-painted}
+use Rattle.theorem_reason.proofs.Reasons.{shown-exact, not-shown}
+
+pub reason-painted : Reason-painted
+reason-painted w pos f xs k g b e ts r t h on fin a =
+    let same = sym (picture w pos f xs k b e ts r t h on fin) in
+    record {
+      shown = λ p q. subst (λ (es : List Entry). Listed a p es) same (shown-exact w f xs (k .screen) g b r t a p .0 q);
+      other = λ n. subst (λ (es : List Entry). Unlisted a es) same (not-shown w f xs (k .screen) g b r t a n);
+    }

@@ -1,0 +1,64 @@
+-- Why a tile of a recording shows what it shows, at a screen and all its words: the recording call, then the tile's story (T-01).
+use Prim.Native.Nat.{ℕ, _+_}
+use mathlib.Core.Path.{_≡_}
+use mathlib.Core.Bool.{cond}
+use mathlib.Core.List.{List}
+use mathlib.Core.Option.{Option, none, some}
+use lib.ListN.{replicate}
+use lib.Dec.{eqb}
+use Rattle.sizes.specs.Sizes.{bucket-tiles, line-table}
+use Rattle.rules.specs.Answers.{Answer, answer, Done, BadForm, BadRun}
+use Rattle.rules.specs.Recording.{Recording, shape, sections, recording}
+use Rattle.rules.specs.Walk.{walk-all}
+use Rattle.rules_reason.specs.Answers.{off-screen}
+use Rattle.rules_reason.specs.Reasons.{Reason, unknown-attribute, Asked}
+use Rattle.screen.specs.declared.Screen.{Screen}
+use Rattle.screen.specs.Tables.{Tables, ScreenLent, lent}
+use Rattle.file_call.specs.Recorded.{recorded}
+use Rattle.tile_steps.specs.Telling.{Telling, tell-at, nothing-told}
+use Rattle.tile_reason.specs.Reading.{reason-read}
+
+-- what the call gives: its number, the screen with all its words, the reason. With a refusal the reason says nothing
+pub record Explained : Type 0 where
+  pub number : ℕ
+  pub lent : ScreenLent
+  pub reason : Reason
+
+abbrev pub explained-as : ℕ → ScreenLent → Reason → Explained
+explained-as n l r = record { number = n; lent = l; reason = r }
+
+abbrev pub no-reason : ℕ → ScreenLent → Explained
+no-reason n l = explained-as n l unknown-attribute
+
+-- the story of a tile of a recording's screen, w tiles a bucket, into blank lines
+unfoldable pub told-of : ℕ → Recording → ℕ → ℕ → Answer Telling
+told-of w r row tile = walk-all Telling (tell-at w (r .viewport) row tile) r (nothing-told (replicate line-table 0))
+
+-- the reason that a story gives
+abbrev pub reason-told : Asked → Answer Telling → ScreenLent → Explained
+reason-told a s l =
+    cond (eqb (s .number) Done) (explained-as Done l (reason-read a (s .value .lines) (s .value .paints + s .value .layers)))
+    (no-reason (s .number) l)
+
+-- an accepted recording
+unfoldable pub explained-of : Recording → ℕ → ℕ → Asked → ScreenLent → Explained
+explained-of r row tile a l =
+    cond (off-screen (r .viewport) row tile) (no-reason BadRun l) (reason-told a (told-of bucket-tiles r row tile) l)
+
+abbrev pub explained-in : Option (List (List (List ℕ))) → ℕ → ℕ → Asked → ScreenLent → Explained
+explained-in none row tile a l = no-reason BadForm l
+explained-in (some ss) row tile a l = explained-of (recording ss) row tile a l
+
+-- A file's words: the recording's own number first; then 12; then the reason. The words are what the recording call leaves
+unfoldable pub explained : List ℕ → ℕ → ℕ → ℕ → ℕ → Asked → ScreenLent → Explained
+explained ws c d row tile a l =
+    let b = recorded ws c d l in
+    cond (eqb (b .number) Done) (explained-in (sections shape ws) row tile a (b .value)) (no-reason (b .number) (b .value))
+
+-- a number and a screen that the recording call gave of a file
+pub record GivenBy (ws : List ℕ) (n : ℕ) (s : Screen) : Type 0 where
+  pub c : ℕ
+  pub d : ℕ
+  pub before : ScreenLent
+  pub after : Tables
+  pub same : answer n (lent s after) ≡ recorded ws c d before

@@ -1,0 +1,4 @@
+pub mod Looking
+pub mod Answered
+pub mod Wording
+pub mod Closing

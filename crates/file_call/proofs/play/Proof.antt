@@ -42,8 +42,7 @@ walk-nodes-requires c κs =
     let at-wide = at-wide2 .before .before in
     let at-if1 = at-wide .before .before .before in
     let at-judge-records = at-if1 .before in
-    let entry = at-judge-records .before .before .before .before .before .before .before .before .before in
-    (
+    let entry = at-judge-records .before .before .before .before .before .before .before .before .before in (
       ready (entry .args .l) (entry .args .w .now) (entry .pre) _ (at-judge-records .judge-records .ensures) (at-if1 .if1 .left),
       (
         omega (

@@ -97,7 +97,7 @@ walk-layer-add-at t c =
       entry .pre .1 .1,
       entry .pre .1 .0 .fits .layers .few,
       layer-room (entry .args .l) (entry .args .w .now) (entry .pre .1 .0) (c .before .wide .result)
-      (omega (arith, c .before .wide .ensures, entry .pre .1 .1, at-if1 .if1 .left)),
+          (omega (arith, c .before .wide .ensures, entry .pre .1 .1, at-if1 .if1 .left)),
     )
 
 walk-layer-mul-if2 : (t : ℕ) → walk-layer-lts.Need-mul-if2 (layer-claims t) (walk-layer-at t) walk-layer.Post
@@ -107,7 +107,7 @@ walk-layer-mul-if2 t c =
     omega (
       arith,
       layer-room (entry .args .l) (entry .args .w .now) (entry .pre .1 .0) (c .before .wide .result)
-      (omega (arith, c .before .wide .ensures, entry .pre .1 .1, at-if1 .if1 .left)),
+          (omega (arith, c .before .wide .ensures, entry .pre .1 .1, at-if1 .if1 .left)),
     )
 
 walk-layer-shared-slice-read-if2 : (t : ℕ) → walk-layer-lts.Need-shared-slice-read-if2 (layer-claims t) (walk-layer-at t) walk-layer.Post
@@ -118,18 +118,17 @@ walk-layer-shared-slice-read-if2 t c =
     omega (
       arith,
       layer-room (entry .args .l) (entry .args .w .now) (entry .pre .1 .0) (at-wide .wide .result)
-      (omega (arith, at-wide .wide .ensures, entry .pre .1 .1, at-if1 .if1 .left)),
+          (omega (arith, at-wide .wide .ensures, entry .pre .1 .1, at-if1 .if1 .left)),
     )
 
 walk-layer-walk-filter-requires : (t : ℕ) → walk-layer-lts.Need-walk-filter-requires (layer-claims t) (walk-layer-at t) walk-layer.Post
 walk-layer-walk-filter-requires t c κs =
     let at-wide = c .before .before .before .before .before .before .before .before .before .before .before in
     let at-if1 = at-wide .before .before in
-    let entry = at-if1 .before .before .before .before .before .before .before .before .before in
-    (
+    let entry = at-if1 .before .before .before .before .before .before .before .before .before in (
       entry .pre .1 .0 .fits,
       layer-room (entry .args .l) (entry .args .w .now) (entry .pre .1 .0) (at-wide .wide .result)
-      (omega (arith, at-wide .wide .ensures, entry .pre .1 .1, at-if1 .if1 .left)),
+          (omega (arith, at-wide .wide .ensures, entry .pre .1 .1, at-if1 .if1 .left)),
     )
 
 walk-layer-same-length : (t : ℕ) → walk-layer-lts.Need-same-length (layer-claims t) (walk-layer-at t) walk-layer.Post
@@ -184,7 +183,7 @@ walk-layer-returns-2 t c =
     (layer-from (entry .args .w .now) (entry .args .l .layers .at + 22 * at-wide .wide .result)) _ (omega (
       arith,
       layer-kind (entry .args .l) (entry .args .w .now) (entry .pre .1 .0) (at-wide .wide .result)
-      (omega (arith, at-wide .wide .ensures, entry .pre .1 .1, at-if1 .if1 .left)),
+          (omega (arith, at-wide .wide .ensures, entry .pre .1 .1, at-if1 .if1 .left)),
       at-if2 .if2 .taken,
     )) _ ∙ sym
     (names-one (entry .args .l) (entry .args .w .now) _ _ _ (at-wide .wide .result) (at-wide .wide .ensures) (at-if1 .if1 .left) (entry .pre .1 .1))
@@ -287,7 +286,7 @@ walk-layer-add-wide t c =
     omega (
       arith,
       layer-room (entry .args .l) (entry .args .w .now) (entry .pre .1 .0) (at-wide .wide .result)
-      (omega (arith, at-wide .wide .ensures, entry .pre .1 .1, at-if1 .if1 .left)),
+          (omega (arith, at-wide .wide .ensures, entry .pre .1 .1, at-if1 .if1 .left)),
     )
 
 walk-layer-mul-wide : (t : ℕ) → walk-layer-lts.Need-mul-wide (layer-claims t) (walk-layer-at t) walk-layer.Post
@@ -299,7 +298,7 @@ walk-layer-mul-wide t c =
     omega (
       arith,
       layer-room (entry .args .l) (entry .args .w .now) (entry .pre .1 .0) (at-wide .wide .result)
-      (omega (arith, at-wide .wide .ensures, entry .pre .1 .1, at-if1 .if1 .left)),
+          (omega (arith, at-wide .wide .ensures, entry .pre .1 .1, at-if1 .if1 .left)),
     )
 
 walk-layer-shared-slice-read-wide : (t : ℕ) → walk-layer-lts.Need-shared-slice-read-wide (layer-claims t) (walk-layer-at t) walk-layer.Post
@@ -311,7 +310,7 @@ walk-layer-shared-slice-read-wide t c =
     omega (
       arith,
       layer-room (entry .args .l) (entry .args .w .now) (entry .pre .1 .0) (at-wide .wide .result)
-      (omega (arith, at-wide .wide .ensures, entry .pre .1 .1, at-if1 .if1 .left)),
+          (omega (arith, at-wide .wide .ensures, entry .pre .1 .1, at-if1 .if1 .left)),
     )
 
 walk-layer-wide-requires-2 : (t : ℕ) → walk-layer-lts.Need-wide-requires-2 (layer-claims t) (walk-layer-at t) walk-layer.Post
@@ -326,7 +325,7 @@ walk-layer-add-wide-2 t c =
     omega (
       arith,
       layer-room (entry .args .l) (entry .args .w .now) (entry .pre .1 .0) (at-wide .wide .result)
-      (omega (arith, at-wide .wide .ensures, entry .pre .1 .1, at-if1 .if1 .left)),
+          (omega (arith, at-wide .wide .ensures, entry .pre .1 .1, at-if1 .if1 .left)),
     )
 
 walk-layer-mul-wide-2 : (t : ℕ) → walk-layer-lts.Need-mul-wide-2 (layer-claims t) (walk-layer-at t) walk-layer.Post
@@ -338,7 +337,7 @@ walk-layer-mul-wide-2 t c =
     omega (
       arith,
       layer-room (entry .args .l) (entry .args .w .now) (entry .pre .1 .0) (at-wide .wide .result)
-      (omega (arith, at-wide .wide .ensures, entry .pre .1 .1, at-if1 .if1 .left)),
+          (omega (arith, at-wide .wide .ensures, entry .pre .1 .1, at-if1 .if1 .left)),
     )
 
 walk-layer-shared-slice-read-wide-2 : (t : ℕ) → walk-layer-lts.Need-shared-slice-read-wide-2 (layer-claims t) (walk-layer-at t) walk-layer.Post
@@ -350,7 +349,7 @@ walk-layer-shared-slice-read-wide-2 t c =
     omega (
       arith,
       layer-room (entry .args .l) (entry .args .w .now) (entry .pre .1 .0) (at-wide .wide .result)
-      (omega (arith, at-wide .wide .ensures, entry .pre .1 .1, at-if1 .if1 .left)),
+          (omega (arith, at-wide .wide .ensures, entry .pre .1 .1, at-if1 .if1 .left)),
     )
 
 walk-layer-wide-requires-3 : (t : ℕ) → walk-layer-lts.Need-wide-requires-3 (layer-claims t) (walk-layer-at t) walk-layer.Post
@@ -367,8 +366,7 @@ walk-layer-walk-nodes-requires t c κs =
     let at-wide = at-if4 .before .before .before .before .before .before .before .before .before .before .before .before .before .before .before
     .before .before .before .before .before .before .before .before in
     let at-if1 = at-wide .before .before in
-    let entry = at-if1 .before .before .before .before .before .before .before .before .before in
-    (
+    let entry = at-if1 .before .before .before .before .before .before .before .before .before in (
       omega (arith, at-if4 .if4 .left, entry .pre .0),
       (
         entry .pre .1 .0,
@@ -378,13 +376,13 @@ walk-layer-walk-nodes-requires t c κs =
             at-wide2 .wide2 .ensures,
             at-wide3 .wide3 .ensures,
             layer-range (entry .args .l) (entry .args .w .now) (entry .pre .1 .0) (at-wide .wide .result)
-            (omega (arith, at-wide .wide .ensures, entry .pre .1 .1, at-if1 .if1 .left)) .0,
+                (omega (arith, at-wide .wide .ensures, entry .pre .1 .1, at-if1 .if1 .left)) .0,
           ),
           omega (
             arith,
             at-wide3 .wide3 .ensures,
             layer-range (entry .args .l) (entry .args .w .now) (entry .pre .1 .0) (at-wide .wide .result)
-            (omega (arith, at-wide .wide .ensures, entry .pre .1 .1, at-if1 .if1 .left)) .1,
+                (omega (arith, at-wide .wide .ensures, entry .pre .1 .1, at-if1 .if1 .left)) .1,
           ),
         ),
       ),
@@ -614,7 +612,7 @@ walk-nodes-add-at t c =
       entry .pre .1 .1 .1,
       entry .pre .1 .0 .fits .nodes .few,
       node-room (entry .args .l) (entry .args .w .now) (entry .pre .1 .0) (at-loop .loop .i)
-      (omega (arith, c .before .loop-test .taken, entry .pre .1 .1 .1)),
+          (omega (arith, c .before .loop-test .taken, entry .pre .1 .1 .1)),
     )
 
 walk-nodes-mul-wide : (t : ℕ) → walk-nodes-lts.Need-mul-wide (nodes-claims t) (walk-nodes-at t) walk-nodes.Post walk-nodes-Inv-loop walk-nodes-μ-loop
@@ -628,7 +626,7 @@ walk-nodes-shared-slice-read-wide t c =
     omega (
       arith,
       node-room (entry .args .l) (entry .args .w .now) (entry .pre .1 .0) (at-loop .loop .i)
-      (omega (arith, at-loop-test .loop-test .taken, entry .pre .1 .1 .1)),
+          (omega (arith, at-loop-test .loop-test .taken, entry .pre .1 .1 .1)),
     )
 
 walk-nodes-wide-requires : (t : ℕ) → walk-nodes-lts.Need-wide-requires (nodes-claims t) (walk-nodes-at t) walk-nodes.Post walk-nodes-Inv-loop walk-nodes-μ-loop
@@ -642,7 +640,7 @@ walk-nodes-add-wide t c =
     omega (
       arith,
       node-room (entry .args .l) (entry .args .w .now) (entry .pre .1 .0) (at-loop .loop .i)
-      (omega (arith, at-loop-test .loop-test .taken, entry .pre .1 .1 .1)),
+          (omega (arith, at-loop-test .loop-test .taken, entry .pre .1 .1 .1)),
     )
 
 walk-nodes-mul-wide-2 : (t : ℕ) → walk-nodes-lts.Need-mul-wide-2 (nodes-claims t) (walk-nodes-at t) walk-nodes.Post walk-nodes-Inv-loop walk-nodes-μ-loop
@@ -653,7 +651,7 @@ walk-nodes-mul-wide-2 t c =
     omega (
       arith,
       node-room (entry .args .l) (entry .args .w .now) (entry .pre .1 .0) (at-loop .loop .i)
-      (omega (arith, at-loop-test .loop-test .taken, entry .pre .1 .1 .1)),
+          (omega (arith, at-loop-test .loop-test .taken, entry .pre .1 .1 .1)),
     )
 
 walk-nodes-shared-slice-read-wide-2 : (t : ℕ) → walk-nodes-lts.Need-shared-slice-read-wide-2 (nodes-claims t) (walk-nodes-at t) walk-nodes.Post walk-nodes-Inv-loop walk-nodes-μ-loop
@@ -664,7 +662,7 @@ walk-nodes-shared-slice-read-wide-2 t c =
     omega (
       arith,
       node-room (entry .args .l) (entry .args .w .now) (entry .pre .1 .0) (at-loop .loop .i)
-      (omega (arith, at-loop-test .loop-test .taken, entry .pre .1 .1 .1)),
+          (omega (arith, at-loop-test .loop-test .taken, entry .pre .1 .1 .1)),
     )
 
 walk-nodes-wide-requires-2 : (t : ℕ) → walk-nodes-lts.Need-wide-requires-2 (nodes-claims t) (walk-nodes-at t) walk-nodes.Post walk-nodes-Inv-loop walk-nodes-μ-loop
@@ -676,8 +674,7 @@ walk-nodes-walk-draws-requires t c κs =
     let at-wide = at-wide2 .before .before in
     let at-loop-test = at-wide .before .before .before in
     let at-loop = at-loop-test .before in
-    let entry = at-loop .before .before .before .before .before .before .before .before .before .before in
-    (
+    let entry = at-loop .before .before .before .before .before .before .before .before .before .before in (
       entry .pre .1 .0 .fits,
       (
         omega (
@@ -685,13 +682,13 @@ walk-nodes-walk-draws-requires t c κs =
           at-wide .wide .ensures,
           at-wide2 .wide2 .ensures,
           node-range (entry .args .l) (entry .args .w .now) (entry .pre .1 .0) (at-loop .loop .i)
-          (omega (arith, at-loop-test .loop-test .taken, entry .pre .1 .1 .1)) .0,
+              (omega (arith, at-loop-test .loop-test .taken, entry .pre .1 .1 .1)) .0,
         ),
         omega (
           arith,
           at-wide2 .wide2 .ensures,
           node-range (entry .args .l) (entry .args .w .now) (entry .pre .1 .0) (at-loop .loop .i)
-          (omega (arith, at-loop-test .loop-test .taken, entry .pre .1 .1 .1)) .1 .0,
+              (omega (arith, at-loop-test .loop-test .taken, entry .pre .1 .1 .1)) .1 .0,
         ),
       ),
     )
@@ -769,7 +766,7 @@ walk-nodes-add-walk-layer t c =
     omega (
       arith,
       node-room (entry .args .l) (entry .args .w .now) (entry .pre .1 .0) (at-loop .loop .i)
-      (omega (arith, at-loop-test .loop-test .taken, entry .pre .1 .1 .1)),
+          (omega (arith, at-loop-test .loop-test .taken, entry .pre .1 .1 .1)),
     )
 
 walk-nodes-mul-walk-layer : (t : ℕ) → walk-nodes-lts.Need-mul-walk-layer (nodes-claims t) (walk-nodes-at t) walk-nodes.Post walk-nodes-Inv-loop walk-nodes-μ-loop
@@ -781,7 +778,7 @@ walk-nodes-mul-walk-layer t c =
     omega (
       arith,
       node-room (entry .args .l) (entry .args .w .now) (entry .pre .1 .0) (at-loop .loop .i)
-      (omega (arith, at-loop-test .loop-test .taken, entry .pre .1 .1 .1)),
+          (omega (arith, at-loop-test .loop-test .taken, entry .pre .1 .1 .1)),
     )
 
 walk-nodes-shared-slice-read-walk-layer : (t : ℕ) → walk-nodes-lts.Need-shared-slice-read-walk-layer (nodes-claims t) (walk-nodes-at t) walk-nodes.Post walk-nodes-Inv-loop walk-nodes-μ-loop
@@ -793,7 +790,7 @@ walk-nodes-shared-slice-read-walk-layer t c =
     omega (
       arith,
       node-room (entry .args .l) (entry .args .w .now) (entry .pre .1 .0) (at-loop .loop .i)
-      (omega (arith, at-loop-test .loop-test .taken, entry .pre .1 .1 .1)),
+          (omega (arith, at-loop-test .loop-test .taken, entry .pre .1 .1 .1)),
     )
 
 walk-nodes-walk-layer-requires : (t : ℕ) → walk-nodes-lts.Need-walk-layer-requires (nodes-claims t) (walk-nodes-at t) walk-nodes.Post walk-nodes-Inv-loop walk-nodes-μ-loop
@@ -801,13 +798,12 @@ walk-nodes-walk-layer-requires t c κs =
     let at-loop-test = c .before .before .before .before .before .before .before .before .before .before .before .before .before .before .before
     .before .before .before .before .before .before .before .before .before .before .before .before .before .before .before in
     let at-loop = at-loop-test .before in
-    let entry = at-loop .before .before .before .before .before .before .before .before .before .before in
-    (
+    let entry = at-loop .before .before .before .before .before .before .before .before .before .before in (
       omega (arith, entry .pre .0),
       (
         entry .pre .1 .0,
         node-range (entry .args .l) (entry .args .w .now) (entry .pre .1 .0) (at-loop .loop .i)
-        (omega (arith, at-loop-test .loop-test .taken, entry .pre .1 .1 .1)) .1 .1,
+            (omega (arith, at-loop-test .loop-test .taken, entry .pre .1 .1 .1)) .1 .1,
       ),
     )
 
@@ -926,8 +922,7 @@ walk-nodes-loop-again t c =
     let at-wide = at-wide2 .before .before in
     let at-loop-test = at-wide .before .before .before in
     let at-loop = at-loop-test .before in
-    let entry = at-loop .before .before .before .before .before .before .before .before .before .before in
-    (
+    let entry = at-loop .before .before .before .before .before .before .before .before .before .before in (
       omega (arith, at-loop-test .loop-test .taken),
       (
         at-walk-layer .walk-layer .kept .1 .1 .1 .1 .1 .0 ∙ at-walk-draws .walk-draws .kept .1 .1 .1 .1 .1 .0 ∙ at-loop .loop .inv .1 .0,
@@ -935,23 +930,23 @@ walk-nodes-loop-again t c =
           at-walk-layer .walk-layer .kept .1 .1 .1 .1 .1 .1 .0 ∙ at-walk-draws .walk-draws .kept .1 .1 .1 .1 .1 .1 .0 ∙ at-loop .loop .inv .1 .1 .0,
           (
             at-walk-layer .walk-layer .kept .1 .1 .1 .1 .1 .1 .1 .0 ∙ at-walk-draws .walk-draws .kept .1 .1 .1 .1 .1 .1 .1 .0 ∙ at-loop .loop .inv .1
-            .1 .1 .0,
+                .1 .1 .0,
             (
               at-walk-layer .walk-layer .kept .1 .1 .1 .1 .1 .1 .1 .1 .0 ∙ at-loop .loop .inv .1 .1 .1 .1 .0,
               (
                 at-walk-layer .walk-layer .kept .1 .1 .1 .1 .1 .1 .1 .1 .1 .0 ∙ at-loop .loop .inv .1 .1 .1 .1 .1 .0,
                 (
                   at-walk-layer .walk-layer .kept .1 .1 .1 .1 .1 .1 .1 .1 .1 .1 .0 ∙ at-walk-draws .walk-draws .kept .1 .1 .1 .1 .1 .1 .1 .1 .0 ∙
-                  at-loop .loop .inv .1 .1 .1 .1 .1 .1 .0,
+                      at-loop .loop .inv .1 .1 .1 .1 .1 .1 .0,
                   (
                     at-walk-layer .walk-layer .kept .1 .1 .1 .1 .1 .1 .1 .1 .1 .1 .1 .0 ∙ at-loop .loop .inv .1 .1 .1 .1 .1 .1 .1 .0,
                     (
                       at-walk-layer .walk-layer .kept .1 .1 .1 .1 .1 .1 .1 .1 .1 .1 .1 .1 .0 ∙ at-loop .loop .inv .1 .1 .1 .1 .1 .1 .1 .1 .0,
                       node-turned (at-loop .loop .inv .1 .1 .1 .1 .1 .1 .1 .1 .1) (at-loop-test .loop-test .taken) (entry .pre .1 .1 .1) _ _ (λ u. draws-work (entry .args .l) (entry .args .w .now)
-                      (getD (entry .args .w .now) (entry .args .l .nodes .at + 3 * at-loop .loop .i) 0)
-                      (getD (entry .args .w .now) ((entry .args .l .nodes .at + 3 * at-loop .loop .i) + 1) 0) u _ _ _ _ _ _ _ _ _ _ _
-                      (λ v. rw (at-wide .wide .ensures, at-wide2 .wide2 .ensures) at (at-walk-draws .walk-draws .ensures v))) (at-if1 .if1 .left) _ _
-                      (at-walk-layer .walk-layer .ensures) (c .before .if2 .left),
+                          (getD (entry .args .w .now) (entry .args .l .nodes .at + 3 * at-loop .loop .i) 0)
+                          (getD (entry .args .w .now) ((entry .args .l .nodes .at + 3 * at-loop .loop .i) + 1) 0) u _ _ _ _ _ _ _ _ _ _ _
+                          (λ v. rw (at-wide .wide .ensures, at-wide2 .wide2 .ensures) at (at-walk-draws .walk-draws .ensures v))) (at-if1 .if1 .left) _ _
+                          (at-walk-layer .walk-layer .ensures) (c .before .if2 .left),
                     ),
                   ),
                 ),

@@ -77,8 +77,7 @@ loop-again c =
     let at-fill-draw = c .before .before .before .before .before .before .before .before .before .before .before in
     let at-loop-test = at-fill-draw .before .before .before .before .before in
     let at-loop = at-loop-test .before in
-    let entry = at-loop .before .before .before .before .before .before in
-    (
+    let entry = at-loop .before .before .before .before .before .before in (
       omega (arith, at-loop-test .loop-test .taken),
       (
         at-fill-draw .fill-draw .kept .1 .1 .1 .1 .0 ∙ at-loop .loop .inv .1 .0,
@@ -89,7 +88,7 @@ loop-again c =
             (
               at-fill-draw .fill-draw .kept .1 .1 .1 .1 .1 .1 .1 .0 ∙ at-loop .loop .inv .1 .1 .1 .1 .0,
               draw-turned (at-loop .loop .inv .1 .1 .1 .1 .1) (entry .pre .0) (at-loop-test .loop-test .taken) (entry .pre .1 .1) _ _
-              (at-fill-draw .fill-draw .ensures) (c .before .if1 .left),
+                  (at-fill-draw .fill-draw .ensures) (c .before .if1 .left),
             ),
           ),
         ),

@@ -37,7 +37,27 @@ wide-requires-2 : tie.Need-wide-requires-2
 wide-requires-2 c κs = search needs
 
 walk-nodes-requires : tie.Need-walk-nodes-requires
-walk-nodes-requires c κs = let s = c .before .before .before .before .before .before .before .before .before .before .before .before .before .before .before .before .before .before .before .before .before .before .before in (ready (s .args .l) (s .args .w .now) (s .pre) _ (c .before .before .before .before .before .before .before .before .before .before .before .before .before .before .judge-records .ensures) (c .before .before .before .before .before .before .before .before .before .before .before .before .before .if1 .left), (omega (arith, c .before .before .before .before .before .before .before .before .before .before .wide .ensures, c .before .before .before .before .before .before .before .before .wide2 .ensures, root (s .args .l) (s .args .w .now) (s .pre) _ (c .before .before .before .before .before .before .before .before .before .before .before .before .before .before .judge-records .ensures) (c .before .before .before .before .before .before .before .before .before .before .before .before .before .if1 .left) .0), omega (arith, c .before .before .before .before .before .before .before .before .wide2 .ensures, root (s .args .l) (s .args .w .now) (s .pre) _ (c .before .before .before .before .before .before .before .before .before .before .before .before .before .before .judge-records .ensures) (c .before .before .before .before .before .before .before .before .before .before .before .before .before .if1 .left) .1)))
+walk-nodes-requires c κs =
+    let at-wide2 = c .before .before .before .before .before .before .before .before in
+    let at-wide = at-wide2 .before .before in
+    let at-if1 = at-wide .before .before .before in
+    let at-judge-records = at-if1 .before in
+    let entry = at-judge-records .before .before .before .before .before .before .before .before .before in (
+      ready (entry .args .l) (entry .args .w .now) (entry .pre) _ (at-judge-records .judge-records .ensures) (at-if1 .if1 .left),
+      (
+        omega (
+          arith,
+          at-wide .wide .ensures,
+          at-wide2 .wide2 .ensures,
+          root (entry .args .l) (entry .args .w .now) (entry .pre) _ (at-judge-records .judge-records .ensures) (at-if1 .if1 .left) .0,
+        ),
+        omega (
+          arith,
+          at-wide2 .wide2 .ensures,
+          root (entry .args .l) (entry .args .w .now) (entry .pre) _ (at-judge-records .judge-records .ensures) (at-if1 .if1 .left) .1,
+        ),
+      ),
+    )
 
 same-length : tie.Need-same-length
 same-length c = search needs

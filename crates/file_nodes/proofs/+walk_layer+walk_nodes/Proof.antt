@@ -88,16 +88,48 @@ walk-layer-mul-at : (t : ℕ) → walk-layer-lts.Need-mul-at (layer-claims t) (w
 walk-layer-mul-at t c = let s = c .before .before .before .before .before .before .before .before .before .before .before in omega (arith, c .wide .ensures, s .pre .1 .1, s .pre .1 .0 .fits .layers .few)
 
 walk-layer-add-at : (t : ℕ) → walk-layer-lts.Need-add-at (layer-claims t) (walk-layer-at t) walk-layer.Post
-walk-layer-add-at t c = let s = c .before .before .before .before .before .before .before .before .before .before .before .before in omega (arith, c .before .wide .ensures, s .pre .1 .1, s .pre .1 .0 .fits .layers .few, layer-room (s .args .l) (s .args .w .now) (s .pre .1 .0) (c .before .wide .result) (omega (arith, c .before .wide .ensures, s .pre .1 .1, c .before .before .before .if1 .left)))
+walk-layer-add-at t c =
+    let at-if1 = c .before .before .before in
+    let entry = at-if1 .before .before .before .before .before .before .before .before .before in
+    omega (
+      arith,
+      c .before .wide .ensures,
+      entry .pre .1 .1,
+      entry .pre .1 .0 .fits .layers .few,
+      layer-room (entry .args .l) (entry .args .w .now) (entry .pre .1 .0) (c .before .wide .result)
+          (omega (arith, c .before .wide .ensures, entry .pre .1 .1, at-if1 .if1 .left)),
+    )
 
 walk-layer-mul-if2 : (t : ℕ) → walk-layer-lts.Need-mul-if2 (layer-claims t) (walk-layer-at t) walk-layer.Post
-walk-layer-mul-if2 t c = let s = c .before .before .before .before .before .before .before .before .before .before .before .before in omega (arith, layer-room (s .args .l) (s .args .w .now) (s .pre .1 .0) (c .before .wide .result) (omega (arith, c .before .wide .ensures, s .pre .1 .1, c .before .before .before .if1 .left)))
+walk-layer-mul-if2 t c =
+    let at-if1 = c .before .before .before in
+    let entry = at-if1 .before .before .before .before .before .before .before .before .before in
+    omega (
+      arith,
+      layer-room (entry .args .l) (entry .args .w .now) (entry .pre .1 .0) (c .before .wide .result)
+          (omega (arith, c .before .wide .ensures, entry .pre .1 .1, at-if1 .if1 .left)),
+    )
 
 walk-layer-shared-slice-read-if2 : (t : ℕ) → walk-layer-lts.Need-shared-slice-read-if2 (layer-claims t) (walk-layer-at t) walk-layer.Post
-walk-layer-shared-slice-read-if2 t c = let s = c .before .before .before .before .before .before .before .before .before .before .before .before .before in omega (arith, layer-room (s .args .l) (s .args .w .now) (s .pre .1 .0) (c .before .before .wide .result) (omega (arith, c .before .before .wide .ensures, s .pre .1 .1, c .before .before .before .before .if1 .left)))
+walk-layer-shared-slice-read-if2 t c =
+    let at-wide = c .before .before in
+    let at-if1 = at-wide .before .before in
+    let entry = at-if1 .before .before .before .before .before .before .before .before .before in
+    omega (
+      arith,
+      layer-room (entry .args .l) (entry .args .w .now) (entry .pre .1 .0) (at-wide .wide .result)
+          (omega (arith, at-wide .wide .ensures, entry .pre .1 .1, at-if1 .if1 .left)),
+    )
 
 walk-layer-walk-filter-requires : (t : ℕ) → walk-layer-lts.Need-walk-filter-requires (layer-claims t) (walk-layer-at t) walk-layer.Post
-walk-layer-walk-filter-requires t c κs = let s = c .before .before .before .before .before .before .before .before .before .before .before .before .before .before .before .before .before .before .before .before .before .before in (s .pre .1 .0 .fits, layer-room (s .args .l) (s .args .w .now) (s .pre .1 .0) (c .before .before .before .before .before .before .before .before .before .before .before .wide .result) (omega (arith, c .before .before .before .before .before .before .before .before .before .before .before .wide .ensures, s .pre .1 .1, c .before .before .before .before .before .before .before .before .before .before .before .before .before .if1 .left)))
+walk-layer-walk-filter-requires t c κs =
+    let at-wide = c .before .before .before .before .before .before .before .before .before .before .before in
+    let at-if1 = at-wide .before .before in
+    let entry = at-if1 .before .before .before .before .before .before .before .before .before in (
+      entry .pre .1 .0 .fits,
+      layer-room (entry .args .l) (entry .args .w .now) (entry .pre .1 .0) (at-wide .wide .result)
+          (omega (arith, at-wide .wide .ensures, entry .pre .1 .1, at-if1 .if1 .left)),
+    )
 
 walk-layer-same-length : (t : ℕ) → walk-layer-lts.Need-same-length (layer-claims t) (walk-layer-at t) walk-layer.Post
 walk-layer-same-length t c =
@@ -141,10 +173,28 @@ walk-layer-same-length-8 t c =
 
 walk-layer-returns-2 : (t : ℕ) → walk-layer-lts.Need-returns-2 (layer-claims t) (walk-layer-at t) walk-layer.Post
 unfolding layer-from
-walk-layer-returns-2 t c = let s = c .before .before .before .before .before .before .before .before .before .before .before .before .before .before .before .before .before .before .before .before .before .before .before .before .before .before .before .before .before .before .before .before .before .before .before .before .before .before in λ u. c .before .before .before .before .before .before .before .before .before .before .before .before .before .before .before .walk-filter .ensures u ∙ as-filter (recorded (s .args .l) (s .args .w .now)) (layer-from (s .args .w .now) (s .args .l .layers .at + 22 * c .before .before .before .before .before .before .before .before .before .before .before .before .before .before .before .before .before .before .before .before .before .before .before .before .before .before .before .wide .result)) _ (omega (arith, layer-kind (s .args .l) (s .args .w .now) (s .pre .1 .0) (c .before .before .before .before .before .before .before .before .before .before .before .before .before .before .before .before .before .before .before .before .before .before .before .before .before .before .before .wide .result) (omega (arith, c .before .before .before .before .before .before .before .before .before .before .before .before .before .before .before .before .before .before .before .before .before .before .before .before .before .before .before .wide .ensures, s .pre .1 .1, c .before .before .before .before .before .before .before .before .before .before .before .before .before .before .before .before .before .before .before .before .before .before .before .before .before .before .before .before .before .if1 .left)), c .before .before .before .before .before .before .before .before .before .before .before .before .before .before .before .before .before .before .before .before .before .before .before .before .if2 .taken)) _ ∙ sym (names-one (s .args .l) (s .args .w .now) _ _ _ (c .before .before .before .before .before .before .before .before .before .before .before .before .before .before .before .before .before .before .before .before .before .before .before .before .before .before .before .wide .result) (c .before .before .before .before .before .before .before .before .before .before .before .before .before .before .before .before .before .before .before .before .before .before .before .before .before .before .before .wide .ensures) (c .before .before .before .before .before .before .before .before .before .before .before .before .before .before .before .before .before .before .before .before .before .before .before .before .before .before .before .before .before .if1 .left) (s .pre .1 .1))
+walk-layer-returns-2 t c =
+    let at-walk-filter = c .before .before .before .before .before .before .before .before .before .before .before .before .before .before .before in
+    let at-if2 = at-walk-filter .before .before .before .before .before .before .before .before .before in
+    let at-wide = at-if2 .before .before .before in
+    let at-if1 = at-wide .before .before in
+    let entry = at-if1 .before .before .before .before .before .before .before .before .before in
+    λ u. at-walk-filter .walk-filter .ensures u ∙ as-filter (recorded (entry .args .l) (entry .args .w .now))
+    (layer-from (entry .args .w .now) (entry .args .l .layers .at + 22 * at-wide .wide .result)) _ (omega (
+      arith,
+      layer-kind (entry .args .l) (entry .args .w .now) (entry .pre .1 .0) (at-wide .wide .result)
+          (omega (arith, at-wide .wide .ensures, entry .pre .1 .1, at-if1 .if1 .left)),
+      at-if2 .if2 .taken,
+    )) _ ∙ sym
+    (names-one (entry .args .l) (entry .args .w .now) _ _ _ (at-wide .wide .result) (at-wide .wide .ensures) (at-if1 .if1 .left) (entry .pre .1 .1))
 
 walk-layer-props-at-requires : (t : ℕ) → walk-layer-lts.Need-props-at-requires (layer-claims t) (walk-layer-at t) walk-layer.Post
-walk-layer-props-at-requires t c κs = let s = c .before .before .before .before .before .before .before .before .before .before .before .before .before .before in layer-room (s .args .l) (s .args .w .now) (s .pre .1 .0) (c .before .before .before .wide .result) (omega (arith, c .before .before .before .wide .ensures, s .pre .1 .1, c .before .before .before .before .before .if1 .left))
+walk-layer-props-at-requires t c κs =
+    let at-wide = c .before .before .before in
+    let at-if1 = at-wide .before .before in
+    let entry = at-if1 .before .before .before .before .before .before .before .before .before in
+    layer-room (entry .args .l) (entry .args .w .now) (entry .pre .1 .0) (at-wide .wide .result)
+    (omega (arith, at-wide .wide .ensures, entry .pre .1 .1, at-if1 .if1 .left))
 
 walk-layer-push-layer-requires : (t : ℕ) → walk-layer-lts.Need-push-layer-requires (layer-claims t) (walk-layer-at t) walk-layer.Post
 walk-layer-push-layer-requires t c κs = search needs
@@ -228,25 +278,79 @@ walk-layer-returns-4 t c =
     (c .if4 .taken) ∙ sym (names-one (s .args .l) (s .args .w .now) _ _ _ (at-wide .wide .result) (at-wide .wide .ensures) (at-if1 .if1 .left) (s .pre .1 .1))
 
 walk-layer-add-wide : (t : ℕ) → walk-layer-lts.Need-add-wide (layer-claims t) (walk-layer-at t) walk-layer.Post
-walk-layer-add-wide t c = let s = c .before .before .before .before .before .before .before .before .before .before .before .before .before .before .before .before .before .before .before .before .before .before .before .before .before .before .before .before .before .before .before .before .before .before .before in omega (arith, layer-room (s .args .l) (s .args .w .now) (s .pre .1 .0) (c .before .before .before .before .before .before .before .before .before .before .before .before .before .before .before .before .before .before .before .before .before .before .before .before .wide .result) (omega (arith, c .before .before .before .before .before .before .before .before .before .before .before .before .before .before .before .before .before .before .before .before .before .before .before .before .wide .ensures, s .pre .1 .1, c .before .before .before .before .before .before .before .before .before .before .before .before .before .before .before .before .before .before .before .before .before .before .before .before .before .before .if1 .left)))
+walk-layer-add-wide t c =
+    let at-wide = c .before .before .before .before .before .before .before .before .before .before .before .before .before .before .before .before
+    .before .before .before .before .before .before .before .before in
+    let at-if1 = at-wide .before .before in
+    let entry = at-if1 .before .before .before .before .before .before .before .before .before in
+    omega (
+      arith,
+      layer-room (entry .args .l) (entry .args .w .now) (entry .pre .1 .0) (at-wide .wide .result)
+          (omega (arith, at-wide .wide .ensures, entry .pre .1 .1, at-if1 .if1 .left)),
+    )
 
 walk-layer-mul-wide : (t : ℕ) → walk-layer-lts.Need-mul-wide (layer-claims t) (walk-layer-at t) walk-layer.Post
-walk-layer-mul-wide t c = let s = c .before .before .before .before .before .before .before .before .before .before .before .before .before .before .before .before .before .before .before .before .before .before .before .before .before .before .before .before .before .before .before .before .before .before .before in omega (arith, layer-room (s .args .l) (s .args .w .now) (s .pre .1 .0) (c .before .before .before .before .before .before .before .before .before .before .before .before .before .before .before .before .before .before .before .before .before .before .before .before .wide .result) (omega (arith, c .before .before .before .before .before .before .before .before .before .before .before .before .before .before .before .before .before .before .before .before .before .before .before .before .wide .ensures, s .pre .1 .1, c .before .before .before .before .before .before .before .before .before .before .before .before .before .before .before .before .before .before .before .before .before .before .before .before .before .before .if1 .left)))
+walk-layer-mul-wide t c =
+    let at-wide = c .before .before .before .before .before .before .before .before .before .before .before .before .before .before .before .before
+    .before .before .before .before .before .before .before .before in
+    let at-if1 = at-wide .before .before in
+    let entry = at-if1 .before .before .before .before .before .before .before .before .before in
+    omega (
+      arith,
+      layer-room (entry .args .l) (entry .args .w .now) (entry .pre .1 .0) (at-wide .wide .result)
+          (omega (arith, at-wide .wide .ensures, entry .pre .1 .1, at-if1 .if1 .left)),
+    )
 
 walk-layer-shared-slice-read-wide : (t : ℕ) → walk-layer-lts.Need-shared-slice-read-wide (layer-claims t) (walk-layer-at t) walk-layer.Post
-walk-layer-shared-slice-read-wide t c = let s = c .before .before .before .before .before .before .before .before .before .before .before .before .before .before .before .before .before .before .before .before .before .before .before .before .before .before .before .before .before .before .before .before .before .before .before .before in omega (arith, layer-room (s .args .l) (s .args .w .now) (s .pre .1 .0) (c .before .before .before .before .before .before .before .before .before .before .before .before .before .before .before .before .before .before .before .before .before .before .before .before .before .wide .result) (omega (arith, c .before .before .before .before .before .before .before .before .before .before .before .before .before .before .before .before .before .before .before .before .before .before .before .before .before .wide .ensures, s .pre .1 .1, c .before .before .before .before .before .before .before .before .before .before .before .before .before .before .before .before .before .before .before .before .before .before .before .before .before .before .before .if1 .left)))
+walk-layer-shared-slice-read-wide t c =
+    let at-wide = c .before .before .before .before .before .before .before .before .before .before .before .before .before .before .before .before
+    .before .before .before .before .before .before .before .before .before in
+    let at-if1 = at-wide .before .before in
+    let entry = at-if1 .before .before .before .before .before .before .before .before .before in
+    omega (
+      arith,
+      layer-room (entry .args .l) (entry .args .w .now) (entry .pre .1 .0) (at-wide .wide .result)
+          (omega (arith, at-wide .wide .ensures, entry .pre .1 .1, at-if1 .if1 .left)),
+    )
 
 walk-layer-wide-requires-2 : (t : ℕ) → walk-layer-lts.Need-wide-requires-2 (layer-claims t) (walk-layer-at t) walk-layer.Post
 walk-layer-wide-requires-2 t c κs = search needs
 
 walk-layer-add-wide-2 : (t : ℕ) → walk-layer-lts.Need-add-wide-2 (layer-claims t) (walk-layer-at t) walk-layer.Post
-walk-layer-add-wide-2 t c = let s = c .before .before .before .before .before .before .before .before .before .before .before .before .before .before .before .before .before .before .before .before .before .before .before .before .before .before .before .before .before .before .before .before .before .before .before .before .before in omega (arith, layer-room (s .args .l) (s .args .w .now) (s .pre .1 .0) (c .before .before .before .before .before .before .before .before .before .before .before .before .before .before .before .before .before .before .before .before .before .before .before .before .before .before .wide .result) (omega (arith, c .before .before .before .before .before .before .before .before .before .before .before .before .before .before .before .before .before .before .before .before .before .before .before .before .before .before .wide .ensures, s .pre .1 .1, c .before .before .before .before .before .before .before .before .before .before .before .before .before .before .before .before .before .before .before .before .before .before .before .before .before .before .before .before .if1 .left)))
+walk-layer-add-wide-2 t c =
+    let at-wide = c .before .before .before .before .before .before .before .before .before .before .before .before .before .before .before .before
+    .before .before .before .before .before .before .before .before .before .before in
+    let at-if1 = at-wide .before .before in
+    let entry = at-if1 .before .before .before .before .before .before .before .before .before in
+    omega (
+      arith,
+      layer-room (entry .args .l) (entry .args .w .now) (entry .pre .1 .0) (at-wide .wide .result)
+          (omega (arith, at-wide .wide .ensures, entry .pre .1 .1, at-if1 .if1 .left)),
+    )
 
 walk-layer-mul-wide-2 : (t : ℕ) → walk-layer-lts.Need-mul-wide-2 (layer-claims t) (walk-layer-at t) walk-layer.Post
-walk-layer-mul-wide-2 t c = let s = c .before .before .before .before .before .before .before .before .before .before .before .before .before .before .before .before .before .before .before .before .before .before .before .before .before .before .before .before .before .before .before .before .before .before .before .before .before in omega (arith, layer-room (s .args .l) (s .args .w .now) (s .pre .1 .0) (c .before .before .before .before .before .before .before .before .before .before .before .before .before .before .before .before .before .before .before .before .before .before .before .before .before .before .wide .result) (omega (arith, c .before .before .before .before .before .before .before .before .before .before .before .before .before .before .before .before .before .before .before .before .before .before .before .before .before .before .wide .ensures, s .pre .1 .1, c .before .before .before .before .before .before .before .before .before .before .before .before .before .before .before .before .before .before .before .before .before .before .before .before .before .before .before .before .if1 .left)))
+walk-layer-mul-wide-2 t c =
+    let at-wide = c .before .before .before .before .before .before .before .before .before .before .before .before .before .before .before .before
+    .before .before .before .before .before .before .before .before .before .before in
+    let at-if1 = at-wide .before .before in
+    let entry = at-if1 .before .before .before .before .before .before .before .before .before in
+    omega (
+      arith,
+      layer-room (entry .args .l) (entry .args .w .now) (entry .pre .1 .0) (at-wide .wide .result)
+          (omega (arith, at-wide .wide .ensures, entry .pre .1 .1, at-if1 .if1 .left)),
+    )
 
 walk-layer-shared-slice-read-wide-2 : (t : ℕ) → walk-layer-lts.Need-shared-slice-read-wide-2 (layer-claims t) (walk-layer-at t) walk-layer.Post
-walk-layer-shared-slice-read-wide-2 t c = let s = c .before .before .before .before .before .before .before .before .before .before .before .before .before .before .before .before .before .before .before .before .before .before .before .before .before .before .before .before .before .before .before .before .before .before .before .before .before .before in omega (arith, layer-room (s .args .l) (s .args .w .now) (s .pre .1 .0) (c .before .before .before .before .before .before .before .before .before .before .before .before .before .before .before .before .before .before .before .before .before .before .before .before .before .before .before .wide .result) (omega (arith, c .before .before .before .before .before .before .before .before .before .before .before .before .before .before .before .before .before .before .before .before .before .before .before .before .before .before .before .wide .ensures, s .pre .1 .1, c .before .before .before .before .before .before .before .before .before .before .before .before .before .before .before .before .before .before .before .before .before .before .before .before .before .before .before .before .before .if1 .left)))
+walk-layer-shared-slice-read-wide-2 t c =
+    let at-wide = c .before .before .before .before .before .before .before .before .before .before .before .before .before .before .before .before
+    .before .before .before .before .before .before .before .before .before .before .before in
+    let at-if1 = at-wide .before .before in
+    let entry = at-if1 .before .before .before .before .before .before .before .before .before in
+    omega (
+      arith,
+      layer-room (entry .args .l) (entry .args .w .now) (entry .pre .1 .0) (at-wide .wide .result)
+          (omega (arith, at-wide .wide .ensures, entry .pre .1 .1, at-if1 .if1 .left)),
+    )
 
 walk-layer-wide-requires-3 : (t : ℕ) → walk-layer-lts.Need-wide-requires-3 (layer-claims t) (walk-layer-at t) walk-layer.Post
 walk-layer-wide-requires-3 t c κs = search needs
@@ -255,7 +359,34 @@ walk-layer-sub-walk-nodes : (t : ℕ) → walk-layer-lts.Need-sub-walk-nodes (la
 walk-layer-sub-walk-nodes t c = omega (arith, c .before .before .before .before .before .if4 .left)
 
 walk-layer-walk-nodes-requires : (t : ℕ) → walk-layer-lts.Need-walk-nodes-requires (layer-claims t) (walk-layer-at t) walk-layer.Post
-walk-layer-walk-nodes-requires t c κs = let s = c .before .before .before .before .before .before .before .before .before .before .before .before .before .before .before .before .before .before .before .before .before .before .before .before .before .before .before .before .before .before .before .before .before .before .before .before .before .before .before .before .before .before .before .before .before .before .before in (omega (arith, c .before .before .before .before .before .before .before .before .before .before .before .before .before .if4 .left, s .pre .0), (s .pre .1 .0, (omega (arith, c .before .before .before .before .before .before .before .before .before .before .wide2 .ensures, c .before .before .before .before .before .before .before .before .wide3 .ensures, layer-range (s .args .l) (s .args .w .now) (s .pre .1 .0) (c .before .before .before .before .before .before .before .before .before .before .before .before .before .before .before .before .before .before .before .before .before .before .before .before .before .before .before .before .before .before .before .before .before .before .before .before .wide .result) (omega (arith, c .before .before .before .before .before .before .before .before .before .before .before .before .before .before .before .before .before .before .before .before .before .before .before .before .before .before .before .before .before .before .before .before .before .before .before .before .wide .ensures, s .pre .1 .1, c .before .before .before .before .before .before .before .before .before .before .before .before .before .before .before .before .before .before .before .before .before .before .before .before .before .before .before .before .before .before .before .before .before .before .before .before .before .before .if1 .left)) .0), omega (arith, c .before .before .before .before .before .before .before .before .wide3 .ensures, layer-range (s .args .l) (s .args .w .now) (s .pre .1 .0) (c .before .before .before .before .before .before .before .before .before .before .before .before .before .before .before .before .before .before .before .before .before .before .before .before .before .before .before .before .before .before .before .before .before .before .before .before .wide .result) (omega (arith, c .before .before .before .before .before .before .before .before .before .before .before .before .before .before .before .before .before .before .before .before .before .before .before .before .before .before .before .before .before .before .before .before .before .before .before .before .wide .ensures, s .pre .1 .1, c .before .before .before .before .before .before .before .before .before .before .before .before .before .before .before .before .before .before .before .before .before .before .before .before .before .before .before .before .before .before .before .before .before .before .before .before .before .before .if1 .left)) .1))))
+walk-layer-walk-nodes-requires t c κs =
+    let at-wide3 = c .before .before .before .before .before .before .before .before in
+    let at-wide2 = at-wide3 .before .before in
+    let at-if4 = at-wide2 .before .before .before in
+    let at-wide = at-if4 .before .before .before .before .before .before .before .before .before .before .before .before .before .before .before
+    .before .before .before .before .before .before .before .before in
+    let at-if1 = at-wide .before .before in
+    let entry = at-if1 .before .before .before .before .before .before .before .before .before in (
+      omega (arith, at-if4 .if4 .left, entry .pre .0),
+      (
+        entry .pre .1 .0,
+        (
+          omega (
+            arith,
+            at-wide2 .wide2 .ensures,
+            at-wide3 .wide3 .ensures,
+            layer-range (entry .args .l) (entry .args .w .now) (entry .pre .1 .0) (at-wide .wide .result)
+                (omega (arith, at-wide .wide .ensures, entry .pre .1 .1, at-if1 .if1 .left)) .0,
+          ),
+          omega (
+            arith,
+            at-wide3 .wide3 .ensures,
+            layer-range (entry .args .l) (entry .args .w .now) (entry .pre .1 .0) (at-wide .wide .result)
+                (omega (arith, at-wide .wide .ensures, entry .pre .1 .1, at-if1 .if1 .left)) .1,
+          ),
+        ),
+      ),
+    )
 
 walk-layer-same-length-19 : (t : ℕ) → walk-layer-lts.Need-same-length-19 (layer-claims t) (walk-layer-at t) walk-layer.Post
 walk-layer-same-length-19 t c =
@@ -472,31 +603,95 @@ walk-nodes-mul-at : (t : ℕ) → walk-nodes-lts.Need-mul-at (nodes-claims t) (w
 walk-nodes-mul-at t c = let s = c .before .before .before .before .before .before .before .before .before .before .before in omega (arith, c .loop-test .taken, s .pre .1 .1 .1, s .pre .1 .0 .fits .nodes .few)
 
 walk-nodes-add-at : (t : ℕ) → walk-nodes-lts.Need-add-at (nodes-claims t) (walk-nodes-at t) walk-nodes.Post walk-nodes-Inv-loop walk-nodes-μ-loop
-walk-nodes-add-at t c = let s = c .before .before .before .before .before .before .before .before .before .before .before .before in omega (arith, c .before .loop-test .taken, s .pre .1 .1 .1, s .pre .1 .0 .fits .nodes .few, node-room (s .args .l) (s .args .w .now) (s .pre .1 .0) (c .before .before .loop .i) (omega (arith, c .before .loop-test .taken, s .pre .1 .1 .1)))
+walk-nodes-add-at t c =
+    let at-loop = c .before .before in
+    let entry = at-loop .before .before .before .before .before .before .before .before .before .before in
+    omega (
+      arith,
+      c .before .loop-test .taken,
+      entry .pre .1 .1 .1,
+      entry .pre .1 .0 .fits .nodes .few,
+      node-room (entry .args .l) (entry .args .w .now) (entry .pre .1 .0) (at-loop .loop .i)
+          (omega (arith, c .before .loop-test .taken, entry .pre .1 .1 .1)),
+    )
 
 walk-nodes-mul-wide : (t : ℕ) → walk-nodes-lts.Need-mul-wide (nodes-claims t) (walk-nodes-at t) walk-nodes.Post walk-nodes-Inv-loop walk-nodes-μ-loop
 walk-nodes-mul-wide t c = let s = c .before .before .before .before .before .before .before .before .before .before .before .before in omega (arith, node-room (s .args .l) (s .args .w .now) (s .pre .1 .0) (c .before .before .loop .i) (omega (arith, c .before .loop-test .taken, s .pre .1 .1 .1)))
 
 walk-nodes-shared-slice-read-wide : (t : ℕ) → walk-nodes-lts.Need-shared-slice-read-wide (nodes-claims t) (walk-nodes-at t) walk-nodes.Post walk-nodes-Inv-loop walk-nodes-μ-loop
-walk-nodes-shared-slice-read-wide t c = let s = c .before .before .before .before .before .before .before .before .before .before .before .before .before in omega (arith, node-room (s .args .l) (s .args .w .now) (s .pre .1 .0) (c .before .before .before .loop .i) (omega (arith, c .before .before .loop-test .taken, s .pre .1 .1 .1)))
+walk-nodes-shared-slice-read-wide t c =
+    let at-loop-test = c .before .before in
+    let at-loop = at-loop-test .before in
+    let entry = at-loop .before .before .before .before .before .before .before .before .before .before in
+    omega (
+      arith,
+      node-room (entry .args .l) (entry .args .w .now) (entry .pre .1 .0) (at-loop .loop .i)
+          (omega (arith, at-loop-test .loop-test .taken, entry .pre .1 .1 .1)),
+    )
 
 walk-nodes-wide-requires : (t : ℕ) → walk-nodes-lts.Need-wide-requires (nodes-claims t) (walk-nodes-at t) walk-nodes.Post walk-nodes-Inv-loop walk-nodes-μ-loop
 walk-nodes-wide-requires t c κs = search needs
 
 walk-nodes-add-wide : (t : ℕ) → walk-nodes-lts.Need-add-wide (nodes-claims t) (walk-nodes-at t) walk-nodes.Post walk-nodes-Inv-loop walk-nodes-μ-loop
-walk-nodes-add-wide t c = let s = c .before .before .before .before .before .before .before .before .before .before .before .before .before .before in omega (arith, node-room (s .args .l) (s .args .w .now) (s .pre .1 .0) (c .before .before .before .before .loop .i) (omega (arith, c .before .before .before .loop-test .taken, s .pre .1 .1 .1)))
+walk-nodes-add-wide t c =
+    let at-loop-test = c .before .before .before in
+    let at-loop = at-loop-test .before in
+    let entry = at-loop .before .before .before .before .before .before .before .before .before .before in
+    omega (
+      arith,
+      node-room (entry .args .l) (entry .args .w .now) (entry .pre .1 .0) (at-loop .loop .i)
+          (omega (arith, at-loop-test .loop-test .taken, entry .pre .1 .1 .1)),
+    )
 
 walk-nodes-mul-wide-2 : (t : ℕ) → walk-nodes-lts.Need-mul-wide-2 (nodes-claims t) (walk-nodes-at t) walk-nodes.Post walk-nodes-Inv-loop walk-nodes-μ-loop
-walk-nodes-mul-wide-2 t c = let s = c .before .before .before .before .before .before .before .before .before .before .before .before .before .before in omega (arith, node-room (s .args .l) (s .args .w .now) (s .pre .1 .0) (c .before .before .before .before .loop .i) (omega (arith, c .before .before .before .loop-test .taken, s .pre .1 .1 .1)))
+walk-nodes-mul-wide-2 t c =
+    let at-loop-test = c .before .before .before in
+    let at-loop = at-loop-test .before in
+    let entry = at-loop .before .before .before .before .before .before .before .before .before .before in
+    omega (
+      arith,
+      node-room (entry .args .l) (entry .args .w .now) (entry .pre .1 .0) (at-loop .loop .i)
+          (omega (arith, at-loop-test .loop-test .taken, entry .pre .1 .1 .1)),
+    )
 
 walk-nodes-shared-slice-read-wide-2 : (t : ℕ) → walk-nodes-lts.Need-shared-slice-read-wide-2 (nodes-claims t) (walk-nodes-at t) walk-nodes.Post walk-nodes-Inv-loop walk-nodes-μ-loop
-walk-nodes-shared-slice-read-wide-2 t c = let s = c .before .before .before .before .before .before .before .before .before .before .before .before .before .before .before in omega (arith, node-room (s .args .l) (s .args .w .now) (s .pre .1 .0) (c .before .before .before .before .before .loop .i) (omega (arith, c .before .before .before .before .loop-test .taken, s .pre .1 .1 .1)))
+walk-nodes-shared-slice-read-wide-2 t c =
+    let at-loop-test = c .before .before .before .before in
+    let at-loop = at-loop-test .before in
+    let entry = at-loop .before .before .before .before .before .before .before .before .before .before in
+    omega (
+      arith,
+      node-room (entry .args .l) (entry .args .w .now) (entry .pre .1 .0) (at-loop .loop .i)
+          (omega (arith, at-loop-test .loop-test .taken, entry .pre .1 .1 .1)),
+    )
 
 walk-nodes-wide-requires-2 : (t : ℕ) → walk-nodes-lts.Need-wide-requires-2 (nodes-claims t) (walk-nodes-at t) walk-nodes.Post walk-nodes-Inv-loop walk-nodes-μ-loop
 walk-nodes-wide-requires-2 t c κs = search needs
 
 walk-nodes-walk-draws-requires : (t : ℕ) → walk-nodes-lts.Need-walk-draws-requires (nodes-claims t) (walk-nodes-at t) walk-nodes.Post walk-nodes-Inv-loop walk-nodes-μ-loop
-walk-nodes-walk-draws-requires t c κs = let s = c .before .before .before .before .before .before .before .before .before .before .before .before .before .before .before .before .before .before .before .before in (s .pre .1 .0 .fits, (omega (arith, c .before .before .before .before .before .before .wide .ensures, c .before .before .before .before .wide2 .ensures, node-range (s .args .l) (s .args .w .now) (s .pre .1 .0) (c .before .before .before .before .before .before .before .before .before .before .loop .i) (omega (arith, c .before .before .before .before .before .before .before .before .before .loop-test .taken, s .pre .1 .1 .1)) .0), omega (arith, c .before .before .before .before .wide2 .ensures, node-range (s .args .l) (s .args .w .now) (s .pre .1 .0) (c .before .before .before .before .before .before .before .before .before .before .loop .i) (omega (arith, c .before .before .before .before .before .before .before .before .before .loop-test .taken, s .pre .1 .1 .1)) .1 .0)))
+walk-nodes-walk-draws-requires t c κs =
+    let at-wide2 = c .before .before .before .before in
+    let at-wide = at-wide2 .before .before in
+    let at-loop-test = at-wide .before .before .before in
+    let at-loop = at-loop-test .before in
+    let entry = at-loop .before .before .before .before .before .before .before .before .before .before in (
+      entry .pre .1 .0 .fits,
+      (
+        omega (
+          arith,
+          at-wide .wide .ensures,
+          at-wide2 .wide2 .ensures,
+          node-range (entry .args .l) (entry .args .w .now) (entry .pre .1 .0) (at-loop .loop .i)
+              (omega (arith, at-loop-test .loop-test .taken, entry .pre .1 .1 .1)) .0,
+        ),
+        omega (
+          arith,
+          at-wide2 .wide2 .ensures,
+          node-range (entry .args .l) (entry .args .w .now) (entry .pre .1 .0) (at-loop .loop .i)
+              (omega (arith, at-loop-test .loop-test .taken, entry .pre .1 .1 .1)) .1 .0,
+        ),
+      ),
+    )
 
 walk-nodes-same-length : (t : ℕ) → walk-nodes-lts.Need-same-length (nodes-claims t) (walk-nodes-at t) walk-nodes.Post walk-nodes-Inv-loop walk-nodes-μ-loop
 walk-nodes-same-length t c =
@@ -563,16 +758,54 @@ walk-nodes-returns t c =
     ) at (at-walk-draws .walk-draws .ensures v))) (c .if1 .taken)
 
 walk-nodes-add-walk-layer : (t : ℕ) → walk-nodes-lts.Need-add-walk-layer (nodes-claims t) (walk-nodes-at t) walk-nodes.Post walk-nodes-Inv-loop walk-nodes-μ-loop
-walk-nodes-add-walk-layer t c = let s = c .before .before .before .before .before .before .before .before .before .before .before .before .before .before .before .before .before .before .before .before .before .before .before .before .before .before .before .before .before .before .before .before in omega (arith, node-room (s .args .l) (s .args .w .now) (s .pre .1 .0) (c .before .before .before .before .before .before .before .before .before .before .before .before .before .before .before .before .before .before .before .before .before .before .loop .i) (omega (arith, c .before .before .before .before .before .before .before .before .before .before .before .before .before .before .before .before .before .before .before .before .before .loop-test .taken, s .pre .1 .1 .1)))
+walk-nodes-add-walk-layer t c =
+    let at-loop-test = c .before .before .before .before .before .before .before .before .before .before .before .before .before .before .before
+    .before .before .before .before .before .before in
+    let at-loop = at-loop-test .before in
+    let entry = at-loop .before .before .before .before .before .before .before .before .before .before in
+    omega (
+      arith,
+      node-room (entry .args .l) (entry .args .w .now) (entry .pre .1 .0) (at-loop .loop .i)
+          (omega (arith, at-loop-test .loop-test .taken, entry .pre .1 .1 .1)),
+    )
 
 walk-nodes-mul-walk-layer : (t : ℕ) → walk-nodes-lts.Need-mul-walk-layer (nodes-claims t) (walk-nodes-at t) walk-nodes.Post walk-nodes-Inv-loop walk-nodes-μ-loop
-walk-nodes-mul-walk-layer t c = let s = c .before .before .before .before .before .before .before .before .before .before .before .before .before .before .before .before .before .before .before .before .before .before .before .before .before .before .before .before .before .before .before .before in omega (arith, node-room (s .args .l) (s .args .w .now) (s .pre .1 .0) (c .before .before .before .before .before .before .before .before .before .before .before .before .before .before .before .before .before .before .before .before .before .before .loop .i) (omega (arith, c .before .before .before .before .before .before .before .before .before .before .before .before .before .before .before .before .before .before .before .before .before .loop-test .taken, s .pre .1 .1 .1)))
+walk-nodes-mul-walk-layer t c =
+    let at-loop-test = c .before .before .before .before .before .before .before .before .before .before .before .before .before .before .before
+    .before .before .before .before .before .before in
+    let at-loop = at-loop-test .before in
+    let entry = at-loop .before .before .before .before .before .before .before .before .before .before in
+    omega (
+      arith,
+      node-room (entry .args .l) (entry .args .w .now) (entry .pre .1 .0) (at-loop .loop .i)
+          (omega (arith, at-loop-test .loop-test .taken, entry .pre .1 .1 .1)),
+    )
 
 walk-nodes-shared-slice-read-walk-layer : (t : ℕ) → walk-nodes-lts.Need-shared-slice-read-walk-layer (nodes-claims t) (walk-nodes-at t) walk-nodes.Post walk-nodes-Inv-loop walk-nodes-μ-loop
-walk-nodes-shared-slice-read-walk-layer t c = let s = c .before .before .before .before .before .before .before .before .before .before .before .before .before .before .before .before .before .before .before .before .before .before .before .before .before .before .before .before .before .before .before .before .before in omega (arith, node-room (s .args .l) (s .args .w .now) (s .pre .1 .0) (c .before .before .before .before .before .before .before .before .before .before .before .before .before .before .before .before .before .before .before .before .before .before .before .loop .i) (omega (arith, c .before .before .before .before .before .before .before .before .before .before .before .before .before .before .before .before .before .before .before .before .before .before .loop-test .taken, s .pre .1 .1 .1)))
+walk-nodes-shared-slice-read-walk-layer t c =
+    let at-loop-test = c .before .before .before .before .before .before .before .before .before .before .before .before .before .before .before
+    .before .before .before .before .before .before .before in
+    let at-loop = at-loop-test .before in
+    let entry = at-loop .before .before .before .before .before .before .before .before .before .before in
+    omega (
+      arith,
+      node-room (entry .args .l) (entry .args .w .now) (entry .pre .1 .0) (at-loop .loop .i)
+          (omega (arith, at-loop-test .loop-test .taken, entry .pre .1 .1 .1)),
+    )
 
 walk-nodes-walk-layer-requires : (t : ℕ) → walk-nodes-lts.Need-walk-layer-requires (nodes-claims t) (walk-nodes-at t) walk-nodes.Post walk-nodes-Inv-loop walk-nodes-μ-loop
-walk-nodes-walk-layer-requires t c κs = let s = c .before .before .before .before .before .before .before .before .before .before .before .before .before .before .before .before .before .before .before .before .before .before .before .before .before .before .before .before .before .before .before .before .before .before .before .before .before .before .before .before .before in (omega (arith, s .pre .0), (s .pre .1 .0, node-range (s .args .l) (s .args .w .now) (s .pre .1 .0) (c .before .before .before .before .before .before .before .before .before .before .before .before .before .before .before .before .before .before .before .before .before .before .before .before .before .before .before .before .before .before .before .loop .i) (omega (arith, c .before .before .before .before .before .before .before .before .before .before .before .before .before .before .before .before .before .before .before .before .before .before .before .before .before .before .before .before .before .before .loop-test .taken, s .pre .1 .1 .1)) .1 .1))
+walk-nodes-walk-layer-requires t c κs =
+    let at-loop-test = c .before .before .before .before .before .before .before .before .before .before .before .before .before .before .before
+    .before .before .before .before .before .before .before .before .before .before .before .before .before .before .before in
+    let at-loop = at-loop-test .before in
+    let entry = at-loop .before .before .before .before .before .before .before .before .before .before in (
+      omega (arith, entry .pre .0),
+      (
+        entry .pre .1 .0,
+        node-range (entry .args .l) (entry .args .w .now) (entry .pre .1 .0) (at-loop .loop .i)
+            (omega (arith, at-loop-test .loop-test .taken, entry .pre .1 .1 .1)) .1 .1,
+      ),
+    )
 
 walk-nodes-same-length-9 : (t : ℕ) → walk-nodes-lts.Need-same-length-9 (nodes-claims t) (walk-nodes-at t) walk-nodes.Post walk-nodes-Inv-loop walk-nodes-μ-loop
 walk-nodes-same-length-9 t c =
@@ -665,13 +898,64 @@ walk-nodes-returns-2 t c =
     (at-walk-layer .walk-layer .ensures) (c .if2 .taken)
 
 walk-nodes-add-i : (t : ℕ) → walk-nodes-lts.Need-add-i (nodes-claims t) (walk-nodes-at t) walk-nodes.Post walk-nodes-Inv-loop walk-nodes-μ-loop
-walk-nodes-add-i t c = let s = c .before .before .before .before .before .before .before .before .before .before .before .before .before .before .before .before .before .before .before .before .before .before .before .before .before .before .before .before .before .before .before .before .before .before .before .before .before .before .before .before .before .before .before .before .before .before .before .before .before .before .before .before .before .before .before .before .before .before .before .before in omega (arith, c .before .before .before .before .before .before .before .before .before .before .before .before .before .before .before .before .before .before .before .before .before .before .before .before .before .before .before .before .before .before .before .before .before .before .before .before .before .before .before .before .before .before .before .before .before .before .before .before .before .loop-test .taken, s .pre .1 .1 .1, s .pre .1 .0 .fits .nodes .few)
+walk-nodes-add-i t c =
+    let at-loop-test = c .before .before .before .before .before .before .before .before .before .before .before .before .before .before .before
+    .before .before .before .before .before .before .before .before .before .before .before .before .before .before .before .before .before .before
+    .before .before .before .before .before .before .before .before .before .before .before .before .before .before .before .before in
+    let entry = at-loop-test .before .before .before .before .before .before .before .before .before .before .before in
+    omega (arith, at-loop-test .loop-test .taken, entry .pre .1 .1 .1, entry .pre .1 .0 .fits .nodes .few)
 
 walk-nodes-loop-less : (t : ℕ) → walk-nodes-lts.Need-loop-less (nodes-claims t) (walk-nodes-at t) walk-nodes.Post walk-nodes-Inv-loop walk-nodes-μ-loop
-walk-nodes-loop-less t c = omega (arith, c .before .before .before .before .before .before .before .before .before .before .before .before .before .before .before .before .before .before .before .before .before .before .before .before .before .before .before .before .before .before .before .before .before .before .before .before .before .before .before .before .before .before .before .before .before .before .before .before .before .loop-test .taken)
+walk-nodes-loop-less t c =
+    let at-loop-test = c .before .before .before .before .before .before .before .before .before .before .before .before .before .before .before
+    .before .before .before .before .before .before .before .before .before .before .before .before .before .before .before .before .before .before
+    .before .before .before .before .before .before .before .before .before .before .before .before .before .before .before .before in
+    omega (arith, at-loop-test .loop-test .taken)
 
 walk-nodes-loop-again : (t : ℕ) → walk-nodes-lts.Need-loop-again (nodes-claims t) (walk-nodes-at t) walk-nodes.Post walk-nodes-Inv-loop walk-nodes-μ-loop
-walk-nodes-loop-again t c = let s = c .before .before .before .before .before .before .before .before .before .before .before .before .before .before .before .before .before .before .before .before .before .before .before .before .before .before .before .before .before .before .before .before .before .before .before .before .before .before .before .before .before .before .before .before .before .before .before .before .before .before .before .before .before .before .before .before .before .before .before .before in (omega (arith, c .before .before .before .before .before .before .before .before .before .before .before .before .before .before .before .before .before .before .before .before .before .before .before .before .before .before .before .before .before .before .before .before .before .before .before .before .before .before .before .before .before .before .before .before .before .before .before .before .before .loop-test .taken), (c .before .before .before .before .before .before .before .before .before .before .before .before .before .before .before .before .before .before .walk-layer .kept .1 .1 .1 .1 .1 .0 ∙ c .before .before .before .before .before .before .before .before .before .before .before .before .before .before .before .before .before .before .before .before .before .before .before .before .before .before .before .before .before .before .before .before .before .before .before .before .before .before .before .walk-draws .kept .1 .1 .1 .1 .1 .0 ∙ c .before .before .before .before .before .before .before .before .before .before .before .before .before .before .before .before .before .before .before .before .before .before .before .before .before .before .before .before .before .before .before .before .before .before .before .before .before .before .before .before .before .before .before .before .before .before .before .before .before .before .loop .inv .1 .0, (c .before .before .before .before .before .before .before .before .before .before .before .before .before .before .before .before .before .before .walk-layer .kept .1 .1 .1 .1 .1 .1 .0 ∙ c .before .before .before .before .before .before .before .before .before .before .before .before .before .before .before .before .before .before .before .before .before .before .before .before .before .before .before .before .before .before .before .before .before .before .before .before .before .before .before .walk-draws .kept .1 .1 .1 .1 .1 .1 .0 ∙ c .before .before .before .before .before .before .before .before .before .before .before .before .before .before .before .before .before .before .before .before .before .before .before .before .before .before .before .before .before .before .before .before .before .before .before .before .before .before .before .before .before .before .before .before .before .before .before .before .before .before .loop .inv .1 .1 .0, (c .before .before .before .before .before .before .before .before .before .before .before .before .before .before .before .before .before .before .walk-layer .kept .1 .1 .1 .1 .1 .1 .1 .0 ∙ c .before .before .before .before .before .before .before .before .before .before .before .before .before .before .before .before .before .before .before .before .before .before .before .before .before .before .before .before .before .before .before .before .before .before .before .before .before .before .before .walk-draws .kept .1 .1 .1 .1 .1 .1 .1 .0 ∙ c .before .before .before .before .before .before .before .before .before .before .before .before .before .before .before .before .before .before .before .before .before .before .before .before .before .before .before .before .before .before .before .before .before .before .before .before .before .before .before .before .before .before .before .before .before .before .before .before .before .before .loop .inv .1 .1 .1 .0, (c .before .before .before .before .before .before .before .before .before .before .before .before .before .before .before .before .before .before .walk-layer .kept .1 .1 .1 .1 .1 .1 .1 .1 .0 ∙ c .before .before .before .before .before .before .before .before .before .before .before .before .before .before .before .before .before .before .before .before .before .before .before .before .before .before .before .before .before .before .before .before .before .before .before .before .before .before .before .before .before .before .before .before .before .before .before .before .before .before .loop .inv .1 .1 .1 .1 .0, (c .before .before .before .before .before .before .before .before .before .before .before .before .before .before .before .before .before .before .walk-layer .kept .1 .1 .1 .1 .1 .1 .1 .1 .1 .0 ∙ c .before .before .before .before .before .before .before .before .before .before .before .before .before .before .before .before .before .before .before .before .before .before .before .before .before .before .before .before .before .before .before .before .before .before .before .before .before .before .before .before .before .before .before .before .before .before .before .before .before .before .loop .inv .1 .1 .1 .1 .1 .0, (c .before .before .before .before .before .before .before .before .before .before .before .before .before .before .before .before .before .before .walk-layer .kept .1 .1 .1 .1 .1 .1 .1 .1 .1 .1 .0 ∙ c .before .before .before .before .before .before .before .before .before .before .before .before .before .before .before .before .before .before .before .before .before .before .before .before .before .before .before .before .before .before .before .before .before .before .before .before .before .before .before .walk-draws .kept .1 .1 .1 .1 .1 .1 .1 .1 .0 ∙ c .before .before .before .before .before .before .before .before .before .before .before .before .before .before .before .before .before .before .before .before .before .before .before .before .before .before .before .before .before .before .before .before .before .before .before .before .before .before .before .before .before .before .before .before .before .before .before .before .before .before .loop .inv .1 .1 .1 .1 .1 .1 .0, (c .before .before .before .before .before .before .before .before .before .before .before .before .before .before .before .before .before .before .walk-layer .kept .1 .1 .1 .1 .1 .1 .1 .1 .1 .1 .1 .0 ∙ c .before .before .before .before .before .before .before .before .before .before .before .before .before .before .before .before .before .before .before .before .before .before .before .before .before .before .before .before .before .before .before .before .before .before .before .before .before .before .before .before .before .before .before .before .before .before .before .before .before .before .loop .inv .1 .1 .1 .1 .1 .1 .1 .0, (c .before .before .before .before .before .before .before .before .before .before .before .before .before .before .before .before .before .before .walk-layer .kept .1 .1 .1 .1 .1 .1 .1 .1 .1 .1 .1 .1 .0 ∙ c .before .before .before .before .before .before .before .before .before .before .before .before .before .before .before .before .before .before .before .before .before .before .before .before .before .before .before .before .before .before .before .before .before .before .before .before .before .before .before .before .before .before .before .before .before .before .before .before .before .before .loop .inv .1 .1 .1 .1 .1 .1 .1 .1 .0, node-turned (c .before .before .before .before .before .before .before .before .before .before .before .before .before .before .before .before .before .before .before .before .before .before .before .before .before .before .before .before .before .before .before .before .before .before .before .before .before .before .before .before .before .before .before .before .before .before .before .before .before .before .loop .inv .1 .1 .1 .1 .1 .1 .1 .1 .1) (c .before .before .before .before .before .before .before .before .before .before .before .before .before .before .before .before .before .before .before .before .before .before .before .before .before .before .before .before .before .before .before .before .before .before .before .before .before .before .before .before .before .before .before .before .before .before .before .before .before .loop-test .taken) (s .pre .1 .1 .1) _ _ (λ u. draws-work (s .args .l) (s .args .w .now) (getD (s .args .w .now) (s .args .l .nodes .at + 3 * c .before .before .before .before .before .before .before .before .before .before .before .before .before .before .before .before .before .before .before .before .before .before .before .before .before .before .before .before .before .before .before .before .before .before .before .before .before .before .before .before .before .before .before .before .before .before .before .before .before .before .loop .i) 0) (getD (s .args .w .now) ((s .args .l .nodes .at + 3 * c .before .before .before .before .before .before .before .before .before .before .before .before .before .before .before .before .before .before .before .before .before .before .before .before .before .before .before .before .before .before .before .before .before .before .before .before .before .before .before .before .before .before .before .before .before .before .before .before .before .before .loop .i) + 1) 0) u _ _ _ _ _ _ _ _ _ _ _ (λ v. rw (c .before .before .before .before .before .before .before .before .before .before .before .before .before .before .before .before .before .before .before .before .before .before .before .before .before .before .before .before .before .before .before .before .before .before .before .before .before .before .before .before .before .before .before .before .before .before .wide .ensures, c .before .before .before .before .before .before .before .before .before .before .before .before .before .before .before .before .before .before .before .before .before .before .before .before .before .before .before .before .before .before .before .before .before .before .before .before .before .before .before .before .before .before .before .before .wide2 .ensures) at (c .before .before .before .before .before .before .before .before .before .before .before .before .before .before .before .before .before .before .before .before .before .before .before .before .before .before .before .before .before .before .before .before .before .before .before .before .before .before .before .walk-draws .ensures v))) (c .before .before .before .before .before .before .before .before .before .before .before .before .before .before .before .before .before .before .before .before .before .before .before .before .before .before .before .before .before .if1 .left) _ _ (c .before .before .before .before .before .before .before .before .before .before .before .before .before .before .before .before .before .before .walk-layer .ensures) (c .before .if2 .left))))))))))
+walk-nodes-loop-again t c =
+    let at-walk-layer = c .before .before .before .before .before .before .before .before .before .before .before .before .before .before .before
+    .before .before .before in
+    let at-if1 = at-walk-layer .before .before .before .before .before .before .before .before .before .before .before in
+    let at-walk-draws = at-if1 .before .before .before .before .before .before .before .before .before .before in
+    let at-wide2 = at-walk-draws .before .before .before .before .before in
+    let at-wide = at-wide2 .before .before in
+    let at-loop-test = at-wide .before .before .before in
+    let at-loop = at-loop-test .before in
+    let entry = at-loop .before .before .before .before .before .before .before .before .before .before in (
+      omega (arith, at-loop-test .loop-test .taken),
+      (
+        at-walk-layer .walk-layer .kept .1 .1 .1 .1 .1 .0 ∙ at-walk-draws .walk-draws .kept .1 .1 .1 .1 .1 .0 ∙ at-loop .loop .inv .1 .0,
+        (
+          at-walk-layer .walk-layer .kept .1 .1 .1 .1 .1 .1 .0 ∙ at-walk-draws .walk-draws .kept .1 .1 .1 .1 .1 .1 .0 ∙ at-loop .loop .inv .1 .1 .0,
+          (
+            at-walk-layer .walk-layer .kept .1 .1 .1 .1 .1 .1 .1 .0 ∙ at-walk-draws .walk-draws .kept .1 .1 .1 .1 .1 .1 .1 .0 ∙ at-loop .loop .inv .1
+                .1 .1 .0,
+            (
+              at-walk-layer .walk-layer .kept .1 .1 .1 .1 .1 .1 .1 .1 .0 ∙ at-loop .loop .inv .1 .1 .1 .1 .0,
+              (
+                at-walk-layer .walk-layer .kept .1 .1 .1 .1 .1 .1 .1 .1 .1 .0 ∙ at-loop .loop .inv .1 .1 .1 .1 .1 .0,
+                (
+                  at-walk-layer .walk-layer .kept .1 .1 .1 .1 .1 .1 .1 .1 .1 .1 .0 ∙ at-walk-draws .walk-draws .kept .1 .1 .1 .1 .1 .1 .1 .1 .0 ∙
+                      at-loop .loop .inv .1 .1 .1 .1 .1 .1 .0,
+                  (
+                    at-walk-layer .walk-layer .kept .1 .1 .1 .1 .1 .1 .1 .1 .1 .1 .1 .0 ∙ at-loop .loop .inv .1 .1 .1 .1 .1 .1 .1 .0,
+                    (
+                      at-walk-layer .walk-layer .kept .1 .1 .1 .1 .1 .1 .1 .1 .1 .1 .1 .1 .0 ∙ at-loop .loop .inv .1 .1 .1 .1 .1 .1 .1 .1 .0,
+                      node-turned (at-loop .loop .inv .1 .1 .1 .1 .1 .1 .1 .1 .1) (at-loop-test .loop-test .taken) (entry .pre .1 .1 .1) _ _ (λ u. draws-work (entry .args .l) (entry .args .w .now)
+                          (getD (entry .args .w .now) (entry .args .l .nodes .at + 3 * at-loop .loop .i) 0)
+                          (getD (entry .args .w .now) ((entry .args .l .nodes .at + 3 * at-loop .loop .i) + 1) 0) u _ _ _ _ _ _ _ _ _ _ _
+                          (λ v. rw (at-wide .wide .ensures, at-wide2 .wide2 .ensures) at (at-walk-draws .walk-draws .ensures v))) (at-if1 .if1 .left) _ _
+                          (at-walk-layer .walk-layer .ensures) (c .before .if2 .left),
+                    ),
+                  ),
+                ),
+              ),
+            ),
+          ),
+        ),
+      ),
+    )
 
 walk-nodes-same-length-17 : (t : ℕ) → walk-nodes-lts.Need-same-length-17 (nodes-claims t) (walk-nodes-at t) walk-nodes.Post walk-nodes-Inv-loop walk-nodes-μ-loop
 walk-nodes-same-length-17 t c = c .before .loop .inv .1 .0

@@ -63,13 +63,37 @@ returns c =
     draw-refused (at-loop .loop .inv .1 .1 .1 .1 .1) (s .pre .0) (at-loop-test .loop-test .taken) (s .pre .1 .1) _ _ (at-fill-draw .fill-draw .ensures) (c .if1 .taken)
 
 add-i : tie.Need-add-i Inv-loop μ-loop
-add-i c = let s = c .before .before .before .before .before .before .before .before .before .before .before .before .before .before .before .before .before .before .before .before .before .before .before in omega (arith, c .before .before .before .before .before .before .before .before .before .before .before .before .before .before .before .before .loop-test .taken, s .pre .1 .1, s .pre .0 .draws .few)
+add-i c =
+    let at-loop-test = c .before .before .before .before .before .before .before .before .before .before .before .before .before .before .before
+    .before in
+    let entry = at-loop-test .before .before .before .before .before .before .before in
+    omega (arith, at-loop-test .loop-test .taken, entry .pre .1 .1, entry .pre .0 .draws .few)
 
 loop-less : tie.Need-loop-less Inv-loop μ-loop
 loop-less c = omega arith
 
 loop-again : tie.Need-loop-again Inv-loop μ-loop
-loop-again c = let s = c .before .before .before .before .before .before .before .before .before .before .before .before .before .before .before .before .before .before .before .before .before .before .before in (omega (arith, c .before .before .before .before .before .before .before .before .before .before .before .before .before .before .before .before .loop-test .taken), (c .before .before .before .before .before .before .before .before .before .before .before .fill-draw .kept .1 .1 .1 .1 .0 ∙ c .before .before .before .before .before .before .before .before .before .before .before .before .before .before .before .before .before .loop .inv .1 .0, (c .before .before .before .before .before .before .before .before .before .before .before .fill-draw .kept .1 .1 .1 .1 .1 .0 ∙ c .before .before .before .before .before .before .before .before .before .before .before .before .before .before .before .before .before .loop .inv .1 .1 .0, (c .before .before .before .before .before .before .before .before .before .before .before .fill-draw .kept .1 .1 .1 .1 .1 .1 .0 ∙ c .before .before .before .before .before .before .before .before .before .before .before .before .before .before .before .before .before .loop .inv .1 .1 .1 .0, (c .before .before .before .before .before .before .before .before .before .before .before .fill-draw .kept .1 .1 .1 .1 .1 .1 .1 .0 ∙ c .before .before .before .before .before .before .before .before .before .before .before .before .before .before .before .before .before .loop .inv .1 .1 .1 .1 .0, draw-turned (c .before .before .before .before .before .before .before .before .before .before .before .before .before .before .before .before .before .loop .inv .1 .1 .1 .1 .1) (s .pre .0) (c .before .before .before .before .before .before .before .before .before .before .before .before .before .before .before .before .loop-test .taken) (s .pre .1 .1) _ _ (c .before .before .before .before .before .before .before .before .before .before .before .fill-draw .ensures) (c .before .if1 .left))))))
+loop-again c =
+    let at-fill-draw = c .before .before .before .before .before .before .before .before .before .before .before in
+    let at-loop-test = at-fill-draw .before .before .before .before .before in
+    let at-loop = at-loop-test .before in
+    let entry = at-loop .before .before .before .before .before .before in (
+      omega (arith, at-loop-test .loop-test .taken),
+      (
+        at-fill-draw .fill-draw .kept .1 .1 .1 .1 .0 ∙ at-loop .loop .inv .1 .0,
+        (
+          at-fill-draw .fill-draw .kept .1 .1 .1 .1 .1 .0 ∙ at-loop .loop .inv .1 .1 .0,
+          (
+            at-fill-draw .fill-draw .kept .1 .1 .1 .1 .1 .1 .0 ∙ at-loop .loop .inv .1 .1 .1 .0,
+            (
+              at-fill-draw .fill-draw .kept .1 .1 .1 .1 .1 .1 .1 .0 ∙ at-loop .loop .inv .1 .1 .1 .1 .0,
+              draw-turned (at-loop .loop .inv .1 .1 .1 .1 .1) (entry .pre .0) (at-loop-test .loop-test .taken) (entry .pre .1 .1) _ _
+                  (at-fill-draw .fill-draw .ensures) (c .before .if1 .left),
+            ),
+          ),
+        ),
+      ),
+    )
 
 same-length-5 : tie.Need-same-length-5 Inv-loop μ-loop
 same-length-5 c = c .before .loop .inv .1 .0

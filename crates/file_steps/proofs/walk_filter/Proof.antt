@@ -40,7 +40,16 @@ same-length-5 c = search needs
 
 returns : tie.Need-returns
 unfolding layer-from
-returns c = let s = c .before .before .before .before .before .before .before .before .before .before .before .before .before .before .before .before .before .before .before .before .before .before .before .before .before .before in λ t. plain (recorded (s .args .l) (s .args .w .now)) (layer-from (s .args .w .now) (s .args .at)) (sym (c .before .before .before .before .before .before .before .before .before .before .before .before .before .before .before .before .needs-buffer .ensures ∙ rw (c .before .before .before .before .before .before .before .before .before .before .before .before .before .before .before .before .before .props-at .ensures) (buffered-by-bits (props-of (layer-from (s .args .w .now) (s .args .at))) (omega (arith, c .before .before .before .before .before .before .before .before .before .before .before .before .before .before .before .before .before .before .before .before .before .before .before .before .before .shared-slice-known .given (s .args .at + 5))))) ∙ not-true _ (c .before .before .before .before .before .before .before .before .before .before .before .before .before .before .before .if1 .taken)) _ _ (filter-step t _ _ _ _ _ _ _ _ _ _ _ _ _ _ (c .before .before .before .before .before .before .before .before .before .filter-at .ensures))
+returns c =
+    let at-filter-at = c .before .before .before .before .before .before .before .before .before in
+    let at-if1 = at-filter-at .before .before .before .before .before .before in
+    let at-needs-buffer = at-if1 .before in
+    let at-props-at = at-needs-buffer .before in
+    let at-shared-slice-known = at-props-at .before .before .before .before .before .before .before .before in
+    let entry = at-shared-slice-known .before in
+    λ t. plain (recorded (entry .args .l) (entry .args .w .now)) (layer-from (entry .args .w .now) (entry .args .at)) (sym (at-needs-buffer .needs-buffer .ensures ∙ rw (at-props-at .props-at .ensures) (buffered-by-bits (props-of (layer-from (entry .args .w .now) (entry .args .at)))
+    (omega (arith, at-shared-slice-known .shared-slice-known .given (entry .args .at + 5))))) ∙ not-true _ (at-if1 .if1 .taken)) _ _
+    (filter-step t _ _ _ _ _ _ _ _ _ _ _ _ _ _ (at-filter-at .filter-at .ensures))
 
 push-layer-requires : tie.Need-push-layer-requires
 push-layer-requires c κs = search needs
@@ -62,7 +71,16 @@ same-length-10 c = search needs
 
 returns-2 : tie.Need-returns-2
 unfolding layer-from
-returns-2 c = let s = c .before .before .before .before .before .before .before .before .before .before .before .before .before .before .before .before .before .before .before .before .before .before .before .before .before .before .before .before .before in λ t. not-pushed (recorded (s .args .l) (s .args .w .now)) (layer-from (s .args .w .now) (s .args .at)) (sym (c .before .before .before .before .before .before .before .before .before .before .before .before .before .before .before .before .before .before .before .needs-buffer .ensures ∙ rw (c .before .before .before .before .before .before .before .before .before .before .before .before .before .before .before .before .before .before .before .before .props-at .ensures) (buffered-by-bits (props-of (layer-from (s .args .w .now) (s .args .at))) (omega (arith, c .before .before .before .before .before .before .before .before .before .before .before .before .before .before .before .before .before .before .before .before .before .before .before .before .before .before .before .before .shared-slice-known .given (s .args .at + 5))))) ∙ not-false _ (c .before .before .before .before .before .before .before .before .before .before .before .before .before .before .before .before .before .before .if1 .left)) _ _ _ (push-step t _ _ _ _ _ _ _ _ _ _ _ _ _ (rw (c .before .before .before .before .before .before .before .before .before .before .before .before .before .before .before .before .before .before .before .before .props-at .ensures) at (c .before .before .before .before .before .before .before .before .before .before .before .before .push-layer .ensures))) (c .if2 .taken)
+returns-2 c =
+    let at-push-layer = c .before .before .before .before .before .before .before .before .before .before .before .before in
+    let at-if1 = at-push-layer .before .before .before .before .before .before in
+    let at-needs-buffer = at-if1 .before in
+    let at-props-at = at-needs-buffer .before in
+    let at-shared-slice-known = at-props-at .before .before .before .before .before .before .before .before in
+    let entry = at-shared-slice-known .before in
+    λ t. not-pushed (recorded (entry .args .l) (entry .args .w .now)) (layer-from (entry .args .w .now) (entry .args .at)) (sym (at-needs-buffer .needs-buffer .ensures ∙ rw (at-props-at .props-at .ensures) (buffered-by-bits (props-of (layer-from (entry .args .w .now) (entry .args .at)))
+    (omega (arith, at-shared-slice-known .shared-slice-known .given (entry .args .at + 5))))) ∙ not-false _ (at-if1 .if1 .left)) _ _ _
+    (push-step t _ _ _ _ _ _ _ _ _ _ _ _ _ (rw (at-props-at .props-at .ensures) at (at-push-layer .push-layer .ensures))) (c .if2 .taken)
 
 filter-at-requires-2 : tie.Need-filter-at-requires-2
 filter-at-requires-2 c κs =
@@ -93,10 +111,16 @@ same-length-13 c =
     at-filter-at2 .filter-at2 .kept .1 .1 .1 .1 .1 .1 .0 ∙ at-push-layer .push-layer .kept .1 .1 .1 .0
 
 same-length-14 : tie.Need-same-length-14
-same-length-14 c = let at-push-layer = c .before .before .before .before .before .before .before .before .before .before .before .before .before .before .before .before .before .before .before .before .before .before .before .before .before .before .before .before .before .before in at-push-layer .push-layer .kept .1 .1 .1 .1 .0
+same-length-14 c =
+    let at-there = c .before .before .before .before .before .before .before .before .before .before .before .before .before .before .before .before
+    .before .before .before .before .before .before .before .before .before .before .before .before .before .before in
+    let at-push-layer = at-there in at-push-layer .push-layer .kept .1 .1 .1 .1 .0
 
 same-length-15 : tie.Need-same-length-15
-same-length-15 c = let at-push-layer = c .before .before .before .before .before .before .before .before .before .before .before .before .before .before .before .before .before .before .before .before .before .before .before .before .before .before .before .before .before .before in at-push-layer .push-layer .kept .1 .1 .1 .1 .1 .0
+same-length-15 c =
+    let at-there = c .before .before .before .before .before .before .before .before .before .before .before .before .before .before .before .before
+    .before .before .before .before .before .before .before .before .before .before .before .before .before .before in
+    let at-push-layer = at-there in at-push-layer .push-layer .kept .1 .1 .1 .1 .1 .0
 
 same-length-16 : tie.Need-same-length-16
 same-length-16 c = search needs
@@ -106,7 +130,19 @@ same-length-17 c = search needs
 
 returns-3 : tie.Need-returns-3
 unfolding layer-from
-returns-3 c = let s = c .before .before .before .before .before .before .before .before .before .before .before .before .before .before .before .before .before .before .before .before .before .before .before .before .before .before .before .before .before .before .before .before .before .before .before .before .before .before .before .before .before .before .before .before .before .before .before in λ t. not-drawn (recorded (s .args .l) (s .args .w .now)) (layer-from (s .args .w .now) (s .args .at)) (sym (c .before .before .before .before .before .before .before .before .before .before .before .before .before .before .before .before .before .before .before .before .before .before .before .before .before .before .before .before .before .before .before .before .before .before .before .before .before .needs-buffer .ensures ∙ rw (c .before .before .before .before .before .before .before .before .before .before .before .before .before .before .before .before .before .before .before .before .before .before .before .before .before .before .before .before .before .before .before .before .before .before .before .before .before .before .props-at .ensures) (buffered-by-bits (props-of (layer-from (s .args .w .now) (s .args .at))) (omega (arith, c .before .before .before .before .before .before .before .before .before .before .before .before .before .before .before .before .before .before .before .before .before .before .before .before .before .before .before .before .before .before .before .before .before .before .before .before .before .before .before .before .before .before .before .before .before .before .shared-slice-known .given (s .args .at + 5))))) ∙ not-false _ (c .before .before .before .before .before .before .before .before .before .before .before .before .before .before .before .before .before .before .before .before .before .before .before .before .before .before .before .before .before .before .before .before .before .before .before .before .if1 .left)) _ _ _ (push-step t _ _ _ _ _ _ _ _ _ _ _ _ _ (rw (c .before .before .before .before .before .before .before .before .before .before .before .before .before .before .before .before .before .before .before .before .before .before .before .before .before .before .before .before .before .before .before .before .before .before .before .before .before .before .props-at .ensures) at (c .before .before .before .before .before .before .before .before .before .before .before .before .before .before .before .before .before .before .before .before .before .before .before .before .before .before .before .before .before .before .push-layer .ensures))) (c .before .before .before .before .before .before .before .before .before .before .before .before .before .before .before .before .before .before .if2 .left) _ _ (filter-step t _ _ _ _ _ _ _ _ _ _ _ _ _ _ (c .before .before .before .before .before .before .before .before .before .before .before .filter-at2 .ensures)) (c .if3 .taken)
+returns-3 c =
+    let at-filter-at2 = c .before .before .before .before .before .before .before .before .before .before .before in
+    let at-if2 = at-filter-at2 .before .before .before .before .before .before .before in
+    let at-push-layer = at-if2 .before .before .before .before .before .before .before .before .before .before .before .before in
+    let at-if1 = at-push-layer .before .before .before .before .before .before in
+    let at-needs-buffer = at-if1 .before in
+    let at-props-at = at-needs-buffer .before in
+    let at-shared-slice-known = at-props-at .before .before .before .before .before .before .before .before in
+    let entry = at-shared-slice-known .before in
+    λ t. not-drawn (recorded (entry .args .l) (entry .args .w .now)) (layer-from (entry .args .w .now) (entry .args .at)) (sym (at-needs-buffer .needs-buffer .ensures ∙ rw (at-props-at .props-at .ensures) (buffered-by-bits (props-of (layer-from (entry .args .w .now) (entry .args .at)))
+    (omega (arith, at-shared-slice-known .shared-slice-known .given (entry .args .at + 5))))) ∙ not-false _ (at-if1 .if1 .left)) _ _ _
+    (push-step t _ _ _ _ _ _ _ _ _ _ _ _ _ (rw (at-props-at .props-at .ensures) at (at-push-layer .push-layer .ensures))) (at-if2 .if2 .left) _ _
+    (filter-step t _ _ _ _ _ _ _ _ _ _ _ _ _ _ (at-filter-at2 .filter-at2 .ensures)) (c .if3 .taken)
 
 pop-at-requires : tie.Need-pop-at-requires
 pop-at-requires c κs =
@@ -170,7 +206,22 @@ same-length-25 c = search needs
 
 returns-4 : tie.Need-returns-4
 unfolding layer-from
-returns-4 c = let s = c .before .before .before .before .before .before .before .before .before .before .before .before .before .before .before .before .before .before .before .before .before .before .before .before .before .before .before .before .before .before .before .before .before .before .before .before .before .before .before .before .before .before .before .before .before .before .before .before .before .before .before .before .before .before .before .before .before .before .before .before .before .before .before .before .before .before .before in λ t. closed (recorded (s .args .l) (s .args .w .now)) (layer-from (s .args .w .now) (s .args .at)) (sym (c .before .before .before .before .before .before .before .before .before .before .before .before .before .before .before .before .before .before .before .before .before .before .before .before .before .before .before .before .before .before .before .before .before .before .before .before .before .before .before .before .before .before .before .before .before .before .before .before .before .before .before .before .before .before .before .before .before .needs-buffer .ensures ∙ rw (c .before .before .before .before .before .before .before .before .before .before .before .before .before .before .before .before .before .before .before .before .before .before .before .before .before .before .before .before .before .before .before .before .before .before .before .before .before .before .before .before .before .before .before .before .before .before .before .before .before .before .before .before .before .before .before .before .before .before .props-at .ensures) (buffered-by-bits (props-of (layer-from (s .args .w .now) (s .args .at))) (omega (arith, c .before .before .before .before .before .before .before .before .before .before .before .before .before .before .before .before .before .before .before .before .before .before .before .before .before .before .before .before .before .before .before .before .before .before .before .before .before .before .before .before .before .before .before .before .before .before .before .before .before .before .before .before .before .before .before .before .before .before .before .before .before .before .before .before .before .before .shared-slice-known .given (s .args .at + 5))))) ∙ not-false _ (c .before .before .before .before .before .before .before .before .before .before .before .before .before .before .before .before .before .before .before .before .before .before .before .before .before .before .before .before .before .before .before .before .before .before .before .before .before .before .before .before .before .before .before .before .before .before .before .before .before .before .before .before .before .before .before .before .if1 .left)) _ _ _ (push-step t _ _ _ _ _ _ _ _ _ _ _ _ _ (rw (c .before .before .before .before .before .before .before .before .before .before .before .before .before .before .before .before .before .before .before .before .before .before .before .before .before .before .before .before .before .before .before .before .before .before .before .before .before .before .before .before .before .before .before .before .before .before .before .before .before .before .before .before .before .before .before .before .before .before .props-at .ensures) at (c .before .before .before .before .before .before .before .before .before .before .before .before .before .before .before .before .before .before .before .before .before .before .before .before .before .before .before .before .before .before .before .before .before .before .before .before .before .before .before .before .before .before .before .before .before .before .before .before .before .before .push-layer .ensures))) (c .before .before .before .before .before .before .before .before .before .before .before .before .before .before .before .before .before .before .before .before .before .before .before .before .before .before .before .before .before .before .before .before .before .before .before .before .before .before .if2 .left) _ _ (filter-step t _ _ _ _ _ _ _ _ _ _ _ _ _ _ (c .before .before .before .before .before .before .before .before .before .before .before .before .before .before .before .before .before .before .before .before .before .before .before .before .before .before .before .before .before .before .before .filter-at2 .ensures)) (c .before .before .before .before .before .before .before .before .before .before .before .before .before .before .before .before .before .before .before .before .if3 .left) _ (pop-step t _ _ _ _ _ _ _ _ _ _ _ _ _ _ (c .before .before .before .before .before .before .before .before .before .before .before .before .pop-at .ensures))
+returns-4 c =
+    let at-pop-at = c .before .before .before .before .before .before .before .before .before .before .before .before in
+    let at-if3 = at-pop-at .before .before .before .before .before .before .before .before in
+    let at-filter-at2 = at-if3 .before .before .before .before .before .before .before .before .before .before .before in
+    let at-if2 = at-filter-at2 .before .before .before .before .before .before .before in
+    let at-push-layer = at-if2 .before .before .before .before .before .before .before .before .before .before .before .before in
+    let at-if1 = at-push-layer .before .before .before .before .before .before in
+    let at-needs-buffer = at-if1 .before in
+    let at-props-at = at-needs-buffer .before in
+    let at-shared-slice-known = at-props-at .before .before .before .before .before .before .before .before in
+    let entry = at-shared-slice-known .before in
+    λ t. closed (recorded (entry .args .l) (entry .args .w .now)) (layer-from (entry .args .w .now) (entry .args .at)) (sym (at-needs-buffer .needs-buffer .ensures ∙ rw (at-props-at .props-at .ensures) (buffered-by-bits (props-of (layer-from (entry .args .w .now) (entry .args .at)))
+    (omega (arith, at-shared-slice-known .shared-slice-known .given (entry .args .at + 5))))) ∙ not-false _ (at-if1 .if1 .left)) _ _ _
+    (push-step t _ _ _ _ _ _ _ _ _ _ _ _ _ (rw (at-props-at .props-at .ensures) at (at-push-layer .push-layer .ensures))) (at-if2 .if2 .left) _ _
+    (filter-step t _ _ _ _ _ _ _ _ _ _ _ _ _ _ (at-filter-at2 .filter-at2 .ensures)) (at-if3 .if3 .left) _
+    (pop-step t _ _ _ _ _ _ _ _ _ _ _ _ _ _ (at-pop-at .pop-at .ensures))
 
 pub walk-filter-spec : {M : Type 1} → statement M
 walk-filter-spec =

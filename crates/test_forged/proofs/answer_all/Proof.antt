@@ -98,7 +98,19 @@ next-column-requires : tie.Need-next-column-requires Inv-loop μ-loop
 next-column-requires c κs = search needs
 
 loop-less : tie.Need-loop-less Inv-loop μ-loop
-loop-less c = omega (arith, c .before .before .before .before .before .before .before .before .before .before .before .before .before .before .before .before .before .before .before .before .before .before .before .before .before .before .before .before .before .before .before .before .before .before .after .ensures .2 (omega arith) (c .before .before .before .before .before .before .before .before .before .before .before .before .before .before .before .before .before .before .before .before .before .before .before .before .before .before .before .before .before .before .before .before .before .before .before .loop-test .taken), c .before .before .before .before .before .before .before .before .before .before .before .before .before .before .before .before .before .before .before .before .before .before .before .before .before .before .before .before .before .before .before .before .before .after2 .ensures .0, c .before .before .before .before .before .before .before .before .before .before .before .before .before .before .before .before .before .before .before .before .before .before .before .before .before .before .before .before .before .before .after3 .ensures .0, c .before .before .before .before .before .before .before .before .before .before .before .before .before .before .before .before .before .before .before .before .before .before .before .before .before .before .before .before .before .before .after3 .ensures .1)
+loop-less c =
+    let at-after3 = c .before .before .before .before .before .before .before .before .before .before .before .before .before .before .before .before
+    .before .before .before .before .before .before .before .before .before .before .before .before .before .before in
+    let at-after2 = at-after3 .before .before .before in
+    let at-after = at-after2 .before in
+    let at-loop-test = at-after .before in
+    omega (
+      arith,
+      at-after .after .ensures .2 (omega arith) (at-loop-test .loop-test .taken),
+      at-after2 .after2 .ensures .0,
+      at-after3 .after3 .ensures .0,
+      at-after3 .after3 .ensures .1,
+    )
 
 loop-again : tie.Need-loop-again Inv-loop μ-loop
 loop-again c = search needs

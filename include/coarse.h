@@ -20,7 +20,7 @@ extern "C" {
 enum coarse_answer {
     COARSE_DONE = 0,
     COARSE_BAD_ARENA = 1,    /* render, fills or depth of a wrong length, or C or D not from 1 to 1,024 */
-    COARSE_BAD_VIEWPORT = 2, /* a side no multiple of 4, an end before its start, past 32,768, wider than 4,096, higher than 2,048 */
+    COARSE_BAD_VIEWPORT = 2, /* as the mode reads it: a side no multiple of 4, an end before its start, past 32,768, wider than 4,096, higher than 2,048 */
     COARSE_BAD_FORM = 3,     /* a recording that is not exactly its sections */
     COARSE_BAD_RECORD = 4,   /* a field out of bounds, a table or result of a wrong length, words that are no screen */
     COARSE_BAD_ORDER = 5,    /* a segment list out of order */
@@ -59,7 +59,8 @@ static inline const char *coarse_answer_text(uint32_t answer) {
 
 /* The screen's own numbers: viewport x0 y0 x1 y1, clip box x0 y0 x1 y1, C, D, next draw id, the numbers of paint attributes, layer
  * attributes, filter paints and open layers, and 1 if painting has begun, else 0. A host starts with zeros and lends them to every
- * call. Another length is answer 4, whatever else is wrong; a last word above 1 is answer 4 after 3, 2 and 1. */
+ * call. Another length is answer 4, whatever else is wrong, save that with a mode above 1 a recording's 3 comes first; a last word above
+ * 1 is answer 4 after 3, 2 and 1. */
 #define COARSE_STATE 16
 
 /* Lengths that no viewport changes. coarse_sizes gives the others. */
@@ -76,6 +77,17 @@ static inline const char *coarse_answer_text(uint32_t answer) {
 #define COARSE_RUN 2     /* a run: first, end */
 #define COARSE_REASON 2  /* a reason: one of the cases below, and its number or 0 */
 
+/* How a viewport is read. */
+enum coarse_mode {
+    COARSE_EXACT = 0,   /* as it is given */
+    COARSE_SNAPPING = 1 /* carried outward to tile edges, starts down and ends up to a multiple of 4; limits are judged on that box alone */
+};
+
+/* What a screen is asked to be, by value: room for c render commands and d depth fills in a row, and the mode. The screen holds the
+ * viewport as the mode reads it, and no mode. A mode above 1 is answer 4, before 2 and 1: there is no viewport to judge. A recording's 3
+ * comes before it. Nothing changes then. */
+typedef struct coarse_setup { uint32_t c, d, mode; } coarse_setup;
+
 /* Why an attribute is shown at a tile or not: the first that holds. */
 enum coarse_reason_case {
     COARSE_UNKNOWN_ATTRIBUTE = 0, /* the recording has no such draw or layer attribute */
@@ -86,13 +98,13 @@ enum coarse_reason_case {
     COARSE_SHOWN = 5              /* number: its place in the tile's list, from 0 */
 };
 
-/* The lengths of the ten tables for a viewport, C and D, in the order that coarse_reset takes them. sizes_len is 10. */
-uint32_t coarse_sizes(uint32_t x0, uint32_t y0, uint32_t x1, uint32_t y1, uint32_t c, uint32_t d,
+/* The lengths of the ten tables for a viewport in a setup, in the order that coarse_reset takes them. sizes_len is 10. */
+uint32_t coarse_sizes(uint32_t x0, uint32_t y0, uint32_t x1, uint32_t y1, coarse_setup setup,
                       size_t *sizes, size_t sizes_len);
 
-/* A fresh screen of this viewport, with room for C render commands and D depth fills in a row: every lent word is 0. */
+/* A fresh screen of this viewport in a setup: every lent word is 0. */
 uint32_t coarse_reset(uint32_t *state, size_t state_len,
-                      uint32_t x0, uint32_t y0, uint32_t x1, uint32_t y1, uint32_t c, uint32_t d,
+                      uint32_t x0, uint32_t y0, uint32_t x1, uint32_t y1, coarse_setup setup,
                       uint32_t *render, size_t render_len,
                       uint32_t *fills, size_t fills_len,
                       uint32_t *depth, size_t depth_len,
@@ -104,10 +116,10 @@ uint32_t coarse_reset(uint32_t *state, size_t state_len,
                       uint32_t *layer_attrs, size_t layer_attrs_len,
                       int32_t *filter_paints, size_t filter_paints_len);
 
-/* A recording, as the little-endian words of its file, bucketed from a fresh screen of its own viewport. The tables have the lengths
- * that coarse_sizes gives for that viewport. */
+/* A recording, as the little-endian words of its file, bucketed from a fresh screen of its own viewport in a setup. The tables have the
+ * lengths that coarse_sizes gives for that. */
 uint32_t coarse_bucket_recording(uint32_t *state, size_t state_len,
-                                 const uint32_t *file, size_t file_len, uint32_t c, uint32_t d,
+                                 const uint32_t *file, size_t file_len, coarse_setup setup,
                                  uint32_t *render, size_t render_len,
                                  uint32_t *fills, size_t fills_len,
                                  uint32_t *depth, size_t depth_len,
@@ -124,7 +136,7 @@ uint32_t coarse_bucket_recording(uint32_t *state, size_t state_len,
  * own, then 12 for a row or tile off the screen; the state and the tables are what coarse_bucket_recording leaves. result_len is
  * COARSE_REASON; result is written only with answer 0. */
 uint32_t coarse_why(uint32_t *state, size_t state_len,
-                    const uint32_t *file, size_t file_len, uint32_t c, uint32_t d,
+                    const uint32_t *file, size_t file_len, coarse_setup setup,
                     uint32_t row, uint32_t tile, uint32_t layer, uint32_t attribute,
                     uint32_t *render, size_t render_len,
                     uint32_t *fills, size_t fills_len,

@@ -48,7 +48,7 @@ typedef struct { coarse_blend blend; float opacity; uint32_t mask, draw_id, thre
 
 /* A screen. The tables point into `block`; everything here is the calls' own. */
 typedef struct {
-    uint32_t c, d;
+    coarse_setup setup;
     uint32_t state[COARSE_STATE];
     size_t sizes[10];
     void *block;
@@ -85,15 +85,15 @@ static inline uint32_t coarse_bucketer_tables(coarse_bucketer *b, const size_t s
     return COARSE_DONE;
 }
 
-static inline uint32_t coarse_bucketer_sizes(coarse_rect v, uint32_t c, uint32_t d, size_t sizes[10]) {
-    return coarse_sizes(v.x0, v.y0, v.x1, v.y1, c, d, sizes, 10);
+static inline uint32_t coarse_bucketer_sizes(coarse_rect v, coarse_setup setup, size_t sizes[10]) {
+    return coarse_sizes(v.x0, v.y0, v.x1, v.y1, setup, sizes, 10);
 }
 
-/* Rule 1: a fresh screen of another viewport, with the same C and D. */
+/* Rule 1: a fresh screen of another viewport, in the same setup. */
 static inline uint32_t coarse_bucketer_reset(coarse_bucketer *b, coarse_rect v) {
     size_t sizes[10];
     void *old = b->block;
-    uint32_t answer = coarse_bucketer_sizes(v, b->c, b->d, sizes);
+    uint32_t answer = coarse_bucketer_sizes(v, b->setup, sizes);
     if (answer != COARSE_DONE)
         return answer;
     if (!old || memcmp(sizes, b->sizes, sizeof sizes) != 0) {
@@ -104,17 +104,17 @@ static inline uint32_t coarse_bucketer_reset(coarse_bucketer *b, coarse_rect v) 
         }
         free(old);
     }
-    return coarse_reset(b->state, COARSE_STATE, v.x0, v.y0, v.x1, v.y1, b->c, b->d, b->render, b->sizes[0], b->fills, b->sizes[1],
+    return coarse_reset(b->state, COARSE_STATE, v.x0, v.y0, v.x1, v.y1, b->setup, b->render, b->sizes[0], b->fills, b->sizes[1],
                         b->depth, b->sizes[2], b->rows, b->sizes[3], b->painting, b->sizes[4], b->layers, b->sizes[5],
                         b->opacities, b->sizes[6], b->paint_attrs, b->sizes[7], b->layer_attrs, b->sizes[8],
                         b->filter_paints, b->sizes[9]);
 }
 
-/* A screen with room for c render commands and d depth fills in a row. Refused, there is nothing to free. */
-static inline uint32_t coarse_bucketer_new(coarse_bucketer *b, coarse_rect viewport, uint32_t c, uint32_t d) {
+/* A screen in a setup, as (coarse_setup){64, 64, COARSE_EXACT}: its mode reads every viewport, of a reset and of a recording. Refused,
+ * there is nothing to free. */
+static inline uint32_t coarse_bucketer_new(coarse_bucketer *b, coarse_rect viewport, coarse_setup setup) {
     memset(b, 0, sizeof *b);
-    b->c = c;
-    b->d = d;
+    b->setup = setup;
     return coarse_bucketer_reset(b, viewport);
 }
 
@@ -131,7 +131,7 @@ static inline uint32_t coarse_bucketer_for(const coarse_bucketer *b, const uint3
     *next = *b;
     if (words > 4) {
         coarse_rect v = {file[1], file[2], file[3], file[4]};
-        if (coarse_bucketer_sizes(v, b->c, b->d, sizes) == COARSE_DONE && memcmp(sizes, b->sizes, sizeof sizes) != 0)
+        if (coarse_bucketer_sizes(v, b->setup, sizes) == COARSE_DONE && memcmp(sizes, b->sizes, sizeof sizes) != 0)
             return coarse_bucketer_tables(next, sizes);
     }
     return COARSE_DONE;
@@ -157,7 +157,7 @@ static inline uint32_t coarse_bucketer_bucket_commands(coarse_bucketer *b, const
     uint32_t answer = coarse_bucketer_for(b, file, words, &next);
     if (answer != COARSE_DONE)
         return answer;
-    answer = coarse_bucket_recording(next.state, COARSE_STATE, file, words, next.c, next.d, next.render, next.sizes[0], next.fills,
+    answer = coarse_bucket_recording(next.state, COARSE_STATE, file, words, next.setup, next.render, next.sizes[0], next.fills,
                                      next.sizes[1], next.depth, next.sizes[2], next.rows, next.sizes[3], next.painting,
                                      next.sizes[4], next.layers, next.sizes[5], next.opacities, next.sizes[6], next.paint_attrs,
                                      next.sizes[7], next.layer_attrs, next.sizes[8], next.filter_paints, next.sizes[9]);
@@ -172,7 +172,7 @@ static inline uint32_t coarse_bucketer_why(coarse_bucketer *b, const uint32_t *f
     uint32_t answer = coarse_bucketer_for(b, file, words, &next);
     if (answer != COARSE_DONE)
         return answer;
-    answer = coarse_why(next.state, COARSE_STATE, file, words, next.c, next.d, row, tile, layer != 0, attribute, next.render,
+    answer = coarse_why(next.state, COARSE_STATE, file, words, next.setup, row, tile, layer != 0, attribute, next.render,
                         next.sizes[0], next.fills, next.sizes[1], next.depth, next.sizes[2], next.rows, next.sizes[3], next.painting,
                         next.sizes[4], next.layers, next.sizes[5], next.opacities, next.sizes[6], next.paint_attrs, next.sizes[7],
                         next.layer_attrs, next.sizes[8], next.filter_paints, next.sizes[9], (uint32_t *)reason, COARSE_REASON);
@@ -219,6 +219,12 @@ static inline uint32_t coarse_bucketer_generate_filter_layer_fill(coarse_buckete
 /* Clears the depth words and sets every row to its first step. */
 static inline uint32_t coarse_bucketer_begin_painting(coarse_bucketer *b) {
     return coarse_begin_painting(b->state, COARSE_STATE, b->depth, b->sizes[2], b->painting, b->sizes[4]);
+}
+
+/* The viewport that the screen holds, as the mode has read it. */
+static inline coarse_rect coarse_bucketer_viewport(const coarse_bucketer *b) {
+    coarse_rect v = {b->state[0], b->state[1], b->state[2], b->state[3]};
+    return v;
 }
 
 /* Rows of tiles, and depth buckets in a row. */

@@ -12,6 +12,7 @@ static void expect(const char *what, uint32_t want, uint32_t got) {
     }
 }
 
+static const coarse_setup small = {8, 8, COARSE_EXACT}, snapping = {8, 8, COARSE_SNAPPING};
 static const coarse_paint paints[] = {{1, 1, 5, -5}, {0, 2, 0, 0}};
 static const coarse_segment segments[] = {{0, 0, 0, 64, 0}, {1, 0, 64, 70, 32}};
 static const coarse_draw both = {.start = 0, .end = 2, .paint = 0, .blend = COARSE_DEFAULT_BLEND};
@@ -24,8 +25,9 @@ static void null_pointers(void) {
     float *opacities = calloc(COARSE_OPACITIES, 4);
     int32_t *filter_paints = calloc(COARSE_FILTER_PAINTS, 4);
     size_t count[2] = {7, 7};
+    coarse_setup one = {1, 1, COARSE_EXACT};
     expect("reset to no rows", COARSE_DONE,
-           coarse_reset(state, COARSE_STATE, 0, 0, 128, 0, 1, 1, NULL, 0, NULL, 0, NULL, 0, NULL, 0, NULL, 0, layers, COARSE_LAYERS,
+           coarse_reset(state, COARSE_STATE, 0, 0, 128, 0, one, NULL, 0, NULL, 0, NULL, 0, NULL, 0, NULL, 0, layers, COARSE_LAYERS,
                         opacities, COARSE_OPACITIES, paint_attrs, COARSE_PAINT_ATTRS, layer_attrs, COARSE_LAYER_ATTRS,
                         filter_paints, COARSE_FILTER_PAINTS));
     expect("a pop with none open", COARSE_NO_LAYER,
@@ -43,7 +45,7 @@ static void null_pointers(void) {
     expect("their count stays", 7, (uint32_t)count[0]);
     expect("no state", COARSE_BAD_RECORD, coarse_begin_painting(NULL, 0, NULL, 0, NULL, 0));
     expect("a recording of no words", COARSE_BAD_FORM,
-           coarse_bucket_recording(state, COARSE_STATE, NULL, 0, 1, 1, NULL, 0, NULL, 0, NULL, 0, NULL, 0, NULL, 0, layers,
+           coarse_bucket_recording(state, COARSE_STATE, NULL, 0, one, NULL, 0, NULL, 0, NULL, 0, NULL, 0, NULL, 0, layers,
                                    COARSE_LAYERS, opacities, COARSE_OPACITIES, paint_attrs, COARSE_PAINT_ATTRS, layer_attrs,
                                    COARSE_LAYER_ATTRS, filter_paints, COARSE_FILTER_PAINTS));
     free(layers), free(paint_attrs), free(layer_attrs), free(opacities), free(filter_paints);
@@ -56,7 +58,7 @@ static void lent_spans(void) {
     coarse_span list[20];
     const coarse_run *runs;
     size_t count = 0, n = 0, i;
-    expect("a row of 32 buckets", COARSE_DONE, coarse_bucketer_new(&b, viewport, 8, 8));
+    expect("a row of 32 buckets", COARSE_DONE, coarse_bucketer_new(&b, viewport, small));
     for (i = 1; i < 32; i += 2)
         expect("every second is set", COARSE_DONE,
                coarse_bucketer_unset_runs_and_write(&b, 0, (uint32_t)i, (uint32_t)i + 1, 7, &runs, &count));
@@ -93,25 +95,155 @@ static uint32_t filter_fill(coarse_bucketer *b, uint32_t has_pixmap, uint32_t pi
                               b->sizes[7], b->filter_paints, b->sizes[9], 0, 0, 8, 3, 4, 0, has_pixmap, pixmap, 2);
 }
 
-/* The first tile, with any word for draw or layer, and any length of the result. */
-static uint32_t why(coarse_bucketer *b, const uint32_t *file, size_t words, uint32_t layer, size_t room) {
+/* The first tile, in any setup, with any word for draw or layer, and any length of the result. */
+static uint32_t why(coarse_bucketer *b, const uint32_t *file, size_t words, coarse_setup setup, uint32_t layer, size_t room) {
     uint32_t result[COARSE_REASON];
-    return coarse_why(b->state, COARSE_STATE, file, words, b->c, b->d, 0, 0, layer, 0, b->render, b->sizes[0], b->fills, b->sizes[1],
+    return coarse_why(b->state, COARSE_STATE, file, words, setup, 0, 0, layer, 0, b->render, b->sizes[0], b->fills, b->sizes[1],
                       b->depth, b->sizes[2], b->rows, b->sizes[3], b->painting, b->sizes[4], b->layers, b->sizes[5], b->opacities,
                       b->sizes[6], b->paint_attrs, b->sizes[7], b->layer_attrs, b->sizes[8], b->filter_paints, b->sizes[9], result,
                       room);
 }
 
+/* A reset of the screen that it is, in any setup. */
+static uint32_t reset(coarse_bucketer *b, coarse_rect v, coarse_setup setup) {
+    return coarse_reset(b->state, COARSE_STATE, v.x0, v.y0, v.x1, v.y1, setup, b->render, b->sizes[0], b->fills, b->sizes[1], b->depth,
+                        b->sizes[2], b->rows, b->sizes[3], b->painting, b->sizes[4], b->layers, b->sizes[5], b->opacities, b->sizes[6],
+                        b->paint_attrs, b->sizes[7], b->layer_attrs, b->sizes[8], b->filter_paints, b->sizes[9]);
+}
+
+/* A recording into its tables, in any setup, with so many words of its state. */
+static uint32_t record_with(coarse_bucketer *b, size_t state_len, const uint32_t *file, size_t words, coarse_setup setup) {
+    return coarse_bucket_recording(b->state, state_len, file, words, setup, b->render, b->sizes[0], b->fills, b->sizes[1], b->depth,
+                                   b->sizes[2], b->rows, b->sizes[3], b->painting, b->sizes[4], b->layers, b->sizes[5], b->opacities,
+                                   b->sizes[6], b->paint_attrs, b->sizes[7], b->layer_attrs, b->sizes[8], b->filter_paints, b->sizes[9]);
+}
+
+static uint32_t record(coarse_bucketer *b, const uint32_t *file, size_t words, coarse_setup setup) {
+    return record_with(b, COARSE_STATE, file, words, setup);
+}
+
+static uint32_t stateless(coarse_bucketer *b, const uint32_t *file, size_t words, coarse_setup setup) {
+    return record_with(b, COARSE_STATE - 1, file, words, setup);
+}
+
+/* All words of a bucketer, as one number that a change of any changes. */
+static uint32_t sum(const coarse_bucketer *b) {
+    const uint32_t *words = (const uint32_t *)b->block;
+    size_t n = 0, i;
+    uint32_t mixed = 2166136261u;
+    for (i = 0; i < 10; i++)
+        n += b->sizes[i];
+    for (i = 0; i < n; i++)
+        mixed = (mixed ^ words[i]) * 16777619u;
+    for (i = 0; i < COARSE_STATE; i++)
+        mixed = (mixed ^ b->state[i]) * 16777619u;
+    return mixed;
+}
+
+/* The snapping mode: a screen of 1,366 x 768 pixels has 342 tiles in a row. */
+static void snapped_screen(void) {
+    coarse_bucketer b;
+    coarse_rect odd = {0, 0, 1366, 768}, turned = {7, 7, 5, 5}, past = {0, 0, 4097, 4}, end = {32765, 0, 32768, 4}, far_off = {0, 0, 4, 0xffffffffu};
+    coarse_rect held;
+    const coarse_segment last[] = {{0, 191, 0, 342, 0}};
+    const coarse_draw draw = {.start = 0, .end = 1, .paint = 0, .blend = COARSE_DEFAULT_BLEND};
+    const coarse_piece *pieces;
+    size_t count = 0, sizes[10] = {0};
+    expect("exact, it is refused", COARSE_BAD_VIEWPORT, coarse_bucketer_new(&b, odd, small));
+    expect("exact, it has no sizes", COARSE_BAD_VIEWPORT, coarse_bucketer_sizes(odd, small, sizes));
+    expect("snapping, it has", COARSE_DONE, coarse_bucketer_sizes(odd, snapping, sizes));
+    expect("192 rows of 8 commands", 192 * 32, (uint32_t)sizes[0]);
+    expect("192 rows of 11 buckets", 192 * 11, (uint32_t)sizes[2]);
+    expect("snapping, it is a screen", COARSE_DONE, coarse_bucketer_new(&b, odd, snapping));
+    held = coarse_bucketer_viewport(&b);
+    expect("to the next tile edge", 1368, held.x1);
+    expect("its rows", 192, (uint32_t)coarse_bucketer_rows(&b));
+    expect("its buckets", 11, (uint32_t)coarse_bucketer_buckets(&b));
+    expect("a fill to the last tile", COARSE_DONE, coarse_bucketer_generate_fill(&b, paints, 2, last, 1, &draw));
+    expect("painting", COARSE_DONE, coarse_bucketer_begin_painting(&b));
+    expect("the last row", COARSE_DONE, coarse_bucketer_paint_row(&b, 191, &pieces, &count));
+    expect("in two pieces", 2, (uint32_t)count);
+    expect("to the end of the buckets", 320, count == 2 ? pieces[0].end : 0);
+    expect("and to the last tile", 342, count == 2 ? pieces[1].end : 0);
+
+    /* Ends before starts are judged once they are snapped, and so are the limits. */
+    expect("7 to 5", COARSE_DONE, coarse_bucketer_reset(&b, turned));
+    held = coarse_bucketer_viewport(&b);
+    expect("is 4", 4, held.x0);
+    expect("to 8", 8, held.x1);
+    expect("down too, 4", 4, held.y0);
+    expect("to 8, down", 8, held.y1);
+    expect("exact, 7 to 5 is refused", COARSE_BAD_VIEWPORT, reset(&b, turned, small));
+    expect("4,097 is 4,100", COARSE_BAD_VIEWPORT, coarse_bucketer_reset(&b, past));
+    expect("an end past every limit", COARSE_BAD_VIEWPORT, coarse_bucketer_reset(&b, far_off));
+    expect("the last tile of all", COARSE_DONE, coarse_bucketer_reset(&b, end));
+    held = coarse_bucketer_viewport(&b);
+    expect("starts at 32,764", 32764, held.x0);
+
+    /* A recording's viewport is read in the bucketer's mode: 510 x 3 pixels are 128 tiles of one row. */
+    const uint32_t file[] = {1, 0, 0, 510, 3, 1, 1, 1, 0, 0, 1, 0, 0, 0, 128, 0, 1, 0, 0, 1, 0, 0, 3, 0, 0, 1, 0, 1, 0, 1, 0, 1};
+    coarse_reason reason = {7, 7};
+    expect("a recording", COARSE_DONE, coarse_bucketer_bucket_commands(&b, file, 32));
+    expect("on a screen of 4 buckets", 4, (uint32_t)coarse_bucketer_buckets(&b));
+    expect("its last tile", COARSE_DONE, coarse_bucketer_why(&b, file, 32, 0, 127, 0, 0, &reason));
+    expect("shows the draw", COARSE_SHOWN, reason.reason);
+    expect("a tile past it", COARSE_BAD_RUN, coarse_bucketer_why(&b, file, 32, 0, 128, 0, 0, &reason));
+    expect("exact, it is refused", COARSE_BAD_VIEWPORT, record(&b, file, 32, small));
+    expect("and so is the question", COARSE_BAD_VIEWPORT, why(&b, file, 32, small, 0, COARSE_REASON));
+    coarse_bucketer_free(&b);
+}
+
+/* A mode above 1 is refused by 4 with nothing changed, whatever the viewport and C; of a recording after its 3. */
+static void no_mode(void) {
+    coarse_bucketer b;
+    coarse_rect narrow = {0, 0, 256, 8}, bad = {0, 0, 2, 4};
+    const uint32_t file[] = {1, 0, 0, 256, 8, 1, 1, 1, 0, 0, 1, 0, 0, 0, 64, 0, 1, 0, 0, 1, 0, 0, 3, 0, 0, 1, 0, 1, 0, 1, 0, 1};
+    size_t sizes[10] = {7, 7, 7, 7, 7, 7, 7, 7, 7, 7};
+    uint32_t modes[] = {2, 3, 0xffffffffu}, before;
+    size_t i;
+    expect("a screen", COARSE_DONE, coarse_bucketer_new(&b, narrow, small));
+    expect("with a fill", COARSE_DONE, coarse_bucketer_generate_fill(&b, paints, 2, segments, 2, &both));
+    before = sum(&b);
+    for (i = 0; i < 3; i++) {
+        coarse_bucketer other;
+        coarse_setup setup = {8, 8, modes[i]}, empty = {0, 8, modes[i]};
+        expect("no screen of it", COARSE_BAD_RECORD, coarse_bucketer_new(&other, narrow, setup));
+        expect("no sizes", COARSE_BAD_RECORD, coarse_bucketer_sizes(narrow, setup, sizes));
+        expect("no sizes of a bad viewport", COARSE_BAD_RECORD, coarse_bucketer_sizes(bad, empty, sizes));
+        expect("no reset", COARSE_BAD_RECORD, reset(&b, narrow, setup));
+        expect("no reset to a bad viewport", COARSE_BAD_RECORD, reset(&b, bad, empty));
+        expect("no recording", COARSE_BAD_RECORD, record(&b, file, 32, setup));
+        expect("a cut recording's form first", COARSE_BAD_FORM, record(&b, file, 31, setup));
+        expect("no reason", COARSE_BAD_RECORD, why(&b, file, 32, setup, 0, COARSE_REASON));
+        expect("a cut recording's form first, asked why", COARSE_BAD_FORM, why(&b, file, 31, setup, 0, COARSE_REASON));
+    }
+    expect("nothing has changed", before, sum(&b));
+    for (i = 0; i < 10; i++)
+        expect("the sizes stay", 7, (uint32_t)sizes[i]);
+    /* With a mode, the viewport and the arenas come before a last word that is no flag. */
+    b.state[15] = 2;
+    expect("a bad viewport before a bad state", COARSE_BAD_VIEWPORT, reset(&b, bad, small));
+    expect("a bad state", COARSE_BAD_RECORD, reset(&b, narrow, small));
+    expect("a bad state, snapping", COARSE_BAD_RECORD, reset(&b, narrow, snapping));
+    expect("no mode and a bad state", COARSE_BAD_RECORD, reset(&b, bad, (coarse_setup){8, 8, 2}));
+    expect("a cut recording before both", COARSE_BAD_FORM, record(&b, file, 31, (coarse_setup){8, 8, 2}));
+    expect("no state, a cut recording", COARSE_BAD_RECORD, stateless(&b, file, 31, small));
+    expect("no state, no mode, a cut recording", COARSE_BAD_FORM, stateless(&b, file, 31, (coarse_setup){8, 8, 2}));
+    expect("no state, no mode", COARSE_BAD_RECORD, stateless(&b, file, 32, (coarse_setup){8, 8, 2}));
+    coarse_bucketer_free(&b);
+}
+
 static void owned_tables(void) {
     coarse_bucketer b;
     coarse_rect narrow = {0, 0, 256, 8}, wide = {0, 0, 4096, 2048}, bad = {0, 0, 2, 4};
+    coarse_setup none = {0, 8, COARSE_EXACT};
     const coarse_piece *pieces;
     const coarse_run *runs;
     size_t count = 0;
     int finished = 0, yes = 0;
-    expect("a bad viewport", COARSE_BAD_VIEWPORT, coarse_bucketer_new(&b, bad, 8, 8));
-    expect("no room at all", COARSE_BAD_ARENA, coarse_bucketer_new(&b, narrow, 0, 8));
-    expect("a screen", COARSE_DONE, coarse_bucketer_new(&b, narrow, 8, 8));
+    expect("a bad viewport", COARSE_BAD_VIEWPORT, coarse_bucketer_new(&b, bad, small));
+    expect("no room at all", COARSE_BAD_ARENA, coarse_bucketer_new(&b, narrow, none));
+    expect("a screen", COARSE_DONE, coarse_bucketer_new(&b, narrow, small));
     expect("its rows", 2, (uint32_t)coarse_bucketer_rows(&b));
     expect("its buckets", 2, (uint32_t)coarse_bucketer_buckets(&b));
     expect("a larger one", COARSE_DONE, coarse_bucketer_reset(&b, wide));
@@ -182,9 +314,9 @@ static void owned_tables(void) {
     expect("in its first place", 0, reason.number);
     expect("a layer's attribute", COARSE_DONE, coarse_bucketer_why(&b, file, 32, 0, 127, 1, 0, &reason));
     expect("is not there", COARSE_UNKNOWN_ATTRIBUTE, reason.reason);
-    expect("neither draw nor layer", COARSE_BAD_RECORD, why(&b, file, 32, 2, COARSE_REASON));
-    expect("of a cut recording", COARSE_BAD_FORM, why(&b, file, 31, 2, COARSE_REASON));
-    expect("one word for a reason", COARSE_BAD_RECORD, why(&b, file, 32, 0, 1));
+    expect("neither draw nor layer", COARSE_BAD_RECORD, why(&b, file, 32, small, 2, COARSE_REASON));
+    expect("of a cut recording", COARSE_BAD_FORM, why(&b, file, 31, small, 2, COARSE_REASON));
+    expect("one word for a reason", COARSE_BAD_RECORD, why(&b, file, 32, small, 0, 1));
     coarse_bucketer_free(&b);
 }
 
@@ -192,5 +324,7 @@ int main(void) {
     null_pointers();
     owned_tables();
     lent_spans();
+    snapped_screen();
+    no_mode();
     return wrong;
 }

@@ -2,6 +2,7 @@
 
 use coarse::{
     BlendMode, CommandBucketer, LayerClip, LayerProps, Paint, Piece, RecordedFill, Rect, Segment,
+    Setup,
 };
 use oracle::generate::draft::Draft;
 use oracle::painting;
@@ -30,7 +31,7 @@ impl Port {
             segments: draft.segments.iter().map(segment).collect(),
             draws: draft.draws.iter().map(draw).collect(),
             layers: draft.layers.iter().map(layer).collect(),
-            bucketer: CommandBucketer::new(viewport, c, d).expect("a good viewport"),
+            bucketer: CommandBucketer::new(viewport, Setup::new(c, d)).expect("a good viewport"),
         }
     }
 

@@ -1,6 +1,6 @@
 //! A panel over a banner: what the tiles of one row receive.
 
-use coarse::{Answer, CommandBucketer, Paint, Piece, RecordedFill, Segment};
+use coarse::{Answer, CommandBucketer, Paint, Piece, RecordedFill, Segment, Setup};
 
 const NAMES: [&str; 2] = ["banner", "panel"];
 
@@ -16,7 +16,7 @@ fn received(pieces: &[Piece], paints: &[u32], tile: u32) -> String {
 
 fn main() -> Result<(), Answer> {
     // A screen of 512 x 4 pixels: one row of 128 tiles, in 4 depth buckets of 32.
-    let mut screen = CommandBucketer::from_wh(512, 4, 64, 64)?;
+    let mut screen = CommandBucketer::from_wh(512, 4, Setup::new(64, 64))?;
 
     // Both are opaque. The banner has the whole row, the panel tiles 20 to 70: all of bucket 1, and a part of 0 and of 2.
     let paints = [Paint::new(true, 1), Paint::new(true, 2)];

@@ -109,6 +109,45 @@ impl Rect {
     }
 }
 
+/// How a viewport is read: the words of `coarse_mode`.
+#[derive(Debug, Clone, Copy, PartialEq, Eq, Default)]
+#[repr(u32)]
+pub enum Mode {
+    /// As it is given.
+    #[default]
+    Exact = 0,
+    /// Carried outward to tile edges. The limits are judged on that box alone.
+    Snapping = 1,
+}
+
+/// What a screen is asked to be: room for c render commands and d depth fills in each row, and how viewports are read.
+#[derive(Debug, Clone, Copy, PartialEq, Eq, Default)]
+pub struct Setup {
+    pub c: u32,
+    pub d: u32,
+    pub mode: Mode,
+}
+
+impl Setup {
+    /// In the exact mode.
+    pub fn new(c: u32, d: u32) -> Self {
+        Self {
+            c,
+            d,
+            mode: Mode::Exact,
+        }
+    }
+
+    /// In the snapping mode.
+    pub fn snapping(c: u32, d: u32) -> Self {
+        Self {
+            c,
+            d,
+            mode: Mode::Snapping,
+        }
+    }
+}
+
 /// From a first tile or bucket to an end, which is not among them.
 #[derive(Debug, Clone, Copy, PartialEq, Eq, Default)]
 #[repr(C)]
@@ -377,11 +416,19 @@ fn segment_words(segments: &[Segment]) -> (*const u32, usize) {
     (segments.as_ptr().cast(), size_of_val(segments) / 4)
 }
 
-fn sizes(viewport: Rect, c: u32, d: u32) -> Result<[usize; 10], Answer> {
+fn sizes(viewport: Rect, setup: Setup) -> Result<[usize; 10], Answer> {
     let mut sizes = [0; 10];
     let Rect { x0, y0, x1, y1 } = viewport;
     Answer::check(unsafe {
-        sys::coarse_sizes(x0, y0, x1, y1, c, d, sizes.as_mut_ptr(), sizes.len())
+        sys::coarse_sizes(
+            x0,
+            y0,
+            x1,
+            y1,
+            setup.into(),
+            sizes.as_mut_ptr(),
+            sizes.len(),
+        )
     })?;
     Ok(sizes)
 }
@@ -443,8 +490,7 @@ const LAYERS: usize = 14;
 /// A screen with all its tables.
 #[derive(Debug, Clone)]
 pub struct CommandBucketer {
-    c: u32,
-    d: u32,
+    setup: Setup,
     state: [u32; STATE],
     tables: Tables,
     pieces: Vec<Piece>,
@@ -452,12 +498,11 @@ pub struct CommandBucketer {
 }
 
 impl CommandBucketer {
-    /// A fresh screen. Each row has room for c render commands and d depth fills.
-    pub fn new(viewport: Rect, c: u32, d: u32) -> Result<Self, Answer> {
-        let tables = Tables::new(sizes(viewport, c, d)?);
+    /// A fresh screen. Its mode reads every viewport, of a reset and of a recording.
+    pub fn new(viewport: Rect, setup: Setup) -> Result<Self, Answer> {
+        let tables = Tables::new(sizes(viewport, setup)?);
         let mut bucketer = Self {
-            c,
-            d,
+            setup,
             state: [0; STATE],
             tables,
             pieces: Vec::new(),
@@ -467,13 +512,13 @@ impl CommandBucketer {
         Ok(bucketer)
     }
 
-    pub fn from_wh(width: u32, height: u32, c: u32, d: u32) -> Result<Self, Answer> {
-        Self::new(Rect::new(0, 0, width, height), c, d)
+    pub fn from_wh(width: u32, height: u32, setup: Setup) -> Result<Self, Answer> {
+        Self::new(Rect::new(0, 0, width, height), setup)
     }
 
     /// Rule 1. Tables are made anew only where the viewport asks for other lengths.
     pub fn reset(&mut self, viewport: Rect) -> Result<(), Answer> {
-        let sizes = sizes(viewport, self.c, self.d)?;
+        let sizes = sizes(viewport, self.setup)?;
         if self.tables.lens() != sizes {
             self.tables = Tables::new(sizes);
         }
@@ -487,8 +532,7 @@ impl CommandBucketer {
                 y0,
                 x1,
                 y1,
-                self.c,
-                self.d,
+                self.setup.into(),
                 t.render.as_mut_ptr(),
                 t.render.len(),
                 t.fills.as_mut_ptr(),
@@ -526,8 +570,8 @@ impl CommandBucketer {
     ///
     /// Refused by 1 to 3 it changes nothing; by another number it leaves a fresh screen of the file's viewport.
     pub fn bucket_commands(&mut self, file: &[u32]) -> Result<(), Answer> {
-        self.on_own_screen(file, |state, c, d, tables| {
-            record(state, file, c, d, tables)
+        self.on_own_screen(file, |state, setup, tables| {
+            record(state, file, setup, tables)
         })
     }
 
@@ -542,8 +586,8 @@ impl CommandBucketer {
         tile: u32,
         attribute: Attribute,
     ) -> Result<Reason, Answer> {
-        self.on_own_screen(file, |state, c, d, tables| {
-            explain(state, file, c, d, row, tile, attribute, tables)
+        self.on_own_screen(file, |state, setup, tables| {
+            explain(state, file, setup, row, tile, attribute, tables)
         })
     }
 
@@ -551,16 +595,16 @@ impl CommandBucketer {
     fn on_own_screen<T>(
         &mut self,
         file: &[u32],
-        call: impl FnOnce(&mut [u32; STATE], u32, u32, &mut Tables) -> Result<T, Answer>,
+        call: impl FnOnce(&mut [u32; STATE], Setup, &mut Tables) -> Result<T, Answer>,
     ) -> Result<T, Answer> {
         let viewport = match file {
             [_, x0, y0, x1, y1, ..] => Rect::new(*x0, *y0, *x1, *y1),
             _ => return Err(Answer::BadForm),
         };
-        match sizes(viewport, self.c, self.d) {
+        match sizes(viewport, self.setup) {
             Ok(sizes) if sizes != self.tables.lens() => {
                 let mut tables = Tables::new(sizes);
-                let done = call(&mut self.state, self.c, self.d, &mut tables);
+                let done = call(&mut self.state, self.setup, &mut tables);
                 if !matches!(
                     done,
                     Err(Answer::BadArena | Answer::BadViewport | Answer::BadForm)
@@ -570,7 +614,7 @@ impl CommandBucketer {
                 }
                 done
             }
-            _ => call(&mut self.state, self.c, self.d, &mut self.tables),
+            _ => call(&mut self.state, self.setup, &mut self.tables),
         }
     }
 
@@ -781,7 +825,7 @@ impl CommandBucketer {
         // Each call has room for one step at least, and a row has at most c + d.
         let step = self.buckets() + 1;
         let mut count = 0;
-        for _ in 0..=self.c + self.d {
+        for _ in 0..=self.setup.c + self.setup.d {
             if self.pieces.len() < count + step {
                 self.pieces.resize(2 * (count + step), Piece::default());
             }
@@ -928,6 +972,12 @@ impl CommandBucketer {
         Ok(yes[0] == 1)
     }
 
+    /// The viewport that the screen holds, as the mode has read it.
+    pub fn viewport(&self) -> Rect {
+        let [x0, y0, x1, y1, ..] = self.state;
+        Rect { x0, y0, x1, y1 }
+    }
+
     /// How many rows of tiles the screen has.
     pub fn rows(&self) -> usize {
         (self.state[3].saturating_sub(self.state[1]) / 4) as usize
@@ -1017,8 +1067,7 @@ impl CommandBucketer {
 fn record(
     state: &mut [u32; STATE],
     file: &[u32],
-    c: u32,
-    d: u32,
+    setup: Setup,
     t: &mut Tables,
 ) -> Result<(), Answer> {
     Answer::check(unsafe {
@@ -1027,8 +1076,7 @@ fn record(
             STATE,
             file.as_ptr(),
             file.len(),
-            c,
-            d,
+            setup.into(),
             t.render.as_mut_ptr(),
             t.render.len(),
             t.fills.as_mut_ptr(),
@@ -1053,12 +1101,10 @@ fn record(
     })
 }
 
-#[allow(clippy::too_many_arguments)]
 fn explain(
     state: &mut [u32; STATE],
     file: &[u32],
-    c: u32,
-    d: u32,
+    setup: Setup,
     row: u32,
     tile: u32,
     attribute: Attribute,
@@ -1075,8 +1121,7 @@ fn explain(
             STATE,
             file.as_ptr(),
             file.len(),
-            c,
-            d,
+            setup.into(),
             row,
             tile,
             layer,

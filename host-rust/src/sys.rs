@@ -1,6 +1,25 @@
 //! The calls of `include/coarse.h`. A slice crosses as a pointer and a length.
 
-use crate::Run;
+use crate::{Run, Setup};
+
+/// A [`Setup`] as it crosses.
+#[derive(Clone, Copy)]
+#[repr(C)]
+pub struct SetupWords {
+    pub c: u32,
+    pub d: u32,
+    pub mode: u32,
+}
+
+impl From<Setup> for SetupWords {
+    fn from(setup: Setup) -> Self {
+        Self {
+            c: setup.c,
+            d: setup.d,
+            mode: setup.mode as u32,
+        }
+    }
+}
 
 /// A call that paints a row: `coarse_paint_step`, `coarse_paint_row`.
 pub type Paint = unsafe extern "C" fn(
@@ -33,8 +52,7 @@ extern "C" {
         y0: u32,
         x1: u32,
         y1: u32,
-        c: u32,
-        d: u32,
+        setup: SetupWords,
         sizes: *mut usize,
         sizes_len: usize,
     ) -> u32;
@@ -46,8 +64,7 @@ extern "C" {
         y0: u32,
         x1: u32,
         y1: u32,
-        c: u32,
-        d: u32,
+        setup: SetupWords,
         render: *mut u32,
         render_len: usize,
         fills: *mut u32,
@@ -75,8 +92,7 @@ extern "C" {
         state_len: usize,
         file: *const u32,
         file_len: usize,
-        c: u32,
-        d: u32,
+        setup: SetupWords,
         render: *mut u32,
         render_len: usize,
         fills: *mut u32,
@@ -104,8 +120,7 @@ extern "C" {
         state_len: usize,
         file: *const u32,
         file_len: usize,
-        c: u32,
-        d: u32,
+        setup: SetupWords,
         row: u32,
         tile: u32,
         layer: u32,

@@ -101,7 +101,7 @@ fn the_samples() {
         let number = name
             .strip_prefix("refused-")
             .map_or(0, |n| n.parse().unwrap());
-        let mut bucketer = CommandBucketer::from_wh(4, 4, 64, 64).unwrap();
+        let mut bucketer = CommandBucketer::from_wh(4, 4, Setup::new(64, 64)).unwrap();
         let done = bucketer.bucket_commands(&words(&std::fs::read(&path).unwrap()));
         assert_eq!(done.map_or_else(Answer::number, |()| 0), number, "{name}");
         if number == 0 {
@@ -120,7 +120,7 @@ fn the_samples() {
 #[test]
 fn why_a_tile_shows_what_it_shows() {
     let file = words(include_bytes!("../../samples/worked.rec"));
-    let mut bucketer = CommandBucketer::from_wh(4, 4, 64, 64).unwrap();
+    let mut bucketer = CommandBucketer::from_wh(4, 4, Setup::new(64, 64)).unwrap();
     let mut why = |row, tile, attribute| bucketer.why(&file, row, tile, attribute);
     assert_eq!(why(0, 10, Attribute::Draw(0)), Ok(Reason::ShownAt(0)));
     assert_eq!(why(0, 9, Attribute::Draw(0)), Ok(Reason::NoSegment));
@@ -137,7 +137,7 @@ fn why_a_tile_shows_what_it_shows() {
 #[test]
 fn the_worked_example() {
     let file = words(include_bytes!("../../samples/worked.rec"));
-    let mut bucketer = CommandBucketer::from_wh(4, 4, 64, 64).unwrap();
+    let mut bucketer = CommandBucketer::from_wh(4, 4, Setup::new(64, 64)).unwrap();
     bucketer.bucket_commands(&file).unwrap();
     assert_eq!(
         (bucketer.rows(), bucketer.buckets(), bucketer.next_draw_id()),
@@ -177,7 +177,7 @@ fn the_worked_example() {
 
 #[test]
 fn refused_recordings_change_nothing_or_leave_a_fresh_screen() {
-    let mut bucketer = CommandBucketer::from_wh(256, 8, 64, 64).unwrap();
+    let mut bucketer = CommandBucketer::from_wh(256, 8, Setup::new(64, 64)).unwrap();
     bucketer
         .generate_fill(
             &[Paint::new(true, 1)],
@@ -210,7 +210,7 @@ fn refused_recordings_change_nothing_or_leave_a_fresh_screen() {
 
 #[test]
 fn layers_keep_their_opacity() {
-    let mut bucketer = CommandBucketer::from_wh(256, 8, 64, 64).unwrap();
+    let mut bucketer = CommandBucketer::from_wh(256, 8, Setup::new(64, 64)).unwrap();
     let patterns = [
         0x3f00_0000,
         0x7fc0_0000,
@@ -237,7 +237,7 @@ fn layers_keep_their_opacity() {
 
 #[test]
 fn a_clipped_layer() {
-    let mut bucketer = CommandBucketer::from_wh(256, 8, 64, 64).unwrap();
+    let mut bucketer = CommandBucketer::from_wh(256, 8, Setup::new(64, 64)).unwrap();
     let clip = LayerClip {
         bbox: Rect::new(0, 0, 64, 4),
         start: 0,
@@ -285,7 +285,7 @@ fn a_clipped_layer() {
 
 #[test]
 fn a_filter_fill() {
-    let mut bucketer = CommandBucketer::from_wh(256, 8, 64, 64).unwrap();
+    let mut bucketer = CommandBucketer::from_wh(256, 8, Setup::new(64, 64)).unwrap();
     let placement = FilterLayerPlacement {
         dest: Rect::new(16, 2, 48, 6),
         source_x: 4,
@@ -327,7 +327,7 @@ fn a_filter_fill() {
 
 #[test]
 fn runs_and_skips() {
-    let mut bucketer = CommandBucketer::from_wh(512, 4, 8, 8).unwrap();
+    let mut bucketer = CommandBucketer::from_wh(512, 4, Setup::new(8, 8)).unwrap();
     let run = |first, end| Run { first, end };
     assert_eq!(
         bucketer.unset_runs_and_write(0, 1, 2, 7).unwrap(),
@@ -373,7 +373,7 @@ fn runs_and_skips() {
 
 #[test]
 fn spans_in_a_lent_list() {
-    let mut bucketer = CommandBucketer::from_wh(512, 8, 8, 8).unwrap();
+    let mut bucketer = CommandBucketer::from_wh(512, 8, Setup::new(8, 8)).unwrap();
     bucketer.unset_runs_and_write(0, 1, 2, 7).unwrap();
     let other = Run { first: 1, end: 0 };
     let mut list = [other; 3];
@@ -406,7 +406,7 @@ fn spans_in_a_lent_list() {
 
 /// Fills in and around two layers, one in the other, over rows 0 and 1 of 128 tiles.
 fn nested() -> CommandBucketer {
-    let mut bucketer = CommandBucketer::from_wh(512, 8, 64, 64).unwrap();
+    let mut bucketer = CommandBucketer::from_wh(512, 8, Setup::new(64, 64)).unwrap();
     let paints = [Paint::new(true, 1), Paint::new(false, 2)];
     let fills = |bucketer: &mut CommandBucketer, n: u32| {
         for i in 0..n {
@@ -475,14 +475,14 @@ fn a_row_with_little_room() {
 #[test]
 fn refusals_change_nothing() {
     assert_eq!(
-        CommandBucketer::from_wh(6, 8, 64, 64).err(),
+        CommandBucketer::from_wh(6, 8, Setup::new(64, 64)).err(),
         Some(Answer::BadViewport)
     );
     assert_eq!(
-        CommandBucketer::from_wh(8, 8, 0, 64).err(),
+        CommandBucketer::from_wh(8, 8, Setup::new(0, 64)).err(),
         Some(Answer::BadArena)
     );
-    let mut bucketer = CommandBucketer::from_wh(256, 8, 1, 1).unwrap();
+    let mut bucketer = CommandBucketer::from_wh(256, 8, Setup::new(1, 1)).unwrap();
     let opaque = [Paint::new(true, 1)];
     assert_eq!(bucketer.pop_layer(&[]), Err(Answer::NoLayer));
     assert_eq!(bucketer.paint_step(0), Err(Answer::Open));
@@ -525,7 +525,7 @@ fn refusals_change_nothing() {
 
 #[test]
 fn words_that_are_no_screen() {
-    let mut bucketer = CommandBucketer::from_wh(256, 8, 8, 8).unwrap();
+    let mut bucketer = CommandBucketer::from_wh(256, 8, Setup::new(8, 8)).unwrap();
     bucketer.state[15] = 2;
     let before = bucketer.clone();
     assert_eq!(
@@ -549,4 +549,93 @@ fn words_that_are_no_screen() {
         Err(Answer::BadViewport)
     );
     assert_eq!(bucketer.begin_painting(), Err(Answer::BadViewport));
+}
+
+/// 1,366 x 768 pixels are 342 tiles in each of 192 rows.
+#[test]
+fn a_snapped_screen() {
+    let setup = Setup::snapping(8, 8);
+    assert_eq!(
+        CommandBucketer::from_wh(1366, 768, Setup::new(8, 8)).err(),
+        Some(Answer::BadViewport)
+    );
+    assert_eq!(sizes(Rect::new(0, 0, 1366, 768), setup), {
+        sizes(Rect::new(0, 0, 1368, 768), Setup::new(8, 8))
+    });
+    let mut bucketer = CommandBucketer::from_wh(1366, 768, setup).unwrap();
+    assert_eq!(bucketer.viewport(), Rect::new(0, 0, 1368, 768));
+    assert_eq!((bucketer.rows(), bucketer.buckets()), (192, 11));
+    bucketer
+        .generate_fill(
+            &[Paint::new(true, 1)],
+            &[Segment::solid(191, 0, 342)],
+            &fill(0, 1, 0),
+        )
+        .unwrap();
+    bucketer.begin_painting().unwrap();
+    assert_eq!(painted(&mut bucketer, 190), []);
+    assert_eq!(
+        painted(&mut bucketer, 191),
+        [paint(0, 0, 320), paint(0, 320, 342)]
+    );
+    // A viewport of tile edges is the same screen in both modes.
+    bucketer.reset(Rect::new(0, 0, 1368, 768)).unwrap();
+    let exact = CommandBucketer::from_wh(1368, 768, Setup::new(8, 8)).unwrap();
+    assert_eq!(bucketer.state, exact.state);
+}
+
+/// An end before its start, and the limits, are judged on the snapped box.
+#[test]
+fn snapped_edges() {
+    let mut bucketer = CommandBucketer::from_wh(4, 4, Setup::snapping(8, 8)).unwrap();
+    bucketer.reset(Rect::new(7, 7, 5, 5)).unwrap();
+    assert_eq!(bucketer.viewport(), Rect::new(4, 4, 8, 8));
+    assert_eq!(
+        CommandBucketer::new(Rect::new(7, 7, 5, 5), Setup::new(8, 8)).err(),
+        Some(Answer::BadViewport)
+    );
+    bucketer.reset(Rect::new(1, 0, 4093, 2045)).unwrap();
+    assert_eq!(bucketer.viewport(), Rect::new(0, 0, 4096, 2048));
+    let before = bucketer.clone();
+    for refused in [
+        Rect::new(3, 0, 4097, 4),
+        Rect::new(0, 0, 4, 2049),
+        Rect::new(8, 0, 4, 4),
+        Rect::new(0, 0, 32769, 4),
+        Rect::new(u32::MAX, 0, u32::MAX, 4),
+    ] {
+        assert_eq!(
+            bucketer.reset(refused),
+            Err(Answer::BadViewport),
+            "{refused:?}"
+        );
+    }
+    assert_eq!(bucketer.state, before.state);
+    assert_eq!(
+        CommandBucketer::from_wh(1366, 768, Setup::snapping(0, 8)).err(),
+        Some(Answer::BadArena)
+    );
+}
+
+/// One draw over all 128 tiles of a recording whose viewport is 510 x 3 pixels.
+#[test]
+fn a_snapped_recording() {
+    let file = [
+        1, 0, 0, 510, 3, 1, 1, 1, 0, 0, 1, 0, 0, 0, 128, 0, 1, 0, 0, 1, 0, 0, 3, 0, 0, 1, 0, 1, 0,
+        1, 0, 1,
+    ];
+    let mut exact = CommandBucketer::from_wh(4, 4, Setup::new(8, 8)).unwrap();
+    assert_eq!(exact.bucket_commands(&file), Err(Answer::BadViewport));
+    assert_eq!(
+        exact.why(&file, 0, 0, Attribute::Draw(0)),
+        Err(Answer::BadViewport)
+    );
+    let mut bucketer = CommandBucketer::from_wh(4, 4, Setup::snapping(8, 8)).unwrap();
+    bucketer.bucket_commands(&file).unwrap();
+    assert_eq!(bucketer.viewport(), Rect::new(0, 0, 512, 4));
+    bucketer.begin_painting().unwrap();
+    assert_eq!(painted(&mut bucketer, 0), [paint(0, 0, 128)]);
+    let mut why = |tile| bucketer.why(&file, 0, tile, Attribute::Draw(0));
+    assert_eq!(why(127), Ok(Reason::ShownAt(0)));
+    assert_eq!(why(128), Err(Answer::BadRun));
 }

@@ -4,7 +4,7 @@ use crate::coarse::bucketer::RowState;
 use crate::coarse::cmd::{PaintFillAttrs, RenderCmd};
 use crate::coarse::depth::{BucketRange, DepthBuffer};
 use crate::coarse::{probe, CommandBucketer};
-use crate::file::{good_blend, good_box, good_dest, good_segment, good_viewport, in_order};
+use crate::file::{good_blend, good_box, good_dest, good_segment, in_order};
 use crate::limits::{
     self, BAD_ARENA, BAD_ORDER, BAD_RECORD, BAD_RUN, BAD_VIEWPORT, HANDLES, LAST_PIXEL, LAST_TILE,
     MOST_RECORDS, MOST_ROOM, NO_LAYER, NO_ROOM, OPEN, THREADS,
@@ -12,9 +12,11 @@ use crate::limits::{
 use crate::print::handle;
 use crate::scene::{blend, draw, mask, paint, rect, strip};
 use crate::span::TileAlignedSpan;
+use crate::viewport::{must_hold, Mode};
 use std::sync::Arc;
 use vello_common::encode::EncodedPaint;
 use vello_common::filter::FilterLayerPlacement;
+use vello_common::geometry::RectU16;
 use vello_common::paint::{ImageSource, Paint};
 use vello_common::pixmap::Pixmap;
 use vello_common::record::{LayerClip, LayerProps};
@@ -29,6 +31,7 @@ pub enum Call {
         viewport: [u32; 4],
         c: u32,
         d: u32,
+        mode: Mode,
     },
     Fill {
         draw: [u32; 7],
@@ -92,7 +95,12 @@ fn list<const N: usize>(records: &[[u32; N]]) -> Vec<u32> {
 impl Call {
     pub(crate) fn words(&self) -> Vec<u32> {
         match self {
-            Self::Reset { viewport, c, d } => [&[0], &viewport[..], &[*c, *d]].concat(),
+            Self::Reset {
+                viewport,
+                c,
+                d,
+                mode,
+            } => [&[0], &viewport[..], &[*c, *d, mode.word()]].concat(),
             Self::Fill {
                 draw,
                 paints,
@@ -142,11 +150,12 @@ impl Call {
         let [kind] = take(rest)?;
         Some(match kind {
             0 => {
-                let ([x0, y0, x1, y1, c, d],) = (take(rest)?,);
+                let [x0, y0, x1, y1, c, d, mode] = take(rest)?;
                 Self::Reset {
                     viewport: [x0, y0, x1, y1],
                     c,
                     d,
+                    mode: Mode::of(mode)?,
                 }
             }
             1 => Self::Fill {
@@ -281,7 +290,9 @@ struct Painter {
 
 struct Screen {
     bucketer: CommandBucketer,
-    viewport: [u32; 4],
+    /// The viewport as the last reset had it, and the box that the screen holds.
+    given: RectU16,
+    held: RectU16,
     c: usize,
     d: usize,
     /// What was done since the reset: a step that passes a limit is undone by doing these again.
@@ -295,7 +306,8 @@ impl Screen {
         let bucketer = CommandBucketer::from_wh(0, 0);
         Self {
             bucketer,
-            viewport: [0; 4],
+            given: rect([0; 4]),
+            held: rect([0; 4]),
             c: 1,
             d: 1,
             done: Vec::new(),
@@ -306,7 +318,12 @@ impl Screen {
 
     fn answer(&mut self, call: &Call) -> Vec<u32> {
         match call {
-            Call::Reset { viewport, c, d } => vec![self.reset(*viewport, *c, *d)],
+            Call::Reset {
+                viewport,
+                c,
+                d,
+                mode,
+            } => vec![self.reset(*viewport, *c, *d, *mode)],
             Call::Fill { .. } | Call::Push { .. } | Call::Pop { .. } | Call::Filter { .. } => {
                 vec![self.build(call)]
             }
@@ -345,15 +362,17 @@ impl Screen {
         }
     }
 
-    fn reset(&mut self, viewport: [u32; 4], c: u32, d: u32) -> u32 {
-        if !good_viewport(viewport) {
+    fn reset(&mut self, viewport: [u32; 4], c: u32, d: u32, mode: Mode) -> u32 {
+        let Some(held) = mode.held(viewport) else {
             return BAD_VIEWPORT;
-        }
+        };
         if ![c, d].iter().all(|room| (1..=MOST_ROOM).contains(room)) {
             return BAD_ARENA;
         }
-        (self.viewport, self.c, self.d) = (viewport, c as usize, d as usize);
-        self.bucketer.reset(rect(viewport));
+        (self.given, self.held) = (rect(viewport), rect(held));
+        (self.c, self.d) = (c as usize, d as usize);
+        self.bucketer.reset(self.given);
+        must_hold(&self.bucketer, self.held);
         self.done.clear();
         self.begun = false;
         self.blank();
@@ -383,7 +402,7 @@ impl Screen {
             self.begun = false;
             return 0;
         };
-        self.bucketer.reset(rect(self.viewport));
+        self.bucketer.reset(self.given);
         for call in self.done.clone() {
             self.perform(&call);
         }
@@ -471,7 +490,7 @@ impl Screen {
                     mask: fill.mask.clone(),
                     draw_id: probe::take_id(&mut self.bucketer),
                     thread_idx: fill.thread_idx,
-                    origin: (rect(self.viewport).x0, rect(self.viewport).y0),
+                    origin: (self.held.x0, self.held.y0),
                 };
                 let paints: Vec<EncodedPaint> = paints.iter().map(paint).collect();
                 let strips: Vec<_> = segments[fill.strip_range.clone()]

@@ -1,9 +1,10 @@
 //! The recording file of document 01: its form, its records, and whether they are good.
 
 use crate::limits::{
-    BAD_FORM, BAD_ORDER, BAD_RECORD, BAD_VIEWPORT, HANDLES, HIGHEST, LAST_PIXEL, LAST_TILE,
-    MOST_BYTES, MOST_RECORDS, MOST_ROWS, THREADS, WIDEST,
+    BAD_FORM, BAD_ORDER, BAD_RECORD, BAD_VIEWPORT, HANDLES, LAST_PIXEL, LAST_TILE, MOST_BYTES,
+    MOST_RECORDS, MOST_ROWS, THREADS,
 };
+use crate::viewport::Mode;
 
 /// A file's sections, each record as its words.
 #[derive(Clone, Default)]
@@ -35,9 +36,9 @@ pub(crate) fn split(length: u32, bytes: &[u8]) -> (&[u8], &[u8]) {
 }
 
 /// A file that is good up to the order of its segment lists, or the number that refuses it.
-pub(crate) fn judged(bytes: &[u8]) -> Result<Recording, u32> {
+pub(crate) fn judged(bytes: &[u8], mode: Mode) -> Result<Recording, u32> {
     let recording = sections(bytes).ok_or(BAD_FORM)?;
-    if !few_rows(recording.viewport) {
+    if !few_rows(recording.viewport, mode) {
         Err(BAD_VIEWPORT)
     } else if !good_records(&recording) {
         Err(BAD_RECORD)
@@ -94,14 +95,10 @@ fn only<const N: usize>(rest: &mut &[u32]) -> Option<[u32; N]> {
     }
 }
 
-/// A viewport that `rowlist` takes.
-fn few_rows(viewport: [u32; 4]) -> bool {
-    good_viewport(viewport) && (viewport[3] - viewport[1]) / 4 <= MOST_ROWS
-}
-
-/// A box that is no larger than a screen can be.
-pub(crate) fn good_viewport([x0, y0, x1, y1]: [u32; 4]) -> bool {
-    good_box([x0, y0, x1, y1]) && x1 - x0 <= WIDEST && y1 - y0 <= HIGHEST
+/// A viewport that `rowlist` takes: the rows are those of the box that the screen holds.
+fn few_rows(viewport: [u32; 4], mode: Mode) -> bool {
+    mode.held(viewport)
+        .is_some_and(|[_, y0, _, y1]| (y1 - y0) / 4 <= MOST_ROWS)
 }
 
 /// Multiples of 4, ends not before starts, all on the scene.

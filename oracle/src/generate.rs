@@ -1,5 +1,6 @@
 //! Makes recordings, good and bad, the same for the same seed.
 
+mod boxes;
 pub mod calls;
 mod damage;
 pub mod draft;
@@ -8,8 +9,10 @@ pub mod forged;
 pub mod questions;
 mod reasons;
 mod scenes;
+mod snapped;
 
 use crate::random::Random;
+use crate::viewport::Mode;
 
 /// A recording's bytes, and what it was made for.
 #[derive(Clone)]
@@ -18,7 +21,7 @@ pub struct Made {
     pub bytes: Vec<u8>,
 }
 
-/// So many recordings: of the kind `all` the edges first, then a mixture.
+/// So many recordings: of the kinds `all` and `snapped` the edges first, then a mixture.
 pub fn recordings(seed: u32, count: u32, kind: &str) -> Option<Vec<Made>> {
     let mut random = Random::new(seed);
     let mut all = fixed(kind)?;
@@ -37,6 +40,7 @@ fn fixed(kind: &str) -> Option<Vec<Made>> {
         "all" | "edges" => edges::edges(),
         "heavy" => edges::heavy(),
         "ids" => edges::ids(),
+        "snapped" => snapped::edges(),
         "scenes" | "damaged" => Vec::new(),
         _ => return None,
     };
@@ -45,11 +49,20 @@ fn fixed(kind: &str) -> Option<Vec<Made>> {
 
 /// Whether a kind goes on after its list.
 fn is_endless(kind: &str) -> bool {
-    ["all", "scenes", "damaged"].contains(&kind)
+    ["all", "scenes", "damaged", "snapped"].contains(&kind)
+}
+
+/// The mode that a kind's viewports are made for.
+fn mode(kind: &str) -> Mode {
+    match kind {
+        "snapped" => Mode::Snapping,
+        _ => Mode::Exact,
+    }
 }
 
 fn another(random: &mut Random, kind: &str) -> Made {
     let scene = match kind {
+        "snapped" => return snapped::another(random),
         "scenes" => true,
         "damaged" => false,
         _ => random.chance(60),

@@ -22,6 +22,7 @@ pub mod questions;
 mod random;
 mod scene;
 pub mod steps;
+pub mod viewport;
 pub mod walk;
 pub mod why;
 

@@ -1,17 +1,18 @@
 //! Answers of the original Rust, to hold the definitions and the port against.
 
 use oracle::questions::{self, Answerer, Question};
+use oracle::viewport::Mode;
 use oracle::why::Kind;
 use oracle::{calls, file, generate, leaves, print, walk};
 use std::io::{Read, Write};
 
-const USAGE: &str = "usage: oracle rowlist [--first-id N] < FILE
-       oracle rowdump [--first-id N] < STREAM
-       oracle lines [--first-id N] < STREAM
-       oracle generate SEED COUNT [all|edges|scenes|damaged|heavy|ids] > STREAM
+const USAGE: &str = "usage: oracle rowlist [--snap] [--first-id N] < FILE
+       oracle rowdump [--snap] [--first-id N] < STREAM
+       oracle lines [--snap] [--first-id N] < STREAM
+       oracle generate SEED COUNT [all|edges|scenes|damaged|snapped|heavy|ids] > STREAM
        oracle names SEED COUNT [KIND]
-       oracle why [--first-id N] [--tally] ROW TILE [draw|layer N] < FILE
-       oracle why [--first-id N] [--tally] --stream < QUESTIONS
+       oracle why [--snap] [--first-id N] [--tally] ROW TILE [draw|layer N] < FILE
+       oracle why [--snap] [--first-id N] [--tally] --stream < QUESTIONS
        oracle questions SEED COUNT [KIND] > QUESTIONS
        oracle leaves [--text] [SEED [COUNT]]
        oracle calls SEED COUNT [MOST] > CALLS
@@ -21,7 +22,8 @@ const USAGE: &str = "usage: oracle rowlist [--first-id N] < FILE
 fn main() {
     let mut words: Vec<String> = std::env::args().skip(1).collect();
     let first_id = option(&mut words, "--first-id").unwrap_or(1);
-    let mut player = walk::Player::new(first_id);
+    let mode = mode(&mut words);
+    let mut player = walk::Player::new(mode, first_id);
     let words: Vec<&str> = words.iter().map(String::as_str).collect();
     let mut agreed = true;
     let out = match words[..] {
@@ -57,6 +59,20 @@ fn main() {
     std::io::stdout().write_all(&out).expect("standard output");
     if !agreed {
         std::process::exit(1);
+    }
+}
+
+/// Takes `--snap` out of the arguments of a command that reads recordings.
+fn mode(words: &mut Vec<String>) -> Mode {
+    let reads = ["rowlist", "rowdump", "lines", "why"];
+    let all = words.len();
+    if words.first().is_some_and(|word| reads.contains(&&word[..])) {
+        words.retain(|word| word != "--snap");
+    }
+    if words.len() < all {
+        Mode::Snapping
+    } else {
+        Mode::Exact
     }
 }
 

@@ -6,9 +6,10 @@ use crate::file::Recording;
 use crate::painting::{self, Piece};
 use crate::scene::{scene, Scene};
 use crate::steps::Step;
+use crate::viewport::Mode;
 use std::mem::size_of;
 
-/// A recording's screen, and what painting needs beside it.
+/// The screen of a recording whose viewport is read exactly, and what painting needs beside it.
 pub struct Original {
     scene: Scene,
     bucketer: CommandBucketer,
@@ -18,7 +19,7 @@ pub struct Original {
 
 impl Original {
     pub fn new(recording: &Recording) -> Self {
-        let scene = scene(recording);
+        let scene = scene(recording, Mode::Exact);
         let bucketer = CommandBucketer::new(scene.viewport);
         let depth = DepthBuffer::new(bucketer.width());
         Self {

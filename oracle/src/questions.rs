@@ -3,7 +3,6 @@
 use crate::coarse::CommandBucketer;
 use crate::file;
 use crate::painting::pieces;
-use crate::scene::scene;
 use crate::walk::Player;
 use crate::why::{reasons, Kind, Reason, Reasons};
 use std::collections::BTreeMap;
@@ -109,10 +108,10 @@ impl Answerer {
 /// The reasons and how they contradict the Rust's painting, if they do; or the recording's own number, then 12.
 fn judged(player: &mut Player, question: Question) -> Result<(Reasons, Option<String>), u32> {
     let Question { row, tile, bytes } = question;
-    let screen = player.play(bytes)?;
-    let scene = scene(&file::judged(bytes).expect("an accepted recording"));
+    player.play(bytes)?;
+    let scene = player.judged(bytes).expect("an accepted recording");
     let reasons = reasons(&scene, row, tile)?;
-    let how = contradiction(&reasons, screen, row, tile);
+    let how = contradiction(&reasons, player.screen(), row, tile);
     Ok((reasons, how))
 }
 
@@ -218,6 +217,7 @@ impl Display for Tally {
 mod tests {
     use super::{contradiction, stream, Answerer, Question};
     use crate::generate::draft::{clipped, filter, layer, solid, Draft, HALF};
+    use crate::viewport::Mode;
     use crate::walk::Player;
     use crate::why::{Kind, Reason, Reasons};
 
@@ -241,7 +241,7 @@ mod tests {
     }
 
     fn answerer() -> Answerer {
-        Answerer::new(Player::new(1))
+        Answerer::new(Player::new(Mode::Exact, 1))
     }
 
     fn one(bytes: &[u8], row: u32, tile: u32, kind: Kind, number: u32) -> String {
@@ -357,7 +357,7 @@ mod tests {
 
     #[test]
     fn the_painting_contradicts_what_is_false() {
-        let mut player = Player::new(1);
+        let mut player = Player::new(Mode::Exact, 1);
         let bytes = recording().bytes();
         let screen = player.play(&bytes).expect("accepted");
         let (no, untouched) = (Reason::Uncovered, Reason::Untouched);

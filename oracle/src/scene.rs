@@ -7,6 +7,7 @@ use crate::filter::context::FilterContext;
 use crate::kurbo::{Affine, Vec2};
 use crate::peniko::{BlendMode, Extend, ImageQuality, ImageSampler};
 use crate::record::RecordedFill;
+use crate::viewport::Mode;
 use std::ops::Range;
 use std::sync::Arc;
 use vello_common::encode::{EncodedImage, EncodedPaint};
@@ -19,6 +20,9 @@ use vello_common::record::{LayerClip, LayerProps, Node, RecordedLayer, RecordedL
 use vello_common::strip::Strip;
 
 pub(crate) struct Scene {
+    /// The viewport as it stands in the file, which the Rust is given.
+    pub(crate) given: RectU16,
+    /// The box that the screen holds.
     pub(crate) viewport: RectU16,
     pub(crate) paints: Vec<EncodedPaint>,
     pub(crate) strips: Vec<Strip>,
@@ -54,7 +58,7 @@ impl Scene {
     }
 }
 
-pub(crate) fn scene(r: &Recording) -> Scene {
+pub(crate) fn scene(r: &Recording, mode: Mode) -> Scene {
     let nodes: Vec<Node> = r.nodes.iter().map(node).collect();
     let mut filters = FilterContext::new(r.layers.len());
     for (id, layer) in r.layers.iter().enumerate() {
@@ -63,7 +67,8 @@ pub(crate) fn scene(r: &Recording) -> Scene {
         }
     }
     Scene {
-        viewport: rect(r.viewport),
+        given: rect(r.viewport),
+        viewport: rect(mode.held(r.viewport).expect("judged")),
         paints: r.paints.iter().map(paint).collect(),
         strips: r.segments.iter().map(strip).collect(),
         draws: r.draws.iter().map(draw).collect(),

@@ -6,6 +6,7 @@ use crate::limits::{within, ROOM};
 use crate::peniko::BlendMode;
 use crate::record::RecordedFill;
 use crate::scene::{scene, Scene};
+use crate::viewport::{must_hold, Mode};
 use std::sync::Arc;
 use vello_common::filter::FilterLayerPlacement;
 use vello_common::pixmap::Pixmap;
@@ -14,21 +15,30 @@ use vello_common::record::{Node, RecordedLayer, RecordedLayerKind};
 /// Plays recordings one after another on one screen, reset before each, as the dispatcher does.
 pub struct Player {
     bucketer: CommandBucketer,
+    mode: Mode,
     first_id: u32,
 }
 
 impl Player {
-    pub fn new(first_id: u32) -> Self {
+    pub fn new(mode: Mode, first_id: u32) -> Self {
         Self {
             bucketer: CommandBucketer::from_wh(0, 0),
+            mode,
             first_id,
         }
     }
 
+    /// A recording that is good up to the order of its segment lists, or the number that refuses it.
+    pub(crate) fn judged(&self, bytes: &[u8]) -> Result<Scene, u32> {
+        let recording = file::judged(bytes, self.mode)?;
+        Ok(scene(&recording, self.mode))
+    }
+
     /// The screen that a recording ends as, or the number that refuses it.
     pub(crate) fn play(&mut self, bytes: &[u8]) -> Result<&CommandBucketer, u32> {
-        let scene = scene(&file::judged(bytes)?);
-        self.bucketer.reset(scene.viewport);
+        let scene = self.judged(bytes)?;
+        self.bucketer.reset(scene.given);
+        must_hold(&self.bucketer, scene.viewport);
         probe::set_next_id(&mut self.bucketer, self.first_id);
         let bucketer = &mut self.bucketer;
         walk(&scene, &mut |step| {
@@ -38,10 +48,16 @@ impl Player {
         Ok(&self.bucketer)
     }
 
+    /// The screen as the last recording left it.
+    pub(crate) fn screen(&self) -> &CommandBucketer {
+        &self.bucketer
+    }
+
     /// The same by the Rust's own walk on a new screen, for a recording that is not refused.
     pub(crate) fn play_whole(&self, bytes: &[u8]) -> CommandBucketer {
-        let scene = scene(&file::judged(bytes).expect("an accepted recording"));
-        let mut bucketer = CommandBucketer::new(scene.viewport);
+        let scene = self.judged(bytes).expect("an accepted recording");
+        let mut bucketer = CommandBucketer::new(scene.given);
+        must_hold(&bucketer, scene.viewport);
         probe::set_next_id(&mut bucketer, self.first_id);
         scene.walk(&mut bucketer);
         bucketer

@@ -8,12 +8,15 @@ use lib.ListN.{length, getD}
 use lib.Dec.{eqb}
 use borrow.Author.Tests.{eq-eqb, ne-eqb, eqb-true, eqb-false}
 use Rattle.rules.specs.Answers.{Answer, answer}
+use Rattle.rules.specs.Boxes.{Box}
+use Rattle.rules.specs.Plans.{Frame}
+use Rattle.rules.specs.Setups.{Setup, frame}
 use Rattle.rules.specs.Recording.{Recording, recording, shape, sections, good-records}
 use Rattle.rules.specs.Walk.{_then_, walk-all, walk-nodes, walk-layer}
 use Rattle.rect.specs.declared.Rect.{Rect}
 use Rattle.rect.specs.Rects.{box-of}
 use Rattle.screen.specs.declared.Screen.{Screen}
-use Rattle.screen.specs.Screens.{rect-of, fresh-screen}
+use Rattle.screen.specs.Screens.{fresh-screen}
 use Rattle.screen.specs.Judging.{judged-reset}
 use Rattle.screen.specs.Tables.{zeros, Tables, tables, lengths, zeroed, ScreenLent, lent, reset-to}
 use Rattle.file_form.specs.declared.Layout.{Layout}
@@ -23,7 +26,6 @@ use Rattle.file_form.proofs.Laid.{GoodForm}
 use Rattle.file_form.proofs.Reading.{reads}
 use Rattle.file_judge.specs.Judging.{judged, box-from}
 use Rattle.file_judge.proofs.Laws.{sound, root-range}
-use Rattle.file_read.proofs.Boxed.{boxed}
 use Rattle.file_steps.specs.Steps.{call-at}
 use Rattle.file_steps.proofs.Runs.{stopped, onward}
 use Rattle.file_call.specs.Recorded.{judging, played, recorded-in, recorded}
@@ -106,51 +108,51 @@ by-number : (n k : ℕ) (t : Bool) → eqb k 0 ≡ t → (a b c : ScreenLent) �
 by-number n k true q a b c z e = (eqb-true k 0 q, ap (λ (x : Answer ScreenLent). x .value) e)
 by-number n k false q a b c z e = let y : k ≡ 0 = sym (ap (λ (x : Answer ScreenLent). x .number) e) ∙ z in absurd (eqb-false k 0 q y)
 
-module _ (v : Rect) (c d : ℕ) (old : ScreenLent) (n : ℕ) (a : ScreenLent) (e : answer n a ≡ reset-to v c d old) (z : n ≡ 0) where
-  first-reset : (judged-reset v c d (lengths (old .tables)) ≡ 0) × (a ≡ lent (fresh-screen v c d) (zeroed (old .tables)))
+module _ (f : Frame) (old : ScreenLent) (n : ℕ) (a : ScreenLent) (e : answer n a ≡ reset-to f old) (z : n ≡ 0) where
+  first-reset : (judged-reset f (lengths (old .tables)) ≡ 0) × (a ≡ lent (fresh-screen f) (zeroed (old .tables)))
   unfolding reset-to
-  first-reset = by-number n (judged-reset v c d (lengths (old .tables))) _ refl a old _ z e
+  first-reset = by-number n (judged-reset f (lengths (old .tables))) _ refl a old _ z e
 
-  again : (b : ScreenLent) → Same (b .tables) (old .tables) → (k : ℕ) (s : ScreenLent) → answer k s ≡ reset-to v c d b → s ≡ a
+  again : (b : ScreenLent) → Same (b .tables) (old .tables) → (k : ℕ) (s : ScreenLent) → answer k s ≡ reset-to f b → s ≡ a
   unfolding reset-to
-  again b q k s f =
+  again b q k s g =
       let h = first-reset in
-      let j : judged-reset v c d (lengths (b .tables)) ≡ 0 = rw (same-lengths q) (h .0) in
-      let g : answer k s ≡ answer 0 (lent (fresh-screen v c d) (zeroed (b .tables))) = f ∙ rw (eq-eqb _ 0 j) in
-      let w : s ≡ lent (fresh-screen v c d) (zeroed (b .tables)) = ap (λ (x : Answer ScreenLent). x .value) g in
+      let j : judged-reset f (lengths (b .tables)) ≡ 0 = rw (same-lengths q) (h .0) in
+      let r : answer k s ≡ answer 0 (lent (fresh-screen f) (zeroed (b .tables))) = g ∙ rw (eq-eqb _ 0 j) in
+      let w : s ≡ lent (fresh-screen f) (zeroed (b .tables)) = ap (λ (x : Answer ScreenLent). x .value) r in
       w ∙ rw (same-zeros q) (sym (h .1))
 
 -- the whole call
-pub bad-file : (ws : List ℕ) (c d : ℕ) (old : ScreenLent) → sections shape ws ≡ none → answer 3 old ≡ recorded ws c d old
+pub bad-file : (ws : List ℕ) (q : Setup) (old : ScreenLent) → sections shape ws ≡ none → answer 3 old ≡ recorded ws q old
 unfolding recorded
-bad-file ws c d old e = rw e
+bad-file ws q old e = rw e
 
-module _ (l : Layout) (ws : List ℕ) (g : GoodForm ws l) (v : Rect) (b : box-of v ≡ box-from ws 1) (c d : ℕ) (old : ScreenLent)
-    (n : ℕ) (a : ScreenLent) (e : answer n a ≡ reset-to v c d old) where
-  view : v ≡ rect-of (file.recorded l ws .viewport)
+module _ (l : Layout) (ws : List ℕ) (g : GoodForm ws l) (v : Rect) (b : box-of v ≡ box-from ws 1) (q : Setup) (old : ScreenLent)
+    (n : ℕ) (a : ScreenLent) (e : answer n a ≡ reset-to (frame q (box-of v)) old) where
+  view : box-of v ≡ file.recorded l ws .viewport
   unfolding file.recorded box-from
-  view = boxed v _ b
+  view = b
 
-  as-recorded : recorded-in (file.recorded l ws) c d old ≡ recorded ws c d old
+  as-recorded : recorded-in (file.recorded l ws) q old ≡ recorded ws q old
   unfolding recorded
   as-recorded = rw (g .same, reads l ws (g .fits))
 
-  its-view : answer n a ≡ reset-to (rect-of (file.recorded l ws .viewport)) c d old
-  its-view = e ∙ ap (λ (x : Rect). reset-to x c d old) view
+  its-view : answer n a ≡ reset-to (frame q (file.recorded l ws .viewport)) old
+  its-view = e ∙ ap (λ (x : Box). reset-to (frame q x) old) view
 
-  pub not-reset : (n ≡ 0 → ⊥) → answer n a ≡ recorded ws c d old
+  pub not-reset : (n ≡ 0 → ⊥) → answer n a ≡ recorded ws q old
   unfolding recorded-in
-  not-reset z = stopped (reset-to (rect-of (file.recorded l ws .viewport)) c d) (played (file.recorded l ws)) old n a its-view z ∙ as-recorded
+  not-reset z = stopped (reset-to (frame q (file.recorded l ws .viewport))) (played (file.recorded l ws)) old n a its-view z ∙ as-recorded
 
   module _ (z : n ≡ 0) (m : ℕ) (s : ScreenLent) (f : answer m s ≡ (judging (file.recorded l ws) then walk-all ScreenLent call-at (file.recorded l ws)) a) where
-    then-played : recorded ws c d old ≡ played (file.recorded l ws) a
+    then-played : recorded ws q old ≡ played (file.recorded l ws) a
     unfolding recorded-in
-    then-played = sym as-recorded ∙ onward (reset-to (rect-of (file.recorded l ws .viewport)) c d) (played (file.recorded l ws)) old n a its-view z
+    then-played = sym as-recorded ∙ onward (reset-to (frame q (file.recorded l ws .viewport))) (played (file.recorded l ws)) old n a its-view z
 
-    pub all-done : m ≡ 0 → answer m s ≡ recorded ws c d old
-    all-done q = all-played (file.recorded l ws) a m s f q ∙ sym then-played
+    pub all-done : m ≡ 0 → answer m s ≡ recorded ws q old
+    all-done y = all-played (file.recorded l ws) a m s f y ∙ sym then-played
 
     pub left-fresh : (m ≡ 0 → ⊥) → (u : Screen) → Same (s .tables) (a .tables) → Same (a .tables) (old .tables) → (k : ℕ) (y : ScreenLent)
-        → answer k y ≡ reset-to v c d (lent u (s .tables)) → answer m y ≡ recorded ws c d old
-    left-fresh q u p o k y h =
-        rw (again v c d old n a e z (lent u (s .tables)) (same-then p o) k y h) (not-played (file.recorded l ws) a m s f q ∙ sym then-played)
+        → answer k y ≡ reset-to (frame q (box-of v)) (lent u (s .tables)) → answer m y ≡ recorded ws q old
+    left-fresh x u p o k y h =
+        rw (again (frame q (box-of v)) old n a e z (lent u (s .tables)) (same-then p o) k y h) (not-played (file.recorded l ws) a m s f x ∙ sym then-played)

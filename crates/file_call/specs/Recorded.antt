@@ -5,9 +5,9 @@ use mathlib.Core.List.{List}
 use mathlib.Core.Option.{Option, none, some}
 use lib.Dec.{eqb}
 use Rattle.rules.specs.Answers.{Answer, answer, Done, BadForm}
+use Rattle.rules.specs.Setups.{Setup, frame}
 use Rattle.rules.specs.Recording.{Recording, shape, sections, recording}
 use Rattle.rules.specs.Walk.{_then_, walk-all}
-use Rattle.screen.specs.Screens.{rect-of}
 use Rattle.screen.specs.Tables.{ScreenLent, reset-to}
 use Rattle.file_judge.specs.Judging.{judged}
 use Rattle.file_steps.specs.Steps.{call-at}
@@ -24,14 +24,14 @@ or-fresh fresh a = cond (eqb (a .number) Done) a (answer (a .number) fresh)
 unfoldable pub played : Recording → ScreenLent → Answer ScreenLent
 played r fresh = or-fresh fresh ((judging r then walk-all ScreenLent call-at r) fresh)
 
--- the file's viewport with C and D; a refused reset changes nothing
-unfoldable pub recorded-in : Recording → ℕ → ℕ → ScreenLent → Answer ScreenLent
-recorded-in r c d = reset-to (rect-of (r .viewport)) c d then played r
+-- the frame of the file's viewport; a refused reset changes nothing
+unfoldable pub recorded-in : Recording → Setup → ScreenLent → Answer ScreenLent
+recorded-in r q = reset-to (frame q (r .viewport)) then played r
 
-abbrev pub of-sections : Option (List (List (List ℕ))) → ℕ → ℕ → ScreenLent → Answer ScreenLent
-of-sections none c d l = answer BadForm l
-of-sections (some ss) c d l = recorded-in (recording ss) c d l
+abbrev pub of-sections : Option (List (List (List ℕ))) → Setup → ScreenLent → Answer ScreenLent
+of-sections none q l = answer BadForm l
+of-sections (some ss) q l = recorded-in (recording ss) q l
 
--- a file's words; 3 before all
-unfoldable pub recorded : List ℕ → ℕ → ℕ → ScreenLent → Answer ScreenLent
+-- a file's words, and what the screen is asked to be; 3 before all
+unfoldable pub recorded : List ℕ → Setup → ScreenLent → Answer ScreenLent
 recorded ws = of-sections (sections shape ws)

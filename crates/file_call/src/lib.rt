@@ -3,6 +3,7 @@ ghost use mathlib.Core.Path.{_≡_};
 ghost use Rattle.rules.specs.Answers.{answer};
 ghost use Rattle.rules.specs.Walk.{_then_, walk-all};
 ghost use Rattle.row.specs.Words.{words};
+ghost use Rattle.screen.specs.Screens.{setup-of};
 ghost use Rattle.screen.specs.Tables.{Tables, ScreenLent, tables, lent};
 ghost use Rattle.file_form.specs.Layouts.{Fits};
 ghost use Rattle.file_form.specs.Places as file;
@@ -16,6 +17,7 @@ use file_judge::judge_records;
 use file_nodes::walk_nodes;
 use screen::Built;
 use screen::Screen;
+use screen::Setup;
 use screen::reset;
 use sizes::MOST_LAYERS;
 use sizes::answers::BAD_FORM;
@@ -67,13 +69,12 @@ fn play(
     )
 }
 
-// A recording file: 3 for its form; 2, 1 or 4 for its viewport, C, D and the lengths lent, with nothing changed; then 4 and 5 for its records
+// A recording file: 3 for its form; 2, 1 or 4 for its viewport, what the screen is asked to be and the lengths lent, with nothing changed; then 4 and 5 for its records
 // or the first refused step of its walk, with the screen freshly reset and every word 0; else done.
 pub fn bucket_recording(
     screen: Screen,
     file: &[u32],
-    c: u32,
-    d: u32,
+    setup: Setup,
     render: &mut [u32],
     fills: &mut [u32],
     depth: &mut [u32],
@@ -86,7 +87,7 @@ pub fn bucket_recording(
     filter_paints: &mut [i32],
 ) -> Built
     ensures { λ r. ⌜ answer (r .number) (lent (r .screen) (tables (now (render .exit)) (now (fills .exit)) (now (depth .exit)) (now (rows .exit)) (now (painting .exit)) (now (layers .exit)) (now (opacities .exit)) (now («paint_attrs» .exit)) (now («layer_attrs» .exit)) (now («filter_paints» .exit))))
-        ≡ recorded (now (file .entry)) c d (lent screen (tables (now (render .entry)) (now (fills .entry)) (now (depth .entry)) (now (rows .entry)) (now (painting .entry)) (now (layers .entry)) (now (opacities .entry)) (now («paint_attrs» .entry)) (now («layer_attrs» .entry)) (now («filter_paints» .entry)))) ⌝ }
+        ≡ recorded (now (file .entry)) (setup-of setup) (lent screen (tables (now (render .entry)) (now (fills .entry)) (now (depth .entry)) (now (rows .entry)) (now (painting .entry)) (now (layers .entry)) (now (opacities .entry)) (now («paint_attrs» .entry)) (now («layer_attrs» .entry)) (now («filter_paints» .entry)))) ⌝ }
 {
     let Form::Good(l) = read_form(file) else {
         return Built {
@@ -98,8 +99,7 @@ pub fn bucket_recording(
     let started = reset(
         screen,
         viewport,
-        c,
-        d,
+        setup,
         render,
         fills,
         depth,
@@ -134,8 +134,7 @@ pub fn bucket_recording(
     let again = reset(
         begun,
         viewport,
-        c,
-        d,
+        setup,
         render,
         fills,
         depth,

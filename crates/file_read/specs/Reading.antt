@@ -10,7 +10,7 @@ use Rattle.rules.specs.Inputs as rule
 use Rattle.rules.specs.Recording.{LayerRec}
 use Rattle.cmd.specs.declared.blend.Blend.{Blend}
 use Rattle.cmd.specs.Blends.{blend-of}
-use Rattle.screen.specs.Screens.{rect-of}
+use Rattle.rect.specs.Rects.{rect-of}
 use Rattle.step_fill.specs.declared.Draw.{Draw}
 use Rattle.screen_layers.specs.declared.LayerClip.{LayerClip}
 use Rattle.screen_layers.specs.declared.LayerClip.the-variants.{Absent, Present}

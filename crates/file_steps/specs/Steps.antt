@@ -11,7 +11,7 @@ use Rattle.rules.proofs.Words.{paint-words, segment-words}
 use Rattle.rules.specs.Plans.{Step, a-fill, a-push, a-pop, a-filter}
 use Rattle.row.specs.Words.{Words, words}
 use Rattle.screen.specs.declared.Screen.{Screen}
-use Rattle.screen.specs.Screens.{rect-of}
+use Rattle.rect.specs.Rects.{rect-of}
 use Rattle.screen.specs.Tables.{Tables, tables, ScreenLent, lent}
 use Rattle.step_fill.specs.Fills as fills
 use Rattle.step_fill.specs.Fills.{filled}

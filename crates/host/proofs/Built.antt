@@ -8,7 +8,9 @@ use lib.Ieee.{Float}
 use lib.IntN.{ℤ}
 use lib.Dec.{leb}
 use Rattle.rules.specs.Answers.{Answer, answer}
+use Rattle.rules.specs.Setups.{Setup, frame}
 use Rattle.rect.specs.declared.Rect.{Rect}
+use Rattle.rect.specs.Rects.{box-of}
 use Rattle.row.specs.Words.{Words}
 use Rattle.screen.specs.declared.Screen.{Screen}
 use Rattle.screen.specs.Tables.{Tables, ScreenLent, lent, reset-to}
@@ -28,20 +30,20 @@ use Rattle.paint_screen.specs.Beginning.{canvas, beginning}
 use Rattle.host_screen.specs.declared.Held.{Held}
 use Rattle.host_screen.specs.declared.Held.the-variants as held
 use Rattle.host_screen.specs.State.{screen-words, screen-of, at-held}
-use Rattle.host.specs.Building.{tables-left, reset-call, recording-call, fill-left, fill-call, push-left, push-call, pop-left, pop-call, filter-left, filter-call}
+use Rattle.host.specs.Building.{tables-left, reset-in, recording-in, fill-left, fill-call, push-left, push-call, pop-left, pop-call, filter-left, filter-call}
 use Rattle.host.specs.Painting.{begin-left, begin-call}
 
 -- st stands for s; afterwards the call has the screen s', and the words st' are its
 module _ (st st' : List ℕ) (s s' : Screen) (r n : ℕ) (h : held.Good s ≡ screen-of true st) (rn : r ≡ n) (sw : st' ≡ screen-words s') where
-  pub reset-built : (v : Rect) (c d : ℕ) (t t' : Tables) → answer n (lent s' t') ≡ reset-to v c d (lent s t) → answer r (st', t') ≡ reset-call v c d st t
-  unfolding reset-call
-  reset-built v c d t t' e =
-      rw (rn, sw) (ap tables-left e ∙ ap (λ (x : Held). at-held x st (st, t) (λ (s : Screen). tables-left (reset-to v c d (lent s t)))) h)
+  pub reset-built : (v : Rect) (q : Setup) (t t' : Tables) → answer n (lent s' t') ≡ reset-to (frame q (box-of v)) (lent s t) → answer r (st', t') ≡ reset-in v q st t
+  unfolding reset-in
+  reset-built v q t t' e =
+      rw (rn, sw) (ap tables-left e ∙ ap (λ (x : Held). at-held x st (st, t) (λ (s : Screen). tables-left (reset-to (frame q (box-of v)) (lent s t)))) h)
 
-  pub recording-built : (file : List ℕ) (c d : ℕ) (t t' : Tables) → answer n (lent s' t') ≡ recorded file c d (lent s t) → answer r (st', t') ≡ recording-call file c d st t
-  unfolding recording-call
-  recording-built file c d t t' e =
-      rw (rn, sw) (ap tables-left e ∙ ap (λ (x : Held). at-held x st (st, t) (λ (s : Screen). tables-left (recorded file c d (lent s t)))) h)
+  pub recording-built : (file : List ℕ) (q : Setup) (t t' : Tables) → answer n (lent s' t') ≡ recorded file q (lent s t) → answer r (st', t') ≡ recording-in file q st t
+  unfolding recording-in
+  recording-built file q t t' e =
+      rw (rn, sw) (ap tables-left e ∙ ap (λ (x : Held). at-held x st (st, t) (λ (s : Screen). tables-left (recorded file q (lent s t)))) h)
 
   pub fill-built : (ps ss : List ℕ) (d : Draw) (w w' : Words) (pas pas' : List ℕ) → answer n (fills.lent s' w' pas') ≡ filled (fills.lent s w pas) ps ss d
       → answer r (st', w', pas') ≡ fill-call ps ss d st w pas

@@ -14,7 +14,7 @@ use Rattle.rules.specs.Answers.{Answer, answer, first-of, Done, BadRecord, BadO
 use Rattle.rules.specs.Spans.{Span, bad-range}
 use Rattle.rules.specs.Depth.{listed, unset-runs, visible-runs, write-runs, unset-answer, visible-answer, write-answer, can-skip-answer}
 use Rattle.rules.specs.Rows.{Row, fresh-row, row-ops}
-use Rattle.rules.specs.Plans.{a-fill, a-push, a-pop, a-filter, Plan, plan}
+use Rattle.rules.specs.Plans.{Frame, a-fill, a-push, a-pop, a-filter, Plan, plan}
 use Rattle.rules.specs.Steps.{done, reset, call, refusal}
 use Rattle.rules.specs.Steps as rule
 use Rattle.rules.specs.Recording.{Recording, shape, sections, recording, good-records, good-order}
@@ -27,12 +27,11 @@ use Rattle.rules_picture.proofs.Cases.{by}
 use Rattle.rules_picture.proofs.Walked.{Late, late-done, first-late, plan-late, refusal-late, all-walks}
 use Rattle.rules.specs.Boxes.{good-viewport, rows-of}
 use Rattle.rules.specs.Walk.{good-arenas}
-use Rattle.rect.specs.declared.Rect.{Rect}
+use Rattle.rules.specs.Setups.{Setup, frame}
 use Rattle.rect.specs.Rects.{box-of}
 use Rattle.row.specs.Words.{Words, word-ops}
 use Rattle.row_judge.specs.Building.{step-number}
 use Rattle.screen.specs.declared.Screen.{Screen}
-use Rattle.screen.specs.Screens.{rect-of, frame}
 use Rattle.screen.specs.declared.Lengths.{Lengths}
 use Rattle.screen.specs.Judging as judging
 use Rattle.screen.specs.Judging.{judged, good-tables, judged-reset}
@@ -241,9 +240,9 @@ skip-early s r rows t id =
     after n (a .number) (skip-late (part 54 r rows) t id) ∙ ap before-4 (answer-number (eqb n Done) n a (answer n false) refl)
 
 -- Reset, and a recording, whose walk is the rules'. After the arenas only a table's length is left to refuse a reset.
-arenas-early : (v : Rect) (c d : ℕ) (l : Lengths) → before-4 (arenas-number v c d (judging.arenas l)) ≡ before-4 (judged-reset v c d l)
+arenas-early : (f : Frame) (l : Lengths) → before-4 (arenas-number f (judging.arenas l)) ≡ before-4 (judged-reset f l)
 unfolding arenas-number judged-reset before-4
-arenas-early v c d l = go (good-viewport (box-of v)) (good-arenas 32 (frame v c d) (judging.arenas l)) (good-tables (rows-of (box-of v)) l)
+arenas-early f l = go (good-viewport (f .viewport)) (good-arenas 32 f (judging.arenas l)) (good-tables (rows-of (f .viewport)) l)
   where
     go : (x y z : Bool) → before-4 (first-of ((not x, 2) ∷ (not y, 1) ∷ [])) ≡ before-4 (first-of ((not x, 2) ∷ (not y, 1) ∷ (not z, 4) ∷ []))
     go false y z = refl
@@ -251,51 +250,50 @@ arenas-early v c d l = go (good-viewport (box-of v)) (good-arenas 32 (frame v c 
     go true true true = refl
     go true true false = refl
 
-pub reset-early : (v : Rect) (c d : ℕ) (l : ScreenLent) → before-4 (arenas-number v c d (judging.arenas (lengths (l .tables)))) ≡ before-4 (reset-to v c d l .number)
+pub reset-early : (f : Frame) (l : ScreenLent) → before-4 (arenas-number f (judging.arenas (lengths (l .tables)))) ≡ before-4 (reset-to f l .number)
 unfolding reset-to
-reset-early v c d l =
-    arenas-early v c d (lengths (l .tables)) ∙ ap before-4 (sym (settle-number (judged-reset v c d (lengths (l .tables))) _ _))
+reset-early f l = arenas-early f (lengths (l .tables)) ∙ ap before-4 (sym (settle-number (judged-reset f (lengths (l .tables))) _ _))
 
 records-late : (r : Recording) → Late (records.judged r)
 records-late r = first-late ((not (good-records r), BadRecord) ∷ (not (good-order r), BadOrder) ∷ []) (cons (omega arith) (cons (omega arith) nil))
 
-module _ (r : Recording) (c d : ℕ) (l : ScreenLent) where
-  abbrev v : Rect
-  v = rect-of (r .viewport)
+module _ (r : Recording) (q : Setup) (l : ScreenLent) where
+  abbrev f : Frame
+  f = frame q (r .viewport)
 
   abbrev early : ℕ
-  early = judged-reset v c d (lengths (l .tables))
+  early = judged-reset f (lengths (l .tables))
 
-  walk-late : early ≡ Done → Late (walk-all ScreenLent call-at r (reset-to v c d l .value) .number)
+  walk-late : early ≡ Done → Late (walk-all ScreenLent call-at r (reset-to f l .value) .number)
   unfolding reset
   walk-late e =
-      let start = reset fresh-row (frame v c d) in
+      let start = reset fresh-row f in
       let a = all-walks 32 r .at (record { screen = start; log = [] }) refl in
-      rw (walk-refines r start (reset-to v c d l .value) (reset-refines v c d l e .value) .number, ← a .number) (a .late)
+      rw (walk-refines r start (reset-to f l .value) (reset-refines f l e .value) .number, ← a .number) (a .late)
 
-  played-late : early ≡ Done → Late (played r (reset-to v c d l .value) .number)
+  played-late : early ≡ Done → Late (played r (reset-to f l .value) .number)
   unfolding played _then_
   played-late e = by (eqb (records.judged r) Done)
-      (λ y. rw y (kept (walk-all ScreenLent call-at r (reset-to v c d l .value)) (walk-late e)))
+      (λ y. rw y (kept (walk-all ScreenLent call-at r (reset-to f l .value)) (walk-late e)))
       (λ z. rw (z, z) (records-late r))
     where
-      kept : (a : Answer ScreenLent) → Late (a .number) → Late (or-fresh (reset-to v c d l .value) a .number)
+      kept : (a : Answer ScreenLent) → Late (a .number) → Late (or-fresh (reset-to f l .value) a .number)
       kept a h = by (eqb (a .number) Done) (λ y. rw y h) (λ z. rw z h)
 
-  reset-number : reset-to v c d l .number ≡ early
+  reset-number : reset-to f l .number ≡ early
   unfolding reset-to
   reset-number = settle-number early _ _
 
-  in-early : before-4 early ≡ before-4 (recorded-in r c d l .number)
+  in-early : before-4 early ≡ before-4 (recorded-in r q l .number)
   unfolding recorded-in _then_
-  in-early = by (eqb (reset-to v c d l .number) Done)
-      (λ y. let e = sym reset-number ∙ eqb-true (reset-to v c d l .number) Done y in rw y (zero-4 early e ∙ sym (late-4 _ (played-late e))))
+  in-early = by (eqb (reset-to f l .number) Done)
+      (λ y. let e = sym reset-number ∙ eqb-true (reset-to f l .number) Done y in rw y (zero-4 early e ∙ sym (late-4 _ (played-late e))))
       (λ z. rw z (ap before-4 (sym reset-number)))
 
-pub recorded-is-early : (ws : List ℕ) (c d : ℕ) (l : ScreenLent) → before-4 (file-number ws c d (judging.arenas (lengths (l .tables)))) ≡ before-4 (recorded ws c d l .number)
+pub recorded-is-early : (ws : List ℕ) (q : Setup) (l : ScreenLent) → before-4 (file-number ws q (judging.arenas (lengths (l .tables)))) ≡ before-4 (recorded ws q l .number)
 unfolding recorded file-number
-recorded-is-early ws c d l = go (sections shape ws)
+recorded-is-early ws q l = go (sections shape ws)
   where
-    go : (o : Option (List (List (List ℕ)))) → before-4 (in-sections o c d (judging.arenas (lengths (l .tables)))) ≡ before-4 (of-sections o c d l .number)
+    go : (o : Option (List (List (List ℕ)))) → before-4 (in-sections o q (judging.arenas (lengths (l .tables)))) ≡ before-4 (of-sections o q l .number)
     go none = refl
-    go (some ss) = arenas-early (rect-of (recording ss .viewport)) c d (lengths (l .tables)) ∙ in-early (recording ss) c d l
+    go (some ss) = arenas-early (frame q (recording ss .viewport)) (lengths (l .tables)) ∙ in-early (recording ss) q l

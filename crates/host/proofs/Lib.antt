@@ -9,3 +9,4 @@ pub mod Early
 pub mod Unheld
 pub mod Stories
 pub mod Questions
+pub mod Asked

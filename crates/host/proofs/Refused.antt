@@ -2,7 +2,7 @@
 use mathlib.Core.Path.{_≡_, refl}
 use mathlib.Core.Bool.{Bool, true, false}
 use mathlib.Core.List.{List}
-use mathlib.Core.Option.{Option}
+use mathlib.Core.Option.{Option, none, some}
 use Prim.Native.Nat.{ℕ}
 use lib.ListN.{length}
 use lib.Dec.{leb, eqb}
@@ -10,8 +10,10 @@ use lib.Ieee.{Float}
 use lib.IntN.{ℤ}
 use borrow.Author.Tests.{ne-eqb}
 use Rattle.rules.specs.Answers.{Answer, answer, settle, Done}
+use Rattle.rules.specs.Setups.{Setup, frame}
 use Rattle.rules.proofs.laws.Answers.{settle-kept}
 use Rattle.rect.specs.declared.Rect.{Rect}
+use Rattle.rect.specs.Rects.{box-of}
 use Rattle.row.specs.Words.{Words}
 use Rattle.screen.specs.declared.Screen.{Screen}
 use Rattle.screen.specs.Screens.{fresh-screen}
@@ -32,8 +34,10 @@ use Rattle.paint_screen.specs.Judging.{begin-number}
 use Rattle.paint_screen.specs.Beginning.{Canvas, canvas, begun, beginning}
 use Rattle.host_screen.specs.declared.Held.{Held}
 use Rattle.host_screen.specs.declared.Held.the-variants as held
+use Rattle.host_screen.specs.declared.SetupWords.{SetupWords}
 use Rattle.host_screen.specs.State.{screen-words, screen-of, at-held}
-use Rattle.host.specs.Building.{reset-call, fill-call, push-call, pop-call, filter-call}
+use Rattle.host_screen.specs.Asked.{asked-setup, in-setup}
+use Rattle.host.specs.Building.{reset-in, reset-call, fill-call, push-call, pop-call, filter-call}
 use Rattle.host.specs.Painting.{begin-call}
 use Rattle.host_screen.proofs.Words.{written-back}
 
@@ -53,11 +57,22 @@ module _ {L T F : Type 0} (pack : List ℕ → T → F) (screen-in : L → Scree
   unchanged same keeps held.Nothing e q = refl
   unchanged same keeps (held.Good s) e q = rw (keeps s q, same s .0, same s .1, written-back good st s e)
 
-pub reset-refused : (v : Rect) (c d : ℕ) (st : List ℕ) (t : Tables) → Refused (reset-call v c d st t) → reset-call v c d st t .value ≡ (st, t)
-unfolding reset-call reset-to
-reset-refused v c d st t q =
-    unchanged {T = Tables} {F = List ℕ × Tables} (λ (ws : List ℕ) (t : Tables). (ws, t)) (λ (l : ScreenLent). l .screen) (λ (l : ScreenLent). l .tables) true st t (λ (s : Screen). lent s t) (λ (s : Screen). reset-to v c d (lent s t)) (λ (s : Screen). (refl, refl))
-    (λ (s : Screen). settled (judged-reset v c d (lengths t)) (lent s t) (lent (fresh-screen v c d) (zeroed t))) (screen-of true st) refl q
+-- a call in the setup that is asked for
+pub asked-kept : {T : Type 0} (o : Option Setup) (n : ℕ) (t : T) (f : Setup → Answer T) → ((q : Setup) → Refused (f q) → f q .value ≡ t)
+    → Refused (in-setup o n t f) → in-setup o n t f .value ≡ t
+asked-kept none n t f k e = refl
+asked-kept (some q) n t f k e = k q e
+
+reset-in-refused : (v : Rect) (q : Setup) (st : List ℕ) (t : Tables) → Refused (reset-in v q st t) → reset-in v q st t .value ≡ (st, t)
+unfolding reset-in reset-to
+reset-in-refused v q st t e =
+    let f = frame q (box-of v) in
+    unchanged {T = Tables} {F = List ℕ × Tables} (λ (ws : List ℕ) (t : Tables). (ws, t)) (λ (l : ScreenLent). l .screen) (λ (l : ScreenLent). l .tables) true st t (λ (s : Screen). lent s t) (λ (s : Screen). reset-to f (lent s t)) (λ (s : Screen). (refl, refl))
+    (λ (s : Screen). settled (judged-reset f (lengths t)) (lent s t) (lent (fresh-screen f) (zeroed t))) (screen-of true st) refl e
+
+pub reset-refused : (v : Rect) (w : SetupWords) (st : List ℕ) (t : Tables) → Refused (reset-call v w st t) → reset-call v w st t .value ≡ (st, t)
+unfolding reset-call
+reset-refused v w st t = asked-kept (asked-setup w) _ (st, t) (λ (q : Setup). reset-in v q st t) (λ q. reset-in-refused v q st t)
 
 pub fill-refused : (ps ss : List ℕ) (d : Draw) (st : List ℕ) (w : Words) (pas : List ℕ) → Refused (fill-call ps ss d st w pas) → fill-call ps ss d st w pas .value ≡ (st, w, pas)
 unfolding fill-call

@@ -12,6 +12,7 @@ use Rattle.rules.specs.Lists.{slice, is-empty}
 use Rattle.rules.specs.Answers.{Answer, settle, Done, NoLayer, first-of, Deep, Ids, FullAttrs}
 use Rattle.rules.specs.Boxes.{Box}
 use Rattle.rules.specs.Segments.{Segment}
+use Rattle.rules.specs.Setups.{Setup, frame}
 use Rattle.rules.specs.Inputs.{Draw, Props, Filter}
 use Rattle.rules.specs.Plans.{Layer, Step, a-fill, a-push, a-pop, a-filter, filter-box, draws-nothing, clip-box}
 use Rattle.rules.specs.Recording.{Recording, LayerRec, Node, shape, sections, recording}
@@ -108,32 +109,33 @@ module _ (w : ℕ) (v : Box) (row tile : ℕ) where
   step-late (a-pop ss) t = pop-late (t .opened) ss t
   step-late (a-filter n f) t = picture-late f t
 
--- the call after an accepted recording
+-- the call after an accepted recording, on the screen of the viewport v
 module _ (row tile : ℕ) (a : Asked) (l : ScreenLent) where
-  told-late : (r : Recording) → Late (told-of bucket-tiles r row tile .number)
-  unfolding told-of
-  told-late r = walk-late Telling (tell-at bucket-tiles (r .viewport) row tile) (step-late bucket-tiles (r .viewport) row tile) r _
+  module _ (v : Box) (r : Recording) where
+    told-late : Late (told-of bucket-tiles v r row tile .number)
+    unfolding told-of
+    told-late = walk-late Telling (tell-at bucket-tiles v row tile) (step-late bucket-tiles v row tile) r _
 
-  explained-late : (r : Recording) → Late (explained-of r row tile a l .number)
-  unfolding explained-of
-  explained-late r = by (off-screen (r .viewport) row tile)
-      (λ y. rw y (λ e. omega arith))
-      (λ n. rw n (by (eqb (told-of bucket-tiles r row tile .number) Done) (λ y. rw y late-done) (λ z. rw z (told-late r))))
+    explained-late : Late (explained-of v r row tile a l .number)
+    unfolding explained-of
+    explained-late = by (off-screen v row tile)
+        (λ y. rw y (λ e. omega arith))
+        (λ n. rw n (by (eqb (told-of bucket-tiles v r row tile .number) Done) (λ y. rw y late-done) (λ z. rw z told-late)))
 
-  then-early : (c d : ℕ) (old : ScreenLent) (ss : List (List (List ℕ)))
-      → let b = recorded-in (recording ss) c d old in
-      before-4 (b .number) ≡ before-4 (cond (eqb (b .number) Done) (explained-of (recording ss) row tile a l) (no-reason (b .number) (b .value)) .number)
-  then-early c d old ss = by (eqb (recorded-in (recording ss) c d old .number) Done)
-      (λ y. rw y (rw y at (after (recorded-in (recording ss) c d old .number) _ (explained-late (recording ss)))))
+  then-early : (q : Setup) (old : ScreenLent) (ss : List (List (List ℕ)))
+      → let b = recorded-in (recording ss) q old in
+      before-4 (b .number) ≡ before-4 (cond (eqb (b .number) Done) (explained-in q (some ss) row tile a l) (no-reason (b .number) (b .value)) .number)
+  then-early q old ss = by (eqb (recorded-in (recording ss) q old .number) Done)
+      (λ y. rw y (rw y at (after (recorded-in (recording ss) q old .number) _ (explained-late (frame q (recording ss .viewport) .viewport) (recording ss)))))
       (λ n. rw n)
 
-pub explained-is-early : (ws : List ℕ) (c d row tile : ℕ) (a : Asked) (l : ScreenLent)
-    → before-4 (file-number ws c d (judging.arenas (lengths (l .tables)))) ≡ before-4 (explained ws c d row tile a l .number)
+pub explained-is-early : (ws : List ℕ) (q : Setup) (row tile : ℕ) (a : Asked) (l : ScreenLent)
+    → before-4 (file-number ws q (judging.arenas (lengths (l .tables)))) ≡ before-4 (explained ws q row tile a l .number)
 unfolding explained recorded
-explained-is-early ws c d row tile a l = recorded-is-early ws c d l ∙ go (sections shape ws)
+explained-is-early ws q row tile a l = recorded-is-early ws q l ∙ go (sections shape ws)
   where
     go : (o : Option (List (List (List ℕ))))
-        → let b = of-sections o c d l in
-        before-4 (b .number) ≡ before-4 (cond (eqb (b .number) Done) (explained-in o row tile a (b .value)) (no-reason (b .number) (b .value)) .number)
+        → let b = of-sections o q l in
+        before-4 (b .number) ≡ before-4 (cond (eqb (b .number) Done) (explained-in q o row tile a (b .value)) (no-reason (b .number) (b .value)) .number)
     go none = refl
-    go (some ss) = then-early row tile a (recorded-in (recording ss) c d l .value) c d l ss
+    go (some ss) = then-early row tile a (recorded-in (recording ss) q l .value) q l ss

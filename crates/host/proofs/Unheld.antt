@@ -10,7 +10,9 @@ use lib.Ieee.{Float}
 use lib.IntN.{ℤ}
 use Rattle.rules.specs.Answers.{Answer, answer}
 use Rattle.rules.specs.Spans.{Span}
+use Rattle.rules.specs.Setups.{Setup, frame}
 use Rattle.rect.specs.declared.Rect.{Rect}
+use Rattle.rect.specs.Rects.{box-of}
 use Rattle.row.specs.Words.{Words}
 use Rattle.screen.specs.declared.Screen.{Screen}
 use Rattle.screen.specs.Judging.{judged}
@@ -37,25 +39,27 @@ use Rattle.host_screen.specs.declared.Held.the-variants as held
 use Rattle.host_screen.specs.State.{screen-of, refused-at}
 use Rattle.host_screen.proofs.Words.{refused-on}
 use Rattle.host.specs.Border.{arenas, arenas-number, file-number}
-use Rattle.host.specs.Building.{tables-left, reset-call, recording-call, fill-left, fill-call, push-left, push-call, pop-left, pop-call, filter-left, filter-call}
+use Rattle.host.specs.Building.{tables-left, reset-in, recording-in, fill-left, fill-call, push-left, push-call, pop-left, pop-call, filter-left, filter-call}
 use Rattle.host_results.specs.Results.{skip-left}
 use Rattle.host.specs.Painting.{begin-left, begin-call, step-left, step-call, row-call, runs-left, unset-call, visible-call, write-left, write-call, skip-call}
 use Rattle.host.proofs.Early.{fill-early, push-early, filter-early, pop-early, begin-early, step-is-early, row-is-early, unset-early, visible-early, write-early, skip-early, reset-early, recorded-is-early}
 
 module _ (st : List ℕ) (n : ℕ) where
-  pub reset-unheld : (v : Rect) (c d : ℕ) (t : Tables) → held.Nothing ≡ screen-of true st
-      → n ≡ refused-at st (λ (s : Screen). arenas-number v c d (arenas (length (t .render)) (length (t .fills)) (length (t .depth)))) → answer n (st, t) ≡ reset-call v c d st t
-  unfolding reset-call
-  reset-unheld v c d t h q =
-      refused-on (screen-of true st) st (st, t) (λ (s : Screen). tables-left (reset-to v c d (lent s t)))
-      (λ (s : Screen). arenas-number v c d (arenas (length (t .render)) (length (t .fills)) (length (t .depth)))) n h q (λ (s : Screen). reset-early v c d (lent s t))
+  pub reset-unheld : (v : Rect) (q : Setup) (t : Tables) → held.Nothing ≡ screen-of true st
+      → n ≡ refused-at st (λ (s : Screen). arenas-number (frame q (box-of v)) (arenas (length (t .render)) (length (t .fills)) (length (t .depth)))) → answer n (st, t) ≡ reset-in v q st t
+  unfolding reset-in
+  reset-unheld v q t h e =
+      refused-on (screen-of true st) st (st, t) (λ (s : Screen). tables-left (reset-to (frame q (box-of v)) (lent s t)))
+      (λ (s : Screen). arenas-number (frame q (box-of v)) (arenas (length (t .render)) (length (t .fills)) (length (t .depth)))) n h e
+      (λ (s : Screen). reset-early (frame q (box-of v)) (lent s t))
 
-  pub recording-unheld : (file : List ℕ) (c d : ℕ) (t : Tables) → held.Nothing ≡ screen-of true st
-      → n ≡ refused-at st (λ (s : Screen). file-number file c d (arenas (length (t .render)) (length (t .fills)) (length (t .depth)))) → answer n (st, t) ≡ recording-call file c d st t
-  unfolding recording-call
-  recording-unheld file c d t h q =
-      refused-on (screen-of true st) st (st, t) (λ (s : Screen). tables-left (recorded file c d (lent s t)))
-      (λ (s : Screen). file-number file c d (arenas (length (t .render)) (length (t .fills)) (length (t .depth)))) n h q (λ (s : Screen). recorded-is-early file c d (lent s t))
+  pub recording-unheld : (file : List ℕ) (q : Setup) (t : Tables) → held.Nothing ≡ screen-of true st
+      → n ≡ refused-at st (λ (s : Screen). file-number file q (arenas (length (t .render)) (length (t .fills)) (length (t .depth)))) → answer n (st, t) ≡ recording-in file q st t
+  unfolding recording-in
+  recording-unheld file q t h e =
+      refused-on (screen-of true st) st (st, t) (λ (s : Screen). tables-left (recorded file q (lent s t)))
+      (λ (s : Screen). file-number file q (arenas (length (t .render)) (length (t .fills)) (length (t .depth)))) n h e
+      (λ (s : Screen). recorded-is-early file q (lent s t))
 
   pub fill-unheld : (ps ss : List ℕ) (d : Draw) (w : Words) (pas : List ℕ) → held.Nothing ≡ screen-of true st
       → n ≡ refused-at st (λ (s : Screen). judged s (length (w .state)) (length (w .render)) (length (w .fills))) → answer n (st, w, pas) ≡ fill-call ps ss d st w pas

@@ -8,61 +8,70 @@ use lib.ListN.{length}
 use lib.Dec.{eqb}
 use borrow.Author.Tests.{eq-eqb, ne-eqb}
 use Rattle.rules.specs.Answers.{BadForm, BadRecord}
-use Rattle.rules.specs.Boxes.{good-viewport, rows-of, buckets-of}
+use Rattle.rules.specs.Boxes.{Box, good-viewport, rows-of, buckets-of}
+use Rattle.rules.specs.Plans.{Frame}
+use Rattle.rules.specs.Setups.{Setup, frame}
 use Rattle.rules.specs.Recording.{shape, sections, recording}
 use Rattle.rules.specs.Walk.{Arenas, good-room, good-arenas}
 use Rattle.rect.specs.declared.Rect.{Rect}
 use Rattle.rect.specs.Rects.{box-of}
 use Rattle.screen.specs.declared.Screen.{Screen}
-use Rattle.screen.specs.Screens.{rect-of, frame}
 use Rattle.screen.specs.Judging.{good-rooms}
 use Rattle.file_form.specs.declared.Layout.{Layout}
 use Rattle.file_form.specs.Places as file
 use Rattle.file_form.proofs.Laid.{GoodForm}
 use Rattle.file_form.proofs.Reading.{reads}
 use Rattle.file_judge.specs.Judging.{box-from}
-use Rattle.file_read.proofs.Boxed.{boxed}
 use Rattle.host_screen.specs.State.{screen-at, before-4, refused-at}
-use Rattle.host.specs.Border.{arenas-number, file-number}
+use Rattle.host.specs.Border.{arenas-number, file-number, unasked-number}
 
 depth-last : (p x y z : Bool) → (p && ((x && y) && z)) ≡ (((p && x) && y) && z)
 depth-last true x y z = refl
 depth-last false x y z = refl
 
-module _ (v : Rect) (c d : ℕ) (a : Arenas) where
-  pub bad-view : good-viewport (box-of v) ≡ false → 2 ≡ arenas-number v c d a
+module _ (f : Frame) (a : Arenas) where
+  pub bad-view : good-viewport (f .viewport) ≡ false → 2 ≡ arenas-number f a
   unfolding arenas-number
   bad-view h = rw h
 
   -- n rows of a good viewport
-  module _ (view : good-viewport (box-of v) ≡ true) (n : ℕ) (rows : n ≡ rows-of (box-of v)) where
-    all-arenas : good-arenas 32 (frame v c d) a ≡ (good-rooms n c d (a .render) (a .fills) && eqb (a .depth) (n * buckets-of 32 (box-of v)))
-    all-arenas = rw rows (depth-last (good-room c && good-room d) _ _ _)
+  module _ (view : good-viewport (f .viewport) ≡ true) (n : ℕ) (rows : n ≡ rows-of (f .viewport)) where
+    all-arenas : good-arenas 32 f a ≡ (good-rooms n (f .c) (f .d) (a .render) (a .fills) && eqb (a .depth) (n * buckets-of 32 (f .viewport)))
+    all-arenas = rw rows (depth-last (good-room (f .c) && good-room (f .d)) _ _ _)
 
-    pub bad-rooms : good-rooms n c d (a .render) (a .fills) ≡ false → 1 ≡ arenas-number v c d a
+    pub bad-rooms : good-rooms n (f .c) (f .d) (a .render) (a .fills) ≡ false → 1 ≡ arenas-number f a
     unfolding arenas-number
     bad-rooms h = rw (view, all-arenas, h)
 
-    module _ (r : good-rooms n c d (a .render) (a .fills) ≡ true) (b : ℕ) (e : b ≡ buckets-of 32 (box-of v)) where
-      pub bad-depth : (a .depth ≡ n * b → ⊥) → 1 ≡ arenas-number v c d a
+    module _ (r : good-rooms n (f .c) (f .d) (a .render) (a .fills) ≡ true) (b : ℕ) (e : b ≡ buckets-of 32 (f .viewport)) where
+      pub bad-depth : (a .depth ≡ n * b → ⊥) → 1 ≡ arenas-number f a
       unfolding arenas-number
       bad-depth h = rw (view, all-arenas, r, ne-eqb _ _ (rw e at h))
 
-      pub good-lent : a .depth ≡ n * b → 0 ≡ arenas-number v c d a
+      pub good-lent : a .depth ≡ n * b → 0 ≡ arenas-number f a
       unfolding arenas-number
       good-lent h = rw (view, all-arenas, r, eq-eqb _ _ (rw e at h))
 
 -- a file
-pub no-file : (ws : List ℕ) (c d : ℕ) (a : Arenas) → sections shape ws ≡ none → BadForm ≡ file-number ws c d a
+pub no-file : (ws : List ℕ) (q : Setup) (a : Arenas) → sections shape ws ≡ none → BadForm ≡ file-number ws q a
 unfolding file-number
-no-file ws c d a e = rw e
+no-file ws q a e = rw e
 
-pub a-file : (l : Layout) (ws : List ℕ) → GoodForm ws l → (v : Rect) → box-of v ≡ box-from ws 1 → (c d : ℕ) (a : Arenas) (n : ℕ)
-    → n ≡ arenas-number v c d a → n ≡ file-number ws c d a
+pub a-file : (l : Layout) (ws : List ℕ) → GoodForm ws l → (v : Rect) → box-of v ≡ box-from ws 1 → (q : Setup) (a : Arenas) (n : ℕ)
+    → n ≡ arenas-number (frame q (box-of v)) a → n ≡ file-number ws q a
 unfolding file-number
-a-file l ws g v b c d a n e =
-    let view : v ≡ rect-of (file.recorded l ws .viewport) = unfold file.recorded box-from in boxed v _ b in
-    rw (g .same, reads l ws (g .fits)) (e ∙ ap (λ (x : Rect). arenas-number x c d a) view)
+a-file l ws g v b q a n e =
+    let view : box-of v ≡ file.recorded l ws .viewport = unfold file.recorded box-from in b in
+    rw (g .same, reads l ws (g .fits)) (e ∙ ap (λ (x : Box). arenas-number (frame q x) a) view)
+
+-- .. whose words ask for no setup
+pub unasked-form : (ws : List ℕ) → sections shape ws ≡ none → BadForm ≡ unasked-number ws
+unfolding unasked-number
+unasked-form ws e = rw e
+
+pub unasked-file : (l : Layout) (ws : List ℕ) → GoodForm ws l → BadRecord ≡ unasked-number ws
+unfolding unasked-number
+unasked-file l ws g = rw (g .same)
 
 -- a refusal at the border, by the state's length
 module _ (ws : List ℕ) (f : Screen → ℕ) where

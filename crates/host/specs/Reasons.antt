@@ -5,11 +5,15 @@ use mathlib.Core.List.{List, [], _∷_}
 use lib.ListN.{length}
 use lib.Dec.{leb, eqb}
 use Rattle.rules.specs.Answers.{Answer, answer, settle}
+use Rattle.rules.specs.Setups.{Setup}
 use Rattle.rules_reason.specs.Reasons.{Reason, unknown-attribute, no-segment, cut-away, row-untouched, hidden-by, shown-at, Asked}
 use Rattle.screen.specs.declared.Screen.{Screen}
 use Rattle.screen.specs.Tables.{Tables, lent}
 use Rattle.tile_call.specs.Explained.{Explained, explained}
+use Rattle.host_screen.specs.declared.SetupWords.{SetupWords}
 use Rattle.host_screen.specs.State.{screen-words, on}
+use Rattle.host_screen.specs.Asked.{asked-setup, in-setup}
+use Rattle.host.specs.Border.{unasked-number}
 
 -- the case, and the attribute that hides or the place in the tile's list
 abbrev pub reason-words : Reason → List ℕ
@@ -33,8 +37,13 @@ why-left result e =
     let left = result-left (e .number) (e .reason) result in
     answer (left .number) (screen-words (e .lent .screen), e .lent .tables, left .value)
 
--- a word that says neither draw nor layer is refused, and so is a result that has not two words
-unfoldable pub why-call : List ℕ → ℕ → ℕ → ℕ → ℕ → ℕ → ℕ → List ℕ → Tables → List ℕ → Answer (List ℕ × Tables × List ℕ)
-why-call file c d row tile layer attribute st t result =
+-- In a setup. A word that says neither draw nor layer is refused, and so is a result that has not two words
+unfoldable pub why-in : List ℕ → Setup → ℕ → ℕ → ℕ → ℕ → List ℕ → Tables → List ℕ → Answer (List ℕ × Tables × List ℕ)
+why-in file q row tile layer attribute st t result =
     on (leb layer 1 && eqb (length result) 2) st (st, t, result)
-    (λ (s : Screen). why-left result (explained file c d row tile (asked layer attribute) (lent s t)))
+    (λ (s : Screen). why-left result (explained file q row tile (asked layer attribute) (lent s t)))
+
+-- as a host's words ask
+unfoldable pub why-call : List ℕ → SetupWords → ℕ → ℕ → ℕ → ℕ → List ℕ → Tables → List ℕ → Answer (List ℕ × Tables × List ℕ)
+why-call file w row tile layer attribute st t result =
+    in-setup (asked-setup w) (unasked-number file) (st, t, result) (λ q. why-in file q row tile layer attribute st t result)

@@ -10,6 +10,8 @@ use paint_screen::judge::judge_runs;
 use paint_screen::judge::judge_skip;
 use paint_screen::judge::judge_step;
 use rect::Rect;
+use rect::Viewport;
+use screen::Setup;
 use screen::fresh;
 use screen::is_good_rooms;
 use screen::judge_screen;
@@ -22,21 +24,23 @@ use sizes::answers::DONE;
 ghost use mathlib.Core.Path.{_≡_};
 ghost use lib.ListN.{length};
 ghost use Rattle.screen.specs.declared.Screen.{Screen as Numbers};
+ghost use Rattle.screen.specs.Screens.{setup-of, frame};
 ghost use Rattle.screen.specs.Judging.{judged};
 ghost use Rattle.paint_screen.specs.Judging.{arenas-long, tables-long, begin-number, step-number, runs-number, skip-number};
 ghost use Rattle.host_screen.specs.State.{refused-at};
-ghost use Rattle.host.specs.Border.{arenas, arenas-number, file-number};
+ghost use Rattle.host.specs.Border.{arenas, arenas-number, file-number, unasked-number};
 
-// 2, then 1, or 0: what a reset says of a viewport, C, D and the three arenas.
-fn judge_arenas(viewport: Rect, c: u32, d: u32, render: usize, fills: usize, depth: usize) -> u32
-    ensures { λ r. ⌜ r ≡ arenas-number viewport c d (arenas render fills depth) ⌝ }
+// 2, then 1, or 0: what a reset says of a viewport, a setup and the three arenas.
+fn judge_arenas(viewport: Rect, setup: Setup, render: usize, fills: usize, depth: usize) -> u32
+    ensures { λ r. ⌜ r ≡ arenas-number (frame setup viewport) (arenas render fills depth) ⌝ }
 {
-    if !viewport.is_good_viewport() {
+    let mode = setup.mode;
+    let Viewport::Good(seen) = viewport.viewport_in(mode) else {
         return BAD_VIEWPORT;
-    }
-    let screen = fresh(viewport, c, d);
+    };
+    let screen = fresh(seen, setup.c, setup.d);
     let n = screen.rows();
-    if !is_good_rooms(n, c, d, render, fills) {
+    if !is_good_rooms(n, setup.c, setup.d, render, fills) {
         return BAD_ARENA;
     }
     if depth != n * screen.buckets() {
@@ -48,45 +52,53 @@ fn judge_arenas(viewport: Rect, c: u32, d: u32, render: usize, fills: usize, dep
 pub fn refuse_reset(
     state: &[u32],
     viewport: Rect,
-    c: u32,
-    d: u32,
+    setup: Setup,
     render: usize,
     fills: usize,
     depth: usize,
 ) -> u32
-    ensures { λ r. ⌜ r ≡ refused-at (now (state .entry)) (λ (s : Numbers). arenas-number viewport c d (arenas render fills depth)) ⌝ }
+    ensures { λ r. ⌜ r ≡ refused-at (now (state .entry)) (λ (s : Numbers). arenas-number (frame setup viewport) (arenas render fills depth)) ⌝ }
 {
     if state.len() != STATE {
         return BAD_RECORD;
     }
-    before_4(judge_arenas(viewport, c, d, render, fills, depth))
+    before_4(judge_arenas(viewport, setup, render, fills, depth))
 }
 
 // The file's form, then the reset to its viewport.
-fn judge_file(file: &[u32], c: u32, d: u32, render: usize, fills: usize, depth: usize) -> u32
-    ensures { λ r. ⌜ r ≡ file-number (now (file .entry)) c d (arenas render fills depth) ⌝ }
+fn judge_file(file: &[u32], setup: Setup, render: usize, fills: usize, depth: usize) -> u32
+    ensures { λ r. ⌜ r ≡ file-number (now (file .entry)) (setup-of setup) (arenas render fills depth) ⌝ }
 {
     let Form::Good(l) = read_form(file) else {
         return BAD_FORM;
     };
-    judge_arenas(box_at(file, 1), c, d, render, fills, depth)
+    judge_arenas(box_at(file, 1), setup, render, fills, depth)
 }
 
 pub fn refuse_recording(
     state: &[u32],
     file: &[u32],
-    c: u32,
-    d: u32,
+    setup: Setup,
     render: usize,
     fills: usize,
     depth: usize,
 ) -> u32
-    ensures { λ r. ⌜ r ≡ refused-at (now (state .entry)) (λ (s : Numbers). file-number (now (file .entry)) c d (arenas render fills depth)) ⌝ }
+    ensures { λ r. ⌜ r ≡ refused-at (now (state .entry)) (λ (s : Numbers). file-number (now (file .entry)) (setup-of setup) (arenas render fills depth)) ⌝ }
 {
     if state.len() != STATE {
         return BAD_RECORD;
     }
-    before_4(judge_file(file, c, d, render, fills, depth))
+    before_4(judge_file(file, setup, render, fills, depth))
+}
+
+// A recording where the words ask for no setup: the file's form comes first, and there is no viewport to judge.
+pub fn refuse_setup(file: &[u32]) -> u32
+    ensures { λ r. ⌜ r ≡ unasked-number (now (file .entry)) ⌝ }
+{
+    let Form::Good(l) = read_form(file) else {
+        return BAD_FORM;
+    };
+    BAD_RECORD
 }
 
 // A building step.

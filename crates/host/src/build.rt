@@ -2,15 +2,20 @@
 use crate::border::refuse_build;
 use crate::border::refuse_recording;
 use crate::border::refuse_reset;
+use crate::border::refuse_setup;
 use cmd::blend::Blend;
 use file_call::bucket_recording;
 use file_read::props_at;
+use host_screen::AskedSetup;
 use host_screen::Held;
+use host_screen::SetupWords;
 use host_screen::leave;
+use host_screen::read_setup;
 use host_screen::screen_of;
 use rect::Rect;
 use screen::reset;
 use screen_layers::LayerProps;
+use sizes::answers::BAD_RECORD;
 use step_fill::Draw;
 use step_fill::fill;
 use step_filter::Pixmap;
@@ -27,7 +32,7 @@ ghost use Rattle.step_filter.specs.Filter.{picture-of};
 ghost use Rattle.host_screen.specs.State.{rect};
 ghost use Rattle.host.specs.Building.{reset-call, recording-call, draw, fill-call, clip, props, push-call, pop-call, placement, picture, filter-call};
 
-// Rule 1: a fresh screen of a viewport, C and D.
+// Rule 1: a fresh screen of a viewport in a setup. Words that ask for no setup are refused by 4 at once.
 #[no_mangle]
 pub extern "C" fn coarse_reset(
     state: &mut [u32],
@@ -35,8 +40,7 @@ pub extern "C" fn coarse_reset(
     y0: u32,
     x1: u32,
     y1: u32,
-    c: u32,
-    d: u32,
+    setup: SetupWords,
     render: &mut [u32],
     fills: &mut [u32],
     depth: &mut [u32],
@@ -49,15 +53,17 @@ pub extern "C" fn coarse_reset(
     filter_paints: &mut [i32],
 ) -> u32
     ensures { λ r. ⌜ answer r (now (state .exit), tables (now (render .exit)) (now (fills .exit)) (now (depth .exit)) (now (rows .exit)) (now (painting .exit)) (now (layers .exit)) (now (opacities .exit)) (now («paint_attrs» .exit)) (now («layer_attrs» .exit)) (now («filter_paints» .exit)))
-        ≡ reset-call (rect x0 y0 x1 y1) c d (now (state .entry)) (tables (now (render .entry)) (now (fills .entry)) (now (depth .entry)) (now (rows .entry)) (now (painting .entry)) (now (layers .entry)) (now (opacities .entry)) (now («paint_attrs» .entry)) (now («layer_attrs» .entry)) (now («filter_paints» .entry))) ⌝ }
+        ≡ reset-call (rect x0 y0 x1 y1) setup (now (state .entry)) (tables (now (render .entry)) (now (fills .entry)) (now (depth .entry)) (now (rows .entry)) (now (painting .entry)) (now (layers .entry)) (now (opacities .entry)) (now («paint_attrs» .entry)) (now («layer_attrs» .entry)) (now («filter_paints» .entry))) ⌝ }
 {
+    let AskedSetup::Good(asked) = read_setup(setup) else {
+        return BAD_RECORD;
+    };
     let viewport = Rect { x0, y0, x1, y1 };
     let Held::Good(screen) = screen_of(state, true) else {
         return refuse_reset(
             state,
             viewport,
-            c,
-            d,
+            asked,
             render.len(),
             fills.len(),
             depth.len(),
@@ -66,8 +72,7 @@ pub extern "C" fn coarse_reset(
     let built = reset(
         screen,
         viewport,
-        c,
-        d,
+        asked,
         render,
         fills,
         depth,
@@ -82,13 +87,12 @@ pub extern "C" fn coarse_reset(
     leave(state, built)
 }
 
-// Rule 2: the words of a recording file, with C and D.
+// Rule 2: the words of a recording file, in a setup. Words that ask for no setup are refused by 4, after 3 for the file's form.
 #[no_mangle]
 pub extern "C" fn coarse_bucket_recording(
     state: &mut [u32],
     file: &[u32],
-    c: u32,
-    d: u32,
+    setup: SetupWords,
     render: &mut [u32],
     fills: &mut [u32],
     depth: &mut [u32],
@@ -101,16 +105,18 @@ pub extern "C" fn coarse_bucket_recording(
     filter_paints: &mut [i32],
 ) -> u32
     ensures { λ r. ⌜ answer r (now (state .exit), tables (now (render .exit)) (now (fills .exit)) (now (depth .exit)) (now (rows .exit)) (now (painting .exit)) (now (layers .exit)) (now (opacities .exit)) (now («paint_attrs» .exit)) (now («layer_attrs» .exit)) (now («filter_paints» .exit)))
-        ≡ recording-call (now (file .entry)) c d (now (state .entry)) (tables (now (render .entry)) (now (fills .entry)) (now (depth .entry)) (now (rows .entry)) (now (painting .entry)) (now (layers .entry)) (now (opacities .entry)) (now («paint_attrs» .entry)) (now («layer_attrs» .entry)) (now («filter_paints» .entry))) ⌝ }
+        ≡ recording-call (now (file .entry)) setup (now (state .entry)) (tables (now (render .entry)) (now (fills .entry)) (now (depth .entry)) (now (rows .entry)) (now (painting .entry)) (now (layers .entry)) (now (opacities .entry)) (now («paint_attrs» .entry)) (now («layer_attrs» .entry)) (now («filter_paints» .entry))) ⌝ }
 {
+    let AskedSetup::Good(asked) = read_setup(setup) else {
+        return refuse_setup(file);
+    };
     let Held::Good(screen) = screen_of(state, true) else {
-        return refuse_recording(state, file, c, d, render.len(), fills.len(), depth.len());
+        return refuse_recording(state, file, asked, render.len(), fills.len(), depth.len());
     };
     let built = bucket_recording(
         screen,
         file,
-        c,
-        d,
+        asked,
         render,
         fills,
         depth,

@@ -1,7 +1,11 @@
 // Why a tile of a recording shows what it shows.
 use crate::border::refuse_recording;
+use crate::border::refuse_setup;
+use host_screen::AskedSetup;
 use host_screen::Held;
+use host_screen::SetupWords;
 use host_screen::put_screen;
+use host_screen::read_setup;
 use host_screen::screen_of;
 use sizes::answers::DONE;
 use tile_call::Explained;
@@ -72,13 +76,13 @@ fn is_good_question(layer: u32, n: usize) -> bool
 }
 
 // A recording is bucketed, and answers for a draw's attribute (layer 0) or a layer's (1) at one tile. result: the reason's case (0 unknown attribute,
-// 1 no segment, 2 cut away, 3 row untouched, 4 hidden, 5 shown), and the attribute that hides or the place in the tile's list.
+// 1 no segment, 2 cut away, 3 row untouched, 4 hidden, 5 shown), and the attribute that hides or the place in the tile's list. The setup is
+// refused as by the recording call.
 #[no_mangle]
 pub extern "C" fn coarse_why(
     state: &mut [u32],
     file: &[u32],
-    c: u32,
-    d: u32,
+    setup: SetupWords,
     row: u32,
     tile: u32,
     layer: u32,
@@ -96,11 +100,14 @@ pub extern "C" fn coarse_why(
     result: &mut [u32],
 ) -> u32
     ensures { λ r. ⌜ answer r (now (state .exit), tables (now (render .exit)) (now (fills .exit)) (now (depth .exit)) (now (rows .exit)) (now (painting .exit)) (now (layers .exit)) (now (opacities .exit)) (now («paint_attrs» .exit)) (now («layer_attrs» .exit)) (now («filter_paints» .exit)), now (result .exit))
-        ≡ why-call (now (file .entry)) c d row tile layer attribute (now (state .entry)) (tables (now (render .entry)) (now (fills .entry)) (now (depth .entry)) (now (rows .entry)) (now (painting .entry)) (now (layers .entry)) (now (opacities .entry)) (now («paint_attrs» .entry)) (now («layer_attrs» .entry)) (now («filter_paints» .entry))) (now (result .entry)) ⌝ }
+        ≡ why-call (now (file .entry)) setup row tile layer attribute (now (state .entry)) (tables (now (render .entry)) (now (fills .entry)) (now (depth .entry)) (now (rows .entry)) (now (painting .entry)) (now (layers .entry)) (now (opacities .entry)) (now («paint_attrs» .entry)) (now («layer_attrs» .entry)) (now («filter_paints» .entry))) (now (result .entry)) ⌝ }
 {
+    let AskedSetup::Good(wanted) = read_setup(setup) else {
+        return refuse_setup(file);
+    };
     let good = is_good_question(layer, result.len());
     let Held::Good(screen) = screen_of(state, good) else {
-        return refuse_recording(state, file, c, d, render.len(), fills.len(), depth.len());
+        return refuse_recording(state, file, wanted, render.len(), fills.len(), depth.len());
     };
     let asked = Asked {
         layer: layer == 1,
@@ -109,8 +116,7 @@ pub extern "C" fn coarse_why(
     let told = why(
         screen,
         file,
-        c,
-        d,
+        wanted,
         row,
         tile,
         asked,

@@ -1,20 +1,63 @@
 // A screen's numbers as 16 lent words: the viewport's four, the clip box's four, C, D, next id, the counts of paint attributes, layer
-// attributes, filter paints and open layers, and 1 if painting has begun, else 0.
+// attributes, filter paints and open layers, and 1 if painting has begun, else 0. And what a host asks a screen to be, as words.
+use rect::Mode;
 use rect::Rect;
 use screen::Built;
 use screen::Screen;
+use screen::Setup;
 use sizes::STATE;
 use sizes::answers::BAD_RECORD;
 use sizes::answers::DONE;
 ghost use mathlib.Core.Path.{_≡_};
 ghost use lib.ListN.{length};
 ghost use Rattle.sizes.specs.Sizes.{state-size};
+ghost use Rattle.rect.specs.Rects.{mode-of};
 ghost use Rattle.host_screen.specs.State.{bit, screen-words, screen-at, screen-of, before-4};
+ghost use Rattle.host_screen.specs.Asked.{mode-at, asked-setup, asked-for};
 
 // What a host's words stand for.
 pub enum Held {
     Nothing,
     Good(Screen),
+}
+
+// What a screen is asked to be, as a host gives it: room for C render commands and D depth fills in each row; the mode is 0 exact, 1 snapping.
+#[repr(C)]
+pub struct SetupWords {
+    pub c: u32,
+    pub d: u32,
+    pub mode: u32,
+}
+
+// What such words ask for.
+pub enum AskedSetup {
+    Bad,
+    Good(Setup),
+}
+
+// The mode of a word that is 0 or 1.
+fn mode_at(word: u32) -> Mode
+    ensures { λ r. ⌜ mode-of r ≡ mode-at word ⌝ }
+{
+    if word == 1 {
+        return Mode::Snapping;
+    }
+    Mode::Exact
+}
+
+// No other word is a mode.
+pub fn read_setup(words: SetupWords) -> AskedSetup
+    ensures { λ r. ⌜ asked-for r ≡ asked-setup words ⌝ }
+{
+    if 1 < words.mode {
+        return AskedSetup::Bad;
+    }
+    let mode = mode_at(words.mode);
+    AskedSetup::Good(Setup {
+        c: words.c,
+        d: words.d,
+        mode,
+    })
 }
 
 // The screen of 16 words, whatever the last.

@@ -9,8 +9,9 @@ use Rattle.cmd.specs.Reading.{command-of, depth-fill-of}
 use Rattle.rules.specs.Depth.{can-skip, bucket-runs, runs-in, runs, visible-runs, write-runs, written}
 use Rattle.rules.specs.Painting.{paint-depth, paint-command}
 use Rattle.rect.specs.declared.Rect.{Rect}
+use Rattle.rect.specs.Rects.{box-of}
 use Rattle.screen.specs.declared.Screen.{Screen}
-use Rattle.screen.specs.Screens.{good-clip, good-screen}
+use Rattle.screen.specs.Screens.{good-clip, good-screen, screen-in}
 use Rattle.paint_runs.specs.Summaries.{shown-runs}
 use Rattle.paint_pieces.specs.declared.Painted.{Painted}
 use Rattle.paint_command.specs.Painting.{attrs-at, lent, StepOut, out, settled, fill-shown, command-shown, depth-step, command-step, next-step, painted-row}
@@ -22,19 +23,7 @@ whole : Rect
 whole = record { x0 = 0; y0 = 0; x1 = 256; y1 = 8 }
 
 screen : Bool → Screen
-screen b =
-    record {
-      viewport = whole;
-      «clip_bbox» = whole;
-      c = 4;
-      d = 1;
-      «next_draw_id» = 4;
-      «paint_attrs» = 2;
-      «layer_attrs» = 1;
-      «filter_paints» = 0;
-      layers = 0;
-      painting = b;
-    }
+screen b = screen-in (record { viewport = box-of whole; c = 4; d = 1 }) whole 4 2 1 0 0 b
 
 -- two draws with the ids 1 and 2, and a layer with the id 3
 tables : Attributes

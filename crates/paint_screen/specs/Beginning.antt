@@ -5,6 +5,7 @@ use mathlib.Core.List.{List}
 use lib.ListN.{length}
 use Rattle.rules.specs.Answers.{Answer, settle}
 use Rattle.screen.specs.declared.Screen.{Screen}
+use Rattle.screen.specs.Screens.{frame-of, screen-in}
 use Rattle.screen.specs.Tables.{zeros}
 use Rattle.paint_screen.specs.Judging.{begin-number}
 
@@ -20,18 +21,7 @@ canvas s d p = record { screen = s; depth = d; painting = p }
 -- the screen with painting begun, or ended
 abbrev pub begun : Bool → Screen → Screen
 begun b s =
-    record {
-      viewport = s .viewport;
-      «clip_bbox» = s .«clip_bbox»;
-      c = s .c;
-      d = s .d;
-      «next_draw_id» = s .«next_draw_id»;
-      «paint_attrs» = s .«paint_attrs»;
-      «layer_attrs» = s .«layer_attrs»;
-      «filter_paints» = s .«filter_paints»;
-      layers = s .layers;
-      painting = b;
-    }
+    screen-in (frame-of s) (s .«clip_bbox») (s .«next_draw_id») (s .«paint_attrs») (s .«layer_attrs») (s .«filter_paints») (s .layers) b
 
 -- what is refused alters nothing
 unfoldable pub beginning : Canvas → Answer Canvas

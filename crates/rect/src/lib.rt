@@ -1,9 +1,10 @@
 // Boxes in pixels (vello_common's RectU16). Parts: `is_..` judge any numbers, the others are exact on any.
 ghost use mathlib.Core.Path.{_≡_};
-ghost use Prim.Native.Nat.{_-_};
+ghost use Prim.Native.Nat.{_-_, _≤_};
 ghost use Rattle.rules.specs.Boxes.{width, height, empty-box, meet, to-local, bounded, good-dest, good-box, good-viewport, whole, span-of, box};
+ghost use Rattle.rules.specs.Setups.{snapped, viewport-in};
 ghost use Rattle.span.specs.Spans.{tiles};
-ghost use Rattle.rect.specs.Rects.{box-of, same-box};
+ghost use Rattle.rect.specs.Rects.{box-of, same-box, mode-of, seen};
 use sizes::MOST_HEIGHT;
 use sizes::MOST_WIDTH;
 use span::TileSpan;
@@ -16,6 +17,18 @@ pub struct Rect {
     pub y0: u32,
     pub x1: u32,
     pub y1: u32,
+}
+
+// How a viewport is read: as it is, or carried outward to tile edges.
+pub enum Mode {
+    Exact,
+    Snapping,
+}
+
+// What a box gives as a screen's viewport: answer 2, or the box that the screen holds.
+pub enum Viewport {
+    Bad,
+    Good(Rect),
 }
 
 // No box: all zeros.
@@ -135,6 +148,51 @@ impl Rect {
             return false;
         }
         self.height() <= MOST_HEIGHT
+    }
+
+    // The tile edges around it. Its ends are no further than a viewport's, so no number overflows.
+    fn snap_to_tile_coordinates(self) -> Rect
+        requires { ⌜ (self .x1 ≤ 32768) × (self .y1 ≤ 32768) ⌝ }
+        ensures { λ r. ⌜ box-of r ≡ snapped (box-of self) ⌝ }
+    {
+        Rect {
+            x0: 4 * (self.x0 / 4),
+            y0: 4 * (self.y0 / 4),
+            x1: 4 * ((self.x1 + 3) / 4),
+            y1: 4 * ((self.y1 + 3) / 4),
+        }
+    }
+
+    fn viewport(self) -> Viewport
+        ensures { λ r. ⌜ r ≡ seen (box-of self) ⌝ }
+    {
+        if self.is_good_viewport() {
+            return Viewport::Good(self);
+        }
+        Viewport::Bad
+    }
+
+    // The viewport that a screen has of this box in a mode: the limits are judged on the snapped box alone.
+    pub fn viewport_in(self, mode: Mode) -> Viewport
+        ensures { λ r. ⌜ r ≡ seen (viewport-in (mode-of mode) (box-of self)) ⌝ }
+    {
+        match mode {
+            Mode::Exact => self.viewport(),
+            Mode::Snapping => self.snapped_viewport(),
+        }
+    }
+
+    fn snapped_viewport(self) -> Viewport
+        ensures { λ r. ⌜ r ≡ seen (snapped (box-of self)) ⌝ }
+    {
+        if 32768 < self.x1 {
+            return Viewport::Bad;
+        }
+        if 32768 < self.y1 {
+            return Viewport::Bad;
+        }
+        let around = self.snap_to_tile_coordinates();
+        around.viewport()
     }
 
     // A box of the same size at 0, 0: the first clip box of this viewport.

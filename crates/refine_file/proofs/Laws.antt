@@ -13,10 +13,9 @@ use Rattle.rules.specs.Rows.{Row, fresh-row, row-ops}
 use Rattle.rules.specs.Steps.{Screen, reset, call}
 use Rattle.rules.specs.Recording.{Recording, shape, sections, recording, good-records, good-order}
 use Rattle.rules.specs.Plans.{Frame, Step}
+use Rattle.rules.specs.Setups.{Setup, frame}
 use Rattle.rules.specs.Walk.{_then_, good-arenas, frame-of, judge-records, walk-all, play-records, play}
 use Rattle.rules.proofs.All.{never}
-use Rattle.rect.specs.declared.Rect.{Rect}
-use Rattle.screen.specs.Screens.{frame, rect-of}
 use Rattle.screen.specs.Judging.{good-tables, arenas, judged-reset}
 use Rattle.screen.specs.Tables.{lengths, ScreenLent, reset-to}
 use Rattle.screen.proofs.Laws.{few-rows}
@@ -30,23 +29,27 @@ use Rattle.refine_file.specs.Played.{place, unaltered, made, Plays}
 
 module _ (S : Type 0) (step : Step → S → Answer S) (fresh-state : Frame → S) (R : S → ScreenLent → Type 0)
     (follows : (x : Step) → Follow R (step x) (call-at x))
-    (reset-made : (v : Rect) (c d : ℕ) (l : ScreenLent) → judged-reset v c d (lengths (l .tables)) ≡ 0 → R (fresh-state (frame v c d)) (reset-to v c d l .value)) where
-  module _ (r : Recording) (c d : ℕ) (l : ScreenLent) (old : S) (t : good-tables (rows-of (r .viewport)) (lengths (l .tables)) ≡ true) where
+    (reset-made : (f : Frame) (l : ScreenLent) → judged-reset f (lengths (l .tables)) ≡ 0 → R (fresh-state f) (reset-to f l .value)) where
+  module _ (r : Recording) (q : Setup) (l : ScreenLent) (old : S)
+      (t : good-tables (rows-of (frame q (r .viewport) .viewport)) (lengths (l .tables)) ≡ true) where
+    abbrev f : Frame
+    f = frame q (r .viewport)
+
     abbrev v : Box
-    v = r .viewport
+    v = f .viewport
 
     abbrev start : S
-    start = fresh-state (frame-of (place c d l) r)
+    start = fresh-state (frame-of (place q l) r)
 
     abbrev rules-walk : Answer S
     rules-walk = walk-all S step r start
 
     -- the rules' play, by its first number
     abbrev theirs : Answer S
-    theirs = play-records S step fresh-state 32 (place c d l) old r
+    theirs = play-records S step fresh-state 32 (place q l) old r
 
     abbrev judge : ℕ
-    judge = judge-records 32 (place c d l) r
+    judge = judge-records 32 (place q l) r
 
     refused-play : (n : ℕ) → judge ≡ n → eqb n Done ≡ false → theirs ≡ answer n (cond (leb n BadForm) old start)
     unfolding play-records
@@ -74,13 +77,13 @@ module _ (S : Type 0) (step : Step → S → Answer S) (fresh-state : Frame → 
 
     -- the call at the words
     abbrev fresh : Answer ScreenLent
-    fresh = reset-to (rect-of v) c d l
+    fresh = reset-to f l
 
-    refused-reset : (n : ℕ) → judged-reset (rect-of v) c d (lengths (l .tables)) ≡ n → eqb n Done ≡ false → recorded-in r c d l ≡ answer n l
+    refused-reset : (n : ℕ) → judged-reset f (lengths (l .tables)) ≡ n → eqb n Done ≡ false → recorded-in r q l ≡ answer n l
     unfolding recorded-in _then_ reset-to
     refused-reset n e z = rw (e, z, z)
 
-    done-reset : fresh .number ≡ Done → recorded-in r c d l ≡ played r (fresh .value)
+    done-reset : fresh .number ≡ Done → recorded-in r q l ≡ played r (fresh .value)
     unfolding recorded-in _then_
     done-reset e = rw e
 
@@ -93,9 +96,9 @@ module _ (S : Type 0) (step : Step → S → Answer S) (fresh-state : Frame → 
     walked-records m e = rw e
 
     abbrev ours : Answer ScreenLent
-    ours = recorded-in r c d l
+    ours = recorded-in r q l
 
-    no-play : (n : ℕ) → eqb n Done ≡ false → leb n BadForm ≡ true → judge-records 32 (place c d l) r ≡ n → judged-reset (rect-of v) c d (lengths (l .tables)) ≡ n → Plays R old l theirs ours
+    no-play : (n : ℕ) → eqb n Done ≡ false → leb n BadForm ≡ true → judge-records 32 (place q l) r ≡ n → judged-reset f (lengths (l .tables)) ≡ n → Plays R old l theirs ours
     no-play n z k e g = rw (refused-play n e z, refused-reset n g z, k) (record { number = refl; value = unaltered z refl refl })
 
     bad-view : good-viewport v ≡ false → Plays R old l theirs ours
@@ -106,23 +109,23 @@ module _ (S : Type 0) (step : Step → S → Answer S) (fresh-state : Frame → 
       few : ltb 512 (rows-of v) ≡ false
       few = le-ltb 512 (rows-of v) (few-rows v e)
 
-      bad-arenas : good-arenas 32 (frame (rect-of v) c d) (arenas (lengths (l .tables))) ≡ false → Plays R old l theirs ours
+      bad-arenas : good-arenas 32 f (arenas (lengths (l .tables))) ≡ false → Plays R old l theirs ours
       unfolding judge-records judged-reset
       bad-arenas g = no-play BadArena refl refl (rw (e, few, g)) (rw (e, g))
 
-      module _ (g : good-arenas 32 (frame (rect-of v) c d) (arenas (lengths (l .tables))) ≡ true) where
-        judged-done : judged-reset (rect-of v) c d (lengths (l .tables)) ≡ 0
+      module _ (g : good-arenas 32 f (arenas (lengths (l .tables))) ≡ true) where
+        judged-done : judged-reset f (lengths (l .tables)) ≡ 0
         unfolding judged-reset
         judged-done = rw (e, g, t)
 
         resets : R start (fresh .value)
-        resets = reset-made (rect-of v) c d l judged-done
+        resets = reset-made f l judged-done
 
         ours-is : ours ≡ played r (fresh .value)
         unfolding reset-to
-        ours-is = done-reset (settle-number (judged-reset (rect-of v) c d (lengths (l .tables))) l _ ∙ judged-done)
+        ours-is = done-reset (settle-number (judged-reset f (lengths (l .tables))) l _ ∙ judged-done)
 
-        judge-is : judge-records 32 (place c d l) r ≡ judged r
+        judge-is : judge-records 32 (place q l) r ≡ judged r
         unfolding judge-records
         judge-is = rw (e, few, g)
 
@@ -154,36 +157,36 @@ module _ (S : Type 0) (step : Step → S → Answer S) (fresh-state : Frame → 
 
     -- the records of a file
     pub records-play : Plays R old l theirs ours
-    records-play = go (good-viewport v) (good-arenas 32 (frame (rect-of v) c d) (arenas (lengths (l .tables)))) refl refl
+    records-play = go (good-viewport v) (good-arenas 32 f (arenas (lengths (l .tables)))) refl refl
       where
-        go : (x y : Bool) → good-viewport v ≡ x → good-arenas 32 (frame (rect-of v) c d) (arenas (lengths (l .tables))) ≡ y → Plays R old l theirs ours
+        go : (x y : Bool) → good-viewport v ≡ x → good-arenas 32 f (arenas (lengths (l .tables))) ≡ y → Plays R old l theirs ours
         go false y p q = bad-view p
         go true false p q = bad-arenas p q
         go true true p q = by-records p q (good-records r) (good-order r) refl refl
 
   -- A recording call, from a state's words to all words afterwards: it has the rules' number, and leaves words that R relates to the rules'
-  -- state, or alters nothing. The tables beside the arenas are as long as the file's viewport asks.
-  pub words-play : (ws : List ℕ) (c d : ℕ) (l : ScreenLent) (old : S)
-      → ((ss : List (List (List ℕ))) → sections shape ws ≡ some ss → good-tables (rows-of (recording ss .viewport)) (lengths (l .tables)) ≡ true)
-      → Plays R old l (play S step fresh-state 32 (place c d l) old ws) (recorded ws c d l)
+  -- state, or alters nothing. The tables beside the arenas are as long as the frame asks.
+  pub words-play : (ws : List ℕ) (q : Setup) (l : ScreenLent) (old : S)
+      → ((ss : List (List (List ℕ))) → sections shape ws ≡ some ss → good-tables (rows-of (frame q (recording ss .viewport) .viewport)) (lengths (l .tables)) ≡ true)
+      → Plays R old l (play S step fresh-state 32 (place q l) old ws) (recorded ws q l)
   unfolding play recorded
-  words-play ws c d l old h = go (sections shape ws) refl
+  words-play ws q l old h = go (sections shape ws) refl
     where
       go : (o : Option (List (List (List ℕ)))) → sections shape ws ≡ o
           → Plays R old l
           (elim o [
             | none ↦ answer BadForm old
-            | some ss ↦ play-records S step fresh-state 32 (place c d l) old (recording ss)
+            | some ss ↦ play-records S step fresh-state 32 (place q l) old (recording ss)
           ])
-          (of-sections o c d l)
+          (of-sections o q l)
       go none e = record { number = refl; value = unaltered refl refl refl }
-      go (some ss) e = records-play (recording ss) c d l old (h ss e)
+      go (some ss) e = records-play (recording ss) q l old (h ss e)
 
 -- The screens of the rules: the words left are those of the rules' screen.
-pub file-plays : (ws : List ℕ) (c d : ℕ) (l : ScreenLent) (old : Screen Row)
-    → ((ss : List (List (List ℕ))) → sections shape ws ≡ some ss → good-tables (rows-of (recording ss .viewport)) (lengths (l .tables)) ≡ true)
-    → Plays Refines old l (play (Screen Row) (call Row row-ops 32) (reset fresh-row) 32 (place c d l) old ws) (recorded ws c d l)
+pub file-plays : (ws : List ℕ) (q : Setup) (l : ScreenLent) (old : Screen Row)
+    → ((ss : List (List (List ℕ))) → sections shape ws ≡ some ss → good-tables (rows-of (frame q (recording ss .viewport) .viewport)) (lengths (l .tables)) ≡ true)
+    → Plays Refines old l (play (Screen Row) (call Row row-ops 32) (reset fresh-row) 32 (place q l) old ws) (recorded ws q l)
 file-plays =
     words-play (Screen Row) (call Row row-ops 32) (reset fresh-row) Refines
     (λ x s l h. let a = step-refines x s l h in record { number = a .number; value = λ e. a .value })
-    (λ v c d l z. reset-refines v c d l z .value)
+    (λ f l z. reset-refines f l z .value)

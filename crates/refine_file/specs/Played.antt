@@ -5,13 +5,14 @@ use mathlib.Core.Bool.{false}
 use lib.Dec.{eqb}
 use Rattle.sizes.specs.Sizes.{most-rows}
 use Rattle.rules.specs.Answers.{Answer, Done}
+use Rattle.rules.specs.Setups.{Setup}
 use Rattle.rules.specs.Walk.{Place}
 use Rattle.screen.specs.Judging.{arenas}
 use Rattle.screen.specs.Tables.{lengths, ScreenLent}
 
 -- what is lent as the rules' place: no screen has more than 512 rows
-abbrev pub place : ℕ → ℕ → ScreenLent → Place
-place c d l = record { limit = most-rows; c = c; d = d; arenas = arenas (lengths (l .tables)) }
+abbrev pub place : Setup → ScreenLent → Place
+place q l = record { limit = most-rows; setup = q; arenas = arenas (lengths (l .tables)) }
 
 module _ {S : Type 0} (R : S → ScreenLent → Type 0) where
   -- what stands afterwards at the number n, from the state s and the words l: refused, both are left as they were, or the words are related to the rules' state

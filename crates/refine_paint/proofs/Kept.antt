@@ -75,7 +75,7 @@ reset-fair f i = rw (fresh-at (boxes.rows-of (f .viewport)) i) (record { command
 
 -- on every built screen all rows are fair
 pub built-fair : {s : Screen Row} {l : ScreenLent} → BuiltBy s l → FairRows s
-built-fair (by-reset v c d l z) = reset-fair _
+built-fair (by-reset f l z) = reset-fair _
 built-fair (by-step x s l b z) = call-fair x s (built-refines b .sound) (built-fair b)
 
 -- row i's own words

@@ -7,11 +7,9 @@ use Prim.Native.Nat.{ℕ}
 use lib.Dec.{eqb}
 use Rattle.rules.specs.Answers.{Answer, answer, Done}
 use Rattle.rules.specs.Rows.{Row, fresh-row, row-ops}
-use Rattle.rules.specs.Plans.{Step, a-fill, a-push, a-pop, a-filter}
+use Rattle.rules.specs.Plans.{Frame, Step, a-fill, a-push, a-pop, a-filter}
 use Rattle.rules.specs.Steps as rule
 use Rattle.rules.specs.Steps.{reset, call}
-use Rattle.rect.specs.declared.Rect.{Rect}
-use Rattle.screen.specs.Screens.{frame}
 use Rattle.screen.specs.Judging.{judged-reset}
 use Rattle.screen.specs.Tables.{zeros, lengths, ScreenLent, reset-to}
 use Rattle.file_steps.specs.Steps.{call-at}
@@ -40,13 +38,13 @@ pub record Agrees (a : Answer (rule.Screen Row)) (w : Answer ScreenLent) : Type 
   pub value : Refines (a .value) (w .value)
 
 -- a done reset
-pub reset-refines : (v : Rect) (c d : ℕ) (l : ScreenLent) → judged-reset v c d (lengths (l .tables)) ≡ 0 → Agrees (answer 0 (reset fresh-row (frame v c d))) (reset-to v c d l)
-reset-refines v c d l z =
-    let e = fresh-words v c d l z in
+pub reset-refines : (f : Frame) (l : ScreenLent) → judged-reset f (lengths (l .tables)) ≡ 0 → Agrees (answer 0 (reset fresh-row f)) (reset-to f l)
+reset-refines f l z =
+    let e = fresh-words f l z in
     record {
       number = ap (λ (w : Answer ScreenLent). w .number) e;
       value = record {
-        sound = fresh-sound v c d l z;
+        sound = fresh-sound f l z;
         holds = record { begun = false; depth = zeros 0 (l .tables .depth); painting = zeros 0 (l .tables .painting); same = ap (λ (w : Answer ScreenLent). w .value) e };
       };
     }
@@ -66,12 +64,12 @@ step-refines x s l r =
 
 -- a done reset and then done steps, each on the words that the last call left; s is what the rules make of the same steps
 pub data BuiltBy : rule.Screen Row → ScreenLent → Type 0 where
-  by-reset : (v : Rect) (c d : ℕ) (l : ScreenLent) → judged-reset v c d (lengths (l .tables)) ≡ 0 → BuiltBy (reset fresh-row (frame v c d)) (reset-to v c d l .value)
+  by-reset : (f : Frame) (l : ScreenLent) → judged-reset f (lengths (l .tables)) ≡ 0 → BuiltBy (reset fresh-row f) (reset-to f l .value)
   by-step : (x : Step) (s : rule.Screen Row) (l : ScreenLent) → BuiltBy s l → call-at x l .number ≡ 0 → BuiltBy (call Row row-ops 32 x s .value) (call-at x l .value)
 
 -- on every built screen the lent words are those of the rules' screen
 pub built-refines : {s : rule.Screen Row} {l : ScreenLent} → BuiltBy s l → Refines s l
-built-refines (by-reset v c d l z) = reset-refines v c d l z .value
+built-refines (by-reset f l z) = reset-refines f l z .value
 built-refines (by-step x s l b z) = step-refines x s l (built-refines b) .value
 
 -- and every step, refused or done, has the rules' number there

@@ -20,9 +20,8 @@ use Rattle.rules.proofs.All.{both}
 use Rattle.row.specs.Words.{Words, words}
 use Rattle.row_screen.specs.Arena.{lay}
 use Rattle.refine_row.proofs.Screens.{blank-row, reset-words}
-use Rattle.rect.specs.declared.Rect.{Rect}
-use Rattle.rect.specs.Rects.{box-of}
-use Rattle.screen.specs.Screens.{frame, fresh-screen}
+use Rattle.rules.specs.Plans.{Frame}
+use Rattle.screen.specs.Screens.{fresh-screen}
 use Rattle.screen.specs.declared.Lengths.{Lengths}
 use Rattle.screen.specs.Judging.{good-fixed, good-tables, arenas, judged-reset}
 use Rattle.screen.specs.Tables.{zeros, lengths, ScreenLent, lent, float-0, reset-to}
@@ -77,23 +76,23 @@ pub record Lengthy (l : Lengths) (n c d : ℕ) : Type 0 where
   pub attrs : l .«layer_attrs» ≡ 6144
   pub filters : l .«filter_paints» ≡ 1024
 
-module _ (v : Rect) (c d : ℕ) (l : ScreenLent) (z : judged-reset v c d (lengths (l .tables)) ≡ 0) where
+module _ (f : Frame) (l : ScreenLent) (z : judged-reset f (lengths (l .tables)) ≡ 0) where
   abbrev n : ℕ
-  n = rows-of (box-of v)
+  n = rows-of (f .viewport)
 
-  pub judged-facts : (good-viewport (box-of v) ≡ true) × (good-arenas 32 (frame v c d) (arenas (lengths (l .tables))) ≡ true) × (good-tables n (lengths (l .tables)) ≡ true)
+  pub judged-facts : (good-viewport (f .viewport) ≡ true) × (good-arenas 32 f (arenas (lengths (l .tables))) ≡ true) × (good-tables n (lengths (l .tables)) ≡ true)
   unfolding judged-reset
-  judged-facts = says (good-viewport (box-of v)) (good-arenas 32 (frame v c d) (arenas (lengths (l .tables)))) (good-tables n (lengths (l .tables))) z
+  judged-facts = says (good-viewport (f .viewport)) (good-arenas 32 f (arenas (lengths (l .tables)))) (good-tables n (lengths (l .tables))) z
 
-  pub rooms : (good-room c ≡ true) × (good-room d ≡ true)
-  rooms = both (good-room c) (good-room d) (both (good-room c && good-room d) _ (judged-facts .1) .0)
+  pub rooms : (good-room (f .c) ≡ true) × (good-room (f .d) ≡ true)
+  rooms = both (good-room (f .c)) (good-room (f .d)) (both (good-room (f .c) && good-room (f .d)) _ (judged-facts .1) .0)
 
-  lengthy : Lengthy (lengths (l .tables)) n c d
+  lengthy : Lengthy (lengths (l .tables)) n (f .c) (f .d)
   lengthy =
       let k = lengths (l .tables) in
-      let a3 = both (good-room c && good-room d) _ (judged-facts .1) in
-      let a2 = both (eqb (k .render) (n * (4 * c)) && eqb (k .fills) (n * (2 * d))) _ (a3 .1) in
-      let a1 = both (eqb (k .render) (n * (4 * c))) (eqb (k .fills) (n * (2 * d))) (a2 .0) in
+      let a3 = both (good-room (f .c) && good-room (f .d)) _ (judged-facts .1) in
+      let a2 = both (eqb (k .render) (n * (4 * f .c)) && eqb (k .fills) (n * (2 * f .d))) _ (a3 .1) in
+      let a1 = both (eqb (k .render) (n * (4 * f .c))) (eqb (k .fills) (n * (2 * f .d))) (a2 .0) in
       let b2 = both (eqb (k .rows) (n * 54) && eqb (k .painting) (n * 2)) (good-fixed k) (judged-facts .2) in
       let b1 = both (eqb (k .rows) (n * 54)) (eqb (k .painting) (n * 2)) (b2 .0) in
       let t1 = eqb (k .layers) 256 in
@@ -115,15 +114,15 @@ module _ (v : Rect) (c d : ℕ) (l : ScreenLent) (z : judged-reset v c d (length
         filters = eqb-true _ _ (c4 .1);
       }
 
-  pub fresh-sound : Sound (reset fresh-row (frame v c d))
-  fresh-sound = reset-sound (frame v c d) (judged-facts .0) (rooms .0) (rooms .1)
+  pub fresh-sound : Sound (reset fresh-row f)
+  fresh-sound = reset-sound f (judged-facts .0) (rooms .0) (rooms .1)
 
-  fresh-rows : words.rows-of (reset fresh-row (frame v c d)) ≡ words (replicate (n * 54) 0) (replicate (n * (4 * c)) 0) (replicate (n * (2 * d)) 0)
+  fresh-rows : words.rows-of (reset fresh-row f) ≡ words (replicate (n * 54) 0) (replicate (n * (4 * f .c)) 0) (replicate (n * (2 * f .d)) 0)
   unfolding reset
-  fresh-rows = ap (λ (t : Screen Words). lay (t .rows)) (reset-words c d (frame v c d)) ∙ blank-rows n c d
+  fresh-rows = ap (λ (t : Screen Words). lay (t .rows)) (reset-words (f .c) (f .d) f) ∙ blank-rows n (f .c) (f .d)
 
   abbrev fresh : Screen Row
-  fresh = reset fresh-row (frame v c d)
+  fresh = reset fresh-row f
 
   render-is : zeros 0 (l .tables .render) ≡ words.rows-of fresh .render
   unfolding zeros
@@ -157,11 +156,11 @@ module _ (v : Rect) (c d : ℕ) (l : ScreenLent) (z : judged-reset v c d (length
   unfolding reset
   filters-is = zeros-table (pos 0) 1024 (l .tables .filter-paints) (lengthy .filters)
 
-  screen-is : fresh-screen v c d ≡ screen-of (fresh .state) false
+  screen-is : fresh-screen f ≡ screen-of (fresh .state) false
   unfolding reset
   screen-is = refl
 
   -- a done reset
-  pub fresh-words : reset-to v c d l ≡ answer 0 (lent-of (reset fresh-row (frame v c d)) false (zeros 0 (l .tables .depth)) (zeros 0 (l .tables .painting)))
+  pub fresh-words : reset-to f l ≡ answer 0 (lent-of (reset fresh-row f) false (zeros 0 (l .tables .depth)) (zeros 0 (l .tables .painting)))
   unfolding reset-to lent-of
   fresh-words = rw (z, screen-is, render-is, fills-is, rows-is, layers-is, opacities-is, paints-is, attrs-is, filters-is)

@@ -20,7 +20,8 @@ use Rattle.row.specs.Words.{Words}
 use Rattle.row_screen.specs.Arena.{lay}
 use Rattle.refine_row.specs.Encode.{encode}
 use Rattle.screen.specs.declared.Screen.{Screen}
-use Rattle.screen.specs.Screens.{rect-of}
+use Rattle.rect.specs.Rects.{rect-of}
+use Rattle.screen.specs.Screens.{screen-in}
 use Rattle.screen.specs.Tables.{tables, ScreenLent, lent, float-0}
 use Rattle.screen_layers.specs.Layers.{layer-words}
 use Rattle.step_filter.specs.Filter.{filter-paint-words}
@@ -53,18 +54,8 @@ attr-opacity a = ofBits binary32 (a .opacity)
 -- the screen's numbers
 abbrev pub screen-of : State → Bool → Screen
 screen-of s painting =
-    record {
-      viewport = rect-of (s .frame .viewport);
-      «clip_bbox» = rect-of (box-of s);
-      c = s .frame .c;
-      d = s .frame .d;
-      «next_draw_id» = s .next;
-      «paint_attrs» = length (s .attrs .paints);
-      «layer_attrs» = length (s .attrs .layers);
-      «filter_paints» = length (s .attrs .filters);
-      layers = length (s .layers);
-      painting = painting;
-    }
+    screen-in (s .frame) (rect-of (box-of s)) (s .next) (length (s .attrs .paints)) (length (s .attrs .layers)) (length (s .attrs .filters))
+    (length (s .layers)) painting
 
 -- the words of the rows
 abbrev pub rows-of : rule.Screen Row → Words

@@ -13,6 +13,7 @@ use Rattle.rules.specs.Answers.{Answer, answer, settle, Done, BadForm}
 use Rattle.rules.specs.Boxes.{Box, box, good-viewport, rows-of, buckets-of}
 use Rattle.rules.specs.Rows.{Row, fresh-row, row-ops}
 use Rattle.rules.specs.Plans.{Frame}
+use Rattle.rules.specs.Setups.{Setup, viewport-in, frame}
 use Rattle.rules.specs.Steps.{Screen, reset, call}
 use Rattle.rules.specs.Recording.{Recording, shape, sections, recording, box-at}
 use Rattle.rules.specs.Walk.{Place, Arenas, needed, good-arenas, frame-of, judge-records, walk-all, play-records, play}
@@ -20,7 +21,6 @@ use Rattle.rules.specs.Lines as rules
 use Rattle.rules.specs.Lines.{refused, answer-lines, rowlist-place, rowlist-screen, rowlist-words, words-of, rowlist, line-bytes}
 use Rattle.rules.proofs.All.{never, and-left, and-right}
 use Rattle.row.specs.Words.{words}
-use Rattle.screen.specs.Screens.{frame, rect-of}
 use Rattle.screen.specs.declared.Screen as declared
 use Rattle.screen.specs.Judging.{good-tables, good-fixed, arenas, judged-reset}
 use Rattle.screen.specs.Tables.{Tables, lengths, ScreenLent, lent}
@@ -41,7 +41,7 @@ use Rattle.file_form.proofs.Reading.{viewport-is}
 use Rattle.file_judge.specs.Judging.{box-from}
 use Rattle.text_screen.specs.Listed.{written, text-of}
 use Rattle.text_file.specs.declared.Size.{Size}
-use Rattle.text_file.specs.Files.{Showed, nothing, refusing, shown-as, showing, FileOut, file-out, answered, recording-text, viewport-of, size, sized-if, sized, size-of, cut-to, over, in-front, front-text, text-in, words-text, Roomy, is-roomy, refused-as-is, bytes-text}
+use Rattle.text_file.specs.Files.{Showed, nothing, refusing, shown-as, showing, FileOut, file-out, answered, recording-text, viewport-of, size, sized-if, sized, size-of, cut-to, over, in-front, front-text, text-in, words-text, Usual, Roomy, is-roomy, refused-as-is, bytes-text}
 use Rattle.text_file.proofs.Texts.{small}
 use Rattle.text_file.proofs.Bytes.{enough}
 use Rattle.refine_text.proofs.Lengths.{line-few, lines-few, rows-few}
@@ -191,15 +191,16 @@ module _ (p : Place) (old : Screen Row) (r : Recording) where
       go false q = e
 
 -- a play depends on the rows allowed and on the arenas by what is judged of them
-same-play : (a b c d : ℕ) (x y : Arenas) (old : Screen Row) (r : Recording)
-    → judge-records 32 (record { limit = a; c = c; d = d; arenas = x }) r ≡ judge-records 32 (record { limit = b; c = c; d = d; arenas = y }) r
-    → play-records (Screen Row) (call Row row-ops 32) (reset fresh-row) 32 (record { limit = a; c = c; d = d; arenas = x }) old r
-    ≡ play-records (Screen Row) (call Row row-ops 32) (reset fresh-row) 32 (record { limit = b; c = c; d = d; arenas = y }) old r
+same-play : (a b : ℕ) (q : Setup) (x y : Arenas) (old : Screen Row) (r : Recording)
+    → judge-records 32 (record { limit = a; setup = q; arenas = x }) r ≡ judge-records 32 (record { limit = b; setup = q; arenas = y }) r
+    → play-records (Screen Row) (call Row row-ops 32) (reset fresh-row) 32 (record { limit = a; setup = q; arenas = x }) old r
+    ≡ play-records (Screen Row) (call Row row-ops 32) (reset fresh-row) 32 (record { limit = b; setup = q; arenas = y }) old r
 unfolding play-records
-same-play a b c d x y old r e =
+same-play a b q x y old r e =
+    let p : Place = record { limit = a; setup = q; arenas = x } in
     ap (λ (n : ℕ). elim (eqb n Done) [
-      | true ↦ settle (walk (record { limit = a; c = c; d = d; arenas = x }) old r .number) (start (record { limit = a; c = c; d = d; arenas = x }) old r) (walk (record { limit = a; c = c; d = d; arenas = x }) old r .value)
-      | false ↦ answer n (cond (leb n BadForm) old (start (record { limit = a; c = c; d = d; arenas = x }) old r))
+      | true ↦ settle (walk p old r .number) (start p old r) (walk p old r .value)
+      | false ↦ answer n (cond (leb n BadForm) old (start p old r))
     ])
     e
 
@@ -214,7 +215,8 @@ not-shown true n e = lt-ltb 32 n (leb-false n 32 e)
 some-same : {A : Type 0} {x y : A} → some x ≡ some y → x ≡ y
 some-same p = cc
 
-module _ (ws : List ℕ) (t : Tables) (enough-room : is-roomy t ≡ true) (fixed : good-fixed (lengths t) ≡ true) (bs : List ℕ) (room : 264256 ≤ length bs) where
+module _ (q : Setup) (u : Usual q) (ws : List ℕ) (t : Tables) (enough-room : is-roomy t ≡ true) (fixed : good-fixed (lengths t) ≡ true)
+    (bs : List ℕ) (room : 264256 ≤ length bs) where
   abbrev old : Screen Row
   old = reset fresh-row rules.nothing
 
@@ -225,30 +227,34 @@ module _ (ws : List ℕ) (t : Tables) (enough-room : is-roomy t ≡ true) (fixed
     abbrev r : Recording
     r = recording ss
 
+    -- the screen's frame, and its viewport
+    abbrev f : Frame
+    f = frame q (r .viewport)
+
     abbrev v : Box
-    v = r .viewport
+    v = f .viewport
 
     -- the file's viewport stands at its words 1 to 4
-    at-words : v ≡ box (getD ws 1 0) (getD ws 2 0) (getD ws 3 0) (getD ws 4 0)
+    at-words : r .viewport ≡ box (getD ws 1 0) (getD ws 2 0) (getD ws 3 0) (getD ws 4 0)
     unfolding form-of
     at-words =
-        let f : form.Good (layout ws) ≡ form-of ws = rw e in
-        let g = good-form ws (layout ws) f in
-        let q : ss ≡ sections-at (layout ws) ws = some-same (sym e ∙ g .same) in
-        rw q (viewport-is (layout ws) ws (g .fits))
+        let y : form.Good (layout ws) ≡ form-of ws = rw e in
+        let g = good-form ws (layout ws) y in
+        let x : ss ≡ sections-at (layout ws) ws = some-same (sym e ∙ g .same) in
+        rw x (viewport-is (layout ws) ws (g .fits))
 
-    view : viewport-of ws ≡ v
+    view : viewport-of ws q ≡ v
     unfolding box-from
-    view = sym at-words
+    view = ap (viewport-in (q .mode)) (sym at-words)
 
-    place-view : box-at ws 1 ≡ v
+    place-view : box-at ws 1 ≡ r .viewport
     place-view = rw (getD-drop 1 ws 0 0, getD-drop 1 ws 1 0, getD-drop 1 ws 2 0, getD-drop 1 ws 3 0) (sym at-words)
 
-    refused-there : (good-viewport v && leb (rows-of v) 32) ≡ false → answer-lines 32 (play-records (Screen Row) (call Row row-ops 32) (reset fresh-row) 32 (rowlist-place ws) old r) ≡ refused 2 ∷ []
+    refused-there : (good-viewport v && leb (rows-of v) 32) ≡ false → answer-lines 32 (play-records (Screen Row) (call Row row-ops 32) (reset fresh-row) 32 (rowlist-place q ws) old r) ≡ refused 2 ∷ []
     unfolding judge-records
     refused-there h =
-        refused-lines (play-records (Screen Row) (call Row row-ops 32) (reset fresh-row) 32 (rowlist-place ws) old r) 2
-        (refused-view (rowlist-place ws) old r (rw (not-shown (good-viewport v) (rows-of v) h))) refl
+        refused-lines (play-records (Screen Row) (call Row row-ops 32) (reset fresh-row) 32 (rowlist-place q ws) old r) 2
+        (refused-view (rowlist-place q ws) old r (rw (not-shown (good-viewport v) (rows-of v) h))) refl
 
     module _ (g : good-viewport v ≡ true) (few : rows-of v ≤ 32) where
       abbrev cut : Tables
@@ -276,107 +282,109 @@ module _ (ws : List ℕ) (t : Tables) (enough-room : is-roomy t ≡ true) (fixed
       tables-good : good-tables (rows-of v) (lengths cut) ≡ true
       tables-good = rw (eq-eqb _ _ rows-long, eq-eqb _ _ painting-long) fixed
 
-      arenas-good : good-arenas 32 (frame (rect-of v) 64 64) (arenas (lengths cut)) ≡ true
-      arenas-good = rw (eq-eqb _ _ render-long, eq-eqb _ _ fills-long, eq-eqb _ _ depth-long)
+      arenas-good : good-arenas 32 f (arenas (lengths cut)) ≡ true
+      arenas-good = rw (u .c, u .d, eq-eqb _ _ render-long, eq-eqb _ _ fills-long, eq-eqb _ _ depth-long)
 
-      judged-0 : judged-reset (rect-of v) 64 64 (lengths cut) ≡ 0
+      judged-0 : judged-reset f (lengths cut) ≡ 0
       unfolding judged-reset
       judged-0 = rw (g, arenas-good, tables-good)
 
       abbrev first : Frame
       first = record { viewport = v; c = 64; d = 64 }
 
-      start-kept : Kept first (reset fresh-row first)
+      start-kept : Kept first (reset fresh-row f)
       unfolding reset
-      start-kept = record { sound = fresh-sound (rect-of v) 64 64 given judged-0; fair = reset-fair first; frame = refl }
+      start-kept = record { sound = fresh-sound f given judged-0; fair = reset-fair f; frame = rw (u .c, u .d) }
 
       -- the rules' answer in `rowlist`
       abbrev theirs : Answer (Screen Row)
-      theirs = play-records (Screen Row) (call Row row-ops 32) (reset fresh-row) 32 (rowlist-place ws) old r
+      theirs = play-records (Screen Row) (call Row row-ops 32) (reset fresh-row) 32 (rowlist-place q ws) old r
 
-      judge-at : (b : Box) → b ≡ v
-          → judge-records 32 (record { limit = 32; c = 64; d = 64; arenas = needed 32 (record { viewport = b; c = 64; d = 64 }) }) r ≡ judge-records 32 (place 64 64 given) r
+      judge-at : (b : Box) → b ≡ r .viewport
+          → judge-records 32 (record { limit = 32; setup = q; arenas = needed 32 (frame q b) }) r ≡ judge-records 32 (place q given) r
       unfolding judge-records
-      judge-at b q =
+      judge-at b i =
           let n = rows-of v in
           rw (
-            q,
+            i,
             g,
             le-ltb 32 n few,
             le-ltb 512 n (omega (arith, few)),
             arenas-good,
+            u .c,
+            u .d,
             eq-eqb (n * 256) (n * 256) refl,
             eq-eqb (n * 128) (n * 128) refl,
             eq-eqb (n * buckets-of 32 v) (n * buckets-of 32 v) refl,
           )
 
-      at-words-play : play (Screen Row) (call Row row-ops 32) (reset fresh-row) 32 (place 64 64 given) old ws ≡ theirs
+      at-words-play : play (Screen Row) (call Row row-ops 32) (reset fresh-row) 32 (place q given) old ws ≡ theirs
       unfolding play
       at-words-play =
           ap (λ (o : Option (List (List (List ℕ)))). elim o [
             | none ↦ answer BadForm old
-            | some qs ↦ play-records (Screen Row) (call Row row-ops 32) (reset fresh-row) 32 (place 64 64 given) old (recording qs)
+            | some qs ↦ play-records (Screen Row) (call Row row-ops 32) (reset fresh-row) 32 (place q given) old (recording qs)
           ])
           e
-          ∙ sym (same-play 32 512 64 64 (needed 32 (record { viewport = box-at ws 1; c = 64; d = 64 })) (arenas (lengths cut)) old r (judge-at (box-at ws 1) place-view))
+          ∙ sym (same-play 32 512 q (needed 32 (frame q (box-at ws 1))) (arenas (lengths cut)) old r (judge-at (box-at ws 1) place-view))
 
-      plays : Plays Refines old given theirs (recorded ws 64 64 given)
+      plays : Plays Refines old given theirs (recorded ws q given)
       plays =
           rw (← at-words-play)
-          (file-plays ws 64 64 given old (λ qs q. let k : qs ≡ ss = some-same (sym q ∙ e) in rw k tables-good))
+          (file-plays ws q given old (λ qs i. let k : qs ≡ ss = some-same (sym i ∙ e) in rw k tables-good))
 
-      done-with : theirs .number ≡ 0 → Done-with theirs (recorded ws 64 64 given) v
+      done-with : theirs .number ≡ 0 → Done-with theirs (recorded ws q given) v
       done-with z = go (plays .value)
         where
-          go : Outcome Refines (theirs .number) old given (theirs .value) (recorded ws 64 64 given .value) → Done-with theirs (recorded ws 64 64 given) v
-          go (unaltered q x y) = never (sym (eq-eqb _ _ z) ∙ q)
-          go (made x) = record { refines = x; kept = play-kept (rowlist-place ws) old r first start-kept z }
+          go : Outcome Refines (theirs .number) old given (theirs .value) (recorded ws q given .value) → Done-with theirs (recorded ws q given) v
+          go (unaltered i x y) = never (sym (eq-eqb _ _ z) ∙ i)
+          go (made x) = record { refines = x; kept = play-kept (rowlist-place q ws) old r first start-kept z }
 
-      left-there : Leaves theirs t (in-front (size 0 (rows-of v) (buckets-of 32 v)) t (recording-text ws cut bs))
+      left-there : Leaves theirs t (in-front (size 0 (rows-of v) (buckets-of 32 v)) t (recording-text ws q cut bs))
       unfolding recording-text
-      left-there = answer-leaves bs room theirs (recorded ws 64 64 given) v t few (plays .number) done-with
+      left-there = answer-leaves bs room theirs (recorded ws q given) v t few (plays .number) done-with
 
-      shown-there : shows (recording-text ws cut bs .showed) ≡ text-first (text-of (answer-lines 32 theirs)) bs
+      shown-there : shows (recording-text ws q cut bs .showed) ≡ text-first (text-of (answer-lines 32 theirs)) bs
       unfolding recording-text
-      shown-there = answer-shows bs room theirs (recorded ws 64 64 given) v few (plays .number) done-with
+      shown-there = answer-shows bs room theirs (recorded ws q given) v few (plays .number) done-with
 
-    refused-number : (good-viewport v && leb (rows-of v) 32) ≡ false → play-records (Screen Row) (call Row row-ops 32) (reset fresh-row) 32 (rowlist-place ws) old r .number ≡ 2
+    refused-number : (good-viewport v && leb (rows-of v) 32) ≡ false → play-records (Screen Row) (call Row row-ops 32) (reset fresh-row) 32 (rowlist-place q ws) old r .number ≡ 2
     unfolding judge-records
-    refused-number h = refused-view (rowlist-place ws) old r (rw (not-shown (good-viewport v) (rows-of v) h))
+    refused-number h = refused-view (rowlist-place q ws) old r (rw (not-shown (good-viewport v) (rows-of v) h))
 
     by-size-leaves : (x : Bool) → (good-viewport v && leb (rows-of v) 32) ≡ x
-        → Leaves (play-records (Screen Row) (call Row row-ops 32) (reset fresh-row) 32 (rowlist-place ws) old r) t (text-in (sized-if x v) ws t bs)
-    by-size-leaves false h = refused-leaves bs room (play-records (Screen Row) (call Row row-ops 32) (reset fresh-row) 32 (rowlist-place ws) old r) t 2 (refused-number h) refl
+        → Leaves (play-records (Screen Row) (call Row row-ops 32) (reset fresh-row) 32 (rowlist-place q ws) old r) t (text-in (sized-if x v) ws q t bs)
+    by-size-leaves false h = refused-leaves bs room (play-records (Screen Row) (call Row row-ops 32) (reset fresh-row) 32 (rowlist-place q ws) old r) t 2 (refused-number h) refl
     by-size-leaves true h =
         rw enough-room
         (unfold front-text in
         left-there (and-left (good-viewport v) (leb (rows-of v) 32) h) (leb-true _ _ (and-right (good-viewport v) (leb (rows-of v) 32) h)))
 
     by-size : (x : Bool) → (good-viewport v && leb (rows-of v) 32) ≡ x
-        → shows (text-in (sized-if x v) ws t bs .showed) ≡ text-first (text-of (answer-lines 32 (play-records (Screen Row) (call Row row-ops 32) (reset fresh-row) 32 (rowlist-place ws) old r))) bs
+        → shows (text-in (sized-if x v) ws q t bs .showed) ≡ text-first (text-of (answer-lines 32 (play-records (Screen Row) (call Row row-ops 32) (reset fresh-row) 32 (rowlist-place q ws) old r))) bs
     by-size false h = rw (refused-there h) (refusing-shows bs room 2 nothing)
     by-size true h = rw enough-room (unfold front-text in shown-there (and-left (good-viewport v) (leb (rows-of v) 32) h) (leb-true _ _ (and-right (good-viewport v) (leb (rows-of v) 32) h)))
 
   -- A file's words, in tables that are long enough, with room for the longest text: what is written is the text of the rules' lines.
-  pub words-printed : shows (words-text ws t bs .showed) ≡ text-first (text-of (rowlist-words ws)) bs
+  pub words-printed : shows (words-text ws q t bs .showed) ≡ text-first (text-of (rowlist-words q ws)) bs
   unfolding words-text size-of form-of rowlist-words play
   words-printed = go (sections shape ws) refl
     where
       go : (o : Option (List (List (List ℕ)))) → sections shape ws ≡ o
-          → shows (text-in (sized (formed o (layout ws)) (viewport-of ws)) ws t bs .showed)
+          → shows (text-in (sized (formed o (layout ws)) (viewport-of ws q)) ws q t bs .showed)
           ≡ text-first
           (text-of
           (answer-lines 32
           (elim o [
             | none ↦ answer BadForm old
-            | some qs ↦ play-records (Screen Row) (call Row row-ops 32) (reset fresh-row) 32 (rowlist-place ws) old (recording qs)
+            | some qs ↦ play-records (Screen Row) (call Row row-ops 32) (reset fresh-row) 32 (rowlist-place q ws) old (recording qs)
           ])))
           bs
       go none e = refusing-shows bs room 3 nothing
       go (some ss) e = rw (view ss e) (by-size ss e _ refl)
 
   -- .. and what is left beside it is the rules' screen, where it is not refused.
-  pub words-leave : Leaves (rowlist-screen ws) t (words-text ws t bs)
+  pub words-leave : Leaves (rowlist-screen q ws) t (words-text ws q t bs)
   unfolding words-text size-of form-of play
   words-leave = go (sections shape ws) refl
     where
@@ -384,43 +392,44 @@ module _ (ws : List ℕ) (t : Tables) (enough-room : is-roomy t ≡ true) (fixed
           → Leaves
           (elim o [
             | none ↦ answer BadForm old
-            | some qs ↦ play-records (Screen Row) (call Row row-ops 32) (reset fresh-row) 32 (rowlist-place ws) old (recording qs)
+            | some qs ↦ play-records (Screen Row) (call Row row-ops 32) (reset fresh-row) 32 (rowlist-place q ws) old (recording qs)
           ])
           t
-          (text-in (sized (formed o (layout ws)) (viewport-of ws)) ws t bs)
+          (text-in (sized (formed o (layout ws)) (viewport-of ws q)) ws q t bs)
       go none e = refused-leaves bs room (answer BadForm old) t 3 refl refl
       go (some ss) e = rw (view ss e) (by-size-leaves ss e _ refl)
 
   -- .. of at most 264,256 bytes
-  words-few : length (text-of (rowlist-words ws)) ≤ 264256
+  words-few : length (text-of (rowlist-words q ws)) ≤ 264256
   unfolding rowlist-words
-  words-few = go (eqb (rowlist-screen ws .number) Done) refl
+  words-few = go (eqb (rowlist-screen q ws .number) Done) refl
     where
-      go : (b : Bool) → eqb (rowlist-screen ws .number) Done ≡ b
-          → length (text-of (cond b (rules.screen-lines 32 (rowlist-screen ws .value)) (refused (rowlist-screen ws .number) ∷ []))) ≤ 264256
-      go true e = let l = words-leave .left (eqb-true _ _ e) in screen-few (l .viewport) (rowlist-screen ws .value) (l .few) (l .kept)
-      go false e = refused-few (rowlist-screen ws .number)
+      go : (b : Bool) → eqb (rowlist-screen q ws .number) Done ≡ b
+          → length (text-of (cond b (rules.screen-lines 32 (rowlist-screen q ws .value)) (refused (rowlist-screen q ws .number) ∷ []))) ≤ 264256
+      go true e = let l = words-leave .left (eqb-true _ _ e) in screen-few (l .viewport) (rowlist-screen q ws .value) (l .few) (l .kept)
+      go false e = refused-few (rowlist-screen q ws .number)
 
 -- `rowlist`: a file's bytes, with tables and room lent as the program has them. What `file_text` writes is the text of the rules' `rowlist` of the bytes.
-module _ (fs : List ℕ) (t : Tables) (roomy : is-roomy t ≡ true) (fixed : good-fixed (lengths t) ≡ true) (bs : List ℕ) (room : 264256 ≤ length bs) where
-  pub file-printed : shows (bytes-text fs t bs .showed) ≡ text-first (text-of (rowlist fs)) bs
+module _ (q : Setup) (u : Usual q) (fs : List ℕ) (t : Tables) (roomy : is-roomy t ≡ true) (fixed : good-fixed (lengths t) ≡ true)
+    (bs : List ℕ) (room : 264256 ≤ length bs) where
+  pub file-printed : shows (bytes-text fs q t bs .showed) ≡ text-first (text-of (rowlist q fs)) bs
   unfolding bytes-text rowlist
   file-printed = go (leb (length fs) 65536) (eqb (length fs % 4) 0) refl refl
     where
       go : (x y : Bool) → leb (length fs) 65536 ≡ x → eqb (length fs % 4) 0 ≡ y
-          → shows (cond (x && y) (words-text (words-in fs) t bs) (refused-as-is BadForm t bs) .showed)
+          → shows (cond (x && y) (words-text (words-in fs) q t bs) (refused-as-is BadForm t bs) .showed)
           ≡ text-first
           (text-of
           (elim (ltb 65536 (length fs)) [
             | true ↦ refused BadForm ∷ []
-            | false ↦ elim (words-of fs) [ none ↦ refused BadForm ∷ [] | some vs ↦ rowlist-words vs ]
+            | false ↦ elim (words-of fs) [ none ↦ refused BadForm ∷ [] | some vs ↦ rowlist-words q vs ]
           ]))
           bs
-      go false y p q = rw (lt-ltb 65536 (length fs) (leb-false _ _ p)) (refusing-shows bs room 3 nothing)
-      go true false p q = rw (le-ltb 65536 (length fs) (leb-true _ _ p), rules-words fs, q) (refusing-shows bs room 3 nothing)
-      go true true p q = rw (le-ltb 65536 (length fs) (leb-true _ _ p), rules-words fs, q) (words-printed (words-in fs) t roomy fixed bs room)
+      go false y p e = rw (lt-ltb 65536 (length fs) (leb-false _ _ p)) (refusing-shows bs room 3 nothing)
+      go true false p e = rw (le-ltb 65536 (length fs) (leb-true _ _ p), rules-words fs, e) (refusing-shows bs room 3 nothing)
+      go true true p e = rw (le-ltb 65536 (length fs) (leb-true _ _ p), rules-words fs, e) (words-printed q u (words-in fs) t roomy fixed bs room)
 
-  pub file-few : length (text-of (rowlist fs)) ≤ 264256
+  pub file-few : length (text-of (rowlist q fs)) ≤ 264256
   unfolding rowlist
   file-few = go (ltb 65536 (length fs)) (eqb (length fs % 4) 0) refl
     where
@@ -429,9 +438,9 @@ module _ (fs : List ℕ) (t : Tables) (roomy : is-roomy t ≡ true) (fixed : goo
           (text-of
           (elim x [
             | true ↦ refused BadForm ∷ []
-            | false ↦ elim (words-of fs) [ none ↦ refused BadForm ∷ [] | some vs ↦ rowlist-words vs ]
+            | false ↦ elim (words-of fs) [ none ↦ refused BadForm ∷ [] | some vs ↦ rowlist-words q vs ]
           ]))
           ≤ 264256
-      go true y q = refused-few BadForm
-      go false false q = rw (rules-words fs, q) (refused-few BadForm)
-      go false true q = rw (rules-words fs, q) (words-few (words-in fs) t roomy fixed bs room)
+      go true y e = refused-few BadForm
+      go false false e = rw (rules-words fs, e) (refused-few BadForm)
+      go false true e = rw (rules-words fs, e) (words-few q u (words-in fs) t roomy fixed bs room)

@@ -10,18 +10,31 @@ use Rattle.rules.specs.Boxes.{box}
 use Rattle.rules.specs.Blends.{default-blend}
 use Rattle.rules.specs.Recording.{Recording}
 use Rattle.rules.proofs.Words.{file}
-use Rattle.rules.specs.Lines.{header, row, D, P, L, B, E, refused, rowlist-words}
+use Rattle.rules.specs.Lines.{header, row, D, P, L, B, E, refused}
 use Rattle.rules.proofs.Picture.{same-picture}
 use Rattle.rules.proofs.Computing.{computing}
-use Rattle.rules.proofs.Samples.{solid, alpha, opaque-paint, draw, blend, clip, no-clip, no-filter, full, a-nan, layer, composed, clipped, filtered, filter, pictureless, node, rec, minus, attrs, paint-attr, layer-attr, filter-paint, paint-piece, layer-piece, attributes, pieces}
+use Rattle.rules.proofs.Samples.{solid, alpha, opaque-paint, draw, blend, clip, no-clip, no-filter, full, a-nan, layer, composed, clipped, filtered, filter, pictureless, node, rec, minus, attrs, paint-attr, layer-attr, filter-paint, paint-piece, layer-piece, attributes, pieces, listed, listed-snapped}
 
 -- An alpha segment cut at the left: the screen begins at tile 4, so its index moves by 4 x 16.
 abbrev pub left-cut : Recording
 left-cut = rec (box 16 0 144 4) (alpha 0 0 20 160 ∷ []) (draw 0 1 ∷ []) [] (node 0 1 0 ∷ []) 0 1
 
-pub left-cut-lines : rowlist-words (file left-cut) ≡ header 1 1 1 ∷ row 0 0 1 ∷ P 0 16 (some 224) 0 ∷ []
+pub left-cut-lines : listed (file left-cut) ≡ header 1 1 1 ∷ row 0 0 1 ∷ P 0 16 (some 224) 0 ∷ []
 unfolding computing
 left-cut-lines = refl
+
+-- In snapping mode the screen is the snapped box: here the one before, and 1,366 pixels are 342 tiles in 11 buckets.
+pub snapped-lines :
+    listed-snapped (file (rec (box 19 3 141 1) (alpha 0 0 20 160 ∷ []) (draw 0 1 ∷ []) [] (node 0 1 0 ∷ []) 0 1)) ≡
+    header 1 1 1 ∷ row 0 0 1 ∷ P 0 16 (some 224) 0 ∷ []
+unfolding computing
+snapped-lines = refl
+
+pub panel-1366-lines :
+    listed-snapped (file (rec (box 0 0 1366 4) (alpha 0 0 400 0 ∷ []) (draw 0 1 ∷ []) [] (node 0 1 0 ∷ []) 0 1)) ≡
+    header 1 11 1 ∷ row 0 0 1 ∷ P 0 342 (some 0) 0 ∷ []
+unfolding computing
+panel-1366-lines = refl
 
 -- A closing clip is cut by the parent's box, tiles 0 to 16, and not by its own, tiles 8 to 16: so L 0 16.
 abbrev pub parent-cut : Recording
@@ -35,7 +48,7 @@ parent-cut =
     1
 
 pub parent-cut-lines :
-    rowlist-words (file parent-cut) ≡
+    listed (file parent-cut) ≡
     header 1 2 3
     ∷ row 0 0 7
     ∷ B (some (span 0 40))
@@ -61,7 +74,7 @@ unreached =
     1
 
 pub unreached-lines :
-    rowlist-words (file unreached) ≡
+    listed (file unreached) ≡
     header 2 2 2 ∷ row 0 0 4 ∷ B (some (span 0 40)) ∷ P 0 40 none 0 ∷ L 4 30 none 0 ∷ E ∷ row 1 0 0 ∷ []
 unfolding computing
 unreached-lines = refl
@@ -78,7 +91,7 @@ no-span =
     1
 
 pub no-span-lines :
-    rowlist-words (file no-span) ≡
+    listed (file no-span) ≡
     header 2 2 3
     ∷ row 0 0 6
     ∷ B none
@@ -97,7 +110,7 @@ abbrev pub destructive-push : Recording
 destructive-push = rec (box 0 0 64 8) [] [] (composed 5 0 0 ∷ []) (node 0 0 1 ∷ []) 0 1
 
 pub destructive-lines :
-    rowlist-words (file destructive-push) ≡
+    listed (file destructive-push) ≡
     header 2 1 1
     ∷ row 0 0 3
     ∷ B (some (span 0 16))
@@ -116,7 +129,7 @@ abbrev pub shifted : Recording
 shifted = rec (box 0 0 128 16) [] [] (filtered full 0 (filter 5 (box 20 6 60 9) 1 2) ∷ []) (node 0 0 1 ∷ []) 0 1
 
 pub shifted-lines :
-    rowlist-words (file shifted) ≡
+    listed (file shifted) ≡
     header 4 1 1 ∷ row 0 0 0 ∷ row 1 0 1 ∷ P 5 15 none 0 ∷ row 2 0 1 ∷ P 5 15 none 0 ∷ row 3 0 0 ∷ []
 unfolding computing
 shifted-lines = refl
@@ -134,7 +147,7 @@ abbrev pub nan-filter : Recording
 nan-filter = rec (box 0 0 64 4) [] [] (filtered a-nan 0 (filter 5 (box 0 0 32 4) 0 0) ∷ []) (node 0 0 1 ∷ []) 0 1
 
 pub nan-lines :
-    rowlist-words (file nan-filter) ≡
+    listed (file nan-filter) ≡
     header 1 1 2 ∷ row 0 0 4 ∷ B (some (span 0 16)) ∷ P 0 8 none 0 ∷ L 0 16 none 0 ∷ E ∷ []
 unfolding computing
 nan-lines = refl
@@ -156,7 +169,7 @@ no-picture =
     0
     2
 
-pub no-picture-lines : rowlist-words (file no-picture) ≡ header 1 1 1 ∷ row 0 0 0 ∷ []
+pub no-picture-lines : listed (file no-picture) ≡ header 1 1 1 ∷ row 0 0 0 ∷ []
 unfolding computing
 no-picture-lines = refl
 
@@ -173,7 +186,7 @@ first-picture =
     0
     2
 
-pub first-picture-lines : rowlist-words (file first-picture) ≡ header 1 1 2 ∷ row 0 0 2 ∷ P 0 8 none 0 ∷ P 8 16 none 1 ∷ []
+pub first-picture-lines : listed (file first-picture) ≡ header 1 1 2 ∷ row 0 0 2 ∷ P 0 8 none 0 ∷ P 8 16 none 1 ∷ []
 unfolding computing
 first-picture-lines = refl
 
@@ -209,31 +222,31 @@ filter-nodes =
     0
     1
 
-pub filter-nodes-lines : rowlist-words (file filter-nodes) ≡ header 1 1 1 ∷ row 0 0 1 ∷ P 0 8 none 0 ∷ []
+pub filter-nodes-lines : listed (file filter-nodes) ≡ header 1 1 1 ∷ row 0 0 1 ∷ P 0 8 none 0 ∷ []
 unfolding computing
 filter-nodes-lines = refl
 
 -- A layer that reaches itself: 6 at the 17th push.
-pub cyclic-lines : rowlist-words (file (rec (box 0 0 64 4) [] [] (layer 0 1 ∷ []) (node 0 0 1 ∷ []) 0 1)) ≡ refused 6 ∷ []
+pub cyclic-lines : listed (file (rec (box 0 0 64 4) [] [] (layer 0 1 ∷ []) (node 0 0 1 ∷ []) 0 1)) ≡ refused 6 ∷ []
 unfolding computing
 cyclic-lines = refl
 
 -- A bad order in a draw that no node has: 5.
 pub unreachable-order :
-    rowlist-words (file (rec (box 0 0 64 4) (solid 0 0 9 ∷ solid 0 8 12 ∷ []) (draw 0 2 ∷ []) [] [] 0 0)) ≡ refused 5 ∷ []
+    listed (file (rec (box 0 0 64 4) (solid 0 0 9 ∷ solid 0 8 12 ∷ []) (draw 0 2 ∷ []) [] [] 0 0)) ≡ refused 5 ∷ []
 unfolding computing
 unreachable-order = refl
 
 -- 4 before 5: besides, a segment that no list has is empty.
 pub record-before-order :
-    rowlist-words (file (rec (box 0 0 64 4) (solid 0 0 9 ∷ solid 0 8 12 ∷ solid 0 5 5 ∷ []) (draw 0 2 ∷ []) [] [] 0 0)) ≡
+    listed (file (rec (box 0 0 64 4) (solid 0 0 9 ∷ solid 0 8 12 ∷ solid 0 5 5 ∷ []) (draw 0 2 ∷ []) [] [] 0 0)) ≡
     refused 4 ∷ []
 unfolding computing
 record-before-order = refl
 
 -- Touching is no overlap.
 pub touching-order :
-    rowlist-words (file (rec (box 0 0 64 4) (solid 0 0 9 ∷ solid 0 9 12 ∷ []) (draw 0 2 ∷ []) [] [] 0 0)) ≡
+    listed (file (rec (box 0 0 64 4) (solid 0 0 9 ∷ solid 0 9 12 ∷ []) (draw 0 2 ∷ []) [] [] 0 0)) ≡
     header 1 1 0 ∷ row 0 0 0 ∷ []
 unfolding computing
 touching-order = refl
@@ -244,7 +257,7 @@ last-bucket =
     rec (box 0 0 200 4) (solid 0 0 8192 ∷ alpha 0 20 60 32 ∷ []) (draw 1 2 ∷ draw 0 1 ∷ []) [] (node 0 2 0 ∷ []) 0 1
 
 pub last-bucket-lines :
-    rowlist-words (file last-bucket) ≡
+    listed (file last-bucket) ≡
     header 1 2 2 ∷ row 0 1 2 ∷ D 0 1 1 ∷ P 20 50 (some 32) 0 ∷ P 32 50 none 1 ∷ []
 unfolding computing
 last-bucket-lines = refl
@@ -269,7 +282,7 @@ away =
     1
 
 pub away-lines :
-    rowlist-words (file away) ≡
+    listed (file away) ≡
     header 2 2 4
     ∷ row 0 1 4
     ∷ D 0 2 0
@@ -303,7 +316,7 @@ panel =
     1
 
 pub panel-lines :
-    rowlist-words (file panel) ≡
+    listed (file panel) ≡
     header 1 4 3 ∷ row 0 2 3 ∷ D 0 4 0 ∷ D 2 3 2 ∷ P 20 90 (some 320) 1 ∷ P 40 64 none 2 ∷ P 96 100 none 2 ∷ []
 unfolding computing
 panel-lines = refl
@@ -337,7 +350,7 @@ ineligible =
     }
 
 pub ineligible-lines :
-    rowlist-words (file ineligible) ≡
+    listed (file ineligible) ≡
     header 1 4 4 ∷ row 0 1 3 ∷ D 0 4 0 ∷ P 0 128 none 1 ∷ P 0 128 none 2 ∷ P 0 128 none 3 ∷ []
 unfolding computing
 ineligible-lines = refl
@@ -370,7 +383,7 @@ kept =
     }
 
 pub kept-lines :
-    rowlist-words (file kept) ≡
+    listed (file kept) ≡
     header 2 2 2 ∷ row 0 0 4 ∷ B (some (span 8 28)) ∷ P 8 28 none 0 ∷ L 8 18 none 0 ∷ E ∷ row 1 0 0 ∷ []
 unfolding computing
 kept-lines = refl
@@ -392,7 +405,7 @@ placed =
     3
 
 pub placed-lines :
-    rowlist-words (file placed) ≡
+    listed (file placed) ≡
     header 2 2 3 ∷ row 0 0 2 ∷ P 0 18 none 0 ∷ P 8 12 none 2 ∷ row 1 0 1 ∷ P 8 18 none 1 ∷ []
 unfolding computing
 placed-lines = refl
@@ -426,7 +439,7 @@ empty-push =
     0
     1
 
-pub empty-push-lines : rowlist-words (file empty-push) ≡ header 2 1 1 ∷ row 0 0 0 ∷ row 1 0 0 ∷ []
+pub empty-push-lines : listed (file empty-push) ≡ header 2 1 1 ∷ row 0 0 0 ∷ row 1 0 0 ∷ []
 unfolding computing
 empty-push-lines = refl
 
@@ -453,7 +466,7 @@ clipped-filter =
     1
 
 pub clipped-filter-lines :
-    rowlist-words (file clipped-filter) ≡
+    listed (file clipped-filter) ≡
     header 1 1 2 ∷ row 0 0 4 ∷ B (some (span 0 9)) ∷ P 0 4 none 0 ∷ L 0 9 none 0 ∷ E ∷ []
 unfolding computing
 clipped-filter-lines = refl
@@ -471,7 +484,7 @@ in-turn =
     2
 
 pub in-turn-lines :
-    rowlist-words (file in-turn) ≡
+    listed (file in-turn) ≡
     header 1 2 8
     ∷ row 0 0 10
     ∷ P 0 8 none 0

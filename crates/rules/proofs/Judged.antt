@@ -19,14 +19,18 @@ use Rattle.rules.specs.Steps.{Screen, reset, call}
 use Rattle.rules.specs.Recording.{Recording, LayerRec, Node}
 use Rattle.rules.proofs.Words.{file}
 use Rattle.rules.specs.Walk.{Place, needed, play}
-use Rattle.rules.specs.Lines.{rowlist-words, header, row, P, L, B, E, refused}
-use Rattle.rules.proofs.Samples.{solid, opaque-paint, draw, no-clip, no-filter, full, blend, clip, layer, filtered, filter, pictureless, node, rec}
+use Rattle.rules.specs.Lines.{header, row, P, L, B, E, refused}
+use Rattle.rules.proofs.Samples.{solid, opaque-paint, draw, no-clip, no-filter, full, blend, clip, layer, filtered, filter, pictureless, node, rec, listed, listed-snapped}
+use Rattle.rules.specs.Setups.{Mode, exact, snapping, Setup, frame}
 use Rattle.rules.proofs.WorkedExample.{worked-words}
 use Rattle.rules.proofs.Computing.{computing}
 
 -- two rows and two buckets, C = 4 and D = 5, lent what they need and `a`, `b`, `c` words more
+abbrev asked : ℕ → ℕ → Mode → Setup
+asked c d m = record { c = c; d = d; mode = m }
+
 abbrev lent : ℕ → ℕ → ℕ → Place
-lent a b c = record { limit = 512; c = 4; d = 5; arenas = record { render = 32 + a; fills = 20 + b; depth = 4 + c } }
+lent a b c = record { limit = 512; setup = asked 4 5 exact; arenas = record { render = 32 + a; fills = 20 + b; depth = 4 + c } }
 
 -- the screen before
 abbrev old : Screen Row
@@ -39,10 +43,13 @@ abbrev judged : List ℕ → ℕ
 judged ws = plays (lent 0 0 0) ws .number
 
 -- an empty recording of a viewport, at the arenas that it needs
+abbrev views-in : Mode → Box → ℕ
+views-in m v =
+    let q = asked 1 1 m in
+    plays (record { limit = 512; setup = q; arenas = needed 32 (frame q v) }) (file (rec v [] [] [] [] 0 0)) .number
+
 abbrev views : Box → ℕ
-views v =
-    let f : Frame = record { viewport = v; c = 1; d = 1 } in
-    plays (record { limit = 512; c = 1; d = 1; arenas = needed 32 f }) (file (rec v [] [] [] [] 0 0)) .number
+views = views-in exact
 
 -- two paints, three segments, a draw, a layer and a node; no node is reached
 abbrev holds : Paint → Segment → Draw → LayerRec → Node → ℕ → ℕ → ℕ
@@ -108,6 +115,9 @@ judgements =
     ∷ views (box 28672 30720 32768 32768) is Done
     ∷ views (box 0 0 4100 8) is BadViewport
     ∷ views (box 8 8 8 8) is Done
+    ∷ views (box 0 0 1366 768) is BadViewport
+    ∷ views-in snapping (box 0 0 1366 768) is Done
+    ∷ views-in snapping (box 3 0 4097 8) is BadViewport
     ∷ plays (lent 1 0 0) worked-words .number is BadArena
     ∷ plays (lent 0 1 0) worked-words .number is BadArena
     ∷ plays (lent 0 0 1) worked-words .number is BadArena
@@ -203,20 +213,29 @@ left-by-5 = refl
 
 -- A layer that reaches itself, after a draw: 6 at the 17th push, and nothing of the walk is kept.
 pub left-by-6 :
-    plays (record { limit = 512; c = 64; d = 5; arenas = record { render = 512; fills = 20; depth = 4 } })
+    plays (record { limit = 512; setup = asked 64 5 exact; arenas = record { render = 512; fills = 20; depth = 4 } })
     (file (rec (box 0 0 256 8) (solid 0 0 4 ∷ []) (draw 0 1 ∷ []) (layer 0 1 ∷ []) (node 0 1 1 ∷ []) 0 1)) ≡
     answer Deep (reset fresh-row (record { viewport = box 0 0 256 8; c = 64; d = 5 }))
 unfolding computing
 left-by-6 = refl
 
 -- `rowlist` takes 32 rows, and refuses 33 by 2, before a 4.
-pub rows-32 : rowlist-words (file (rec (box 0 0 4 128) [] [] [] [] 1 0)) ≡ refused 4 ∷ []
+pub rows-32 : listed (file (rec (box 0 0 4 128) [] [] [] [] 1 0)) ≡ refused 4 ∷ []
 unfolding computing
 rows-32 = refl
 
-pub rows-33 : rowlist-words (file (rec (box 0 0 4 132) [] [] [] [] 1 0)) ≡ refused 2 ∷ []
+pub rows-33 : listed (file (rec (box 0 0 4 132) [] [] [] [] 1 0)) ≡ refused 2 ∷ []
 unfolding computing
 rows-33 = refl
+
+-- .. with `--snap` those of the snapped box: from 3 to 129 there are 33.
+pub snapped-32 : listed-snapped (file (rec (box 3 1 5 126) [] [] [] [] 1 0)) ≡ refused 4 ∷ []
+unfolding computing
+snapped-32 = refl
+
+pub snapped-33 : listed-snapped (file (rec (box 3 3 5 129) [] [] [] [] 1 0)) ≡ refused 2 ∷ []
+unfolding computing
+snapped-33 = refl
 
 -- 16 layers, one in the other, and a filter layer in the last.
 abbrev deep : LayerRec → Recording
@@ -228,13 +247,13 @@ deep l =
     1
 
 -- One that needs no buffer is done with 16 open, and its fill touches the row for each; one that needs a buffer is the 17th: 6.
-pub filter-16-deep : rowlist-words (file (deep (filtered full 0 (filter 5 (box 0 0 32 4) 0 0)))) ≡
+pub filter-16-deep : listed (file (deep (filtered full 0 (filter 5 (box 0 0 32 4) 0 0)))) ≡
     header 1 1 17
     ∷ row 0 0 49
     ∷ (replicate 15 (B (some (span 0 16))) ++ (B (some (span 0 16)) ∷ P 0 8 none 0 ∷ join (λ (i : ℕ). L 0 16 none i ∷ E ∷ []) (range 0 16)))
 unfolding computing
 filter-16-deep = refl
 
-pub buffer-17-deep : rowlist-words (file (deep (filtered full 2 (filter 5 (box 0 0 32 4) 0 0)))) ≡ refused 6 ∷ []
+pub buffer-17-deep : listed (file (deep (filtered full 2 (filter 5 (box 0 0 32 4) 0 0)))) ≡ refused 6 ∷ []
 unfolding computing
 buffer-17-deep = refl

@@ -17,6 +17,8 @@ use Rattle.rules.specs.Inputs.{Props}
 use Rattle.rules.specs.Attributes.{PaintAttr, LayerAttr, FilterPaint, Attrs, no-attrs}
 use Rattle.rules.specs.Rows.{fresh-row}
 use Rattle.rules.specs.Plans.{Frame, Layer, Step, a-fill, a-push, a-pop, a-filter}
+use Rattle.rules.specs.Setups as setup
+use Rattle.rules.specs.Setups.{Mode, exact, snapping, Setup}
 use Rattle.rules.proofs.Words.{file}
 use Rattle.rules.specs.Painting.{begin}
 use Rattle.rules.specs.Walk.{needed}
@@ -48,12 +50,18 @@ clip-open a b =
 abbrev next-id : ℕ → Canvas
 next-id n = with-state n no-attrs []
 
--- reset to a viewport, with C and D, lent what a frame needs, and some more render words
+-- reset to a viewport in a mode, with C and D, lent what a frame needs, and some more render words
+abbrev reset-in : Mode → Box → ℕ → ℕ → ℕ → ℕ
+reset-in m v c d more =
+    let q : Setup = record { c = c; d = d; mode = m } in
+    let a = needed 32 (setup.frame q v) in
+    reset-call 32 q v (record { render = a .render + more; fills = a .fills; depth = a .depth }) start .number
+
 abbrev resets : Box → ℕ → ℕ → ℕ → ℕ
-resets v c d more =
-    let f : Frame = record { viewport = v; c = c; d = d } in
-    let a = needed 32 f in
-    reset-call 32 f (record { render = a .render + more; fills = a .fills; depth = a .depth }) start .number
+resets = reset-in exact
+
+abbrev snaps : Box → ℕ
+snaps v = reset-in snapping v 1 1 0
 
 abbrev steps : Step → Canvas → ℕ
 steps x k = step-call 32 x k .number
@@ -100,8 +108,11 @@ abbrev nine : Canvas
 nine = write-call 32 9 0 2 (span 0 1) start .value .canvas
 
 -- a recording of one row and two buckets at C = D = 1, and its words
+abbrev one-each : Setup
+one-each = record { c = 1; d = 1; mode = exact }
+
 abbrev recorded : List ℕ → Canvas → Answer Canvas
-recorded ws k = record-call 32 1 1 (record { render = 4; fills = 2; depth = 2 }) ws k
+recorded ws k = record-call 32 one-each (record { render = 4; fills = 2; depth = 2 }) ws k
 
 abbrev a-file : List ℕ
 a-file = file (rec (box 0 0 256 4) (solid 0 0 64 ∷ []) (draw 0 1 ∷ []) [] (node 0 1 0 ∷ []) 0 1)
@@ -121,7 +132,7 @@ answers =
     recorded a-file start .number is Done
     ∷ recorded (a-file ++ (0 ∷ [])) start .number is BadForm
     ∷ recorded [] start .number is BadForm
-    ∷ record-call 32 1 1 (record { render = 2048; fills = 1024; depth = 0 }) (file (rec (box 0 0 0 2048) [] [] [] [] 0 0)) start .number is Done
+    ∷ record-call 32 one-each (record { render = 2048; fills = 1024; depth = 0 }) (file (rec (box 0 0 0 2048) [] [] [] [] 0 0)) start .number is Done
     ∷ recorded (file (rec (box 2 0 256 4) [] [] [] [] 1 0) ++ (0 ∷ [])) start .number is BadForm
     ∷ recorded (file (rec (box 2 0 256 4) [] [] [] [] 1 0)) start .number is BadViewport
     -- 2, then 1
@@ -134,6 +145,21 @@ answers =
     ∷ resets (box 0 0 4 4) 1 1025 0 is BadArena
     ∷ resets (box 0 0 4 4) 1 1 1 is BadArena
     ∷ resets (box 2 0 4 4) 0 1 1 is BadViewport
+    -- .. in snapping mode judged on the snapped box alone
+    ∷ snaps (box 1 1 1366 767) is Done
+    ∷ snaps (box 7 0 5 4) is Done
+    ∷ snaps (box 9 0 3 4) is BadViewport
+    ∷ snaps (box 0 7 4 5) is Done
+    ∷ snaps (box 0 9 4 3) is BadViewport
+    ∷ snaps (box 3 0 4096 2047) is Done
+    ∷ snaps (box 3 0 4097 2047) is BadViewport
+    ∷ snaps (box 0 3 4 2048) is Done
+    ∷ snaps (box 0 3 4 2049) is BadViewport
+    ∷ snaps (box 28675 30723 32765 32765) is Done
+    ∷ snaps (box 28675 30720 32769 32768) is BadViewport
+    ∷ snaps (box 28672 30723 32768 32769) is BadViewport
+    ∷ resets (box 1 1 1366 767) 1 1 0 is BadViewport
+    ∷ reset-in snapping (box 1 1 1366 767) 0 1 0 is BadArena
     -- 4, then 5
     ∷ steps (fills (solid 0 5 5 ∷ []) 1) start is BadRecord
     ∷ steps (with-paints 4096) start is Done

@@ -15,7 +15,8 @@ use Rattle.rules.specs.Steps.{Screen}
 use Rattle.rules.specs.Painting.{Piece, paint-row}
 use Rattle.rules.specs.Recording.{LayerRec, Node, Recording}
 use Rattle.rules.proofs.Words.{file}
-use Rattle.rules.specs.Lines.{rowlist-screen}
+use Rattle.rules.specs.Setups.{exact, snapping}
+use Rattle.rules.specs.Lines.{Line, usual, rowlist-screen, rowlist-words}
 
 -- segments of a row, from a first tile to an end tile
 abbrev pub solid : ℕ → ℕ → ℕ → Segment
@@ -129,9 +130,16 @@ paint-piece i a b x n = record { layer = false; attribute = i; tiles = span a b;
 abbrev pub layer-piece : ℕ → ℕ → ℕ → Option ℕ → ℕ → Piece
 layer-piece i a b x n = record { layer = true; attribute = i; tiles = span a b; alpha = x; nesting = n }
 
+-- what `rowlist` prints of a file's words, and with `--snap`
+abbrev pub listed : List ℕ → List Line
+listed ws = rowlist-words (usual exact) ws
+
+abbrev pub listed-snapped : List ℕ → List Line
+listed-snapped ws = rowlist-words (usual snapping) ws
+
 -- what `rowlist` makes of a recording's file: the screen, its attributes, and each row's pieces, painted to its end
 abbrev pub screen-of : Recording → Screen Row
-screen-of r = rowlist-screen (file r) .value
+screen-of r = rowlist-screen (usual exact) (file r) .value
 
 abbrev pub attributes : Recording → Attrs
 attributes r = screen-of r .state .attrs

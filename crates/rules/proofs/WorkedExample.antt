@@ -8,10 +8,11 @@ use Rattle.rules.specs.Lists.{join}
 use Rattle.rules.specs.Spans.{span}
 use Rattle.rules.specs.Recording.{Recording, shape, sections, recording}
 use Rattle.rules.proofs.Words.{file}
-use Rattle.rules.specs.Lines.{Line, header, row, D, P, L, B, E, rowlist-words, rowlist, line-bytes}
+use Rattle.rules.specs.Lines.{Line, header, row, D, P, L, B, E, usual, rowlist, line-bytes}
 use Rattle.rules.proofs.Picture.{same-picture}
 use Rattle.rules.proofs.Computing.{computing}
-use Rattle.rules.proofs.Samples.{attrs, paint-attr, layer-attr, paint-piece, layer-piece, attributes, pieces}
+use Rattle.rules.specs.Setups.{exact}
+use Rattle.rules.proofs.Samples.{attrs, paint-attr, layer-attr, paint-piece, layer-piece, attributes, pieces, listed}
 
 -- The file's words, section by section: viewport 0,0,256,8; one opaque paint; a solid segment on row 0, tiles 10 to 64, and one on
 -- row 1, tiles 0 to 8; two draws; a layer, opacity 0.5, no clip; two nodes; root.
@@ -54,7 +55,7 @@ worked-lines =
     ∷ E
     ∷ []
 
-pub worked : rowlist-words worked-words ≡ worked-lines
+pub worked : listed worked-words ≡ worked-lines
 unfolding computing
 worked = refl
 
@@ -71,7 +72,7 @@ worked-bytes =
     ∷ 0 ∷ 0 ∷ 0 ∷ 0 ∷ 0 ∷ 0 ∷ 0 ∷ 0 ∷ 0 ∷ 0 ∷ 0 ∷ 0 ∷ 2 ∷ 0 ∷ 0 ∷ 0 ∷ 0 ∷ 0 ∷ 0 ∷ 0 ∷ 1 ∷ 0 ∷ 0 ∷ 0 ∷ 1 ∷ 0 ∷ 0 ∷ 0 ∷ 1 ∷ 0 ∷ 0 ∷ 0
     ∷ 2 ∷ 0 ∷ 0 ∷ 0 ∷ 0 ∷ 0 ∷ 0 ∷ 0 ∷ 1 ∷ 0 ∷ 0 ∷ 0 ∷ 0 ∷ 0 ∷ 0 ∷ 0 ∷ 1 ∷ 0 ∷ 0 ∷ 0 ∷ []
 
-pub worked-file : rowlist worked-bytes ≡ worked-lines
+pub worked-file : rowlist (usual exact) worked-bytes ≡ worked-lines
 unfolding computing
 worked-file = refl
 

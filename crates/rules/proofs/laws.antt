@@ -4,3 +4,4 @@ pub mod Changes
 pub mod Maps
 pub mod Bounds
 pub mod Pixmaps
+pub mod Snapping

@@ -11,6 +11,7 @@ pub mod Rows
 pub mod Inputs
 pub mod Attributes
 pub mod Plans
+pub mod Setups
 pub mod Steps
 pub mod Painting
 pub mod Recording

@@ -141,12 +141,12 @@ unfolding begin-call
 begin-done w k e = rw e
 
 -- The screen u of an accepted recording can be painted, and demand 3 speaks of it: a finished row has given each of its tiles what plain
--- draw order gives it of the recording's history.
+-- draw order gives it of the recording's history, on the screen of the frame that its reset made.
 pub recorded-picture : (w : ℕ) → 0 < w → (p : Place) (ws : List ℕ) (u : Screen Row) (a : Accepted w p ws u) (k : Canvas) → k .screen ≡ u
     → (begin-call w k .number ≡ Done)
-    × ((ts : List Turn) (r t : ℕ) → r < rows-of (said (a .words) .viewport) → t < width (said (a .words) .viewport) / 4
+    × ((ts : List Turn) (r t : ℕ) → r < rows-of (frame-of p (said (a .words)) .viewport) → t < width (frame-of p (said (a .words)) .viewport) / 4
     → has-finished w (painted w ts k .canvas) r ≡ true
-    → received t (from r (painted w ts k .log)) ≡ plain w (said (a .words) .viewport) r t (history w p (said (a .words))))
+    → received t (from r (painted w ts k .log)) ≡ plain w (frame-of p (said (a .words)) .viewport) r t (history w p (said (a .words))))
 recorded-picture w pos p ws u a k s =
     let d = begin-done w k (ap (λ (x : Screen Row). x .state .layers) s ∙ a .closed) in
     (d, picture w pos (frame-of p (said (a .words))) (history w p (said (a .words))) k (rw s (a .built)) d)

@@ -5,11 +5,12 @@ use mathlib.Core.List.{List, [], _∷_, _++_}
 use mathlib.Core.Option.{Option, none, some}
 use lib.ListN.{length}
 use lib.Dec.{leb, eqb}
-use Rattle.sizes.specs.Sizes.{bucket-tiles, program-room}
+use Rattle.sizes.specs.Sizes.{bucket-tiles}
 use Rattle.rules.specs.Answers.{Done, BadForm, BadRun}
 use Rattle.rules.specs.Boxes.{Box, width, rows-of}
 use Rattle.rules.specs.Rows.{Row, row-ops, fresh-row}
-use Rattle.rules.specs.Plans.{Step}
+use Rattle.rules.specs.Plans.{Frame, Step}
+use Rattle.rules.specs.Setups.{Setup, frame}
 use Rattle.rules.specs.Recording.{Recording, shape, sections, recording}
 use Rattle.rules.specs.Lines.{refused, rowlist-screen, words-of, too-long, digits, number, line-bytes}
 use Rattle.rules.specs.Plain.{Story, untold, tell-steps}
@@ -88,9 +89,9 @@ unfoldable pub answer-lines : (Asked → Reason) → ℕ → ℕ → Question �
 answer-lines why paints layers every = kind-lines why false paints ++ kind-lines why true layers
 answer-lines why paints layers (one a) = reason-bytes (why a)
 
--- the steps of a recording's walk at C = D = 64
-abbrev pub history : Recording → List Step
-history r = walk-logged Row row-ops bucket-tiles fresh-row (record { viewport = r .viewport; c = program-room; d = program-room }) r .value .log
+-- the steps of a recording's walk from the reset to a frame
+abbrev pub history : Frame → Recording → List Step
+history f r = walk-logged Row row-ops bucket-tiles fresh-row f r .value .log
 
 -- 12: a row or a tile off the screen of the viewport v
 abbrev pub off-screen : Box → ℕ → ℕ → Bool
@@ -105,29 +106,29 @@ tile-answer v row tile xs q =
 abbrev pub refused-bytes : ℕ → List ℕ
 refused-bytes n = line-bytes (refused n)
 
--- of a recording that is accepted
-unfoldable pub recording-answer : Recording → ℕ → ℕ → Question → List ℕ
-recording-answer r row tile q =
-    let answer = tile-answer (r .viewport) row tile (history r) q in
-    cond (off-screen (r .viewport) row tile) (refused-bytes BadRun) answer
+-- of a recording that is accepted, on a screen of the frame f
+unfoldable pub recording-answer : Frame → Recording → ℕ → ℕ → Question → List ℕ
+recording-answer f r row tile q =
+    let answer = tile-answer (f .viewport) row tile (history f r) q in
+    cond (off-screen (f .viewport) row tile) (refused-bytes BadRun) answer
 
-abbrev pub answer-in : Option (List (List (List ℕ))) → ℕ → ℕ → Question → List ℕ
-answer-in none row tile q = refused-bytes BadForm
-answer-in (some ss) row tile q = recording-answer (recording ss) row tile q
+abbrev pub answer-in : Setup → Option (List (List (List ℕ))) → ℕ → ℕ → Question → List ℕ
+answer-in u none row tile q = refused-bytes BadForm
+answer-in u (some ss) row tile q = let r = recording ss in recording-answer (frame u (r .viewport)) r row tile q
 
--- a file's words: the recording's own number first
-unfoldable pub why-words : List ℕ → ℕ → ℕ → Question → List ℕ
-why-words ws row tile q =
-    let n = rowlist-screen ws .number in
-    let answer = answer-in (sections shape ws) row tile q in
+-- a file's words, and what the screen is asked to be: the recording's own number first
+unfoldable pub why-words : Setup → List ℕ → ℕ → ℕ → Question → List ℕ
+why-words u ws row tile q =
+    let n = rowlist-screen u ws .number in
+    let answer = answer-in u (sections shape ws) row tile q in
     cond (eqb n Done) answer (refused-bytes n)
 
 -- a file's bytes, as `rowlist` takes them
-unfoldable pub why-text : List ℕ → ℕ → ℕ → Question → List ℕ
-why-text fs row tile q =
+unfoldable pub why-text : Setup → List ℕ → ℕ → ℕ → Question → List ℕ
+why-text u fs row tile q =
     elim (too-long (length fs)) [
       | true ↦ refused-bytes BadForm
-      | false ↦ elim (words-of fs) [ none ↦ refused-bytes BadForm | some ws ↦ why-words ws row tile q ]
+      | false ↦ elim (words-of fs) [ none ↦ refused-bytes BadForm | some ws ↦ why-words u ws row tile q ]
     ]
 
 -- in a stream: the line before question i's answer

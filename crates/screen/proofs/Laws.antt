@@ -11,14 +11,14 @@ use Rattle.rules.specs.Lists.{is-empty}
 use Rattle.rules.specs.Boxes.{Box, width, height, by-4, bounded, whole, rows-of, buckets-of, good-box, good-viewport}
 use Rattle.rules.specs.Attributes.{attrs-full}
 use Rattle.rules.specs.Plans as plans
-use Rattle.rules.specs.Plans.{Plan, clip-box}
+use Rattle.rules.specs.Plans.{Frame, Plan, clip-box}
 use Rattle.rules.specs.Steps.{reset-state}
 use Rattle.rules.specs.Walk.{good-room}
 use Rattle.rect.specs.declared.Rect.{Rect}
 use Rattle.rect.specs.Rects.{box-of, same-box}
 use Rattle.rect.proofs.Boxes.{View, view}
 use Rattle.screen.specs.declared.Screen.{Screen}
-use Rattle.screen.specs.Screens.{frame, in-tiles, good-clip, good-counts, good-screen, some-paint, some-layer, some-filter, layer-in, state-of, screen-after, counted, fresh-screen}
+use Rattle.screen.specs.Screens.{in-tiles, good-clip, good-counts, good-screen, some-paint, some-layer, some-filter, layer-in, state-of, screen-after, counted, fresh-screen}
 use Rattle.rules.proofs.All.{and-left, and-right, or-left, or-right}
 
 pub record Room (n : ℕ) : Type 0 where
@@ -216,13 +216,13 @@ unfolding state-of
 none-open s = none-in (s .layers) _
 
 -- a fresh screen stands for the rules' reset, and is good
-pub fresh-state : (v : Rect) (c d : ℕ) → state-of (fresh-screen v c d) ≡ reset-state (frame v c d)
+pub fresh-state : (f : Frame) → state-of (fresh-screen f) ≡ reset-state f
 unfolding state-of
-fresh-state v c d = refl
+fresh-state f = refl
 
-pub fresh-good : (v : Rect) (c d : ℕ) → good-screen (fresh-screen v c d) ≡ true
+pub fresh-good : (f : Frame) → good-screen (fresh-screen f) ≡ true
 unfolding good-screen good-clip
-fresh-good v c d = same-itself (whole (box-of v))
+fresh-good f = same-itself (whole (f .viewport))
 
 -- a done plan leaves a good screen, if its clip box is good
 pub good-after : (s : Screen) (p : Plan) → 1 ≤ p .next → p .next ≤ 1048577 → attrs-full (p .attrs) ≡ false → length (p .layers) ≤ 16

@@ -8,12 +8,12 @@ use lib.Dec.{eqb}
 use borrow.Author.Tests.{eqb-true, not-false}
 use Rattle.rules.specs.Answers.{first-of}
 use Rattle.rules.specs.Boxes.{good-viewport, rows-of, buckets-of}
+use Rattle.rules.specs.Plans.{Frame}
 use Rattle.rules.specs.Walk.{good-room, good-arenas}
-use Rattle.rect.specs.declared.Rect.{Rect}
 use Rattle.rect.specs.Rects.{box-of}
 use Rattle.screen.specs.declared.Screen.{Screen}
 use Rattle.screen.specs.declared.Lengths.{Lengths}
-use Rattle.screen.specs.Screens.{frame, good-screen, fresh-screen}
+use Rattle.screen.specs.Screens.{good-screen, fresh-screen}
 use Rattle.screen.specs.Judging.{good-rooms, judged, good-fixed, good-tables, arenas, judged-reset}
 use Rattle.rules.proofs.All.{and-left, and-right}
 use Rattle.screen.proofs.Laws.{Room, room, fresh-good}
@@ -64,21 +64,21 @@ module _ (s : Screen) (rows render fills : ℕ) where
       }
 
 -- after a done reset a building step finds nothing wrong with the screen
-module _ (v : Rect) (c d : ℕ) (l : Lengths) where
-  pub reset-passes : judged-reset v c d l ≡ 0 → judged (fresh-screen v c d) (l .rows) (l .render) (l .fills) ≡ 0
+module _ (f : Frame) (l : Lengths) where
+  pub reset-passes : judged-reset f l ≡ 0 → judged (fresh-screen f) (l .rows) (l .render) (l .fills) ≡ 0
   unfolding judged-reset
   reset-passes h =
-      let n = rows-of (box-of v) in
-      let a = good-room c && good-room d in
-      let re = eqb (l .render) (n * (4 * c)) in
-      let fi = eqb (l .fills) (n * (2 * d)) in
-      let de = eqb (l .depth) (n * buckets-of 32 (box-of v)) in
+      let n = rows-of (f .viewport) in
+      let a = good-room (f .c) && good-room (f .d) in
+      let re = eqb (l .render) (n * (4 * f .c)) in
+      let fi = eqb (l .fills) (n * (2 * f .d)) in
+      let de = eqb (l .depth) (n * buckets-of 32 (f .viewport)) in
       let ro = eqb (l .rows) (n * 54) in
       let pa = eqb (l .painting) (n * 2) in
-      let all = none-said (not (good-viewport (box-of v))) (not (good-arenas 32 (frame v c d) (arenas l))) (not (good-tables n l)) h in
+      let all = none-said (not (good-viewport (f .viewport))) (not (good-arenas 32 f (arenas l))) (not (good-tables n l)) h in
       let g : (a && (re && fi && de)) ≡ true = not-false _ (all .1) in
       let k : (re && fi) ≡ true = and-left (re && fi) de (and-right a (re && fi && de) g) in
       let m : (ro && pa && good-fixed l) ≡ true = not-false _ (all .2) in
       let w : ro ≡ true = and-left ro pa (and-left (ro && pa) (good-fixed l) m) in
       let rooms : (a && re && fi) ≡ true = rw (and-left a (re && fi && de) g) k in
-      sym (good (fresh-screen v c d) (l .rows) (l .render) (l .fills) n refl (not-false _ (all .0)) rooms (eqb-true _ _ w) (fresh-good v c d))
+      sym (good (fresh-screen f) (l .rows) (l .render) (l .fills) n refl (not-false _ (all .0)) rooms (eqb-true _ _ w) (fresh-good f))

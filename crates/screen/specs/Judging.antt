@@ -6,12 +6,12 @@ use lib.Dec.{eqb}
 use Rattle.sizes.specs.Sizes.{bucket-tiles, row-size, open-layer-table, opacity-count, paint-attr-table, layer-attr-table, filter-paint-table}
 use Rattle.rules.specs.Answers.{first-of, BadArena, BadViewport, BadRecord}
 use Rattle.rules.specs.Boxes.{good-viewport, rows-of}
+use Rattle.rules.specs.Plans.{Frame}
 use Rattle.rules.specs.Walk.{Arenas, good-room, good-arenas}
-use Rattle.rect.specs.declared.Rect.{Rect}
 use Rattle.rect.specs.Rects.{box-of}
 use Rattle.screen.specs.declared.Screen.{Screen}
 use Rattle.screen.specs.declared.Lengths.{Lengths}
-use Rattle.screen.specs.Screens.{frame, good-screen}
+use Rattle.screen.specs.Screens.{good-screen}
 
 -- C and D in range, and the render and depth fill arenas of n rows lent exactly
 abbrev pub good-rooms : ℕ → ℕ → ℕ → ℕ → ℕ → Bool
@@ -43,10 +43,11 @@ good-tables n l = eqb (l .rows) (n * row-size) && eqb (l .painting) (n * 2) && g
 abbrev pub arenas : Lengths → Arenas
 arenas l = record { render = l .render; fills = l .fills; depth = l .depth }
 
-unfoldable pub judged-reset : Rect → ℕ → ℕ → Lengths → ℕ
-judged-reset v c d l =
+-- a reset to a frame
+unfoldable pub judged-reset : Frame → Lengths → ℕ
+judged-reset f l =
     first-of
-    ((not (good-viewport (box-of v)), BadViewport)
-    ∷ (not (good-arenas bucket-tiles (frame v c d) (arenas l)), BadArena)
-    ∷ (not (good-tables (rows-of (box-of v)) l), BadRecord)
+    ((not (good-viewport (f .viewport)), BadViewport)
+    ∷ (not (good-arenas bucket-tiles f (arenas l)), BadArena)
+    ∷ (not (good-tables (rows-of (f .viewport)) l), BadRecord)
     ∷ [])

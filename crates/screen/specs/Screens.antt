@@ -10,16 +10,23 @@ use Rattle.rules.specs.Boxes.{Box, width, height, by-4, whole}
 use Rattle.rules.specs.Blends.{default-blend}
 use Rattle.rules.specs.Attributes.{PaintAttr, LayerAttr, FilterPaint}
 use Rattle.rules.specs.Plans.{Frame, Layer, State, Plan, clip-box}
+use Rattle.rules.specs.Setups as rule
 use Rattle.rect.specs.declared.Rect.{Rect}
-use Rattle.rect.specs.Rects.{box-of, same-box}
+use Rattle.rect.specs.Rects.{box-of, rect-of, mode-of, same-box}
 use Rattle.screen.specs.declared.Screen.{Screen}
+use Rattle.screen.specs.declared.Setup.{Setup}
 
--- what a reset fixes
-abbrev pub frame : Rect → ℕ → ℕ → Frame
-frame v c d = record { viewport = box-of v; c = c; d = d }
+-- what a screen is asked to be
+abbrev pub setup-of : Setup → rule.Setup
+setup-of q = record { c = q .c; d = q .d; mode = mode-of (q .mode) }
 
+-- what a reset of it fixes
+abbrev pub frame : Setup → Rect → Frame
+frame q v = rule.frame (setup-of q) (box-of v)
+
+-- what a screen has of that
 abbrev pub frame-of : Screen → Frame
-frame-of s = frame (s .viewport) (s .c) (s .d)
+frame-of s = record { viewport = box-of (s .viewport); c = s .c; d = s .d }
 
 abbrev pub in-tiles : Box → Bool
 in-tiles b = by-4 (b .x0) && by-4 (b .y0) && by-4 (b .x1) && by-4 (b .y1)
@@ -71,53 +78,32 @@ state-of s =
       layers = replicate (s .layers) (layer-in (box-of (s .«clip_bbox»)));
     }
 
-abbrev pub rect-of : Box → Rect
-rect-of b = record { x0 = b .x0; y0 = b .y0; x1 = b .x1; y1 = b .y1 }
-
--- the screen that a done plan leaves
-unfoldable pub screen-after : Screen → Plan → Screen
-screen-after s p =
+-- a screen of a frame: its clip box, its counts, how many layers are open, and whether painting has begun. The one place that lists its fields
+abbrev pub screen-in : Frame → Rect → ℕ → ℕ → ℕ → ℕ → ℕ → Bool → Screen
+screen-in f b next paints layers filters deep begun =
     record {
-      viewport = s .viewport;
-      «clip_bbox» = rect-of (clip-box (box-of (s .viewport)) (p .layers));
-      c = s .c;
-      d = s .d;
-      «next_draw_id» = p .next;
-      «paint_attrs» = length (p .attrs .paints);
-      «layer_attrs» = length (p .attrs .layers);
-      «filter_paints» = length (p .attrs .filters);
-      layers = length (p .layers);
-      painting = false;
-    }
-
--- the screen with other counts and no painting, its layers and clip box as before
-abbrev pub counted : Screen → ℕ → ℕ → ℕ → ℕ → Screen
-counted s next paints layers filters =
-    record {
-      viewport = s .viewport;
-      «clip_bbox» = s .«clip_bbox»;
-      c = s .c;
-      d = s .d;
+      viewport = rect-of (f .viewport);
+      «clip_bbox» = b;
+      c = f .c;
+      d = f .d;
       «next_draw_id» = next;
       «paint_attrs» = paints;
       «layer_attrs» = layers;
       «filter_paints» = filters;
-      layers = s .layers;
-      painting = false;
+      layers = deep;
+      painting = begun;
     }
 
+-- the screen that a done plan leaves
+unfoldable pub screen-after : Screen → Plan → Screen
+screen-after s p =
+    screen-in (frame-of s) (rect-of (clip-box (box-of (s .viewport)) (p .layers))) (p .next) (length (p .attrs .paints)) (length (p .attrs .layers))
+    (length (p .attrs .filters)) (length (p .layers)) false
+
+-- the screen with other counts and no painting, its layers and clip box as before
+abbrev pub counted : Screen → ℕ → ℕ → ℕ → ℕ → Screen
+counted s next paints layers filters = screen-in (frame-of s) (s .«clip_bbox») next paints layers filters (s .layers) false
+
 -- rule 1
-abbrev pub fresh-screen : Rect → ℕ → ℕ → Screen
-fresh-screen v c d =
-    record {
-      viewport = v;
-      «clip_bbox» = rect-of (whole (box-of v));
-      c = c;
-      d = d;
-      «next_draw_id» = 1;
-      «paint_attrs» = 0;
-      «layer_attrs» = 0;
-      «filter_paints» = 0;
-      layers = 0;
-      painting = false;
-    }
+abbrev pub fresh-screen : Frame → Screen
+fresh-screen f = screen-in f (rect-of (whole (f .viewport))) 1 0 0 0 0 false

@@ -5,7 +5,7 @@ use lib.ListN.{length, replicate}
 use lib.IntN.{ℤ, pos}
 use lib.Ieee.{Float, ofBits, binary32}
 use Rattle.rules.specs.Answers.{Answer, settle}
-use Rattle.rect.specs.declared.Rect.{Rect}
+use Rattle.rules.specs.Plans.{Frame}
 use Rattle.screen.specs.declared.Screen.{Screen}
 use Rattle.screen.specs.declared.Lengths.{Lengths}
 use Rattle.screen.specs.Screens.{fresh-screen}
@@ -73,6 +73,6 @@ pub record ScreenLent : Type 0 where
 abbrev pub lent : Screen → Tables → ScreenLent
 lent s t = record { screen = s; tables = t }
 
--- a reset: the fresh screen with every word 0, or what was there before
-unfoldable pub reset-to : Rect → ℕ → ℕ → ScreenLent → Answer ScreenLent
-reset-to v c d l = settle (judged-reset v c d (lengths (l .tables))) l (lent (fresh-screen v c d) (zeroed (l .tables)))
+-- a reset to a frame: the fresh screen with every word 0, or what was there before
+unfoldable pub reset-to : Frame → ScreenLent → Answer ScreenLent
+reset-to f l = settle (judged-reset f (lengths (l .tables))) l (lent (fresh-screen f) (zeroed (l .tables)))

@@ -1,16 +1,19 @@
 // A screen: its numbers by value, its words lent (rule 1). `reset` is a public call; the others are parts of the building steps.
+ghost use mathlib.Core.Bool.{true};
 ghost use mathlib.Core.Path.{_≡_};
 ghost use Prim.Native.Nat.{_≤_};
 ghost use lib.IntN.{pos};
 ghost use Rattle.sizes.specs.Sizes.{bucket-tiles, most-rows};
 ghost use Rattle.rules.specs.Answers.{answer};
-ghost use Rattle.rules.specs.Boxes.{rows-of, buckets-of};
+ghost use Rattle.rules.specs.Boxes.{good-viewport, rows-of, buckets-of};
 ghost use Rattle.rules.specs.Walk.{good-room};
 ghost use Rattle.rect.specs.Rects.{box-of};
-ghost use Rattle.screen.specs.Screens.{in-tiles, good-clip, good-screen, fresh-screen};
+ghost use Rattle.screen.specs.Screens.{in-tiles, good-clip, good-screen, frame, frame-of, fresh-screen};
 ghost use Rattle.screen.specs.Judging.{good-rooms, judged, good-fixed, judged-reset};
 ghost use Rattle.screen.specs.Tables.{zeros, tables, lent, reset-to, float-0};
+use rect::Mode;
 use rect::Rect;
+use rect::Viewport;
 use sizes::BUCKET;
 use sizes::BUCKET_ROUND;
 use sizes::FILTER_TABLE;
@@ -39,6 +42,13 @@ pub struct Screen {
     pub filter_paints: u32,
     pub layers: u32,
     pub painting: bool,
+}
+
+// What a screen is asked to be, besides its viewport: room for C render commands and D depth fills in each row, and how the viewport is read.
+pub struct Setup {
+    pub c: u32,
+    pub d: u32,
+    pub mode: Mode,
 }
 
 // What a call gives: its number, and the screen afterwards.
@@ -221,7 +231,7 @@ pub fn clear_floats(words: &mut [f32])
 
 // A screen with nothing on it.
 pub fn fresh(viewport: Rect, c: u32, d: u32) -> Screen
-    ensures { λ r. ⌜ r ≡ fresh-screen viewport c d ⌝ }
+    ensures { λ r. ⌜ r ≡ fresh-screen (record { viewport = box-of viewport; c = c; d = d }) ⌝ }
 {
     Screen {
         viewport,
@@ -258,16 +268,13 @@ impl Lengths {
     }
 }
 
-// 2, then 1, then 4, or 0: what a reset is asked for, and how many words are lent.
-fn judge_reset(viewport: Rect, c: u32, d: u32, lent: Lengths) -> u32
-    ensures { λ r. ⌜ r ≡ judged-reset viewport c d lent ⌝ }
+// 1, then 4, or 0: how many words a reset is lent for a screen of a good viewport.
+fn judge_reset(screen: Screen, lent: Lengths) -> u32
+    requires { ⌜ good-viewport (box-of (screen .viewport)) ≡ true ⌝ }
+    ensures { λ r. ⌜ r ≡ judged-reset (frame-of screen) lent ⌝ }
 {
-    if !viewport.is_good_viewport() {
-        return BAD_VIEWPORT;
-    }
-    let screen = fresh(viewport, c, d);
     let n = screen.rows();
-    if !is_good_rooms(n, c, d, lent.render, lent.fills) {
+    if !is_good_rooms(n, screen.c, screen.d, lent.render, lent.fills) {
         return BAD_ARENA;
     }
     if lent.depth != n * screen.buckets() {
@@ -289,8 +296,7 @@ fn judge_reset(viewport: Rect, c: u32, d: u32, lent: Lengths) -> u32
 pub fn reset(
     screen: Screen,
     viewport: Rect,
-    c: u32,
-    d: u32,
+    setup: Setup,
     render: &mut [u32],
     fills: &mut [u32],
     depth: &mut [u32],
@@ -303,8 +309,16 @@ pub fn reset(
     filter_paints: &mut [i32],
 ) -> Built
     ensures { λ r. ⌜ answer (r .number) (lent (r .screen) (tables (now (render .exit)) (now (fills .exit)) (now (depth .exit)) (now (rows .exit)) (now (painting .exit)) (now (layers .exit)) (now (opacities .exit)) (now («paint_attrs» .exit)) (now («layer_attrs» .exit)) (now («filter_paints» .exit))))
-        ≡ reset-to viewport c d (lent screen (tables (now (render .entry)) (now (fills .entry)) (now (depth .entry)) (now (rows .entry)) (now (painting .entry)) (now (layers .entry)) (now (opacities .entry)) (now («paint_attrs» .entry)) (now («layer_attrs» .entry)) (now («filter_paints» .entry)))) ⌝ }
+        ≡ reset-to (frame setup viewport) (lent screen (tables (now (render .entry)) (now (fills .entry)) (now (depth .entry)) (now (rows .entry)) (now (painting .entry)) (now (layers .entry)) (now (opacities .entry)) (now («paint_attrs» .entry)) (now («layer_attrs» .entry)) (now («filter_paints» .entry)))) ⌝ }
 {
+    let mode = setup.mode;
+    let Viewport::Good(seen) = viewport.viewport_in(mode) else {
+        return Built {
+            number: BAD_VIEWPORT,
+            screen,
+        };
+    };
+    let begun = fresh(seen, setup.c, setup.d);
     let lent = Lengths {
         render: render.len(),
         fills: fills.len(),
@@ -317,7 +331,7 @@ pub fn reset(
         layer_attrs: layer_attrs.len(),
         filter_paints: filter_paints.len(),
     };
-    let n = judge_reset(viewport, c, d, lent);
+    let n = judge_reset(begun, lent);
     if n != DONE {
         return Built { number: n, screen };
     }
@@ -333,6 +347,6 @@ pub fn reset(
     clear_signed(filter_paints);
     Built {
         number: DONE,
-        screen: fresh(viewport, c, d),
+        screen: begun,
     }
 }

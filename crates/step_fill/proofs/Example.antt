@@ -14,6 +14,7 @@ use Rattle.row.specs.Words.{words, hull-word, include-span, put-command, put-de
 use Rattle.row_screen.specs.Arena.{cut, lay}
 use Rattle.row_judge.specs.Building.{good-row, good-rows, step-number}
 use Rattle.rect.specs.declared.Rect.{Rect}
+use Rattle.rect.specs.Rects.{box-of}
 use Rattle.screen.specs.Screens.{good-clip, good-screen, state-of, screen-after, counted, fresh-screen}
 use Rattle.screen.specs.Judging.{judged}
 use Rattle.segments.specs.Segs.{seg-at, segs}
@@ -25,7 +26,7 @@ viewport = record { x0 = 0; y0 = 0; x1 = 256; y1 = 8 }
 
 -- two rows, room for c commands and 64 depth fills in each
 abbrev fresh : ℕ → List ℕ → FillLent
-fresh c render = lent (fresh-screen viewport c 64) (words (replicate 108 0) render (replicate 256 0)) (replicate 8192 0)
+fresh c render = lent (fresh-screen (record { viewport = box-of viewport; c = c; d = 64 })) (words (replicate 108 0) render (replicate 256 0)) (replicate 8192 0)
 
 abbrev blank : FillLent
 blank = fresh 64 (replicate 512 0)

@@ -200,20 +200,11 @@ fn taken(screen: Screen, more: u32) -> Screen
     requires { ⌜ (screen .«next_draw_id» ≤ last-id) × (screen .«paint_attrs» ≤ most-attrs) × (more ≤ 1) ⌝ }
     ensures { λ r. ⌜ r ≡ counted screen (screen .«next_draw_id» + 1) (screen .«paint_attrs» + more) (screen .«layer_attrs») (screen .«filter_paints») ⌝ }
 {
-    let viewport = screen.viewport;
-    let clip_bbox = screen.clip_bbox;
-    Screen {
-        viewport,
-        clip_bbox,
-        c: screen.c,
-        d: screen.d,
-        next_draw_id: screen.next_draw_id + 1,
-        paint_attrs: screen.paint_attrs + more,
-        layer_attrs: screen.layer_attrs,
-        filter_paints: screen.filter_paints,
-        layers: screen.layers,
-        painting: false,
-    }
+    let mut next = screen;
+    next.next_draw_id = screen.next_draw_id + 1;
+    next.paint_attrs = screen.paint_attrs + more;
+    next.painting = false;
+    next
 }
 
 // Rules 3 to 7.

@@ -18,7 +18,7 @@ use Rattle.rect.specs.declared.Rect.{Rect}
 use Rattle.rect.specs.Rects.{box-of}
 use Rattle.cmd.specs.Attrs.{words-at, layer-tables, put-layer}
 use Rattle.screen.specs.declared.Screen as code
-use Rattle.screen.specs.Screens.{state-of, screen-after}
+use Rattle.screen.specs.Screens.{frame-of, state-of, screen-in, screen-after}
 use Rattle.screen.specs.Tables.{float-0}
 use Rattle.screen.proofs.Laws.{paint-count, layer-attr-count, filter-count}
 use Rattle.screen_layers.specs.declared.OpenLayer.{OpenLayer}
@@ -46,18 +46,7 @@ module _ (s : code.Screen) (l : PopLent) (ws : List ℕ) (j : Judged s (l .layer
 
   -- the screen
   pub screen-is : (q : Rect) → box-of q ≡ clip-box (box-of (s .viewport)) (layers-in (l .layers) (s .layers - 1))
-      → record {
-        viewport = s .viewport;
-        «clip_bbox» = q;
-        c = s .c;
-        d = s .d;
-        «next_draw_id» = s .«next_draw_id» + 1;
-        «paint_attrs» = s .«paint_attrs»;
-        «layer_attrs» = s .«layer_attrs» + 1;
-        «filter_paints» = s .«filter_paints»;
-        layers = s .layers - 1;
-        painting = false;
-      }
+      → screen-in (frame-of s) q (s .«next_draw_id» + 1) (s .«paint_attrs») (s .«layer_attrs» + 1) (s .«filter_paints») (s .layers - 1) false
       ≡ screen-after s (pop-plan s l ws)
   unfolding screen-after
   screen-is q p =

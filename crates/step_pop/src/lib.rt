@@ -342,16 +342,11 @@ pub fn do_pop(
     let parent = parent_box(viewport, layers, screen.layers);
     do_rows(screen, rows, render, fills, layers, list);
     do_tables(screen, layers, opacities, layer_attrs);
-    Screen {
-        viewport,
-        clip_bbox: parent,
-        c: screen.c,
-        d: screen.d,
-        next_draw_id: screen.next_draw_id + 1,
-        paint_attrs: screen.paint_attrs,
-        layer_attrs: screen.layer_attrs + 1,
-        filter_paints: screen.filter_paints,
-        layers: screen.layers - 1,
-        painting: false,
-    }
+    let mut next = screen;
+    next.clip_bbox = parent;
+    next.next_draw_id = screen.next_draw_id + 1;
+    next.layer_attrs = screen.layer_attrs + 1;
+    next.layers = screen.layers - 1;
+    next.painting = false;
+    next
 }

@@ -17,7 +17,7 @@ use Rattle.row_screen.specs.Arena.{lay}
 use Rattle.row_judge.specs.Building.{rows-at, screen-at, good-rows, step-number}
 use Rattle.rect.specs.declared.Rect.{Rect}
 use Rattle.screen.specs.declared.Screen.{Screen}
-use Rattle.screen.specs.Screens.{frame-of, state-of, screen-after}
+use Rattle.screen.specs.Screens.{frame-of, state-of, screen-in, screen-after}
 use Rattle.screen.specs.Judging.{judged}
 use Rattle.screen_layers.specs.declared.LayerProps.{LayerProps}
 use Rattle.screen_layers.specs.Layers.{props-of, good-pattern, layer-words, no-words}
@@ -78,15 +78,4 @@ touch-run c b = cond (destructive c && not (empty-box b)) (box-run b) no-run
 
 abbrev pub on-layer : Screen → Rect → Screen
 on-layer s b =
-    record {
-      viewport = s .viewport;
-      «clip_bbox» = b;
-      c = s .c;
-      d = s .d;
-      «next_draw_id» = s .«next_draw_id»;
-      «paint_attrs» = s .«paint_attrs»;
-      «layer_attrs» = s .«layer_attrs»;
-      «filter_paints» = s .«filter_paints»;
-      layers = s .layers + 1;
-      painting = false;
-    }
+    screen-in (frame-of s) b (s .«next_draw_id») (s .«paint_attrs») (s .«layer_attrs») (s .«filter_paints») (s .layers + 1) false

@@ -17,6 +17,7 @@ use step_push::push_layer;
 use test_words::Turn;
 use test_words::after;
 use test_words::box_at;
+use test_words::lens::setup_of;
 use test_words::put;
 use test_words::wide;
 use test_words::word;
@@ -218,8 +219,7 @@ pub fn build_step(
         0 => reset(
             screen,
             box_at(call, 1),
-            word(call, 5),
-            word(call, 6),
+            setup_of(call),
             render,
             fills,
             depth,

@@ -25,7 +25,7 @@ fn size_of(rest: &[u32]) -> usize
     ensures { λ r. ⌜ 1 ≤ r ⌝ }
 {
     match word(rest, 0) {
-        0 => 7,
+        0 => 8,
         1 => {
             let paints = 4 * wide(word(rest, 8));
             10 + paints + 5 * wide(word(rest, 9 + paints))

@@ -3,8 +3,12 @@ use crate::after;
 use crate::box_at;
 use crate::wide;
 use crate::word;
+use rect::Mode;
+use rect::NOWHERE;
 use rect::Rect;
+use rect::Viewport;
 use screen::Screen;
+use screen::Setup;
 use sizes::BUCKET;
 use sizes::BUCKET_ROUND;
 use sizes::MOST_ROOM;
@@ -93,6 +97,29 @@ fn lens_for(
     }
 }
 
+// What a reset asks of the screen; 0 is the exact mode, any other word the snapping one.
+pub fn setup_of(call: &[u32]) -> Setup {
+    let mode = if word(call, 7) == 0 {
+        Mode::Exact
+    } else {
+        Mode::Snapping
+    };
+    Setup {
+        c: word(call, 5),
+        d: word(call, 6),
+        mode,
+    }
+}
+
+// The viewport that a reset makes, none if it is refused.
+fn viewport_of(call: &[u32], setup: Setup) -> Rect {
+    let mode = setup.mode;
+    let Viewport::Good(viewport) = box_at(call, 1).viewport_in(mode) else {
+        return NOWHERE;
+    };
+    viewport
+}
+
 // A reset is lent what its own viewport, C and D need; any other call what the screen's need.
 pub fn lens_of(
     call: &[u32],
@@ -106,10 +133,11 @@ pub fn lens_of(
     ensures { λ r. ⌜ (r .rows ≤ rows) × (r .render ≤ render) × (r .fills ≤ fills) × (r .depth ≤ depth) × (r .painting ≤ painting) ⌝ }
 {
     if word(call, 0) == 0 {
+        let setup = setup_of(call);
         return lens_for(
-            box_at(call, 1),
-            word(call, 5),
-            word(call, 6),
+            viewport_of(call, setup),
+            setup.c,
+            setup.d,
             rows,
             render,
             fills,

@@ -11,6 +11,7 @@ use Rattle.rules.specs.Answers.{Done}
 use Rattle.rules.specs.Boxes.{buckets-of}
 use Rattle.rules.specs.Rows.{Row}
 use Rattle.rules.specs.Attributes.{PaintAttr, LayerAttr, FilterPaint, Attrs}
+use Rattle.rules.specs.Setups.{Setup}
 use Rattle.rules.specs.Steps.{Screen}
 use Rattle.rules.specs.Painting.{Piece, paint-row}
 use Rattle.rules.specs.Lines.{rowlist-screen}
@@ -64,5 +65,5 @@ detail-lines w s =
     attr-lines a ++ painted-lines w a (buckets-of w (s .state .frame .viewport)) 0 (s .rows)
 
 -- a file's words; a refused recording has no details
-unfoldable pub rowdump-words : List ℕ → List Detail
-rowdump-words ws = let a = rowlist-screen ws in cond (eqb (a .number) Done) (detail-lines bucket-tiles (a .value)) []
+unfoldable pub rowdump-words : Setup → List ℕ → List Detail
+rowdump-words q ws = let a = rowlist-screen q ws in cond (eqb (a .number) Done) (detail-lines bucket-tiles (a .value)) []

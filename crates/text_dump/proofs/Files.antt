@@ -14,6 +14,7 @@ use Rattle.rules.specs.Answers.{Answer, Done, BadForm}
 use Rattle.rules.specs.Boxes.{Box, rows-of, buckets-of}
 use Rattle.rules.specs.Rows.{Row, fresh-row}
 use Rattle.rules.specs.Plans.{Frame}
+use Rattle.rules.specs.Setups.{Setup}
 use Rattle.rules.specs.Steps.{Screen, reset}
 use Rattle.rules.specs.Lines.{rowlist-screen, rowlist-place, words-of}
 use Rattle.rules.specs.Lines as rules
@@ -30,7 +31,7 @@ use Rattle.text_details.specs.Details.{Detail, detail-lines, rowdump-words}
 use Rattle.text_details.specs.Bytes.{details-text}
 use Rattle.text_row.specs.Dumped as dumped
 use Rattle.text_file.specs.declared.FileText.{FileText}
-use Rattle.text_file.specs.Files.{FileOut, file-out, showed, refusing, size, over, words-text, refused-as-is, bytes-text}
+use Rattle.text_file.specs.Files.{FileOut, file-out, showed, refusing, size, over, Usual, words-text, refused-as-is, bytes-text}
 use Rattle.text_file.proofs.Texts.{small}
 use Rattle.refine_steps.specs.Lent.{lent-of, Holds}
 use Rattle.refine_text.proofs.Files.{Left, Leaves, words-leave, file-few}
@@ -180,44 +181,45 @@ module _ (s : Screen Row) (t u : Tables) (ht : Long t) (hu : Long u) (x : declar
 done-lines : (a : Answer (Screen Row)) → a .number ≡ 0 → cond (eqb (a .number) Done) (detail-lines 32 (a .value)) [] ≡ detail-lines 32 (a .value)
 done-lines a z = rw (eq-eqb (a .number) 0 z)
 
-dumped-lines : (ws : List ℕ) → rowlist-screen ws .number ≡ 0 → rowdump-words ws ≡ detail-lines 32 (rowlist-screen ws .value)
+dumped-lines : (q : Setup) (ws : List ℕ) → rowlist-screen q ws .number ≡ 0 → rowdump-words q ws ≡ detail-lines 32 (rowlist-screen q ws .value)
 unfolding rowdump-words
-dumped-lines ws z = done-lines (rowlist-screen ws) z
+dumped-lines q ws z = done-lines (rowlist-screen q ws) z
 
 -- what a file that is not refused leaves
-pub record Accepted (fs : List ℕ) (t : Tables) (o : FileOut) : Type 0 where
+pub record Accepted (q : Setup) (fs : List ℕ) (t : Tables) (o : FileOut) : Type 0 where
   pub screen : Screen Row
-  pub lines : rowdump-lines fs ≡ detail-lines 32 screen
+  pub lines : rowdump-lines q fs ≡ detail-lines 32 screen
   pub left : Left screen t o
   pub ended : Ended screen
 
-module _ (fs : List ℕ) (byte : (i : ℕ) → getD fs i 0 < 256) (t : Tables) (h : Long t) (bs : List ℕ) (room : 264256 ≤ length bs) where
+module _ (q : Setup) (usual : Usual q) (fs : List ℕ) (byte : (i : ℕ) → getD fs i 0 < 256) (t : Tables) (h : Long t)
+    (bs : List ℕ) (room : 264256 ≤ length bs) where
   abbrev answer-of : Answer (Screen Row)
-  answer-of = rowlist-screen (words-in fs)
+  answer-of = rowlist-screen q (words-in fs)
 
-  leaves : Leaves answer-of t (words-text (words-in fs) t bs)
-  leaves = words-leave (words-in fs) t (roomy t h) (fixed t h) bs room
+  leaves : Leaves answer-of t (words-text (words-in fs) q t bs)
+  leaves = words-leave q usual (words-in fs) t (roomy t h) (fixed t h) bs room
 
   -- the lines of a file by its size
-  long-lines : 65536 < length fs → rowdump-lines fs ≡ []
+  long-lines : 65536 < length fs → rowdump-lines q fs ≡ []
   unfolding rowdump-lines
   long-lines g =
-      ap (λ (x : Bool). elim x [ true ↦ [] | false ↦ elim (words-of fs) [ none ↦ [] | some ws ↦ rowdump-words ws ] ]) (lt-ltb 65536 (length fs) g)
+      ap (λ (x : Bool). elim x [ true ↦ [] | false ↦ elim (words-of fs) [ none ↦ [] | some ws ↦ rowdump-words q ws ] ]) (lt-ltb 65536 (length fs) g)
 
-  by-words : length fs ≤ 65536 → (o : Option (List ℕ)) → words-of fs ≡ o → rowdump-lines fs ≡ elim o [ none ↦ [] | some ws ↦ rowdump-words ws ]
+  by-words : length fs ≤ 65536 → (o : Option (List ℕ)) → words-of fs ≡ o → rowdump-lines q fs ≡ elim o [ none ↦ [] | some ws ↦ rowdump-words q ws ]
   unfolding rowdump-lines
-  by-words g o q =
-      ap (λ (x : Bool). elim x [ true ↦ [] | false ↦ elim (words-of fs) [ none ↦ [] | some ws ↦ rowdump-words ws ] ]) (le-ltb 65536 (length fs) g)
-      ∙ ap (λ (p : Option (List ℕ)). elim p [ none ↦ [] | some ws ↦ rowdump-words ws ]) q
+  by-words g o e =
+      ap (λ (x : Bool). elim x [ true ↦ [] | false ↦ elim (words-of fs) [ none ↦ [] | some ws ↦ rowdump-words q ws ] ]) (le-ltb 65536 (length fs) g)
+      ∙ ap (λ (p : Option (List ℕ)). elim p [ none ↦ [] | some ws ↦ rowdump-words q ws ]) e
 
-  odd-lines : length fs ≤ 65536 → eqb (length fs % 4) 0 ≡ false → rowdump-lines fs ≡ []
-  odd-lines g q = by-words g none (rules-words fs ∙ ap (λ (x : Bool). cond x (some (words-in fs)) none) q)
+  odd-lines : length fs ≤ 65536 → eqb (length fs % 4) 0 ≡ false → rowdump-lines q fs ≡ []
+  odd-lines g e = by-words g none (rules-words fs ∙ ap (λ (x : Bool). cond x (some (words-in fs)) none) e)
 
-  word-lines : length fs ≤ 65536 → eqb (length fs % 4) 0 ≡ true → rowdump-lines fs ≡ rowdump-words (words-in fs)
-  word-lines g q = by-words g (some (words-in fs)) (rules-words fs ∙ ap (λ (x : Bool). cond x (some (words-in fs)) none) q)
+  word-lines : length fs ≤ 65536 → eqb (length fs % 4) 0 ≡ true → rowdump-lines q fs ≡ rowdump-words q (words-in fs)
+  word-lines g e = by-words g (some (words-in fs)) (rules-words fs ∙ ap (λ (x : Bool). cond x (some (words-in fs)) none) e)
 
   refused-lines : (a : Answer (Screen Row)) → eqb (a .number) Done ≡ false → cond (eqb (a .number) Done) (detail-lines 32 (a .value)) [] ≡ []
-  refused-lines a q = rw q
+  refused-lines a e = rw e
 
   not-zero : (k : ℕ) → (k ≡ 0 → ⊥) → eqb k 0 ≡ false
   not-zero k d = go (eqb k 0) refl
@@ -227,37 +229,37 @@ module _ (fs : List ℕ) (byte : (i : ℕ) → getD fs i 0 < 256) (t : Tables) (
       go false e = refl
 
   -- a refused file has no details
-  pub refused-none : (bytes-text fs t bs .showed .text .number ≡ 0 → ⊥) → rowdump-lines fs ≡ []
+  pub refused-none : (bytes-text fs q t bs .showed .text .number ≡ 0 → ⊥) → rowdump-lines q fs ≡ []
   unfolding bytes-text
   refused-none = go (leb (length fs) 65536) (eqb (length fs % 4) 0) refl refl
     where
       go : (x y : Bool) → leb (length fs) 65536 ≡ x → eqb (length fs % 4) 0 ≡ y
-          → (cond (x && y) (words-text (words-in fs) t bs) (refused-as-is BadForm t bs) .showed .text .number ≡ 0 → ⊥) → rowdump-lines fs ≡ []
-      go false y p q d = long-lines (leb-false _ _ p)
-      go true false p q d = odd-lines (leb-true _ _ p) q
-      go true true p q d = word-lines (leb-true _ _ p) q ∙ (unfold rowdump-words in refused-lines answer-of (not-zero (answer-of .number) (λ z. d (leaves .number ∙ z))))
+          → (cond (x && y) (words-text (words-in fs) q t bs) (refused-as-is BadForm t bs) .showed .text .number ≡ 0 → ⊥) → rowdump-lines q fs ≡ []
+      go false y p e d = long-lines (leb-false _ _ p)
+      go true false p e d = odd-lines (leb-true _ _ p) e
+      go true true p e d = word-lines (leb-true _ _ p) e ∙ (unfold rowdump-words in refused-lines answer-of (not-zero (answer-of .number) (λ z. d (leaves .number ∙ z))))
 
   bad-number : refused-as-is BadForm t bs .showed .text .number ≡ 3
   unfolding refusing
   bad-number = refl
 
   -- another leaves the rules' screen
-  pub accepted : bytes-text fs t bs .showed .text .number ≡ 0 → Accepted fs t (bytes-text fs t bs)
+  pub accepted : bytes-text fs q t bs .showed .text .number ≡ 0 → Accepted q fs t (bytes-text fs q t bs)
   unfolding bytes-text
   accepted = go (leb (length fs) 65536) (eqb (length fs % 4) 0) refl refl
     where
       go : (x y : Bool) → leb (length fs) 65536 ≡ x → eqb (length fs % 4) 0 ≡ y
-          → cond (x && y) (words-text (words-in fs) t bs) (refused-as-is BadForm t bs) .showed .text .number ≡ 0
-          → Accepted fs t (cond (x && y) (words-text (words-in fs) t bs) (refused-as-is BadForm t bs))
-      go false y p q z = absurd (let e : _≡_ {A = ℕ} 3 0 = sym bad-number ∙ z in omega arith)
-      go true false p q z = absurd (let e : _≡_ {A = ℕ} 3 0 = sym bad-number ∙ z in omega arith)
-      go true true p q z =
+          → cond (x && y) (words-text (words-in fs) q t bs) (refused-as-is BadForm t bs) .showed .text .number ≡ 0
+          → Accepted q fs t (cond (x && y) (words-text (words-in fs) q t bs) (refused-as-is BadForm t bs))
+      go false y p i z = absurd (let e : _≡_ {A = ℕ} 3 0 = sym bad-number ∙ z in omega arith)
+      go true false p i z = absurd (let e : _≡_ {A = ℕ} 3 0 = sym bad-number ∙ z in omega arith)
+      go true true p e z =
           let done : answer-of .number ≡ 0 = sym (leaves .number) ∙ z in
           record {
             screen = answer-of .value;
-            lines = word-lines (leb-true _ _ p) q ∙ dumped-lines (words-in fs) done;
+            lines = word-lines (leb-true _ _ p) e ∙ dumped-lines q (words-in fs) done;
             left = leaves .left done;
-            ended = play-ended (rowlist-place (words-in fs)) (reset fresh-row rules.nothing) (words-in fs) (words-small fs byte) done;
+            ended = play-ended (rowlist-place q (words-in fs)) (reset fresh-row rules.nothing) (words-in fs) (words-small fs byte) done;
           }
 
 -- the lengths that are asked of the tables
@@ -277,55 +279,55 @@ long-of t list out p =
     }
 
 -- The whole text of a file, where its call is refused, and where the details stand after its lines.
-module _ (fs : List ℕ) (byte : (i : ℕ) → getD fs i 0 < 256) (t : Tables) (h : Long t) (bs : List ℕ) (room : 4682080 ≤ length bs) {x : FileText} {cs : List ℕ} {u : Tables}
-    (e : file-out (showed x cs) u ≡ bytes-text fs t bs) where
+module _ (q : Setup) (usual : Usual q) (fs : List ℕ) (byte : (i : ℕ) → getD fs i 0 < 256) (t : Tables) (h : Long t)
+    (bs : List ℕ) (room : 4682080 ≤ length bs) {x : FileText} {cs : List ℕ} {u : Tables} (e : file-out (showed x cs) u ≡ bytes-text fs q t bs) where
   enough : 264256 ≤ length bs
   enough = omega arith
 
-  lines : (x .bytes ≡ length (rowlist-text fs)) × (cs ≡ first (rowlist-text fs) bs)
-  lines = rowlist-shown t h fs bs enough e
+  lines : (x .bytes ≡ length (rowlist-text q fs)) × (cs ≡ first (rowlist-text q fs) bs)
+  lines = rowlist-shown t h q usual fs bs enough e
 
-  number-is : x .number ≡ bytes-text fs t bs .showed .text .number
+  number-is : x .number ≡ bytes-text fs q t bs .showed .text .number
   number-is = ap (λ (o : FileOut). o .showed .text .number) e
 
   pub lines-few : x .bytes ≤ 264256
-  lines-few = rw (lines .0) (file-few fs t (roomy t h) (fixed t h) bs enough)
+  lines-few = rw (lines .0) (file-few q usual fs t (roomy t h) (fixed t h) bs enough)
 
   pub lines-long : x .bytes ≤ length cs
-  lines-long = rw (lines .1, first-long (rowlist-text fs) bs (omega (arith, lines .0, lines-few))) (omega (arith, lines-few))
+  lines-long = rw (lines .1, first-long (rowlist-text q fs) bs (omega (arith, lines .0, lines-few))) (omega (arith, lines-few))
 
-  pub refused-whole : (x .number ≡ 0 → ⊥) → Printed (file-lines-text fs) bs (x .bytes) cs
+  pub refused-whole : (x .number ≡ 0 → ⊥) → Printed (file-lines-text q fs) bs (x .bytes) cs
   refused-whole n =
-      let d = refused-none fs byte t h bs enough (λ z. n (number-is ∙ z)) in
-      let whole : file-lines-text fs ≡ rowlist-text fs = rw (d, append-nil (rowlist-text fs)) in
+      let d = refused-none q usual fs byte t h bs enough (λ z. n (number-is ∙ z)) in
+      let whole : file-lines-text q fs ≡ rowlist-text q fs = rw (d, append-nil (rowlist-text q fs)) in
       record { count = rw whole (lines .0); bytes = rw whole (lines .1); few = omega (arith, lines-few) }
 
   module _ (hu : Long u) (z : x .number ≡ 0) where
-    abbrev a : Accepted fs t (bytes-text fs t bs)
-    a = accepted fs byte t h bs enough (sym number-is ∙ z)
+    abbrev a : Accepted q fs t (bytes-text fs q t bs)
+    a = accepted q usual fs byte t h bs enough (sym number-is ∙ z)
 
     pub screen-wide : Wide (x .screen) (u .rows) (u .render) (u .fills) (u .depth) (u .painting)
     screen-wide =
-        wide (a .screen) t u h hu (x .screen) (bytes-text fs t bs) (a .left) (ap (λ (o : FileOut). o .showed .text .screen) e) (ap (λ (o : FileOut). o .tables) e) (a .ended)
+        wide (a .screen) t u h hu (x .screen) (bytes-text fs q t bs) (a .left) (ap (λ (o : FileOut). o .showed .text .screen) e) (ap (λ (o : FileOut). o .tables) e) (a .ended)
 
     pub accepted-whole : (list : List ℕ) → 13056 ≡ length list → {j m : ℕ} {d p ls ds : List ℕ}
         → part j d p ls ds ≡ screen-dumped (x .screen) (dumped.tables (u .paint-attrs) (u .layer-attrs) (u .opacities) (u .filter-paints)) (paint.lent (u .rows) (u .render) (u .fills) (u .depth) (u .painting) list) (take (m - x .bytes) (drop (x .bytes) cs))
-        → j ≤ length (take (m - x .bytes) (drop (x .bytes) cs)) → m ≡ length cs → Printed (file-lines-text fs) bs (x .bytes + j) (putMid (x .bytes) (m - x .bytes) cs ds)
-    accepted-whole list long {j} {m} {d} {p} {ls} {ds} g f q =
+        → j ≤ length (take (m - x .bytes) (drop (x .bytes) cs)) → m ≡ length cs → Printed (file-lines-text q fs) bs (x .bytes + j) (putMid (x .bytes) (m - x .bytes) cs ds)
+    accepted-whole list long {j} {m} {d} {p} {ls} {ds} g f y =
         let rest = drop (x .bytes) cs in
-        let rs = rowlist-text fs in
+        let rs = rowlist-text q fs in
         let few = lines-few in
         let same-rest : rest ≡ drop (length rs) (first rs bs) = rw (lines .0, lines .1) in
         let roomy-rest : 4417824 ≤ length rest = rw (same-rest, first-dropped rs bs, length-drop) (omega (arith, few, lines .0)) in
-        let i : part j d p ls ds ≡ screen-dumped (x .screen) (dumped.tables (u .paint-attrs) (u .layer-attrs) (u .opacities) (u .filter-paints)) (paint.lent (u .rows) (u .render) (u .fills) (u .depth) (u .painting) list) rest = rw (q, mid-all (x .bytes) cs) at g in
-        let says = screen-says (a .screen) t u h hu (x .screen) (bytes-text fs t bs) (a .left) (ap (λ (o : FileOut). o .showed .text .screen) e) (ap (λ (o : FileOut). o .tables) e) (a .ended) list (omega arith) rest roomy-rest in
-        let count : j ≡ length (details-text (rowdump-lines fs)) = ap (λ (o : Part). o .count) i ∙ says .count ∙ rw (a .lines) in
-        let bytes : ds ≡ first (details-text (rowdump-lines fs)) rest = ap (λ (o : Part). o .bytes) i ∙ says .bytes ∙ rw (a .lines) in
-        let rest-few : j ≤ length rest = rw (q, mid-all (x .bytes) cs) at f in
+        let i : part j d p ls ds ≡ screen-dumped (x .screen) (dumped.tables (u .paint-attrs) (u .layer-attrs) (u .opacities) (u .filter-paints)) (paint.lent (u .rows) (u .render) (u .fills) (u .depth) (u .painting) list) rest = rw (y, mid-all (x .bytes) cs) at g in
+        let says = screen-says (a .screen) t u h hu (x .screen) (bytes-text fs q t bs) (a .left) (ap (λ (o : FileOut). o .showed .text .screen) e) (ap (λ (o : FileOut). o .tables) e) (a .ended) list (omega arith) rest roomy-rest in
+        let count : j ≡ length (details-text (rowdump-lines q fs)) = ap (λ (o : Part). o .count) i ∙ says .count ∙ rw (a .lines) in
+        let bytes : ds ≡ first (details-text (rowdump-lines q fs)) rest = ap (λ (o : Part). o .bytes) i ∙ says .bytes ∙ rw (a .lines) in
+        let rest-few : j ≤ length rest = rw (y, mid-all (x .bytes) cs) at f in
         let cs-long : length cs ≡ length bs = ap (λ (o : List ℕ). length o) (lines .1) ∙ first-long rs bs (omega (arith, few, lines .0)) in
         record {
-          count = rw (lines .0, count) (sym (length-append rs (details-text (rowdump-lines fs))));
-          bytes = rw (q, put-all (x .bytes) cs ds, bytes, lines .0, lines .1) (first-two rs bs (details-text (rowdump-lines fs)));
+          count = rw (lines .0, count) (sym (length-append rs (details-text (rowdump-lines q fs))));
+          bytes = rw (y, put-all (x .bytes) cs ds, bytes, lines .0, lines .1) (first-two rs bs (details-text (rowdump-lines q fs)));
           few = omega (arith, rest-few, length-drop (x .bytes) cs, cs-long, few);
         }
 
@@ -338,11 +340,11 @@ line-first i bs room {k} {cs} w =
     let z : 0 + length (recording-line i) ≡ length (recording-line i) = omega arith in
     (moved ∙ z, ap (λ (t : Text). t .bytes) (w .is (omega (arith, moved, near))) ∙ rw z, omega arith)
 
-pub whole-text : (i : ℕ) (fs bs : List ℕ) {k : ℕ} {cs : List ℕ} → k ≡ length (recording-line i) → cs ≡ first (recording-line i) bs → {j m : ℕ} {ds : List ℕ}
-    → Printed (file-lines-text fs) (take (m - k) (drop k cs)) j ds → m ≡ length cs
-    → (k + j ≡ length (rowdump-text i fs)) × (putMid k (m - k) cs ds ≡ first (rowdump-text i fs) bs)
-whole-text i fs bs {k} {cs} h e {j} {m} {ds} g q =
-    let b : ds ≡ first (file-lines-text fs) (drop k cs) = rw (q, mid-all k cs) at (g .bytes) in (
-      rw (h, g .count) (sym (length-append (recording-line i) (file-lines-text fs))),
-      rw (q, put-all k cs ds, b, h, e) (first-two (recording-line i) bs (file-lines-text fs)),
+pub whole-text : (q : Setup) (i : ℕ) (fs bs : List ℕ) {k : ℕ} {cs : List ℕ} → k ≡ length (recording-line i) → cs ≡ first (recording-line i) bs → {j m : ℕ} {ds : List ℕ}
+    → Printed (file-lines-text q fs) (take (m - k) (drop k cs)) j ds → m ≡ length cs
+    → (k + j ≡ length (rowdump-text q i fs)) × (putMid k (m - k) cs ds ≡ first (rowdump-text q i fs) bs)
+whole-text q i fs bs {k} {cs} h e {j} {m} {ds} g y =
+    let b : ds ≡ first (file-lines-text q fs) (drop k cs) = rw (y, mid-all k cs) at (g .bytes) in (
+      rw (h, g .count) (sym (length-append (recording-line i) (file-lines-text q fs))),
+      rw (y, put-all k cs ds, b, h, e) (first-two (recording-line i) bs (file-lines-text q fs)),
     )

@@ -5,6 +5,7 @@ use mathlib.Core.Bool.{true, false}
 use mathlib.Core.List.{List, [], _∷_, _++_}
 use mathlib.Core.Option.{none, some}
 use lib.ListN.{length}
+use Rattle.rules.specs.Setups.{Setup}
 use Rattle.rules.specs.Lines.{words-of, too-long, digits}
 use Rattle.text_details.specs.Details.{Detail, rowdump-words}
 use Rattle.text_details.specs.Bytes.{details-text}
@@ -19,19 +20,19 @@ unfoldable pub recording-line : ℕ → List ℕ
 recording-line i = recording-text ++ (digits 20 i ++ (10 ∷ []))
 
 -- attributes, filter paints and pieces of a file's bytes; none of a file that is refused
-unfoldable pub rowdump-lines : List ℕ → List Detail
-rowdump-lines fs =
+unfoldable pub rowdump-lines : Setup → List ℕ → List Detail
+rowdump-lines q fs =
     elim (too-long (length fs)) [
       | true ↦ []
-      | false ↦ elim (words-of fs) [ none ↦ [] | some ws ↦ rowdump-words ws ]
+      | false ↦ elim (words-of fs) [ none ↦ [] | some ws ↦ rowdump-words q ws ]
     ]
 
 -- what stands after the first line: the rules' `rowlist` of the bytes, then the details
-abbrev pub file-lines-text : List ℕ → List ℕ
-file-lines-text fs = rowlist-text fs ++ details-text (rowdump-lines fs)
+abbrev pub file-lines-text : Setup → List ℕ → List ℕ
+file-lines-text q fs = rowlist-text q fs ++ details-text (rowdump-lines q fs)
 
-abbrev pub rowdump-text : ℕ → List ℕ → List ℕ
-rowdump-text i fs = recording-line i ++ file-lines-text fs
+abbrev pub rowdump-text : Setup → ℕ → List ℕ → List ℕ
+rowdump-text q i fs = recording-line i ++ file-lines-text q fs
 
 -- the text ts was put first into the bytes bs, which held it: r is how long it is, cs are the bytes afterwards
 pub record Printed (ts bs : List ℕ) (r : ℕ) (cs : List ℕ) : Type 0 where

@@ -2,6 +2,7 @@
 // have seen to it.
 use paint_screen::begin::begin_painting;
 use screen::Screen;
+use screen::Setup;
 use sizes::PROGRAM_DEPTHS;
 use sizes::PROGRAM_RENDERS;
 use sizes::ROW;
@@ -25,10 +26,12 @@ use text_row::row_text;
 ghost use mathlib.Core.Path.{_≡_};
 ghost use Prim.Native.Nat.{_-_, _≤_};
 ghost use lib.ListN.{length};
+ghost use Rattle.screen.specs.Screens.{setup-of};
 ghost use Rattle.screen.specs.Tables.{tables as screen-tables};
 ghost use Rattle.text.specs.Texts.{text, Wrote};
 ghost use Rattle.paint_command.specs.Painting.{lent};
 ghost use Rattle.paint_screen.specs.Stepping.{attributes};
+ghost use Rattle.text_file.specs.Files.{Usual};
 ghost use Rattle.text_row.specs.Dumped.{tables};
 ghost use Rattle.text_programs.specs.Programs.{first};
 ghost use Rattle.text_dump.specs.Rowdump.{recording-line, file-lines-text, rowdump-text, Printed};
@@ -188,6 +191,7 @@ fn screen_text(
 // The text of a recording after its first line, in tables that are lent.
 fn tables_text(
     file: &[u8],
+    setup: Setup,
     render: &mut [u32],
     fills: &mut [u32],
     depth: &mut [u32],
@@ -201,11 +205,13 @@ fn tables_text(
     list: &mut [u32],
     out: &mut [u8],
 ) -> usize
+    requires { ⌜ Usual (setup-of setup) ⌝ }
     requires { ⌜ Sized (screen-tables (now render) (now fills) (now depth) (now rows) (now painting) (now layers) (now opacities) (now «paint_attrs») (now «layer_attrs») (now «filter_paints»)) (now list) (now out) ⌝ }
-    ensures { λ r. ⌜ Printed (file-lines-text (now (file .entry))) (now (out .entry)) r (now (out .exit)) ⌝ }
+    ensures { λ r. ⌜ Printed (file-lines-text (setup-of setup) (now (file .entry))) (now (out .entry)) r (now (out .exit)) ⌝ }
 {
     let text = file_text(
         file,
+        setup,
         render,
         fills,
         depth,
@@ -241,9 +247,10 @@ fn tables_text(
 }
 
 // The same, with the programs' tables.
-fn recording_text(file: &[u8], out: &mut [u8]) -> usize
+fn recording_text(file: &[u8], setup: Setup, out: &mut [u8]) -> usize
+    requires { ⌜ Usual (setup-of setup) ⌝ }
     requires { ⌜ 4682080 ≤ length (now out) ⌝ }
-    ensures { λ r. ⌜ Printed (file-lines-text (now (file .entry))) (now (out .entry)) r (now (out .exit)) ⌝ }
+    ensures { λ r. ⌜ Printed (file-lines-text (setup-of setup) (now (file .entry))) (now (out .entry)) r (now (out .exit)) ⌝ }
 {
     let mut render = render_words();
     let mut fills = fill_words();
@@ -258,6 +265,7 @@ fn recording_text(file: &[u8], out: &mut [u8]) -> usize
     let mut list = piece_words();
     tables_text(
         file,
+        setup,
         &mut render,
         &mut fills,
         &mut depth,
@@ -274,12 +282,13 @@ fn recording_text(file: &[u8], out: &mut [u8]) -> usize
 }
 
 // The text that `rowdump` prints of recording i, a file's bytes, put first; how long it is. The room is that of the longest text.
-pub fn rowdump_text(i: u64, file: &[u8], out: &mut [u8]) -> usize
+pub fn rowdump_text(i: u64, file: &[u8], setup: Setup, out: &mut [u8]) -> usize
+    requires { ⌜ Usual (setup-of setup) ⌝ }
     requires { ⌜ 4682240 ≤ length (now out) ⌝ }
-    ensures { λ r. ⌜ r ≡ length (rowdump-text i (now (file .entry))) ⌝ }
-    ensures { λ r. ⌜ now (out .exit) ≡ first (rowdump-text i (now (file .entry))) (now (out .entry)) ⌝ }
+    ensures { λ r. ⌜ r ≡ length (rowdump-text (setup-of setup) i (now (file .entry))) ⌝ }
+    ensures { λ r. ⌜ now (out .exit) ≡ first (rowdump-text (setup-of setup) i (now (file .entry))) (now (out .entry)) ⌝ }
 {
     let k = put_recording(out, i);
-    let more = recording_text(file, &mut out[k..]);
+    let more = recording_text(file, setup, &mut out[k..]);
     k + more
 }

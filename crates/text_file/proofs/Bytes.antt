@@ -7,6 +7,7 @@ use native.Mathlib.Omega.{arith}
 use lib.ListN.{length, take, drop}
 use borrow.Author.Tests.{leb-true}
 use Rattle.rules.proofs.All.{both}
+use Rattle.rules.specs.Setups.{Setup}
 use Rattle.screen.specs.declared.Screen.{Screen}
 use Rattle.screen.specs.Tables.{Tables}
 use Rattle.file_form.specs.Words.{Filled, filled, filled-with, words-in}
@@ -31,8 +32,8 @@ enough t h =
 pub few-words : (fs : List ℕ) → good-bytes (length fs) ≡ true → length fs / 4 ≤ 16384
 few-words fs g = omega (arith, leb-true (length fs) 65536 (both _ _ g .0))
 
-module _ (fs : List ℕ) (t : Tables) (bs : List ℕ) where
-  pub bytes-bad : {q : Screen} → q ≡ nothing → {x : Showed} → good-bytes (length fs) ≡ false → x ≡ refusing 3 q bs → file-out x t ≡ bytes-text fs t bs
+module _ (fs : List ℕ) (q : Setup) (t : Tables) (bs : List ℕ) where
+  pub bytes-bad : {s : Screen} → s ≡ nothing → {x : Showed} → good-bytes (length fs) ≡ false → x ≡ refusing 3 s bs → file-out x t ≡ bytes-text fs q t bs
   unfolding bytes-text
   bytes-bad p g e = rw g (ap (λ (y : Showed). file-out y t) (rw p at e))
 
@@ -47,8 +48,8 @@ module _ (fs ws : List ℕ) (g : good-bytes (length fs) ≡ true) {n : ℕ} {vs 
   pub filled-in : 16384 ≡ length ws → n ≤ length vs
   filled-in h = omega (arith, count, few-words fs g, h, put-length fs ws (length fs / 4) vs words (omega (arith, few-words fs g, h)))
 
-  pub bytes-shown : (t : Tables) (bs : List ℕ) {o : FileOut} → o ≡ words-text (take n vs) t bs → o ≡ bytes-text fs t bs
+  pub bytes-shown : (q : Setup) (t : Tables) (bs : List ℕ) {o : FileOut} → o ≡ words-text (take n vs) q t bs → o ≡ bytes-text fs q t bs
   unfolding bytes-text
-  bytes-shown t bs e =
+  bytes-shown q t bs e =
       let j : take n vs ≡ words-in fs = rw (words, count) (first-words fs ws) in
       rw g (rw j at e)

@@ -1,5 +1,6 @@
 -- The text of a recording file: what `rowlist` prints of it, and what its words leave in the lent tables.
 use Prim.Native.Nat.{ℕ, _*_, _%_, _≤_}
+use mathlib.Core.Path.{_≡_}
 use mathlib.Core.Bool.{Bool, true, false, _&&_, cond}
 use mathlib.Core.List.{List, _++_}
 use lib.ListN.{length, take, drop}
@@ -7,7 +8,8 @@ use lib.Dec.{leb, eqb}
 use Rattle.sizes.specs.Sizes.{bucket-tiles, most-attrs, file-bytes, program-rows, program-room, program-render, program-fills, program-depth, program-records, program-painting, row-size}
 use Rattle.rules.specs.Answers.{Answer, Done, BadViewport, BadForm, BadRecord}
 use Rattle.rules.specs.Boxes.{Box, good-viewport, rows-of, buckets-of}
-use Rattle.rect.specs.declared.Rect.{Rect}
+use Rattle.rules.specs.Setups.{Setup, viewport-in}
+use Rattle.rules.specs.Lines as rule
 use Rattle.row.specs.Words.{Words, words}
 use Rattle.screen.specs.declared.Screen.{Screen}
 use Rattle.screen.specs.Screens.{fresh-screen}
@@ -23,11 +25,8 @@ use Rattle.text_file.specs.declared.FileText.{FileText}
 use Rattle.text_file.specs.declared.Size.{Size}
 
 -- the screen before: no rows
-abbrev pub nowhere : Rect
-nowhere = record { x0 = 0; y0 = 0; x1 = 0; y1 = 0 }
-
 abbrev pub nothing : Screen
-nothing = fresh-screen nowhere 1 1
+nothing = fresh-screen rule.nothing
 
 -- what a call leaves: its answer with the screen, and the lent bytes
 pub record Showed : Type 0 where
@@ -67,13 +66,13 @@ answered a bs =
     let t = a .value .tables in
     file-out (cond (eqb (a .number) Done) (showing s (words (t .rows) (t .render) (t .fills)) bs) (refusing (a .number) s bs)) t
 
--- a file's words with C = D = 64, in tables of the lengths that its screen has
-unfoldable pub recording-text : List ℕ → Tables → List ℕ → FileOut
-recording-text ws t bs = answered (recorded ws program-painting program-painting (lent nothing t)) bs
+-- a file's words, in tables of the lengths that its screen has
+unfoldable pub recording-text : List ℕ → Setup → Tables → List ℕ → FileOut
+recording-text ws q t bs = answered (recorded ws q (lent nothing t)) bs
 
 -- The file's own size: 3 for its form, 2 for its viewport or more than 32 rows.
-abbrev pub viewport-of : List ℕ → Box
-viewport-of ws = box-from ws 1
+abbrev pub viewport-of : List ℕ → Setup → Box
+viewport-of ws q = viewport-in (q .mode) (box-from ws 1)
 
 abbrev pub size : ℕ → ℕ → ℕ → Size
 size n r b = record { number = n; rows = r; buckets = b }
@@ -86,8 +85,8 @@ abbrev pub sized : Form → Box → Size
 sized form.Bad v = size BadForm 0 0
 sized (form.Good l) v = sized-if (good-viewport v && leb (rows-of v) program-rows) v
 
-unfoldable pub size-of : List ℕ → Size
-size-of ws = sized (form-of ws) (viewport-of ws)
+unfoldable pub size-of : List ℕ → Setup → Size
+size-of ws q = sized (form-of ws) (viewport-of ws q)
 
 -- The tables that the programs have are for 32 rows of 32 buckets; a file's screen has their first words.
 abbrev pub cut-to : Size → Tables → Tables
@@ -120,8 +119,13 @@ abbrev pub refused-as-is : ℕ → Tables → List ℕ → FileOut
 refused-as-is n t bs = file-out (refusing n nothing bs) t
 
 -- .. n rows of b buckets
-unfoldable pub front-text : ℕ → ℕ → List ℕ → Tables → List ℕ → FileOut
-front-text n b ws t bs = in-front (size Done n b) t (recording-text ws (cut-to (size Done n b) t) bs)
+unfoldable pub front-text : ℕ → ℕ → List ℕ → Setup → Tables → List ℕ → FileOut
+front-text n b ws q t bs = in-front (size Done n b) t (recording-text ws q (cut-to (size Done n b) t) bs)
+
+-- .. of 64 commands and 64 depth fills: what the programs ask
+pub record Usual (q : Setup) : Type 0 where
+  pub c : q .c ≡ program-room
+  pub d : q .d ≡ program-room
 
 -- the tables' lengths
 pub record Roomy (t : Tables) : Type 0 where
@@ -140,18 +144,18 @@ abbrev pub is-roomy : Tables → Bool
 is-roomy t = roomy (length (t .render)) (length (t .fills)) (length (t .depth)) (length (t .rows)) (length (t .painting))
 
 -- 3 and 2 of the file, then 4 for a lent table that is too short
-abbrev pub text-in : Size → List ℕ → Tables → List ℕ → FileOut
-text-in z ws t bs =
-    cond (eqb (z .number) Done) (cond (is-roomy t) (front-text (z .rows) (z .buckets) ws t bs) (refused-as-is BadRecord t bs)) (refused-as-is (z .number) t bs)
+abbrev pub text-in : Size → List ℕ → Setup → Tables → List ℕ → FileOut
+text-in z ws q t bs =
+    cond (eqb (z .number) Done) (cond (is-roomy t) (front-text (z .rows) (z .buckets) ws q t bs) (refused-as-is BadRecord t bs)) (refused-as-is (z .number) t bs)
 
 -- a file's words
-unfoldable pub words-text : List ℕ → Tables → List ℕ → FileOut
-words-text ws t bs = text-in (size-of ws) ws t bs
+unfoldable pub words-text : List ℕ → Setup → Tables → List ℕ → FileOut
+words-text ws q t bs = text-in (size-of ws q) ws q t bs
 
 -- a file's bytes: at most 65,536, in whole words
 abbrev pub good-bytes : ℕ → Bool
 good-bytes n = leb n file-bytes && eqb (n % 4) 0
 
 -- 3 for the bytes, then what their words say
-unfoldable pub bytes-text : List ℕ → Tables → List ℕ → FileOut
-bytes-text fs t bs = cond (good-bytes (length fs)) (words-text (words-in fs) t bs) (refused-as-is BadForm t bs)
+unfoldable pub bytes-text : List ℕ → Setup → Tables → List ℕ → FileOut
+bytes-text fs q t bs = cond (good-bytes (length fs)) (words-text (words-in fs) q t bs) (refused-as-is BadForm t bs)

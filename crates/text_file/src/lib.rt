@@ -5,7 +5,9 @@ use file_form::read_form;
 use file_form::words_of_bytes;
 use file_judge::box_at;
 use rect::NOWHERE;
+use rect::Viewport;
 use screen::Screen;
+use screen::Setup;
 use screen::fresh;
 use sizes::FILE_BYTES;
 use sizes::PROGRAM_DEPTH;
@@ -14,7 +16,6 @@ use sizes::PROGRAM_FILLS;
 use sizes::PROGRAM_RECORDS;
 use sizes::PROGRAM_RENDER;
 use sizes::PROGRAM_RENDERS;
-use sizes::PROGRAM_ROOM;
 use sizes::PROGRAM_ROWS;
 use sizes::ROW;
 use sizes::answers::BAD_FORM;
@@ -27,6 +28,7 @@ ghost use mathlib.Core.Path.{_≡_};
 ghost use Prim.Native.Nat.{_≤_};
 ghost use lib.ListN.{length};
 ghost use Rattle.sizes.specs.Sizes.{program-rows, program-buckets};
+ghost use Rattle.screen.specs.Screens.{setup-of};
 ghost use Rattle.screen.specs.Tables.{tables};
 ghost use Rattle.row.specs.Words.{words};
 ghost use Rattle.text_file.specs.Files.{nothing, showed, file-out, refusing, showing, recording-text, size-of, front-text, words-text, Roomy, roomy, good-bytes, bytes-text};
@@ -79,9 +81,11 @@ fn show(screen: Screen, rows: &[u32], render: &[u32], fills: &[u32], out: &mut [
     }
 }
 
-// A file's words with C = D = 64: walked, and its screen's lines, or the number of its refusal. The lent tables have the lengths of its screen.
+// A file's words, walked into what the screen is asked to be, and its lines, or the number of its refusal. The lent tables have the lengths of
+// its screen.
 pub fn recording_text(
     file: &[u32],
+    setup: Setup,
     render: &mut [u32],
     fills: &mut [u32],
     depth: &mut [u32],
@@ -96,14 +100,13 @@ pub fn recording_text(
 ) -> FileText
     ensures { λ r. ⌜ file-out (showed r (now (out .exit)))
         (tables (now (render .exit)) (now (fills .exit)) (now (depth .exit)) (now (rows .exit)) (now (painting .exit)) (now (layers .exit)) (now (opacities .exit)) (now («paint_attrs» .exit)) (now («layer_attrs» .exit)) (now («filter_paints» .exit)))
-        ≡ recording-text (now (file .entry))
+        ≡ recording-text (now (file .entry)) (setup-of setup)
         (tables (now (render .entry)) (now (fills .entry)) (now (depth .entry)) (now (rows .entry)) (now (painting .entry)) (now (layers .entry)) (now (opacities .entry)) (now («paint_attrs» .entry)) (now («layer_attrs» .entry)) (now («filter_paints» .entry))) (now (out .entry)) ⌝ }
 {
     let built = bucket_recording(
         no_screen(),
         file,
-        64,
-        64,
+        setup,
         render,
         fills,
         depth,
@@ -124,8 +127,8 @@ pub fn recording_text(
 }
 
 // 3 for the file's form, 2 for its viewport or more than 32 rows.
-pub fn size_of(file: &[u32]) -> Size
-    ensures { λ r. ⌜ r ≡ size-of (now (file .entry)) ⌝ }
+pub fn size_of(file: &[u32], setup: Setup) -> Size
+    ensures { λ r. ⌜ r ≡ size-of (now (file .entry)) (setup-of setup) ⌝ }
     ensures { λ r. ⌜ (r .rows ≤ program-rows) × (r .buckets ≤ program-buckets) ⌝ }
 {
     let Form::Good(_) = read_form(file) else {
@@ -135,16 +138,16 @@ pub fn size_of(file: &[u32]) -> Size
             buckets: 0,
         };
     };
-    let viewport = box_at(file, 1);
-    let screen = fresh(viewport, PROGRAM_ROOM, PROGRAM_ROOM);
-    let rows = screen.rows();
-    if !viewport.is_good_viewport() {
+    let mode = setup.mode;
+    let Viewport::Good(viewport) = box_at(file, 1).viewport_in(mode) else {
         return Size {
             number: BAD_VIEWPORT,
             rows: 0,
             buckets: 0,
         };
-    }
+    };
+    let screen = fresh(viewport, setup.c, setup.d);
+    let rows = screen.rows();
     if PROGRAM_ROWS < rows {
         return Size {
             number: BAD_VIEWPORT,
@@ -162,6 +165,7 @@ pub fn size_of(file: &[u32]) -> Size
 // A file's words in tables for 32 rows of 32 buckets: n rows of b buckets stand in their first words.
 fn front_text(
     file: &[u32],
+    setup: Setup,
     n: usize,
     b: usize,
     render: &mut [u32],
@@ -179,11 +183,12 @@ fn front_text(
     requires { ⌜ Roomy (tables (now render) (now fills) (now depth) (now rows) (now painting) (now layers) (now opacities) (now «paint_attrs») (now «layer_attrs») (now «filter_paints»)) × (n ≤ program-rows) × (b ≤ program-buckets) ⌝ }
     ensures { λ r. ⌜ file-out (showed r (now (out .exit)))
         (tables (now (render .exit)) (now (fills .exit)) (now (depth .exit)) (now (rows .exit)) (now (painting .exit)) (now (layers .exit)) (now (opacities .exit)) (now («paint_attrs» .exit)) (now («layer_attrs» .exit)) (now («filter_paints» .exit)))
-        ≡ front-text n b (now (file .entry))
+        ≡ front-text n b (now (file .entry)) (setup-of setup)
         (tables (now (render .entry)) (now (fills .entry)) (now (depth .entry)) (now (rows .entry)) (now (painting .entry)) (now (layers .entry)) (now (opacities .entry)) (now («paint_attrs» .entry)) (now («layer_attrs» .entry)) (now («filter_paints» .entry))) (now (out .entry)) ⌝ }
 {
     recording_text(
         file,
+        setup,
         &mut render[..n * PROGRAM_RENDERS],
         &mut fills[..n * PROGRAM_DEPTHS],
         &mut depth[..n * b],
@@ -220,6 +225,7 @@ fn is_roomy(render: usize, fills: usize, depth: usize, rows: usize, painting: us
 // A file's words: 3 and 2 of the file, then 4 of the tables, then its text.
 fn words_text(
     file: &[u32],
+    setup: Setup,
     render: &mut [u32],
     fills: &mut [u32],
     depth: &mut [u32],
@@ -234,10 +240,10 @@ fn words_text(
 ) -> FileText
     ensures { λ r. ⌜ file-out (showed r (now (out .exit)))
         (tables (now (render .exit)) (now (fills .exit)) (now (depth .exit)) (now (rows .exit)) (now (painting .exit)) (now (layers .exit)) (now (opacities .exit)) (now («paint_attrs» .exit)) (now («layer_attrs» .exit)) (now («filter_paints» .exit)))
-        ≡ words-text (now (file .entry))
+        ≡ words-text (now (file .entry)) (setup-of setup)
         (tables (now (render .entry)) (now (fills .entry)) (now (depth .entry)) (now (rows .entry)) (now (painting .entry)) (now (layers .entry)) (now (opacities .entry)) (now («paint_attrs» .entry)) (now («layer_attrs» .entry)) (now («filter_paints» .entry))) (now (out .entry)) ⌝ }
 {
-    let size = size_of(file);
+    let size = size_of(file, setup);
     if size.number != DONE {
         return refuse(size.number, no_screen(), out);
     }
@@ -252,6 +258,7 @@ fn words_text(
     }
     front_text(
         file,
+        setup,
         size.rows,
         size.buckets,
         render,
@@ -288,6 +295,7 @@ fn no_words() -> [u32; 16384]
 // A recording file's bytes: what `rowlist` prints of them. The tables take its screen.
 pub fn file_text(
     file: &[u8],
+    setup: Setup,
     render: &mut [u32],
     fills: &mut [u32],
     depth: &mut [u32],
@@ -302,7 +310,7 @@ pub fn file_text(
 ) -> FileText
     ensures { λ r. ⌜ file-out (showed r (now (out .exit)))
         (tables (now (render .exit)) (now (fills .exit)) (now (depth .exit)) (now (rows .exit)) (now (painting .exit)) (now (layers .exit)) (now (opacities .exit)) (now («paint_attrs» .exit)) (now («layer_attrs» .exit)) (now («filter_paints» .exit)))
-        ≡ bytes-text (now (file .entry))
+        ≡ bytes-text (now (file .entry)) (setup-of setup)
         (tables (now (render .entry)) (now (fills .entry)) (now (depth .entry)) (now (rows .entry)) (now (painting .entry)) (now (layers .entry)) (now (opacities .entry)) (now («paint_attrs» .entry)) (now («layer_attrs» .entry)) (now («filter_paints» .entry))) (now (out .entry)) ⌝ }
 {
     if !is_good_bytes(file.len()) {
@@ -312,6 +320,7 @@ pub fn file_text(
     let n = words_of_bytes(file, &mut words);
     words_text(
         &words[..n],
+        setup,
         render,
         fills,
         depth,

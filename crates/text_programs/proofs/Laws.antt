@@ -10,15 +10,20 @@ use lib.Seq.{take-at}
 use lib.Dec.{leb, eqb}
 use borrow.Author.Tests.{le-leb, le-ltb, lt-ltb, leb-true, leb-false, eq-eqb}
 use Rattle.rules.specs.Answers.{BadForm}
-use Rattle.rules.specs.Lines.{words-of, rowlist-screen}
+use Rattle.rules.specs.Setups.{Mode, Setup}
+use Rattle.rules.specs.Lines.{usual, words-of, rowlist-screen}
 use Rattle.screen.specs.Judging.{good-fixed}
 use Rattle.screen.specs.Tables.{Tables, lengths}
 use Rattle.file_form.specs.Words.{words-in}
 use Rattle.file_form.proofs.Bytes.{rules-words}
 use Rattle.text_file.specs.declared.FileText.{FileText}
-use Rattle.text_file.specs.Files.{FileOut, file-out, showed, is-roomy, refusing, refused-as-is, words-text, bytes-text}
+use Rattle.text_file.specs.Files.{FileOut, file-out, showed, Usual, is-roomy, refusing, refused-as-is, words-text, bytes-text}
 use Rattle.refine_text.proofs.Files.{shows, file-printed, words-leave}
 use Rattle.text_programs.specs.Programs.{rowlist-number, rowlist-text, first}
+
+-- what the options ask of a screen
+pub as-usual : (m : Mode) {q : Setup} → q ≡ usual m → Usual q
+as-usual m e = record { c = ap (λ (x : Setup). x .c) e; d = ap (λ (x : Setup). x .d) e }
 
 -- the lengths of the programs' tables
 pub record Long (t : Tables) : Type 0 where
@@ -54,49 +59,50 @@ module _ (t : Tables) (h : Long t) where
         eq-eqb (length (t .filter-paints)) 1024 (sym (h .filter-paints)),
       )
 
-  pub rowlist-shown : (fs bs : List ℕ) → 264256 ≤ length bs → {x : FileText} {cs : List ℕ} {u : Tables} → file-out (showed x cs) u ≡ bytes-text fs t bs
-      → (x .bytes ≡ length (rowlist-text fs)) × (cs ≡ first (rowlist-text fs) bs)
-  rowlist-shown fs bs room e =
-      let p = ap (λ (o : FileOut). shows (o .showed)) e ∙ file-printed fs t roomy fixed bs room in
-      (ap (λ (q : ℕ × List ℕ). q .0) p, ap (λ (q : ℕ × List ℕ). q .1) p)
+  module _ (q : Setup) (u : Usual q) (fs bs : List ℕ) (room : 264256 ≤ length bs) where
+    pub rowlist-shown : {x : FileText} {cs : List ℕ} {v : Tables} → file-out (showed x cs) v ≡ bytes-text fs q t bs
+        → (x .bytes ≡ length (rowlist-text q fs)) × (cs ≡ first (rowlist-text q fs) bs)
+    rowlist-shown e =
+        let p = ap (λ (o : FileOut). shows (o .showed)) e ∙ file-printed q u fs t roomy fixed bs room in
+        (ap (λ (y : ℕ × List ℕ). y .0) p, ap (λ (y : ℕ × List ℕ). y .1) p)
 
-  -- the number, by the size of the bytes and by their words
-  module _ (fs bs : List ℕ) (room : 264256 ≤ length bs) where
+    -- the number, by the size of the bytes and by their words
     abbrev by-size : Bool → ℕ
-    by-size b = elim b [ true ↦ BadForm | false ↦ elim (words-of fs) [ none ↦ BadForm | some ws ↦ rowlist-screen ws .number ] ]
+    by-size b = elim b [ true ↦ BadForm | false ↦ elim (words-of fs) [ none ↦ BadForm | some ws ↦ rowlist-screen q ws .number ] ]
 
-    long-number : 65536 < length fs → rowlist-number fs ≡ 3
+    long-number : 65536 < length fs → rowlist-number q fs ≡ 3
     unfolding rowlist-number
     long-number g = ap by-size (lt-ltb 65536 (length fs) g)
 
-    by-words : length fs ≤ 65536 → rowlist-number fs ≡ elim (words-of fs) [ none ↦ BadForm | some ws ↦ rowlist-screen ws .number ]
+    by-words : length fs ≤ 65536 → rowlist-number q fs ≡ elim (words-of fs) [ none ↦ BadForm | some ws ↦ rowlist-screen q ws .number ]
     unfolding rowlist-number
     by-words g = ap by-size (le-ltb 65536 (length fs) g)
 
-    word-number : length fs ≤ 65536 → (b : Bool) → eqb (length fs % 4) 0 ≡ b → rowlist-number fs ≡ cond b (rowlist-screen (words-in fs) .number) 3
-    word-number g b q =
-        by-words g ∙ ap (λ (o : Option (List ℕ)). elim o [ none ↦ BadForm | some ws ↦ rowlist-screen ws .number ]) (rules-words fs) ∙ taken b q
+    word-number : length fs ≤ 65536 → (b : Bool) → eqb (length fs % 4) 0 ≡ b → rowlist-number q fs ≡ cond b (rowlist-screen q (words-in fs) .number) 3
+    word-number g b e =
+        by-words g ∙ ap (λ (o : Option (List ℕ)). elim o [ none ↦ BadForm | some ws ↦ rowlist-screen q ws .number ]) (rules-words fs) ∙ taken b e
       where
         taken : (b : Bool) → eqb (length fs % 4) 0 ≡ b
-            → _≡_ {A = ℕ} (elim (cond (eqb (length fs % 4) 0) (some (words-in fs)) none) [ none ↦ BadForm | some ws ↦ rowlist-screen ws .number ]) (cond b (rowlist-screen (words-in fs) .number) 3)
-        taken true q = rw q
-        taken false q = rw q
+            → _≡_ {A = ℕ} (elim (cond (eqb (length fs % 4) 0) (some (words-in fs)) none) [ none ↦ BadForm | some ws ↦ rowlist-screen q ws .number ])
+            (cond b (rowlist-screen q (words-in fs) .number) 3)
+        taken true e = rw e
+        taken false e = rw e
 
     bad-number : refused-as-is BadForm t bs .showed .text .number ≡ 3
     unfolding refusing
     bad-number = refl
 
-    number-there : bytes-text fs t bs .showed .text .number ≡ rowlist-number fs
+    number-there : bytes-text fs q t bs .showed .text .number ≡ rowlist-number q fs
     unfolding bytes-text
     number-there = go (leb (length fs) 65536) (eqb (length fs % 4) 0) refl refl
       where
         go : (x y : Bool) → leb (length fs) 65536 ≡ x → eqb (length fs % 4) 0 ≡ y
-            → cond (x && y) (words-text (words-in fs) t bs) (refused-as-is BadForm t bs) .showed .text .number ≡ rowlist-number fs
-        go false y p q = bad-number ∙ sym (long-number (leb-false _ _ p))
-        go true false p q = bad-number ∙ sym (word-number (leb-true _ _ p) false q)
-        go true true p q = words-leave (words-in fs) t roomy fixed bs room .number ∙ sym (word-number (leb-true _ _ p) true q)
+            → cond (x && y) (words-text (words-in fs) q t bs) (refused-as-is BadForm t bs) .showed .text .number ≡ rowlist-number q fs
+        go false y p e = bad-number ∙ sym (long-number (leb-false _ _ p))
+        go true false p e = bad-number ∙ sym (word-number (leb-true _ _ p) false e)
+        go true true p e = words-leave q u (words-in fs) t roomy fixed bs room .number ∙ sym (word-number (leb-true _ _ p) true e)
 
-    pub number-shown : {x : FileText} {cs : List ℕ} {u : Tables} → file-out (showed x cs) u ≡ bytes-text fs t bs → x .number ≡ rowlist-number fs
+    pub number-shown : {x : FileText} {cs : List ℕ} {v : Tables} → file-out (showed x cs) v ≡ bytes-text fs q t bs → x .number ≡ rowlist-number q fs
     number-shown e = ap (λ (o : FileOut). o .showed .text .number) e ∙ number-there
 
 -- a text that stands first is the bytes as far as it goes

@@ -1,12 +1,16 @@
-// What the programs have in common: their tables, the text of a file's bytes, reading to the end, streams. Parts: where a function asks something,
-// the programs have seen to it.
+// What the programs have in common: their options, their tables, the text of a file's bytes, reading to the end, streams. Parts: where a function
+// asks something, the programs have seen to it.
+use screen::Setup;
 use text_file::file_text;
 use text_screen::Listing;
 ghost use mathlib.Core.Path.{_≡_};
 ghost use Prim.Native.Nat.{_≤_};
 ghost use lib.ListN.{length};
+ghost use Rattle.screen.specs.Screens.{setup-of};
+ghost use Rattle.text_file.specs.Files.{Usual};
 ghost use Rattle.text_programs.specs.Programs.{rowlist-number, rowlist-text, first};
 
+pub mod options;
 pub mod stream;
 pub mod tables;
 
@@ -21,10 +25,10 @@ use crate::tables::render_words;
 use crate::tables::row_words;
 
 // The text that `rowlist` prints of a file's bytes, put first; how long it is, and the recording's number. The room is that of the longest text.
-pub fn list_file(file: &[u8], out: &mut [u8]) -> Listing
-    requires { ⌜ 264256 ≤ length (now out) ⌝ }
-    ensures { λ r. ⌜ (r .number ≡ rowlist-number (now (file .entry))) × (r .bytes ≡ length (rowlist-text (now (file .entry)))) ⌝ }
-    ensures { λ r. ⌜ now (out .exit) ≡ first (rowlist-text (now (file .entry))) (now (out .entry)) ⌝ }
+pub fn list_file(file: &[u8], setup: Setup, out: &mut [u8]) -> Listing
+    requires { ⌜ Usual (setup-of setup) × (264256 ≤ length (now out)) ⌝ }
+    ensures { λ r. ⌜ (r .number ≡ rowlist-number (setup-of setup) (now (file .entry))) × (r .bytes ≡ length (rowlist-text (setup-of setup) (now (file .entry)))) ⌝ }
+    ensures { λ r. ⌜ now (out .exit) ≡ first (rowlist-text (setup-of setup) (now (file .entry))) (now (out .entry)) ⌝ }
 {
     let mut render = render_words();
     let mut fills = fill_words();
@@ -38,6 +42,7 @@ pub fn list_file(file: &[u8], out: &mut [u8]) -> Listing
     let mut filter_paints = filter_words();
     let text = file_text(
         file,
+        setup,
         &mut render,
         &mut fills,
         &mut depth,
@@ -57,12 +62,12 @@ pub fn list_file(file: &[u8], out: &mut [u8]) -> Listing
 }
 
 // The same; how long it is.
-pub fn rowlist_text(file: &[u8], out: &mut [u8]) -> usize
-    requires { ⌜ 264256 ≤ length (now out) ⌝ }
-    ensures { λ r. ⌜ r ≡ length (rowlist-text (now (file .entry))) ⌝ }
-    ensures { λ r. ⌜ now (out .exit) ≡ first (rowlist-text (now (file .entry))) (now (out .entry)) ⌝ }
+pub fn rowlist_text(file: &[u8], setup: Setup, out: &mut [u8]) -> usize
+    requires { ⌜ Usual (setup-of setup) × (264256 ≤ length (now out)) ⌝ }
+    ensures { λ r. ⌜ r ≡ length (rowlist-text (setup-of setup) (now (file .entry))) ⌝ }
+    ensures { λ r. ⌜ now (out .exit) ≡ first (rowlist-text (setup-of setup) (now (file .entry))) (now (out .entry)) ⌝ }
 {
-    let text = list_file(file, out);
+    let text = list_file(file, setup, out);
     text.bytes
 }
 

@@ -11,6 +11,7 @@ use Rattle.rules.specs.Answers.{Answer, answer, settle, first-of, Done, BadForm
 use Rattle.rules.specs.Boxes.{Box, good-viewport, rows-of}
 use Rattle.rules.specs.Rows.{Row, fresh-row, row-ops}
 use Rattle.rules.specs.Plans.{Frame, Step}
+use Rattle.rules.specs.Setups.{Setup, frame}
 use Rattle.rules.specs.Steps.{Screen, reset, call}
 use Rattle.rules.specs.Recording.{Recording, shape, sections, recording, good-records, good-order}
 use Rattle.rules.specs.Walk.{Place, frame-of, good-arenas, judge-records, walk-all, play-records, play}
@@ -27,7 +28,6 @@ use Rattle.file_form.specs.Layouts.{form-of, sections-at}
 use Rattle.file_form.specs.Places.{recorded}
 use Rattle.file_form.proofs.Laid.{GoodForm, good-form, bad-form}
 use Rattle.file_form.proofs.Reading.{reads}
-use Rattle.file_judge.specs.Judging.{box-from}
 use Rattle.file_nodes.specs.Ready.{WalkReady}
 use Rattle.tile_steps.specs.Telling.{Telling, tell-at, nothing-told}
 use Rattle.tile_steps.specs.Places.{Says}
@@ -78,66 +78,69 @@ module _ (p : Place) (old : Screen Row) (r : Recording) where
       go true e z = (eqb-true _ _ e, walked (eqb (walk .number) Done) refl z)
       go false e z = never (sym (eq-eqb _ _ z) ∙ e)
 
-  records-good : judge-records 32 p r ≡ 0 → (good-viewport (r .viewport) ≡ true) × (good-records r ≡ true)
+  records-good : judge-records 32 p r ≡ 0 → (good-viewport (frame-of p r .viewport) ≡ true) × (good-records r ≡ true)
   unfolding judge-records
   records-good e =
-      let h = none-holds (not (good-viewport (r .viewport)) || ltb (p .limit) (rows-of (r .viewport))) (not (good-arenas 32 (frame-of p r) (p .arenas))) (not (good-records r)) (not (good-order r)) e in
-      (good-of (good-viewport (r .viewport)) _ (h .0), not-bad (good-records r) (h .1))
+      let f = frame-of p r in
+      let v = f .viewport in
+      let h = none-holds (not (good-viewport v) || ltb (p .limit) (rows-of v)) (not (good-arenas 32 f (p .arenas))) (not (good-records r)) (not (good-order r)) e in
+      (good-of (good-viewport v) _ (h .0), not-bad (good-records r) (h .1))
 
   logged-done : walk .number ≡ 0 → walk-logged Row row-ops 32 fresh-row (frame-of p r) r .number ≡ 0
   unfolding walk-logged
   logged-done z = all-walks 32 r .at (record { screen = start; log = [] }) (unfold reset in refl) .number ∙ z
 
--- the tile's story by the engine, and the steps of the walk, at C = D = 64
-module _ (r : Recording) where
-  abbrev frame : Frame
-  frame = record { viewport = r .viewport; c = 64; d = 64 }
+-- the tile's story by the engine, on a screen of the frame f
+abbrev story : Frame → Recording → ℕ → ℕ → List ℕ → Answer Telling
+story f r row tile ls = walk-all Telling (tell-at 32 (f .viewport) row tile) r (nothing-told ls)
 
-  abbrev story : ℕ → ℕ → List ℕ → Answer Telling
-  story row tile ls = walk-all Telling (tell-at 32 (r .viewport) row tile) r (nothing-told ls)
+-- it is told to its end, and says what the rules say
+pub record Told (f : Frame) (r : Recording) (row tile : ℕ) (ls : List ℕ) : Type 0 where
+  pub done : story f r row tile ls .number ≡ 0
+  pub paints : story f r row tile ls .value .paints ≡ tell-steps 32 (f .viewport) row tile (history f r) untold .paints
+  pub layers : story f r row tile ls .value .layers ≡ tell-steps 32 (f .viewport) row tile (history f r) untold .layers
+  pub reasons : (a : Asked) → reason-read a (story f r row tile ls .value .lines) (story f r row tile ls .value .paints + story f r row tile ls .value .layers) ≡ reason 32 (f .viewport) row tile (history f r) a
 
--- the engine's story is told to its end, and says what the rules say
-pub record Told (r : Recording) (row tile : ℕ) (ls : List ℕ) : Type 0 where
-  pub done : story r row tile ls .number ≡ 0
-  pub paints : story r row tile ls .value .paints ≡ tell-steps 32 (r .viewport) row tile (history r) untold .paints
-  pub layers : story r row tile ls .value .layers ≡ tell-steps 32 (r .viewport) row tile (history r) untold .layers
-  pub reasons : (a : Asked) → reason-read a (story r row tile ls .value .lines) (story r row tile ls .value .paints + story r row tile ls .value .layers) ≡ reason 32 (r .viewport) row tile (history r) a
-
-told-true : (r : Recording) (row tile : ℕ) (ls : List ℕ) → good-viewport (r .viewport) ≡ true → walk-logged Row row-ops 32 fresh-row (frame r) r .number ≡ 0 → Told r row tile ls
-told-true r row tile ls g z =
-    let t = tile-told 32 (frame r) r row tile ls g z in
-    record { done = t .0; paints = t .1 .paints; layers = t .1 .layers; reasons = reason-told 32 (frame r) r row tile ls g z }
+told-true : (f : Frame) (r : Recording) (row tile : ℕ) (ls : List ℕ) → good-viewport (f .viewport) ≡ true → walk-logged Row row-ops 32 fresh-row f r .number ≡ 0 → Told f r row tile ls
+told-true f r row tile ls g z =
+    let t = tile-told 32 f r row tile ls g z in
+    record { done = t .0; paints = t .1 .paints; layers = t .1 .layers; reasons = reason-told 32 f r row tile ls g z }
 
 -- the answer that the story gives
 abbrev pub told-answer : Telling → Question → List ℕ
 told-answer t q = answer-lines (read-by (t .lines) (t .paints + t .layers)) (t .paints) (t .layers) q
 
-answer-true : (r : Recording) (row tile : ℕ) (ls : List ℕ) → Told r row tile ls → (q : Question) → told-answer (story r row tile ls .value) q ≡ tile-answer (r .viewport) row tile (history r) q
+answer-true : (f : Frame) (r : Recording) (row tile : ℕ) (ls : List ℕ) → Told f r row tile ls → (q : Question)
+    → told-answer (story f r row tile ls .value) q ≡ tile-answer (f .viewport) row tile (history f r) q
 unfolding tile-answer
-answer-true r row tile ls t q =
-    let s = story r row tile ls .value in
-    let f = reason 32 (r .viewport) row tile (history r) in
-    same-answer (read-by (s .lines) (s .paints + s .layers)) f (t .reasons) (s .paints) (s .layers) q
-    ∙ ap (λ (n : ℕ). answer-lines f n (s .layers) q) (t .paints)
-    ∙ ap (λ (n : ℕ). answer-lines f (tell-steps 32 (r .viewport) row tile (history r) untold .paints) n q) (t .layers)
+answer-true f r row tile ls t q =
+    let s = story f r row tile ls .value in
+    let why = reason 32 (f .viewport) row tile (history f r) in
+    same-answer (read-by (s .lines) (s .paints + s .layers)) why (t .reasons) (s .paints) (s .layers) q
+    ∙ ap (λ (n : ℕ). answer-lines why n (s .layers) q) (t .paints)
+    ∙ ap (λ (n : ℕ). answer-lines why (tell-steps 32 (f .viewport) row tile (history f r) untold .paints) n q) (t .layers)
 
 -- an accepted recording's answer, and that of a recording on its screen
-done-answer : (a : Answer (Screen Row)) (o : Option (List (List (List ℕ)))) (row tile : ℕ) (q : Question) → a .number ≡ 0
-    → cond (eqb (a .number) Done) (answer-in o row tile q) (refused-bytes (a .number)) ≡ answer-in o row tile q
-done-answer a o row tile q z = rw (eq-eqb (a .number) 0 z)
+done-answer : (u : Setup) (a : Answer (Screen Row)) (o : Option (List (List (List ℕ)))) (row tile : ℕ) (q : Question) → a .number ≡ 0
+    → cond (eqb (a .number) Done) (answer-in u o row tile q) (refused-bytes (a .number)) ≡ answer-in u o row tile q
+done-answer u a o row tile q z = rw (eq-eqb (a .number) 0 z)
 
-module _ (ws : List ℕ) (accepted : rowlist-screen ws .number ≡ 0) (row tile : ℕ) (q : Question) where
-  words-answer : why-words ws row tile q ≡ answer-in (sections shape ws) row tile q
+module _ (u : Setup) (ws : List ℕ) (accepted : rowlist-screen u ws .number ≡ 0) (row tile : ℕ) (q : Question) where
+  words-answer : why-words u ws row tile q ≡ answer-in u (sections shape ws) row tile q
   unfolding why-words
-  words-answer = done-answer (rowlist-screen ws) (sections shape ws) row tile q accepted
+  words-answer = done-answer u (rowlist-screen u ws) (sections shape ws) row tile q accepted
 
   -- where there is no form the call has refused
-  pub formless : form.Bad ≡ form-of ws → why-words ws row tile q ≡ refused-bytes 3
-  formless e = words-answer ∙ ap (λ (o : Option (List (List (List ℕ)))). answer-in o row tile q) (bad-form ws e)
+  pub formless : form.Bad ≡ form-of ws → why-words u ws row tile q ≡ refused-bytes 3
+  formless e = words-answer ∙ ap (λ (o : Option (List (List (List ℕ)))). answer-in u o row tile q) (bad-form ws e)
 
   module _ (l : Layout) (e : form.Good l ≡ form-of ws) where
     abbrev r : Recording
     r = recorded l ws
+
+    -- the screen's frame
+    abbrev f : Frame
+    f = frame u (r .viewport)
 
     good : GoodForm ws l
     good = good-form ws l e
@@ -145,13 +148,13 @@ module _ (ws : List ℕ) (accepted : rowlist-screen ws .number ≡ 0) (row tile 
     same-recording : recording (sections-at l ws) ≡ r
     same-recording = reads l ws (good .fits)
 
-    recording-there : why-words ws row tile q ≡ recording-answer r row tile q
+    recording-there : why-words u ws row tile q ≡ recording-answer f r row tile q
     recording-there =
         words-answer
-        ∙ ap (λ (o : Option (List (List (List ℕ)))). answer-in o row tile q) (good .same)
-        ∙ ap (λ (x : Recording). recording-answer x row tile q) same-recording
+        ∙ ap (λ (o : Option (List (List (List ℕ)))). answer-in u o row tile q) (good .same)
+        ∙ ap (λ (x : Recording). recording-answer (frame u (x .viewport)) x row tile q) same-recording
 
-    played : play-records (Screen Row) (call Row row-ops 32) (reset fresh-row) 32 (rowlist-place ws) (reset fresh-row nothing) r .number ≡ 0
+    played : play-records (Screen Row) (call Row row-ops 32) (reset fresh-row) 32 (rowlist-place u ws) (reset fresh-row nothing) r .number ≡ 0
     played = rw (← same-recording) (by (sections shape ws) (good .same) accepted-play)
       where
         old : Screen Row
@@ -160,7 +163,7 @@ module _ (ws : List ℕ) (accepted : rowlist-screen ws .number ≡ 0) (row tile 
         by-sections : Option (List (List (List ℕ))) → Answer (Screen Row)
         by-sections o = elim o [
           | none ↦ answer BadForm old
-          | some ss ↦ play-records (Screen Row) (call Row row-ops 32) (reset fresh-row) 32 (rowlist-place ws) old (recording ss)
+          | some ss ↦ play-records (Screen Row) (call Row row-ops 32) (reset fresh-row) 32 (rowlist-place u ws) old (recording ss)
         ]
 
         accepted-play : by-sections (sections shape ws) .number ≡ 0
@@ -169,48 +172,44 @@ module _ (ws : List ℕ) (accepted : rowlist-screen ws .number ≡ 0) (row tile 
         by : (o : Option (List (List (List ℕ)))) → o ≡ some (sections-at l ws) → by-sections o .number ≡ 0 → by-sections (some (sections-at l ws)) .number ≡ 0
         by o s z = rw s at z
 
-    facts : (judge-records 32 (rowlist-place ws) r ≡ 0) × (walk (rowlist-place ws) (reset fresh-row nothing) r .number ≡ 0)
-    facts = judged-walked (rowlist-place ws) (reset fresh-row nothing) r played
+    facts : (judge-records 32 (rowlist-place u ws) r ≡ 0) × (walk (rowlist-place u ws) (reset fresh-row nothing) r .number ≡ 0)
+    facts = judged-walked (rowlist-place u ws) (reset fresh-row nothing) r played
 
-    goods : (good-viewport (r .viewport) ≡ true) × (good-records r ≡ true)
-    goods = records-good (rowlist-place ws) (reset fresh-row nothing) r (facts .0)
+    goods : (good-viewport (f .viewport) ≡ true) × (good-records r ≡ true)
+    goods = records-good (rowlist-place u ws) (reset fresh-row nothing) r (facts .0)
 
     pub ready : WalkReady ws l
     ready = record { fits = good .fits; good = goods .1 }
 
-    -- the viewport as the file's words have it
-    module _ (v : Box) (at-words : v ≡ box-from ws 1) where
-      view : v ≡ r .viewport
-      unfolding box-from recorded
-      view = at-words
+    pub good-view : good-viewport (f .viewport) ≡ true
+    good-view = goods .0
 
-      pub good-view : good-viewport v ≡ true
-      good-view = rw view (goods .0)
+    off-there : off-screen (f .viewport) row tile ≡ true → recording-answer f r row tile q ≡ refused-bytes 12
+    unfolding recording-answer
+    off-there h = rw h
 
-      off-there : off-screen v row tile ≡ true → recording-answer r row tile q ≡ refused-bytes 12
-      unfolding recording-answer
-      off-there h = let g : off-screen (r .viewport) row tile ≡ true = rw view at h in rw g
+    on-there : off-screen (f .viewport) row tile ≡ false → recording-answer f r row tile q ≡ tile-answer (f .viewport) row tile (history f r) q
+    unfolding recording-answer
+    on-there h = rw h
 
-      on-there : off-screen v row tile ≡ false → recording-answer r row tile q ≡ tile-answer (r .viewport) row tile (history r) q
-      unfolding recording-answer
-      on-there h = let g : off-screen (r .viewport) row tile ≡ false = rw view at h in rw g
+    told : (ls : List ℕ) → Told f r row tile ls
+    told ls = told-true f r row tile ls (goods .0) (logged-done (rowlist-place u ws) (reset fresh-row nothing) r (facts .1))
 
-      pub off-answer : off-screen v row tile ≡ true → why-words ws row tile q ≡ refused-bytes 12
-      off-answer h = recording-there ∙ off-there h
+    -- the viewport v that the screen has
+    module _ (v : Box) (view : f .viewport ≡ v) where
+      pub off-answer : off-screen v row tile ≡ true → why-words u ws row tile q ≡ refused-bytes 12
+      off-answer h = recording-there ∙ off-there (ap (λ (b : Box). off-screen b row tile) view ∙ h)
 
       module _ (on : off-screen v row tile ≡ false) (ls : List ℕ) {n : ℕ} {t : Telling} (says : Says (walk-all Telling (tell-at 32 v row tile) r (nothing-told ls)) n t) where
-        told : Told r row tile ls
-        told = told-true r row tile ls (goods .0) (logged-done (rowlist-place ws) (reset fresh-row nothing) r (facts .1))
-
-        there : Says (story r row tile ls) n t
-        there = rw view at says
+        there : Says (story f r row tile ls) n t
+        there = rw (← view) at says
 
         pub told-done : n ≡ 0
-        told-done = sym (there .number) ∙ told .done
+        told-done = sym (there .number) ∙ told ls .done
 
-        pub answered : why-words ws row tile q ≡ told-answer t q
+        pub answered : why-words u ws row tile q ≡ told-answer t q
         answered =
             recording-there
-            ∙ on-there on
-            ∙ sym (answer-true r row tile ls told q)
+            ∙ on-there (ap (λ (b : Box). off-screen b row tile) view ∙ on)
+            ∙ sym (answer-true f r row tile ls (told ls) q)
             ∙ ap (λ (x : Telling). told-answer x q) (there .value told-done)

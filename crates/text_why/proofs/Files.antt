@@ -11,6 +11,7 @@ use lib.Seq.{take-at, take-all}
 use borrow.Author.Tests.{le-ltb, lt-ltb, leb-true, leb-false, eqb-true}
 use Rattle.rules.specs.Answers.{Answer, Done, BadForm}
 use Rattle.rules.specs.Rows.{Row}
+use Rattle.rules.specs.Setups.{Setup}
 use Rattle.rules.specs.Steps.{Screen}
 use Rattle.rules.specs.Lines.{Line, refused, screen-lines, answer-lines, rowlist-screen, rowlist-words, words-of, rowlist, line-bytes}
 use Rattle.rules_reason.specs.Answers.{Question, refused-bytes, answer-in, why-words, why-text}
@@ -36,29 +37,29 @@ not-zero k d = go (eqb k 0) refl
 refused-lines : (a : Answer (Screen Row)) → eqb (a .number) Done ≡ false → cond (eqb (a .number) Done) (screen-lines 32 (a .value)) (refused (a .number) ∷ []) ≡ refused (a .number) ∷ []
 refused-lines a e = rw e
 
-refused-answer : (a : Answer (Screen Row)) (o : Option (List (List (List ℕ)))) (row tile : ℕ) (q : Question) → eqb (a .number) Done ≡ false
-    → cond (eqb (a .number) Done) (answer-in o row tile q) (refused-bytes (a .number)) ≡ refused-bytes (a .number)
-refused-answer a o row tile q e = rw e
+refused-answer : (u : Setup) (a : Answer (Screen Row)) (o : Option (List (List (List ℕ)))) (row tile : ℕ) (q : Question) → eqb (a .number) Done ≡ false
+    → cond (eqb (a .number) Done) (answer-in u o row tile q) (refused-bytes (a .number)) ≡ refused-bytes (a .number)
+refused-answer u a o row tile q e = rw e
 
-module _ (fs : List ℕ) (row tile : ℕ) (q : Question) where
+module _ (u : Setup) (fs : List ℕ) (row tile : ℕ) (q : Question) where
   -- both programs take the bytes in the same way
   abbrev both : List ℕ × List ℕ
-  both = (why-text fs row tile q, rowlist-text fs)
+  both = (why-text u fs row tile q, rowlist-text u fs)
 
   abbrev by-words : Option (List ℕ) → List ℕ × List ℕ
   by-words o =
-      (elim o [ none ↦ refused-bytes BadForm | some ws ↦ why-words ws row tile q ], text-of (elim o [ none ↦ refused BadForm ∷ [] | some ws ↦ rowlist-words ws ]))
+      (elim o [ none ↦ refused-bytes BadForm | some ws ↦ why-words u ws row tile q ], text-of (elim o [ none ↦ refused BadForm ∷ [] | some ws ↦ rowlist-words u ws ]))
 
   abbrev by-size : Bool → List ℕ × List ℕ
   by-size b = (
     elim b [
       | true ↦ refused-bytes BadForm
-      | false ↦ elim (words-of fs) [ none ↦ refused-bytes BadForm | some ws ↦ why-words ws row tile q ]
+      | false ↦ elim (words-of fs) [ none ↦ refused-bytes BadForm | some ws ↦ why-words u ws row tile q ]
     ],
     text-of
         (elim b [
           | true ↦ refused BadForm ∷ []
-          | false ↦ elim (words-of fs) [ none ↦ refused BadForm ∷ [] | some ws ↦ rowlist-words ws ]
+          | false ↦ elim (words-of fs) [ none ↦ refused BadForm ∷ [] | some ws ↦ rowlist-words u ws ]
         ]),
   )
 
@@ -73,29 +74,29 @@ module _ (fs : List ℕ) (row tile : ℕ) (q : Question) where
   short-both g = sized ∙ ap by-size (le-ltb 65536 (length fs) g) ∙ ap by-words (rules-words fs)
 
   -- where the recording is refused, what is printed is the same line
-  same-refusal : (ws : List ℕ) → (rowlist-screen ws .number ≡ 0 → ⊥) → why-words ws row tile q ≡ text-of (rowlist-words ws)
+  same-refusal : (ws : List ℕ) → (rowlist-screen u ws .number ≡ 0 → ⊥) → why-words u ws row tile q ≡ text-of (rowlist-words u ws)
   unfolding why-words rowlist-words
   same-refusal ws d =
-      let a = rowlist-screen ws in
+      let a = rowlist-screen u ws in
       let e = not-zero (a .number) d in
-      refused-answer a (sections shape ws) row tile q e ∙ sym (one-line (a .number)) ∙ sym (ap text-of (refused-lines a e))
+      refused-answer u a (sections shape ws) row tile q e ∙ sym (one-line (a .number)) ∙ sym (ap text-of (refused-lines a e))
 
   abbrev number-of : Option (List ℕ) → ℕ
-  number-of o = elim o [ none ↦ BadForm | some ws ↦ rowlist-screen ws .number ]
+  number-of o = elim o [ none ↦ BadForm | some ws ↦ rowlist-screen u ws .number ]
 
-  by-number : length fs ≤ 65536 → rowlist-number fs ≡ number-of (cond (eqb (length fs % 4) 0) (some (words-in fs)) none)
+  by-number : length fs ≤ 65536 → rowlist-number u fs ≡ number-of (cond (eqb (length fs % 4) 0) (some (words-in fs)) none)
   unfolding rowlist-number
   by-number g =
       ap (λ (b : Bool). elim b [ true ↦ BadForm | false ↦ number-of (words-of fs) ]) (le-ltb 65536 (length fs) g) ∙ ap number-of (rules-words fs)
 
   -- a refused file
-  refused-same : (rowlist-number fs ≡ 0 → ⊥) → why-text fs row tile q ≡ rowlist-text fs
+  refused-same : (rowlist-number u fs ≡ 0 → ⊥) → why-text u fs row tile q ≡ rowlist-text u fs
   refused-same = go (leb (length fs) 65536) (eqb (length fs % 4) 0) refl refl
     where
-      equal : (p : List ℕ × List ℕ) → both ≡ p → p .0 ≡ p .1 → why-text fs row tile q ≡ rowlist-text fs
+      equal : (p : List ℕ × List ℕ) → both ≡ p → p .0 ≡ p .1 → why-text u fs row tile q ≡ rowlist-text u fs
       equal p e s = rw (← e) at s
 
-      go : (x y : Bool) → leb (length fs) 65536 ≡ x → eqb (length fs % 4) 0 ≡ y → (rowlist-number fs ≡ 0 → ⊥) → why-text fs row tile q ≡ rowlist-text fs
+      go : (x y : Bool) → leb (length fs) 65536 ≡ x → eqb (length fs % 4) 0 ≡ y → (rowlist-number u fs ≡ 0 → ⊥) → why-text u fs row tile q ≡ rowlist-text u fs
       go false y p s d = equal (by-size true) (long-both (leb-false _ _ p)) (sym (one-line BadForm))
       go true false p s d =
           equal (by-words none) (short-both (leb-true _ _ p) ∙ ap (λ (b : Bool). by-words (cond b (some (words-in fs)) none)) s) (sym (one-line BadForm))
@@ -103,24 +104,24 @@ module _ (fs : List ℕ) (row tile : ℕ) (q : Question) where
           equal (by-words (some (words-in fs))) (short-both (leb-true _ _ p) ∙ ap (λ (b : Bool). by-words (cond b (some (words-in fs)) none)) s)
           (same-refusal (words-in fs) (λ z. d (by-number (leb-true _ _ p) ∙ ap (λ (b : Bool). number-of (cond b (some (words-in fs)) none)) s ∙ z)))
 
-  pub refused-text : (bs : List ℕ) {n : ℕ} {cs : List ℕ} → (rowlist-number fs ≡ 0 → ⊥) → n ≡ length (rowlist-text fs) → cs ≡ first (rowlist-text fs) bs
-      → (n ≡ length (why-text fs row tile q)) × (take n cs ≡ why-text fs row tile q)
-  refused-text bs {n} {cs} d h e = rw (refused-same d) (h, first-taken (rowlist-text fs) bs n cs h e)
+  pub refused-text : (bs : List ℕ) {n : ℕ} {cs : List ℕ} → (rowlist-number u fs ≡ 0 → ⊥) → n ≡ length (rowlist-text u fs) → cs ≡ first (rowlist-text u fs) bs
+      → (n ≡ length (why-text u fs row tile q)) × (take n cs ≡ why-text u fs row tile q)
+  refused-text bs {n} {cs} d h e = rw (refused-same d) (h, first-taken (rowlist-text u fs) bs n cs h e)
 
   -- another: its words are accepted
   pub record Accepted : Type 0 where
     pub few : length fs ≤ 65536
-    pub done : rowlist-screen (words-in fs) .number ≡ 0
-    pub text : why-text fs row tile q ≡ why-words (words-in fs) row tile q
+    pub done : rowlist-screen u (words-in fs) .number ≡ 0
+    pub text : why-text u fs row tile q ≡ why-words u (words-in fs) row tile q
 
-  long-number : 65536 < length fs → rowlist-number fs ≡ 3
+  long-number : 65536 < length fs → rowlist-number u fs ≡ 3
   unfolding rowlist-number
   long-number g = ap (λ (b : Bool). elim b [ true ↦ BadForm | false ↦ number-of (words-of fs) ]) (lt-ltb 65536 (length fs) g)
 
-  pub accepted-file : rowlist-number fs ≡ 0 → Accepted
+  pub accepted-file : rowlist-number u fs ≡ 0 → Accepted
   accepted-file = go (leb (length fs) 65536) (eqb (length fs % 4) 0) refl refl
     where
-      go : (x y : Bool) → leb (length fs) 65536 ≡ x → eqb (length fs % 4) 0 ≡ y → rowlist-number fs ≡ 0 → Accepted
+      go : (x y : Bool) → leb (length fs) 65536 ≡ x → eqb (length fs % 4) 0 ≡ y → rowlist-number u fs ≡ 0 → Accepted
       go false y p s z = absurd (let e : _≡_ {A = ℕ} 3 0 = sym (long-number (leb-false _ _ p)) ∙ z in omega arith)
       go true false p s z =
           absurd (let e : _≡_ {A = ℕ} 3 0 = sym (by-number (leb-true _ _ p) ∙ ap (λ (b : Bool). number-of (cond b (some (words-in fs)) none)) s) ∙ z in omega arith)

@@ -5,19 +5,24 @@ ghost use lib.ListN.{length, take};
 ghost use Rattle.sizes.specs.Sizes.{most-attrs, file-bytes};
 ghost use Rattle.rules.specs.Lines.{rowlist-screen};
 ghost use Rattle.rules_reason.specs.Answers.{reason-bytes, kind-text, asked-bytes, attribute-line, kind-lines, answer-lines, why-words, why-text, question-line};
+ghost use Rattle.screen.specs.Screens.{setup-of};
 ghost use Rattle.file_form.specs.Words.{words-in};
 ghost use Rattle.text.specs.Texts.{text, far, Wrote};
 ghost use Rattle.sizes.specs.Sizes.{line-size, line-table};
 ghost use Rattle.tile_steps.specs.Places.{Low};
 ghost use Rattle.tile_reason.specs.Reasons.{reason-of as said-of, asked-of};
+ghost use Rattle.text_file.specs.Files.{Usual};
 ghost use Rattle.text_why.specs.Questions.{question-of, read-by, line-most, answer-most};
 use file_form::Form;
 use file_form::read_form;
 use file_form::words_of_bytes;
 use file_judge::box_at;
+use rect::Viewport;
+use screen::Setup;
 use sizes::LINE_TABLE;
 use sizes::answers::BAD_FORM;
 use sizes::answers::BAD_RUN;
+use sizes::answers::BAD_VIEWPORT;
 use sizes::answers::DONE;
 use sizes::wide;
 use text::put_byte;
@@ -132,14 +137,24 @@ fn put_answer(out: &mut [u8], lines: &[u32], tale: Tale, question: Question) -> 
 }
 
 // The text of a question about a recording that is accepted, from its words.
-fn words_text(file: &[u32], row: u32, tile: u32, question: Question, out: &mut [u8]) -> usize
-    requires { ⌜ rowlist-screen (now file) .number ≡ 0 ⌝ }
-    ensures { λ r. ⌜ Wrote (why-words (now (file .entry)) row tile (question-of question)) answer-most (text (now (out .entry)) 0) (text (now (out .exit)) r) ⌝ }
+fn words_text(
+    file: &[u32],
+    setup: Setup,
+    row: u32,
+    tile: u32,
+    question: Question,
+    out: &mut [u8],
+) -> usize
+    requires { ⌜ rowlist-screen (setup-of setup) (now file) .number ≡ 0 ⌝ }
+    ensures { λ r. ⌜ Wrote (why-words (setup-of setup) (now (file .entry)) row tile (question-of question)) answer-most (text (now (out .entry)) 0) (text (now (out .exit)) r) ⌝ }
 {
     let Form::Good(l) = read_form(file) else {
         return put_refused(out, 0, BAD_FORM);
     };
-    let viewport = box_at(file, 1);
+    let mode = setup.mode;
+    let Viewport::Good(viewport) = box_at(file, 1).viewport_in(mode) else {
+        return put_refused(out, 0, BAD_VIEWPORT);
+    };
     if is_off_screen(viewport, row, tile) {
         return put_refused(out, 0, BAD_RUN);
     }
@@ -153,27 +168,41 @@ fn words_text(file: &[u32], row: u32, tile: u32, question: Question, out: &mut [
 }
 
 // The same, from its bytes.
-fn accepted_text(file: &[u8], row: u32, tile: u32, question: Question, out: &mut [u8]) -> usize
-    requires { ⌜ (length (now file) ≤ file-bytes) × (rowlist-screen (words-in (now file)) .number ≡ 0) ⌝ }
-    ensures { λ r. ⌜ Wrote (why-words (words-in (now (file .entry))) row tile (question-of question)) answer-most (text (now (out .entry)) 0) (text (now (out .exit)) r) ⌝ }
+fn accepted_text(
+    file: &[u8],
+    setup: Setup,
+    row: u32,
+    tile: u32,
+    question: Question,
+    out: &mut [u8],
+) -> usize
+    requires { ⌜ (length (now file) ≤ file-bytes) × (rowlist-screen (setup-of setup) (words-in (now file)) .number ≡ 0) ⌝ }
+    ensures { λ r. ⌜ Wrote (why-words (setup-of setup) (words-in (now (file .entry))) row tile (question-of question)) answer-most (text (now (out .entry)) 0) (text (now (out .exit)) r) ⌝ }
 {
     let mut words = [0u32; 16384];
     let n = words_of_bytes(file, &mut words);
-    words_text(&words[..n], row, tile, question, out)
+    words_text(&words[..n], setup, row, tile, question, out)
 }
 
 // The text that `why` prints of a question about a file's bytes, put first; how long it is. The room is that of the longest text of `rowlist`,
 // which is written there before; what stands after the text is free.
-pub fn why_text(file: &[u8], row: u32, tile: u32, question: Question, out: &mut [u8]) -> usize
-    requires { ⌜ 264256 ≤ length (now out) ⌝ }
-    ensures { λ r. ⌜ r ≡ length (why-text (now (file .entry)) row tile (question-of question)) ⌝ }
-    ensures { λ r. ⌜ take r (now (out .exit)) ≡ why-text (now (file .entry)) row tile (question-of question) ⌝ }
+pub fn why_text(
+    file: &[u8],
+    setup: Setup,
+    row: u32,
+    tile: u32,
+    question: Question,
+    out: &mut [u8],
+) -> usize
+    requires { ⌜ Usual (setup-of setup) × (264256 ≤ length (now out)) ⌝ }
+    ensures { λ r. ⌜ r ≡ length (why-text (setup-of setup) (now (file .entry)) row tile (question-of question)) ⌝ }
+    ensures { λ r. ⌜ take r (now (out .exit)) ≡ why-text (setup-of setup) (now (file .entry)) row tile (question-of question) ⌝ }
 {
-    let text = list_file(file, out);
+    let text = list_file(file, setup, out);
     if text.number != DONE {
         return text.bytes;
     }
-    accepted_text(file, row, tile, question, out)
+    accepted_text(file, setup, row, tile, question, out)
 }
 
 // The line before a question's answer in a stream, put first.

@@ -8,12 +8,14 @@ use borrow.Author.Tests.{eqb-true, eqb-false}
 use Rattle.rules.specs.Answers.{Answer, Done}
 use Rattle.rules.specs.Spans.{Span}
 use Rattle.rules.specs.Plans.{Frame, Step}
+use Rattle.rules.specs.Setups.{Setup, frame}
 use Rattle.rules.specs.Recording.{recording}
 use Rattle.rules.specs.Walk.{frame-of}
 use Rattle.rect.specs.declared.Rect.{Rect}
-use Rattle.screen.specs.Screens.{frame}
+use Rattle.rect.specs.Rects.{box-of}
 use Rattle.screen.specs.Tables.{ScreenLent, reset-to}
 use Rattle.file_call.specs.Recorded.{recorded}
+use Rattle.host_screen.specs.declared.SetupWords.{SetupWords}
 use Rattle.host.specs.Building.{props, picture}
 use Rattle.rules_picture.specs.Recorded.{history, Readable, said}
 use Rattle.rules_picture.proofs.Cases.{by}
@@ -25,7 +27,7 @@ use Rattle.theorem_picture.specs.Reached as reached
 use Rattle.theorem_picture.specs.Reached.{Reached}
 use Rattle.theorem_picture.proofs.Rows.{row-reached}
 use Rattle.theorem_picture.proofs.Recorded.{recorded-reached}
-use Rattle.theorem_border.specs.Hosted.{Host, Hosted, by-reset, by-recording, by-fill, by-push, by-pop, by-filter, by-begin, by-paint, by-write}
+use Rattle.theorem_border.specs.Hosted.{Host, Asks, Hosted, by-reset, by-recording, by-fill, by-push, by-pop, by-filter, by-begin, by-paint, by-write}
 use Rattle.theorem_border.specs.Hosted.{Call, one-step, whole-row, place, reset-at, recording-at, fill-at, push-at, pop-at, filter-at, begin-at, paint-out, paint-at, write-at}
 use Rattle.theorem_border.proofs.Words.{host-of, hosted, reset-on, recording-on, Known, nothing, these, known, reset-never, recording-never, fill-on, push-on, pop-on, filter-on, begin-on, call-of, paint-done, paint-kept, write-done, write-kept}
 
@@ -75,24 +77,26 @@ module _ {f : Frame} {xs : List Step} {h : Host} (z : Holds f xs h) where
       })
       (λ n. record { words = l; reached = z .reached; same = ap (write-at i id t list count) (z .same) ∙ write-kept i id t list count l (eqb-false _ _ n) })
 
-reset-holds : (v : Rect) (c d : ℕ) (h : Host) → reset-at v c d h .number ≡ Done → Known h → Holds (frame v c d) [] (reset-at v c d h .value)
-reset-holds v c d h e (nothing q) = absurd (reset-never h q v c d e)
-reset-holds v c d h e (these l s) =
-    let q = ap (reset-at v c d) s ∙ reset-on c d l v in
-    made _ (reset-to v c d l) q (reached.by-reset v c d l (number-of _ (reset-to v c d l) q e))
+reset-holds : (v : Rect) (w : SetupWords) (q : Setup) (h : Host) → Asks w q → reset-at v w h .number ≡ Done → Known h
+    → Holds (frame q (box-of v)) [] (reset-at v w h .value)
+reset-holds v w q h a e (nothing n) = absurd (reset-never h n w q a v e)
+reset-holds v w q h a e (these l s) =
+    let k = ap (reset-at v w) s ∙ reset-on w q a l v in
+    let f = frame q (box-of v) in
+    made _ (reset-to f l) k (reached.by-reset f l (number-of _ (reset-to f l) k e))
 
-recording-holds : (file : List ℕ) (c d : ℕ) (h : Host) (w : Readable file) → recording-at file c d h .number ≡ Done → Known h
-    → Holds (frame-of (place c d h) (said w)) (history 32 (place c d h) (said w)) (recording-at file c d h .value)
-recording-holds file c d h w e (nothing q) = absurd (recording-never h q file c d e)
-recording-holds file c d h w e (these l s) =
-    let q = ap (recording-at file c d) s ∙ recording-on c d l file in
-    let r = recorded-reached file c d l (number-of _ (recorded file c d l) q e) in
-    made _ (recorded file c d l) q (rw (s, said-once w (r .words)) (r .reached))
+recording-holds : (file : List ℕ) (w : SetupWords) (q : Setup) (h : Host) (r : Readable file) → Asks w q → recording-at file w h .number ≡ Done → Known h
+    → Holds (frame-of (place q h) (said r)) (history 32 (place q h) (said r)) (recording-at file w h .value)
+recording-holds file w q h r a e (nothing n) = absurd (recording-never h n w q a file e)
+recording-holds file w q h r a e (these l s) =
+    let k = ap (recording-at file w) s ∙ recording-on w q a l file in
+    let z = recorded-reached file q l (number-of _ (recorded file q l) k e) in
+    made _ (recorded file q l) k (rw (s, said-once r (z .words)) (z .reached))
 
 -- Whatever calls a host has made, its words are those of a screen reached by the same steps.
 pub holds : {f : Frame} {xs : List Step} {h : Host} → Hosted f xs h → Holds f xs h
-holds (by-reset v c d h e) = reset-holds v c d h e (known h)
-holds (by-recording file c d h w e) = recording-holds file c d h w e (known h)
+holds (by-reset v w q h a e) = reset-holds v w q h a e (known h)
+holds (by-recording file w q h r a e) = recording-holds file w q h r a e (known h)
 holds (by-fill ps ss d r e) =
     let z = holds r in
     let q = ap (fill-at ps ss d) (z .same) ∙ fill-on (z .words) ps ss d in

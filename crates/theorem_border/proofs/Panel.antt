@@ -12,13 +12,17 @@ use Rattle.rules.specs.Painting.{Entry, received}
 use Rattle.rules.specs.Plain.{plain}
 use Rattle.rules.proofs.Computing.{computing}
 use Rattle.rules_picture.specs.Turns.{from}
-use Rattle.theorem_border.specs.Hosted.{Hosted, by-reset, by-fill, Call}
+use Rattle.theorem_border.specs.Hosted.{Hosted, Asks, by-reset, by-fill, Call}
 use Rattle.theorem_border.specs.Border.{log, finished}
-use Rattle.theorem_border.specs.Panel.{screen, own-frame, blank, paints, segments, one, fresh, with-banner, with-panel, begun, by-steps, mixed, steps}
+use Rattle.theorem_border.specs.Panel.{screen, words, setup, own-frame, blank, paints, segments, one, fresh, with-banner, with-panel, begun, by-steps, mixed, steps}
 use Rattle.theorem_border.specs.Computing.{on-words}
 use Rattle.theorem_border.proofs.Border.{border-picture}
 
--- the four calls are done
+-- the words ask for the exact mode, and the four calls are done
+exactly : Asks words setup
+unfolding on-words computing
+exactly = refl
+
 reset-done : fresh .number ≡ Done
 unfolding on-words computing
 reset-done = refl
@@ -36,7 +40,7 @@ unfolding on-words computing
 begin-done = refl
 
 pub panel-hosted : Hosted own-frame steps (with-panel .value)
-panel-hosted = by-fill paints segments (one 1) (by-fill paints segments (one 0) (by-reset screen 64 64 blank reset-done) banner-done) panel-done
+panel-hosted = by-fill paints segments (one 1) (by-fill paints segments (one 0) (by-reset screen words setup blank exactly reset-done) banner-done) panel-done
 
 -- the row finishes, both ways
 pub steps-finish : finished 0 by-steps (begun .value) ≡ true

@@ -1,57 +1,80 @@
--- What `coarse_bucket_recording` leaves, from the same about the call at the words. Assumes nothing.
+-- What `coarse_bucket_recording` leaves, and what a done `coarse_reset` was asked for, from the same about the call at the words. Assumes nothing.
 use Prim.Native.Nat.{ℕ, _≤_, _<_}
 use native.Mathlib.Omega.{arith}
 use mathlib.Core.Path.{_≡_, sym, ap, _∙_}
 use mathlib.Core.List.{List}
 use Rattle.rules.specs.Answers.{Answer, Done}
+use Rattle.rules.specs.Setups.{Setup}
+use Rattle.rect.specs.declared.Rect.{Rect}
 use Rattle.screen.specs.Tables.{ScreenLent}
 use Rattle.file_call.specs.Recorded.{recorded}
+use Rattle.host_screen.specs.declared.SetupWords.{SetupWords}
 use Rattle.theorem_picture.specs.Recorded as lent
 use Rattle.theorem_picture.proofs.Recorded.{recorded-reached, recorded-refused}
-use Rattle.theorem_border.specs.Hosted.{Host, by-recording, recording-at, begin-at}
+use Rattle.theorem_border.specs.Hosted.{Host, Asks, by-recording, reset-at, recording-at, begin-at}
 use Rattle.theorem_border.specs.Border.{Accepted, Refused, kept, emptied}
-use Rattle.theorem_border.proofs.Words.{host-of, hosted, reset-on, recording-on, begin-on, Known, nothing, these, known, recording-never, recording-left}
+use Rattle.theorem_border.proofs.Words.{host-of, hosted, Asking, for-none, for-some, asking, reset-none, recording-none, unasked-late, reset-on, recording-on, begin-on, Known, nothing, these, known, recording-never, recording-left}
 
-module _ (file : List ℕ) (c d : ℕ) where
-  accepted : (h : Host) → Known h → recording-at file c d h .number ≡ Done → Accepted file c d h
-  accepted h (nothing q) e = absurd (recording-never h q file c d e)
-  accepted h (these l s) e =
-      let q : recording-at file c d h ≡ hosted (recorded file c d l) = ap (recording-at file c d) s ∙ recording-on c d l file in
-      let r = recorded-reached file c d l (sym (ap (λ (a : Answer Host). a .number) q) ∙ e) in
-      record {
-        words = r .words;
-        hosted = by-recording file c d h (r .words) e;
-        begins = ap (λ (a : Answer Host). begin-at (a .value) .number) q ∙ ap (λ (a : Answer Host). a .number) (begin-on (recorded file c d l .value)) ∙ r .begins;
-      }
+-- A done reset was asked for a setup: `Hosted` has a case for it.
+pub reset-asks : (v : Rect) (w : SetupWords) (h : Host) → reset-at v w h .number ≡ Done → (q : Setup) × Asks w q
+reset-asks v w h e = go (asking w)
+  where
+    go : Asking w → (q : Setup) × Asks w q
+    go (for-none n) = let z = sym (ap (λ (a : Answer Host). a .number) (reset-none w n h v)) ∙ e in absurd (omega (arith, z))
+    go (for-some q a) = (q, a)
 
-  -- at a screen's words
-  refused-on : (l : ScreenLent) → lent.Refused c d file l (recorded file c d l) → Refused file c d (host-of l)
-  refused-on l (lent.kept e) = kept (ap (λ (a : Answer Host). a .value) (recording-on c d l file) ∙ ap host-of e)
-  refused-on l (lent.emptied w n r e) =
-      let q = recording-on c d l file in
-      let p = reset-on c d l _ in
-      emptied w (rw (ap (λ (a : Answer Host). a .number) q) n) (ap (λ (a : Answer Host). a .number) p ∙ r)
-      (ap (λ (a : Answer Host). a .value) q ∙ ap host-of e ∙ sym (ap (λ (a : Answer Host). a .value) p))
+module _ (file : List ℕ) (w : SetupWords) where
+  -- in the setup that is asked for
+  module _ (q : Setup) (a : Asks w q) where
+    accepted-in : (h : Host) → Known h → recording-at file w h .number ≡ Done → Accepted file w h
+    accepted-in h (nothing n) e = absurd (recording-never h n w q a file e)
+    accepted-in h (these l s) e =
+        let k : recording-at file w h ≡ hosted (recorded file q l) = ap (recording-at file w) s ∙ recording-on w q a l file in
+        let r = recorded-reached file q l (sym (ap (λ (a : Answer Host). a .number) k) ∙ e) in
+        record {
+          setup = q;
+          asks = a;
+          words = r .words;
+          hosted = by-recording file w q h (r .words) a e;
+          begins = ap (λ (a : Answer Host). begin-at (a .value) .number) k ∙ ap (λ (a : Answer Host). a .number) (begin-on (recorded file q l .value)) ∙ r .begins;
+        }
 
-  refused : (h : Host) → Known h → (recording-at file c d h .number ≡ Done → ⊥) → Refused file c d h
-  refused h (nothing q) n = kept (recording-left h q file c d)
-  refused h (these l s) n =
-      let q : recording-at file c d h ≡ hosted (recorded file c d l) = ap (recording-at file c d) s ∙ recording-on c d l file in
-      rw s (refused-on l (recorded-refused file c d l (λ e. n (ap (λ (a : Answer Host). a .number) q ∙ e))))
+    -- at a screen's words
+    refused-on : (l : ScreenLent) → lent.Refused q file l (recorded file q l) → Refused file w (host-of l)
+    refused-on l (lent.kept e) = kept (ap (λ (a : Answer Host). a .value) (recording-on w q a l file) ∙ ap host-of e)
+    refused-on l (lent.emptied r n d e) =
+        let k = recording-on w q a l file in
+        let p = reset-on w q a l _ in
+        emptied r (rw (ap (λ (a : Answer Host). a .number) k) n) (ap (λ (a : Answer Host). a .number) p ∙ d)
+        (ap (λ (a : Answer Host). a .value) k ∙ ap host-of e ∙ sym (ap (λ (a : Answer Host). a .value) p))
+
+    refused-in : (h : Host) → Known h → (recording-at file w h .number ≡ Done → ⊥) → Refused file w h
+    refused-in h (nothing n) z = kept (recording-left h n w q a file)
+    refused-in h (these l s) z =
+        let k : recording-at file w h ≡ hosted (recorded file q l) = ap (recording-at file w) s ∙ recording-on w q a l file in
+        rw s (refused-on l (recorded-refused file q l (λ e. z (ap (λ (a : Answer Host). a .number) k ∙ e))))
+
+  accepted : (h : Host) → Asking w → recording-at file w h .number ≡ Done → Accepted file w h
+  accepted h (for-none n) e = absurd (unasked-late file (sym (ap (λ (a : Answer Host). a .number) (recording-none w n h file)) ∙ e))
+  accepted h (for-some q a) e = accepted-in q a h (known h) e
+
+  refused : (h : Host) → Asking w → (recording-at file w h .number ≡ Done → ⊥) → Refused file w h
+  refused h (for-none n) z = kept (ap (λ (a : Answer Host). a .value) (recording-none w n h file))
+  refused h (for-some q a) z = refused-in q a h (known h) z
 
   module _ (h : Host) where
     -- An accepted recording leaves hosted words, reached by the steps of its walk, and painting can begin there: `border-picture` speaks of it.
-    pub recording-accepted : recording-at file c d h .number ≡ Done → Accepted file c d h
-    recording-accepted = accepted h (known h)
+    pub recording-accepted : recording-at file w h .number ≡ Done → Accepted file w h
+    recording-accepted = accepted h (asking w)
 
     -- A refused one leaves every word as it was, or what a reset to the file's viewport leaves.
-    pub recording-refused : (recording-at file c d h .number ≡ Done → ⊥) → Refused file c d h
-    recording-refused = refused h (known h)
+    pub recording-refused : (recording-at file w h .number ≡ Done → ⊥) → Refused file w h
+    recording-refused = refused h (asking w)
 
     -- With 1, 2 or 3 it leaves them as they were.
-    pub recording-early : 0 < recording-at file c d h .number → recording-at file c d h .number ≤ 3 → recording-at file c d h .value ≡ h
+    pub recording-early : 0 < recording-at file w h .number → recording-at file w h .number ≤ 3 → recording-at file w h .value ≡ h
     recording-early lo hi = go (recording-refused (λ e. omega arith))
       where
-        go : Refused file c d h → recording-at file c d h .value ≡ h
+        go : Refused file w h → recording-at file w h .value ≡ h
         go (kept e) = e
-        go (emptied w n r e) = absurd (omega arith)
+        go (emptied r n d e) = absurd (omega arith)

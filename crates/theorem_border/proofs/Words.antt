@@ -2,9 +2,10 @@
 -- given. Assumes nothing.
 use Prim.Native.Nat.{ℕ}
 use native.Mathlib.Omega.{arith}
-use mathlib.Core.Path.{_≡_, refl, sym, ap}
+use mathlib.Core.Path.{_≡_, refl, sym, ap, _∙_}
 use mathlib.Core.Bool.{Bool, true, false, _&&_, cond}
 use mathlib.Core.List.{List, []}
+use mathlib.Core.Option.{Option, none, some}
 use lib.Dec.{ltb, leb, eqb}
 use lib.Ieee.{Float}
 use lib.IntN.{ℤ}
@@ -13,8 +14,11 @@ use borrow.Author.Tests.{ltb-true}
 use Rattle.rules.specs.Answers.{Answer, answer, Done, BadRecord}
 use Rattle.rules.specs.Spans.{Span}
 use Rattle.rules.specs.Inputs.{Clip}
+use Rattle.rules.specs.Recording.{shape, sections}
+use Rattle.rules.specs.Setups.{Setup, frame}
 use Rattle.rules.proofs.All.{both}
 use Rattle.rect.specs.declared.Rect.{Rect}
+use Rattle.rect.specs.Rects.{box-of}
 use Rattle.row.specs.Words.{Words}
 use Rattle.screen.specs.declared.Screen.{Screen}
 use Rattle.screen.specs.Tables.{Tables, ScreenLent, lent, reset-to}
@@ -35,15 +39,19 @@ use Rattle.file_steps.specs.Steps.{rows-words, pop-part}
 use Rattle.host_screen.specs.declared.Held.{Held}
 use Rattle.host_screen.specs.declared.Held.the-variants as held
 use Rattle.host_screen.specs.State.{screen-words, screen-at, screen-of, before-4, refused-at, at-held, on}
+use Rattle.host_screen.specs.declared.SetupWords.{SetupWords}
+use Rattle.host_screen.specs.Asked.{asked-setup}
 use Rattle.host_screen.proofs.Words.{read-back, written-back}
-use Rattle.host.specs.Building.{tables-left, reset-call, recording-call, fill-left, fill-call, props, push-left, push-call, pop-left, pop-call, picture, filter-left, filter-call}
+use Rattle.host.specs.Border.{unasked, unasked-number}
+use Rattle.host.specs.Building.{tables-left, reset-in, reset-call, recording-in, recording-call, fill-left, fill-call, props, push-left, push-call, pop-left, pop-call, picture, filter-left, filter-call}
 use Rattle.host_results.specs.Results.{skip-left}
 use Rattle.host.specs.Painting.{begin-left, begin-call, step-left, step-call, row-call, write-call, skip-call}
+use Rattle.host.proofs.Asked.{reset-unasked, recording-unasked, reset-asked, recording-asked}
 use Rattle.host.proofs.Kept.{step-refused, row-refused, write-refused}
 use Rattle.theorem_picture.specs.Calls as calls
 use Rattle.theorem_picture.specs.Reached as reached
 use Rattle.theorem_picture.specs.Rows as rows
-use Rattle.theorem_border.specs.Hosted.{Host, host, with-rows, with-painting, reset-at, recording-at, fill-at, push-at, pop-at, filter-at, begin-at, Turn, Call, one-step, whole-row, turn-in, paint-out, paint-at, write-at}
+use Rattle.theorem_border.specs.Hosted.{Host, host, Asks, with-rows, with-painting, reset-at, recording-at, fill-at, push-at, pop-at, filter-at, begin-at, Turn, Call, one-step, whole-row, turn-in, paint-out, paint-at, write-at}
 
 -- the words of a screen and its tables
 abbrev pub host-of : ScreenLent → Host
@@ -86,19 +94,62 @@ pub skip-on : (l : ScreenLent) (r : ℕ) (t : Span) (id : ℕ) (old : List ℕ) 
 unfolding skip-call
 skip-on l r t id old e = on-done {T = List ℕ} _ _ (eqb (length old) 1) (l .screen) e
 
--- a reset and a recording, on a screen's words
-module _ (c d : ℕ) (l : ScreenLent) where
-  pub reset-on : (v : Rect) → reset-at v c d (host-of l) ≡ hosted (reset-to v c d l)
-  unfolding reset-at reset-call
-  reset-on v =
-      ap (λ (a : Answer (List ℕ × Tables)). answer (a .number) (host (a .value .0) (a .value .1)))
-      (on-screen (screen-words (l .screen), l .tables) (λ (s : Screen). tables-left (reset-to v c d (lent s (l .tables)))) (l .screen))
+-- what a host's words ask for
+pub data Asking (w : SetupWords) : Type 0 where
+  for-none : none ≡ asked-setup w → Asking w
+  for-some : (q : Setup) → Asks w q → Asking w
 
-  pub recording-on : (file : List ℕ) → recording-at file c d (host-of l) ≡ hosted (recorded file c d l)
-  unfolding recording-at recording-call
-  recording-on file =
-      ap (λ (a : Answer (List ℕ × Tables)). answer (a .number) (host (a .value .0) (a .value .1)))
-      (on-screen (screen-words (l .screen), l .tables) (λ (s : Screen). tables-left (recorded file c d (lent s (l .tables)))) (l .screen))
+pub asking : (w : SetupWords) → Asking w
+asking w = go (asked-setup w) refl
+  where
+    go : (o : Option Setup) → o ≡ asked-setup w → Asking w
+    go none e = for-none e
+    go (some q) e = for-some q e
+
+-- a call's answer as what the host then holds
+abbrev holding : Answer (List ℕ × Tables) → Answer Host
+holding a = answer (a .number) (host (a .value .0) (a .value .1))
+
+-- asked for no setup, a reset and a recording leave everything as it was
+module _ (w : SetupWords) (e : none ≡ asked-setup w) (h : Host) where
+  pub reset-none : (v : Rect) → reset-at v w h ≡ answer BadRecord h
+  unfolding reset-at
+  reset-none v = sym (ap holding (reset-unasked w e v (h .state) (h .tables)))
+
+  pub recording-none : (file : List ℕ) → recording-at file w h ≡ answer (unasked-number file) h
+  unfolding recording-at
+  recording-none file = sym (ap holding (recording-unasked w e file (h .state) (h .tables) _ refl))
+
+pub unasked-late : (file : List ℕ) → unasked-number file ≡ Done → ⊥
+unfolding unasked-number
+unasked-late file = go (sections shape file)
+  where
+    go : (o : Option (List (List (List ℕ)))) → unasked o ≡ Done → ⊥
+    go none e = omega arith
+    go (some ss) e = omega arith
+
+-- a reset and a recording in the setup q, on a screen's words
+module _ (w : SetupWords) (q : Setup) (a : Asks w q) where
+  reset-is : (v : Rect) (h : Host) → reset-at v w h ≡ holding (reset-in v q (h .state) (h .tables))
+  unfolding reset-at
+  reset-is v h = sym (ap holding (reset-asked w q a v (h .state) (h .tables) refl))
+
+  recording-is : (file : List ℕ) (h : Host) → recording-at file w h ≡ holding (recording-in file q (h .state) (h .tables))
+  unfolding recording-at
+  recording-is file h = sym (ap holding (recording-asked w q a file (h .state) (h .tables) refl))
+
+  module _ (l : ScreenLent) where
+    pub reset-on : (v : Rect) → reset-at v w (host-of l) ≡ hosted (reset-to (frame q (box-of v)) l)
+    unfolding reset-in
+    reset-on v =
+        reset-is v (host-of l)
+        ∙ ap holding (on-screen (screen-words (l .screen), l .tables) (λ (s : Screen). tables-left (reset-to (frame q (box-of v)) (lent s (l .tables)))) (l .screen))
+
+    pub recording-on : (file : List ℕ) → recording-at file w (host-of l) ≡ hosted (recorded file q l)
+    unfolding recording-in
+    recording-on file =
+        recording-is file (host-of l)
+        ∙ ap holding (on-screen (screen-words (l .screen), l .tables) (λ (s : Screen). tables-left (recorded file q (lent s (l .tables)))) (l .screen))
 
 -- words that are a screen's, or no call on them is done
 pub data Known (h : Host) : Type 0 where
@@ -112,18 +163,25 @@ known h = go (screen-of true (h .state)) refl
     go held.Nothing q = nothing q
     go (held.Good s) q = these (lent s (h .tables)) (ap (λ (st : List ℕ). host st (h .tables)) (sym (written-back true (h .state) s q)))
 
-module _ (h : Host) (q : held.Nothing ≡ screen-of true (h .state)) where
-  pub reset-never : (v : Rect) (c d : ℕ) → reset-at v c d h .number ≡ Done → ⊥
-  unfolding reset-at reset-call
-  reset-never v c d e = never-done (h .state) _ (rw (← q) at e)
+-- on words that are no screen's
+module _ (h : Host) (n : held.Nothing ≡ screen-of true (h .state)) (w : SetupWords) (q : Setup) (a : Asks w q) where
+  pub reset-never : (v : Rect) → reset-at v w h .number ≡ Done → ⊥
+  unfolding reset-in
+  reset-never v e =
+      let d : reset-in v q (h .state) (h .tables) .number ≡ Done = sym (ap (λ (x : Answer Host). x .number) (reset-is w q a v h)) ∙ e in
+      never-done (h .state) _ (rw (← n) at d)
 
-  pub recording-never : (file : List ℕ) (c d : ℕ) → recording-at file c d h .number ≡ Done → ⊥
-  unfolding recording-at recording-call
-  recording-never file c d e = never-done (h .state) _ (rw (← q) at e)
+  pub recording-never : (file : List ℕ) → recording-at file w h .number ≡ Done → ⊥
+  unfolding recording-in
+  recording-never file e =
+      let d : recording-in file q (h .state) (h .tables) .number ≡ Done = sym (ap (λ (x : Answer Host). x .number) (recording-is w q a file h)) ∙ e in
+      never-done (h .state) _ (rw (← n) at d)
 
-  pub recording-left : (file : List ℕ) (c d : ℕ) → recording-at file c d h .value ≡ h
-  unfolding recording-at recording-call
-  recording-left file c d = rw (← q)
+  pub recording-left : (file : List ℕ) → recording-at file w h .value ≡ h
+  unfolding recording-in
+  recording-left file =
+      let d : holding (recording-in file q (h .state) (h .tables)) .value ≡ h = rw (← n) in
+      ap (λ (x : Answer Host). x .value) (recording-is w q a file h) ∙ d
 
 -- the building calls on a screen's words
 module _ (l : ScreenLent) where

@@ -10,18 +10,20 @@ use Rattle.rules.specs.Answers.{Answer, answer, Done, BadForm}
 use Rattle.rules.specs.Boxes.{width, rows-of}
 use Rattle.rules.specs.Spans.{Span}
 use Rattle.rules.specs.Plans.{Frame, Step}
+use Rattle.rules.specs.Setups.{Setup}
 use Rattle.rules.specs.Painting.{received}
 use Rattle.rules.specs.Plain.{plain}
 use Rattle.rules.specs.Walk.{frame-of}
-use Rattle.screen.specs.Screens.{rect-of}
+use Rattle.rect.specs.Rects.{rect-of}
 use Rattle.paint_screen.specs.Judging.{wide}
 use Rattle.paint_screen.specs.Stepping.{part}
 use Rattle.rules_picture.specs.Turns.{Gave, from, said-finished}
 use Rattle.rules_picture.specs.Recorded.{history, Readable, said}
 use Rattle.theorem_picture.specs.Turns.{pieces-in}
+use Rattle.host_screen.specs.declared.SetupWords.{SetupWords}
 use Rattle.host_screen.specs.State.{screen-at}
 use Rattle.host.specs.Painting.{skip-call}
-use Rattle.theorem_border.specs.Hosted.{Host, Hosted, Call, one-step, turn-in, paint-out, paint-at, place, reset-at, recording-at, begin-at}
+use Rattle.theorem_border.specs.Hosted.{Host, Hosted, Asks, Call, one-step, turn-in, paint-out, paint-at, place, reset-at, recording-at, begin-at}
 
 -- What a host reads after a painting call of row r. Done: the first result word is 1 where the row has finished, the second says how many
 -- pieces stand in the list. Refused: nothing.
@@ -52,7 +54,7 @@ finished-at h r = gave-words r (paint-out (one-step (record { row = r; list = []
 abbrev pub finished : ℕ → List Call → Host → Bool
 finished r cs h = said-finished r (log cs h) || finished-at (painted cs h) r
 
--- Demand 3. A host has reset a screen, or played a recording, and has called what it likes, each call given what the last one left; xs are its
+-- Demand 3. A host has reset a screen to the frame f, or played a recording, and has called what it likes, each call given what the last one left; xs are its
 -- done building calls, and `coarse_begin_painting` has just answered 0. From then on it calls nothing but painting steps and rows painted by
 -- one call, cs. When row r has finished, each of its tiles has received, by the words of the calls' lists, exactly what plain draw order gives
 -- it, in that order and at that nesting, less what came before the newest eligible solid segment that, once cut to the screen, covers the
@@ -73,14 +75,16 @@ Clear h =
     → (x : ℕ) → t .first ≤ x → x < t .end
     → getD (part (wide (screen-at (h .state))) r (h .tables .depth)) (x / bucket-tiles) 0 ≤ id
 
--- What a recording leaves. Accepted: words that are `Hosted` by the steps of its walk, and painting can begin there.
-pub record Accepted (file : List ℕ) (c d : ℕ) (h : Host) : Type 0 where
+-- What a recording leaves. Accepted: its words asked for a setup; words that are `Hosted` by the steps of its walk, and painting can begin there.
+pub record Accepted (file : List ℕ) (w : SetupWords) (h : Host) : Type 0 where
+  pub setup : Setup
+  pub asks : Asks w setup
   pub words : Readable file
-  pub hosted : Hosted (frame-of (place c d h) (said words)) (history bucket-tiles (place c d h) (said words)) (recording-at file c d h .value)
-  pub begins : begin-at (recording-at file c d h .value) .number ≡ Done
+  pub hosted : Hosted (frame-of (place setup h) (said words)) (history bucket-tiles (place setup h) (said words)) (recording-at file w h .value)
+  pub begins : begin-at (recording-at file w h .value) .number ≡ Done
 
 -- Refused: every word as it was; or, with a number past 3, what a reset to the file's viewport leaves.
-pub data Refused (file : List ℕ) (c d : ℕ) (h : Host) : Type 0 where
-  kept : recording-at file c d h .value ≡ h → Refused file c d h
-  emptied : (words : Readable file) → BadForm < recording-at file c d h .number → reset-at (rect-of (said words .viewport)) c d h .number ≡ Done
-      → recording-at file c d h .value ≡ reset-at (rect-of (said words .viewport)) c d h .value → Refused file c d h
+pub data Refused (file : List ℕ) (w : SetupWords) (h : Host) : Type 0 where
+  kept : recording-at file w h .value ≡ h → Refused file w h
+  emptied : (words : Readable file) → BadForm < recording-at file w h .number → reset-at (rect-of (said words .viewport)) w h .number ≡ Done
+      → recording-at file w h .value ≡ reset-at (rect-of (said words .viewport)) w h .value → Refused file w h

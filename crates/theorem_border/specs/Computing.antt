@@ -19,7 +19,8 @@ use Rattle.paint_screen.specs.Beginning.{beginning}
 use Rattle.paint_screen.specs.Stepping.{row-step, stepped}
 use Rattle.paint_whole.specs.Running.{one-more, run, row-painted}
 use Rattle.host_screen.specs.State.{screen-of}
-use Rattle.host.specs.Building.{reset-call, fill-call}
+use Rattle.host_screen.specs.Asked.{asked-setup}
+use Rattle.host.specs.Building.{reset-in, reset-call, fill-call}
 use Rattle.host.specs.Painting.{begin-call, step-call, row-call}
 use Rattle.rules_picture.specs.Turns.{from, said-finished}
 use Rattle.theorem_picture.specs.Turns.{pieces-in}
@@ -28,7 +29,7 @@ use Rattle.theorem_border.specs.Border.{painted, log}
 
 -- reset and fill
 unfoldable pub on-fills : Unit {0}
-unfolding command-of depth-fill-of seg-at segs screens.judged judged-reset good-clip good-screen state-of screen-after zeros reset-to cut lay hull-word include-span put-command put-depth building.step-number good-row good-rows paints first-number fill-number fill-done reset-call fill-call reset-at fill-at
+unfolding command-of depth-fill-of seg-at segs screens.judged judged-reset good-clip good-screen state-of screen-after zeros reset-to cut lay hull-word include-span put-command put-depth building.step-number good-row good-rows paints first-number fill-number fill-done asked-setup reset-in reset-call fill-call reset-at fill-at
 on-fills = tt
 
 -- painting

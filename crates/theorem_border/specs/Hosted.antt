@@ -12,10 +12,11 @@ use Rattle.rules.specs.Answers.{Answer, answer, Done}
 use Rattle.rules.specs.Spans.{Span}
 use Rattle.rules.specs.Inputs.{Clip}
 use Rattle.rules.specs.Plans.{Frame, Step, a-push}
+use Rattle.rules.specs.Setups.{Setup, frame}
 use Rattle.rules.specs.Walk.{Place, frame-of}
 use Rattle.rect.specs.declared.Rect.{Rect}
+use Rattle.rect.specs.Rects.{box-of}
 use Rattle.row.specs.Words.{Words}
-use Rattle.screen.specs.Screens.{frame}
 use Rattle.screen.specs.Judging.{arenas}
 use Rattle.screen.specs.Tables.{Tables, tables, lengths}
 use Rattle.step_fill.specs.declared.Draw.{Draw}
@@ -26,6 +27,8 @@ use Rattle.paint_screen.specs.Stepping.{Attributes, attributes}
 use Rattle.file_steps.specs.Steps.{rows-words}
 use Rattle.rules_picture.specs.Recorded.{history, Readable, said}
 use Rattle.theorem_picture.specs.Calls.{fill-said, pop-said, filter-said}
+use Rattle.host_screen.specs.declared.SetupWords.{SetupWords}
+use Rattle.host_screen.specs.Asked.{asked-setup}
 use Rattle.host.specs.Building.{reset-call, recording-call, fill-call, props, push-call, pop-call, picture, filter-call}
 use Rattle.host.specs.Painting.{begin-call, step-call, row-call, write-call}
 
@@ -46,13 +49,17 @@ abbrev pub with-painting : Tables → List ℕ → List ℕ → Tables
 with-painting t depth painting =
     tables (t .render) (t .fills) depth (t .rows) painting (t .layers) (t .opacities) (t .paint-attrs) (t .layer-attrs) (t .filter-paints)
 
+-- the setup that a host's words ask for
+abbrev pub Asks : SetupWords → Setup → Type 0
+Asks w q = some q ≡ asked-setup w
+
 -- `coarse_reset`
-unfoldable pub reset-at : Rect → ℕ → ℕ → Host → Answer Host
-reset-at v c d h = let a = reset-call v c d (h .state) (h .tables) in answer (a .number) (host (a .value .0) (a .value .1))
+unfoldable pub reset-at : Rect → SetupWords → Host → Answer Host
+reset-at v w h = let a = reset-call v w (h .state) (h .tables) in answer (a .number) (host (a .value .0) (a .value .1))
 
 -- `coarse_bucket_recording`
-unfoldable pub recording-at : List ℕ → ℕ → ℕ → Host → Answer Host
-recording-at file c d h = let a = recording-call file c d (h .state) (h .tables) in answer (a .number) (host (a .value .0) (a .value .1))
+unfoldable pub recording-at : List ℕ → SetupWords → Host → Answer Host
+recording-at file w h = let a = recording-call file w (h .state) (h .tables) in answer (a .number) (host (a .value .0) (a .value .1))
 
 -- `coarse_fill`: any words as paints and as segments
 unfoldable pub fill-at : List ℕ → List ℕ → Draw → Host → Answer Host
@@ -128,18 +135,19 @@ write-at i id t list count h =
     let a = write-call i t id (h .state) (h .tables .depth) list count in
     host (a .value .0) (with-painting (h .tables) (a .value .1) (h .tables .painting))
 
--- where a recording is played: C and D, and how much is lent of the arenas
-abbrev pub place : ℕ → ℕ → Host → Place
-place c d h = record { limit = most-rows; c = c; d = d; arenas = arenas (lengths (h .tables)) }
+-- where a recording is played: the setup, and how much is lent of the arenas
+abbrev pub place : Setup → Host → Place
+place q h = record { limit = most-rows; setup = q; arenas = arenas (lengths (h .tables)) }
 
 -- A host's words after a done `coarse_reset` to the frame f, or a done recording, on any words whatever, and then `coarse_` calls, each given
--- what the last one left; xs are the steps that the done building calls say, in order. Painting calls and writing runs may come between, done or
+-- what the last one left; xs are the steps that the done building calls say, in order. f is the frame that the reset makes of what it is asked: in
+-- snapping mode it has the snapped box, and everything said of f speaks of that box. Painting calls and writing runs may come between, done or
 -- refused. The other calls write nothing but their results; a refused building call leaves every word as it was, and a refused recording too, or
--- it is a reset (`recording-refused`): they need no case.
+-- it is a reset (`recording-refused`): they need no case. A done reset or recording was asked for some setup (`reset-asks`, `recording-accepted`).
 pub data Hosted : Frame → List Step → Host → Type 0 where
-  by-reset : (v : Rect) (c d : ℕ) (h : Host) → reset-at v c d h .number ≡ Done → Hosted (frame v c d) [] (reset-at v c d h .value)
-  by-recording : (file : List ℕ) (c d : ℕ) (h : Host) (w : Readable file) → recording-at file c d h .number ≡ Done
-      → Hosted (frame-of (place c d h) (said w)) (history bucket-tiles (place c d h) (said w)) (recording-at file c d h .value)
+  by-reset : (v : Rect) (w : SetupWords) (q : Setup) (h : Host) → Asks w q → reset-at v w h .number ≡ Done → Hosted (frame q (box-of v)) [] (reset-at v w h .value)
+  by-recording : (file : List ℕ) (w : SetupWords) (q : Setup) (h : Host) (r : Readable file) → Asks w q → recording-at file w h .number ≡ Done
+      → Hosted (frame-of (place q h) (said r)) (history bucket-tiles (place q h) (said r)) (recording-at file w h .value)
   by-fill : {f : Frame} {xs : List Step} {h : Host} (ps ss : List ℕ) (d : Draw) → Hosted f xs h → fill-at ps ss d h .number ≡ Done
       → Hosted f (xs ++ (fill-said ps ss d ∷ [])) (fill-at ps ss d h .value)
   by-push : {f : Frame} {xs : List Step} {h : Host} (mix compose opacity mask flag : ℕ) (clip : Clip) → Hosted f xs h

@@ -6,11 +6,13 @@ use lib.IntN.{pos}
 use Rattle.sizes.specs.Sizes.{most-rows, row-size, open-layer-table, opacity-count, paint-attr-table, layer-attr-table, filter-paint-table, state-size}
 use Rattle.rules.specs.Answers.{Answer}
 use Rattle.rules.specs.Plans.{Frame, Step}
+use Rattle.rules.specs.Setups.{exact, Setup, frame}
 use Rattle.rect.specs.declared.Rect.{Rect}
-use Rattle.screen.specs.Screens.{frame}
+use Rattle.rect.specs.Rects.{box-of}
 use Rattle.screen.specs.Tables.{tables, float-0}
 use Rattle.step_fill.specs.declared.Draw.{Draw}
 use Rattle.theorem_picture.specs.Calls.{fill-said}
+use Rattle.host_screen.specs.declared.SetupWords.{SetupWords}
 use Rattle.host_screen.specs.State.{rect}
 use Rattle.host.specs.Building.{draw}
 use Rattle.theorem_border.specs.Hosted.{Host, host, reset-at, fill-at, begin-at, Call, one-step, whole-row}
@@ -19,8 +21,14 @@ use Rattle.theorem_border.specs.Hosted.{Host, host, reset-at, fill-at, b
 abbrev pub screen : Rect
 screen = rect 0 0 most-rows 4
 
+abbrev pub words : SetupWords
+words = record { c = 64; d = 64; mode = 0 }
+
+abbrev pub setup : Setup
+setup = record { c = 64; d = 64; mode = exact }
+
 abbrev pub own-frame : Frame
-own-frame = frame screen 64 64
+own-frame = frame setup (box-of screen)
 
 -- 16 words of state and the ten tables, all of them 0
 abbrev pub blank : Host
@@ -50,7 +58,7 @@ abbrev pub steps : List Step
 steps = banner ∷ panel ∷ []
 
 abbrev pub fresh : Answer Host
-fresh = reset-at screen 64 64 blank
+fresh = reset-at screen words blank
 
 abbrev pub with-banner : Answer Host
 with-banner = fill-at paints segments (one 0) (fresh .value)

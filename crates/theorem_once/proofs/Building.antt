@@ -24,6 +24,8 @@ use Rattle.row.specs.Words.{Words, words}
 use Rattle.screen.specs.declared.Screen.{Screen}
 use Rattle.screen.specs.declared.Built.{Built}
 use Rattle.screen.specs.Tables as all
+use Rattle.screen.specs.declared.Setup.{Setup}
+use Rattle.screen.specs.Screens.{frame}
 use Rattle.screen.specs.Tables.{Tables, tables, reset-to}
 use Rattle.screen_layers.specs.declared.LayerProps.{LayerProps}
 use Rattle.step_fill.specs.declared.Draw.{Draw}
@@ -54,9 +56,9 @@ all-once r q t u h = (
 )
 
 -- `reset`: the ten tables before and after
-module _ (screen : Screen) (viewport : Rect) (c d : ℕ) (lent : Tables) where
+module _ (screen : Screen) (viewport : Rect) (setup : Setup) (lent : Tables) where
   abbrev pub Resets : Built → Tables → Type 0
-  Resets r t = answer (r .number) (all.lent (r .screen) t) ≡ reset-to viewport c d (all.lent screen lent)
+  Resets r t = answer (r .number) (all.lent (r .screen) t) ≡ reset-to (frame setup viewport) (all.lent screen lent)
 
   pub one-reset : (r q : Built) (t u : Tables) → Resets r t → Resets q u → (r ≡ q) × (t ≡ u)
   one-reset r q t u e f = all-once r q t u (e ∙ sym f)
@@ -118,25 +120,38 @@ module _ (screen : Screen) (rows : Words) (attrs : List ℕ) (paints : List ℤ)
 module _ {M : Type 1} (𝓤 : URA M) (H : Heap 𝓤) (A : Atoms 𝓤) (mem : Memory → SProp 𝓤) (run : Routine → Fun 𝓤) where
   reset-source : (κs : Lfts (reset-call.signature .lifetimes)) (a : Args reset-call.signature κs) (r : Built) (e : AtExit reset-call.ended κs)
       → (reset-call.clauses 𝓤 H A mem run κs a .requires tt ≡ emp 𝓤)
-      × (reset-call.clauses 𝓤 H A mem run κs a .ensures tt r e ≡ fact 𝓤 (Resets (a .0) (a .1 .0) (a .1 .1 .0) (a .1 .1 .1 .0) (tables (now (a .1 .1 .1 .1 .0)) (now (a .1 .1 .1 .1 .1 .0)) (now (a .1 .1 .1 .1 .1 .1 .0)) (now (a .1 .1 .1 .1 .1 .1 .1 .0)) (now (a .1 .1 .1 .1 .1 .1 .1 .1 .0)) (now (a .1 .1 .1 .1 .1 .1 .1 .1 .1 .0)) (now (a .1 .1 .1 .1 .1 .1 .1 .1 .1 .1 .0)) (now (a .1 .1 .1 .1 .1 .1 .1 .1 .1 .1 .1 .0)) (now (a .1 .1 .1 .1 .1 .1 .1 .1 .1 .1 .1 .1 .0)) (now (a .1 .1 .1 .1 .1 .1 .1 .1 .1 .1 .1 .1 .1 .0))) r (tables (now (e .1 .1 .1 .1 .0)) (now (e .1 .1 .1 .1 .1 .0)) (now (e .1 .1 .1 .1 .1 .1 .0)) (now (e .1 .1 .1 .1 .1 .1 .1 .0)) (now (e .1 .1 .1 .1 .1 .1 .1 .1 .0)) (now (e .1 .1 .1 .1 .1 .1 .1 .1 .1 .0)) (now (e .1 .1 .1 .1 .1 .1 .1 .1 .1 .1 .0)) (now (e .1 .1 .1 .1 .1 .1 .1 .1 .1 .1 .1 .0)) (now (e .1 .1 .1 .1 .1 .1 .1 .1 .1 .1 .1 .1 .0)) (now (e .1 .1 .1 .1 .1 .1 .1 .1 .1 .1 .1 .1 .1 .0)))))
+      × (reset-call.clauses 𝓤 H A mem run κs a .ensures tt r e ≡ fact 𝓤 (Resets (a .0) (a .1 .0) (a .1 .1 .0) (tables (now (a .1 .1 .1 .0)) (now (a .1 .1 .1 .1 .0))
+      (now (a .1 .1 .1 .1 .1 .0)) (now (a .1 .1 .1 .1 .1 .1 .0)) (now (a .1 .1 .1 .1 .1 .1 .1 .0)) (now (a .1 .1 .1 .1 .1 .1 .1 .1 .0)) (now (a .1 .1 .1 .1 .1 .1 .1 .1 .1 .0))
+      (now (a .1 .1 .1 .1 .1 .1 .1 .1 .1 .1 .0)) (now (a .1 .1 .1 .1 .1 .1 .1 .1 .1 .1 .1 .0)) (now (a .1 .1 .1 .1 .1 .1 .1 .1 .1 .1 .1 .1 .0))) r
+      (tables (now (e .1 .1 .1 .0)) (now (e .1 .1 .1 .1 .0)) (now (e .1 .1 .1 .1 .1 .0)) (now (e .1 .1 .1 .1 .1 .1 .0)) (now (e .1 .1 .1 .1 .1 .1 .1 .0))
+      (now (e .1 .1 .1 .1 .1 .1 .1 .1 .0)) (now (e .1 .1 .1 .1 .1 .1 .1 .1 .1 .0)) (now (e .1 .1 .1 .1 .1 .1 .1 .1 .1 .1 .0)) (now (e .1 .1 .1 .1 .1 .1 .1 .1 .1 .1 .1 .0))
+      (now (e .1 .1 .1 .1 .1 .1 .1 .1 .1 .1 .1 .1 .0)))))
   reset-source κs a r e = (refl, refl)
 
   fill-source : (κs : Lfts (fill-call.signature .lifetimes)) (a : Args fill-call.signature κs) (r : Built) (e : AtExit fill-call.ended κs)
       → (fill-call.clauses 𝓤 H A mem run κs a .requires tt ≡ emp 𝓤)
-      × (fill-call.clauses 𝓤 H A mem run κs a .ensures tt r e ≡ fact 𝓤 (Fills (a .0) (words (now (a .1 .0)) (now (a .1 .1 .0)) (now (a .1 .1 .1 .0))) (now (a .1 .1 .1 .1 .0)) (now (a .1 .1 .1 .1 .1 .0)) (now (a .1 .1 .1 .1 .1 .1 .0)) (a .1 .1 .1 .1 .1 .1 .1 .0) r (words (now (e .1 .0)) (now (e .1 .1 .0)) (now (e .1 .1 .1 .0))) (now (e .1 .1 .1 .1 .0))))
+      × (fill-call.clauses 𝓤 H A mem run κs a .ensures tt r e ≡ fact 𝓤 (Fills (a .0) (words (now (a .1 .0)) (now (a .1 .1 .0)) (now (a .1 .1 .1 .0)))
+      (now (a .1 .1 .1 .1 .0)) (now (a .1 .1 .1 .1 .1 .0)) (now (a .1 .1 .1 .1 .1 .1 .0)) (a .1 .1 .1 .1 .1 .1 .1 .0) r (words (now (e .1 .0)) (now
+      (e .1 .1 .0)) (now (e .1 .1 .1 .0))) (now (e .1 .1 .1 .1 .0))))
   fill-source κs a r e = (refl, refl)
 
   push-source : (κs : Lfts (push-call.signature .lifetimes)) (a : Args push-call.signature κs) (r : Built) (e : AtExit push-call.ended κs)
       → (push-call.clauses 𝓤 H A mem run κs a .requires tt ≡ emp 𝓤)
-      × (push-call.clauses 𝓤 H A mem run κs a .ensures tt r e ≡ fact 𝓤 (Pushes (a .0) (words (now (a .1 .0)) (now (a .1 .1 .0)) (now (a .1 .1 .1 .0))) (now (a .1 .1 .1 .1 .0)) (now (a .1 .1 .1 .1 .1 .0)) (a .1 .1 .1 .1 .1 .1 .0) r (words (now (e .1 .0)) (now (e .1 .1 .0)) (now (e .1 .1 .1 .0))) (now (e .1 .1 .1 .1 .0)) (now (e .1 .1 .1 .1 .1 .0))))
+      × (push-call.clauses 𝓤 H A mem run κs a .ensures tt r e ≡ fact 𝓤 (Pushes (a .0) (words (now (a .1 .0)) (now (a .1 .1 .0)) (now (a .1 .1 .1 .0)))
+      (now (a .1 .1 .1 .1 .0)) (now (a .1 .1 .1 .1 .1 .0)) (a .1 .1 .1 .1 .1 .1 .0) r (words (now (e .1 .0)) (now (e .1 .1 .0)) (now (e .1 .1 .1 .0)))
+      (now (e .1 .1 .1 .1 .0)) (now (e .1 .1 .1 .1 .1 .0))))
   push-source κs a r e = (refl, refl)
 
   pop-source : (κs : Lfts (pop-call.signature .lifetimes)) (a : Args pop-call.signature κs) (r : Built) (e : AtExit pop-call.ended κs)
       → (pop-call.clauses 𝓤 H A mem run κs a .requires tt ≡ emp 𝓤)
-      × (pop-call.clauses 𝓤 H A mem run κs a .ensures tt r e ≡ fact 𝓤 (Pops (a .0) (pops.lent (words (now (a .1 .0)) (now (a .1 .1 .0)) (now (a .1 .1 .1 .0))) (now (a .1 .1 .1 .1 .0)) (now (a .1 .1 .1 .1 .1 .0)) (now (a .1 .1 .1 .1 .1 .1 .0))) (now (a .1 .1 .1 .1 .1 .1 .1 .0)) r (pops.lent (words (now (e .1 .0)) (now (e .1 .1 .0)) (now (e .1 .1 .1 .0))) (now (e .1 .1 .1 .1 .0)) (now (e .1 .1 .1 .1 .1 .0)) (now (e .1 .1 .1 .1 .1 .1 .0)))))
+      × (pop-call.clauses 𝓤 H A mem run κs a .ensures tt r e ≡ fact 𝓤 (Pops (a .0) (pops.lent (words (now (a .1 .0)) (now (a .1 .1 .0)) (now (a .1 .1 .1 .0)))
+      (now (a .1 .1 .1 .1 .0)) (now (a .1 .1 .1 .1 .1 .0)) (now (a .1 .1 .1 .1 .1 .1 .0))) (now (a .1 .1 .1 .1 .1 .1 .1 .0)) r (pops.lent (words (now
+      (e .1 .0)) (now (e .1 .1 .0)) (now (e .1 .1 .1 .0))) (now (e .1 .1 .1 .1 .0)) (now (e .1 .1 .1 .1 .1 .0)) (now (e .1 .1 .1 .1 .1 .1 .0)))))
   pop-source κs a r e = (refl, refl)
 
   filter-source : (κs : Lfts (filter-call.signature .lifetimes)) (a : Args filter-call.signature κs) (r : Built) (e : AtExit filter-call.ended κs)
       → (filter-call.clauses 𝓤 H A mem run κs a .requires tt ≡ emp 𝓤)
-      × (filter-call.clauses 𝓤 H A mem run κs a .ensures tt r e ≡ fact 𝓤 (Filters (a .0) (words (now (a .1 .0)) (now (a .1 .1 .0)) (now (a .1 .1 .1 .0))) (now (a .1 .1 .1 .1 .0)) (now (a .1 .1 .1 .1 .1 .0)) (a .1 .1 .1 .1 .1 .1 .0) (picture-of (a .1 .1 .1 .1 .1 .1 .1 .0)) (a .1 .1 .1 .1 .1 .1 .1 .1 .0) r (words (now (e .1 .0)) (now (e .1 .1 .0)) (now (e .1 .1 .1 .0))) (now (e .1 .1 .1 .1 .0)) (now (e .1 .1 .1 .1 .1 .0))))
+      × (filter-call.clauses 𝓤 H A mem run κs a .ensures tt r e ≡ fact 𝓤 (Filters (a .0) (words (now (a .1 .0)) (now (a .1 .1 .0)) (now (a .1 .1 .1 .0)))
+      (now (a .1 .1 .1 .1 .0)) (now (a .1 .1 .1 .1 .1 .0)) (a .1 .1 .1 .1 .1 .1 .0) (picture-of (a .1 .1 .1 .1 .1 .1 .1 .0)) (a .1 .1 .1 .1 .1 .1 .1 .1 .0)
+      r (words (now (e .1 .0)) (now (e .1 .1 .0)) (now (e .1 .1 .1 .0))) (now (e .1 .1 .1 .1 .0)) (now (e .1 .1 .1 .1 .1 .0))))
   filter-source κs a r e = (refl, refl)

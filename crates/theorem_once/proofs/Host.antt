@@ -29,6 +29,7 @@ use Rattle.step_pop.specs.Pop as pops
 use Rattle.step_filter.specs.declared.Placement.{Placement}
 use Rattle.paint_command.specs.Painting as paint
 use Rattle.paint_screen.specs.Stepping.{Attributes, attributes}
+use Rattle.host_screen.specs.declared.SetupWords.{SetupWords}
 use Rattle.host_screen.specs.State.{rect}
 use Rattle.host.specs.Building.{reset-call, recording-call, draw, fill-call, clip, props, push-call, pop-call, placement, picture, filter-call}
 use Rattle.host.specs.Painting.{begin-call, step-call, row-call, unset-call, visible-call, write-call, skip-call, split-call}
@@ -58,28 +59,28 @@ once : {T : Type 0} (a : Answer T) (r q : ℕ) (x y : T) → answer r x ≡ a �
 once {T} a r q x y e f = let h = e ∙ sym f in (ap (λ (z : Answer T). z .number) h, ap (λ (z : Answer T). z .value) h)
 
 -- `coarse_reset`: all ten tables
-module _ (viewport : Rect) (c d : ℕ) (state : List ℕ) (lent : Tables) where
+module _ (viewport : Rect) (setup : SetupWords) (state : List ℕ) (lent : Tables) where
   abbrev pub Resets : ℕ → List ℕ × Tables → Type 0
-  Resets r x = answer r x ≡ reset-call viewport c d state lent
+  Resets r x = answer r x ≡ reset-call viewport setup state lent
 
   pub one-reset : (r q : ℕ) (x y : List ℕ × Tables) → Resets r x → Resets q y → (r ≡ q) × (x ≡ y)
-  one-reset = once (reset-call viewport c d state lent)
+  one-reset = once (reset-call viewport setup state lent)
 
 -- `coarse_bucket_recording`: all ten tables
-module _ (file : List ℕ) (c d : ℕ) (state : List ℕ) (lent : Tables) where
+module _ (file : List ℕ) (setup : SetupWords) (state : List ℕ) (lent : Tables) where
   abbrev pub Records : ℕ → List ℕ × Tables → Type 0
-  Records r x = answer r x ≡ recording-call file c d state lent
+  Records r x = answer r x ≡ recording-call file setup state lent
 
   pub one-recording : (r q : ℕ) (x y : List ℕ × Tables) → Records r x → Records q y → (r ≡ q) × (x ≡ y)
-  one-recording = once (recording-call file c d state lent)
+  one-recording = once (recording-call file setup state lent)
 
 -- `coarse_why`: all ten tables and the result
-module _ (file : List ℕ) (c d row tile layer attribute : ℕ) (state : List ℕ) (lent : Tables) (result : List ℕ) where
+module _ (file : List ℕ) (setup : SetupWords) (row tile layer attribute : ℕ) (state : List ℕ) (lent : Tables) (result : List ℕ) where
   abbrev pub Explains : ℕ → List ℕ × Tables × List ℕ → Type 0
-  Explains r x = answer r x ≡ why-call file c d row tile layer attribute state lent result
+  Explains r x = answer r x ≡ why-call file setup row tile layer attribute state lent result
 
   pub one-coarse-why : (r q : ℕ) (x y : List ℕ × Tables × List ℕ) → Explains r x → Explains q y → (r ≡ q) × (x ≡ y)
-  one-coarse-why = once (why-call file c d row tile layer attribute state lent result)
+  one-coarse-why = once (why-call file setup row tile layer attribute state lent result)
 
 -- `coarse_fill`: the rows' words and the paint attributes
 module _ (paints segments : List ℕ) (given : Draw) (state : List ℕ) (rows : Words) (attrs : List ℕ) where
@@ -186,12 +187,12 @@ module _ (given : Span) (parts : List ℕ) where
   one-split = once (split-call given parts)
 
 -- `coarse_sizes`: the sizes
-module _ (viewport : Rect) (c d : ℕ) (sizes : List ℕ) where
+module _ (viewport : Rect) (setup : SetupWords) (sizes : List ℕ) where
   abbrev pub Sizes : ℕ → List ℕ → Type 0
-  Sizes r x = answer r x ≡ size-call viewport c d sizes
+  Sizes r x = answer r x ≡ size-call viewport setup sizes
 
   pub one-sizes : (r q : ℕ) (x y : List ℕ) → Sizes r x → Sizes q y → (r ≡ q) × (x ≡ y)
-  one-sizes = once (size-call viewport c d sizes)
+  one-sizes = once (size-call viewport setup sizes)
 
 -- No call asks anything, and the promises are the sources' clauses: at the arguments a, the result r and the arguments at exit e.
 module _ {M : Type 1} (𝓤 : URA M) (H : Heap 𝓤) (A : Atoms 𝓤) (mem : Memory → SProp 𝓤) (run : Routine → Fun 𝓤) where
@@ -205,11 +206,11 @@ module _ {M : Type 1} (𝓤 : URA M) (H : Heap 𝓤) (A : Atoms 𝓤) (mem : Mem
       (coarse-reset.clauses 𝓤 H A mem run κs a .requires tt ≡ emp 𝓤)
       × (coarse-reset.clauses 𝓤 H A mem run κs a .ensures tt r e
       ≡ fact 𝓤
-      (Resets (rect (a .1 .0) (a .1 .1 .0) (a .1 .1 .1 .0) (a .1 .1 .1 .1 .0)) (a5 .0) (a5 .1 .0) (now (a .0)) (tables (now (a5 .1 .1 .0)) (now (a5 .1 .1 .1 .0)) (now (a5 .1 .1 .1 .1 .0)) (now (a10 .0)) (now (a10 .1 .0))
-      (now (a10 .1 .1 .0)) (now (a10 .1 .1 .1 .0)) (now (a10 .1 .1 .1 .1 .0)) (now (a15 .0)) (now (a15 .1 .0))) r (
+      (Resets (rect (a .1 .0) (a .1 .1 .0) (a .1 .1 .1 .0) (a .1 .1 .1 .1 .0)) (a5 .0) (now (a .0)) (tables (now (a5 .1 .0)) (now (a5 .1 .1 .0)) (now (a5 .1 .1 .1 .0)) (now (a5 .1 .1 .1 .1 .0)) (now (a10 .0))
+      (now (a10 .1 .0)) (now (a10 .1 .1 .0)) (now (a10 .1 .1 .1 .0)) (now (a10 .1 .1 .1 .1 .0)) (now (a15 .0))) r (
         now (e .0),
-        tables (now (e5 .1 .1 .0)) (now (e5 .1 .1 .1 .0)) (now (e5 .1 .1 .1 .1 .0)) (now (e10 .0)) (now (e10 .1 .0))
-            (now (e10 .1 .1 .0)) (now (e10 .1 .1 .1 .0)) (now (e10 .1 .1 .1 .1 .0)) (now (e15 .0)) (now (e15 .1 .0)),
+        tables (now (e5 .1 .0)) (now (e5 .1 .1 .0)) (now (e5 .1 .1 .1 .0)) (now (e5 .1 .1 .1 .1 .0)) (now (e10 .0))
+            (now (e10 .1 .0)) (now (e10 .1 .1 .0)) (now (e10 .1 .1 .1 .0)) (now (e10 .1 .1 .1 .1 .0)) (now (e15 .0)),
       )))
   reset-source κs a r e = (refl, refl)
 
@@ -221,11 +222,11 @@ module _ {M : Type 1} (𝓤 : URA M) (H : Heap 𝓤) (A : Atoms 𝓤) (mem : Mem
       (coarse-recording.clauses 𝓤 H A mem run κs a .requires tt ≡ emp 𝓤)
       × (coarse-recording.clauses 𝓤 H A mem run κs a .ensures tt r e
       ≡ fact 𝓤
-      (Records (now (a .1 .0)) (a .1 .1 .0) (a .1 .1 .1 .0) (now (a .0)) (tables (now (a .1 .1 .1 .1 .0)) (now (a5 .0)) (now (a5 .1 .0)) (now (a5 .1 .1 .0)) (now (a5 .1 .1 .1 .0))
-      (now (a5 .1 .1 .1 .1 .0)) (now (a10 .0)) (now (a10 .1 .0)) (now (a10 .1 .1 .0)) (now (a10 .1 .1 .1 .0))) r (
+      (Records (now (a .1 .0)) (a .1 .1 .0) (now (a .0)) (tables (now (a .1 .1 .1 .0)) (now (a .1 .1 .1 .1 .0)) (now (a5 .0)) (now (a5 .1 .0)) (now (a5 .1 .1 .0))
+      (now (a5 .1 .1 .1 .0)) (now (a5 .1 .1 .1 .1 .0)) (now (a10 .0)) (now (a10 .1 .0)) (now (a10 .1 .1 .0))) r (
         now (e .0),
-        tables (now (e .1 .1 .1 .1 .0)) (now (e5 .0)) (now (e5 .1 .0)) (now (e5 .1 .1 .0)) (now (e5 .1 .1 .1 .0))
-            (now (e5 .1 .1 .1 .1 .0)) (now (e10 .0)) (now (e10 .1 .0)) (now (e10 .1 .1 .0)) (now (e10 .1 .1 .1 .0)),
+        tables (now (e .1 .1 .1 .0)) (now (e .1 .1 .1 .1 .0)) (now (e5 .0)) (now (e5 .1 .0)) (now (e5 .1 .1 .0))
+            (now (e5 .1 .1 .1 .0)) (now (e5 .1 .1 .1 .1 .0)) (now (e10 .0)) (now (e10 .1 .0)) (now (e10 .1 .1 .0)),
       )))
   recording-source κs a r e = (refl, refl)
 
@@ -239,12 +240,12 @@ module _ {M : Type 1} (𝓤 : URA M) (H : Heap 𝓤) (A : Atoms 𝓤) (mem : Mem
       (coarse-why.clauses 𝓤 H A mem run κs a .requires tt ≡ emp 𝓤)
       × (coarse-why.clauses 𝓤 H A mem run κs a .ensures tt r e
       ≡ fact 𝓤
-      (Explains (now (a .1 .0)) (a .1 .1 .0) (a .1 .1 .1 .0) (a .1 .1 .1 .1 .0) (a5 .0) (a5 .1 .0) (a5 .1 .1 .0) (now (a .0)) (tables (now (a5 .1 .1 .1 .0)) (now (a5 .1 .1 .1 .1 .0)) (now (a10 .0)) (now (a10 .1 .0)) (now (a10 .1 .1 .0))
-      (now (a10 .1 .1 .1 .0)) (now (a10 .1 .1 .1 .1 .0)) (now (a15 .0)) (now (a15 .1 .0)) (now (a15 .1 .1 .0))) (now (a15 .1 .1 .1 .0)) r (
+      (Explains (now (a .1 .0)) (a .1 .1 .0) (a .1 .1 .1 .0) (a .1 .1 .1 .1 .0) (a5 .0) (a5 .1 .0) (now (a .0)) (tables (now (a5 .1 .1 .0)) (now (a5 .1 .1 .1 .0)) (now (a5 .1 .1 .1 .1 .0)) (now (a10 .0)) (now (a10 .1 .0))
+      (now (a10 .1 .1 .0)) (now (a10 .1 .1 .1 .0)) (now (a10 .1 .1 .1 .1 .0)) (now (a15 .0)) (now (a15 .1 .0))) (now (a15 .1 .1 .0)) r (
         now (e .0),
-        tables (now (e5 .1 .1 .1 .0)) (now (e5 .1 .1 .1 .1 .0)) (now (e10 .0)) (now (e10 .1 .0)) (now (e10 .1 .1 .0))
-            (now (e10 .1 .1 .1 .0)) (now (e10 .1 .1 .1 .1 .0)) (now (e15 .0)) (now (e15 .1 .0)) (now (e15 .1 .1 .0)),
-        now (e15 .1 .1 .1 .0),
+        tables (now (e5 .1 .1 .0)) (now (e5 .1 .1 .1 .0)) (now (e5 .1 .1 .1 .1 .0)) (now (e10 .0)) (now (e10 .1 .0))
+            (now (e10 .1 .1 .0)) (now (e10 .1 .1 .1 .0)) (now (e10 .1 .1 .1 .1 .0)) (now (e15 .0)) (now (e15 .1 .0)),
+        now (e15 .1 .1 .0),
       )))
   why-source κs a r e = (refl, refl)
 
@@ -393,6 +394,5 @@ module _ {M : Type 1} (𝓤 : URA M) (H : Heap 𝓤) (A : Atoms 𝓤) (mem : Mem
       (coarse-sizes.clauses 𝓤 H A mem run κs a .requires tt ≡ emp 𝓤)
       × (coarse-sizes.clauses 𝓤 H A mem run κs a .ensures tt r e
       ≡ fact 𝓤
-      (Sizes (rect (a .0) (a .1 .0) (a .1 .1 .0) (a .1 .1 .1 .0)) (a .1 .1 .1 .1 .0) (a5 .0) (now (a5 .1 .0)) r
-      (now (e5 .1 .0))))
+      (Sizes (rect (a .0) (a .1 .0) (a .1 .1 .0) (a .1 .1 .1 .0)) (a .1 .1 .1 .1 .0) (now (a5 .0)) r (now (e5 .0))))
   sizes-source κs a r e = (refl, refl)

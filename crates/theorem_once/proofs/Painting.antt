@@ -106,7 +106,9 @@ module _ {M : Type 1} (𝓤 : URA M) (H : Heap 𝓤) (A : Atoms 𝓤) (mem : Mem
 
   step-source : (κs : Lfts (step-call.signature .lifetimes)) (a : Args step-call.signature κs) (r : Stepped) (e : AtExit step-call.ended κs)
       → (step-call.clauses 𝓤 H A mem run κs a .requires tt ≡ emp 𝓤)
-      × (step-call.clauses 𝓤 H A mem run κs a .ensures tt r e ≡ fact 𝓤 (Steps (a .0) (a .1 .0) (attributes (now (a .1 .1 .1 .1 .1 .1 .1 .0)) (now (a .1 .1 .1 .1 .1 .1 .1 .1 .0))) (lent (now (a .1 .1 .0)) (now (a .1 .1 .1 .0)) (now (a .1 .1 .1 .1 .0)) (now (a .1 .1 .1 .1 .1 .0)) (now (a .1 .1 .1 .1 .1 .1 .0)) (now (a .1 .1 .1 .1 .1 .1 .1 .1 .1 .0))) r (now (e .1 .1 .1 .1 .1 .0)) (now (e .1 .1 .1 .1 .1 .1 .0)) (now (e .1 .1 .1 .1 .1 .1 .1 .1 .1 .0))))
+      × (step-call.clauses 𝓤 H A mem run κs a .ensures tt r e ≡ fact 𝓤 (Steps (a .0) (a .1 .0) (attributes (now (a .1 .1 .1 .1 .1 .1 .1 .0)) (now (a .1 .1 .1 .1 .1 .1 .1 .1 .0)))
+      (lent (now (a .1 .1 .0)) (now (a .1 .1 .1 .0)) (now (a .1 .1 .1 .1 .0)) (now (a .1 .1 .1 .1 .1 .0)) (now (a .1 .1 .1 .1 .1 .1 .0)) (now (a .1 .1 .1 .1 .1 .1 .1 .1 .1 .0)))
+      r (now (e .1 .1 .1 .1 .1 .0)) (now (e .1 .1 .1 .1 .1 .1 .0)) (now (e .1 .1 .1 .1 .1 .1 .1 .1 .1 .0))))
   step-source κs a r e = (refl, refl)
 
   row-source : (κs : Lfts (row-call.signature .lifetimes)) (a : Args row-call.signature κs) (r : Stepped) (e : AtExit row-call.ended κs)

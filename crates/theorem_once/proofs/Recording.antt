@@ -16,6 +16,8 @@ use denote.Triple.Entry.{Args}
 use denote.Triple.Clauses.{AtExit}
 use Rattle.rules.specs.Answers.{answer}
 use Rattle.screen.specs.declared.Screen.{Screen}
+use Rattle.screen.specs.declared.Setup.{Setup}
+use Rattle.screen.specs.Screens.{setup-of}
 use Rattle.screen.specs.declared.Built.{Built}
 use Rattle.screen.specs.Tables as all
 use Rattle.screen.specs.Tables.{Tables, tables}
@@ -33,9 +35,9 @@ use Rattle.tile_call.specs.Explained.{explained-as, explained}
 use Rattle.tile_call.proofs.why as why-call
 
 -- `bucket_recording`: the ten tables before and after
-module _ (screen : Screen) (file : List ℕ) (c d : ℕ) (lent : Tables) where
+module _ (screen : Screen) (file : List ℕ) (setup : Setup) (lent : Tables) where
   abbrev pub Records : Built → Tables → Type 0
-  Records r t = answer (r .number) (all.lent (r .screen) t) ≡ recorded file c d (all.lent screen lent)
+  Records r t = answer (r .number) (all.lent (r .screen) t) ≡ recorded file (setup-of setup) (all.lent screen lent)
 
   pub one-recording : (r q : Built) (t u : Tables) → Records r t → Records q u → (r ≡ q) × (t ≡ u)
   one-recording r q t u e f = all-once r q t u (e ∙ sym f)
@@ -62,9 +64,9 @@ explained-once : (r q : Explained) → r .number ≡ q .number → r .screen ≡
 explained-once r q n s e = rw (n, s, e)
 
 -- `why`: the ten tables before and after
-module _ (screen : Screen) (file : List ℕ) (c d row tile : ℕ) (asked : Asked) (lent : Tables) where
+module _ (screen : Screen) (file : List ℕ) (setup : Setup) (row tile : ℕ) (asked : Asked) (lent : Tables) where
   abbrev pub Explains : Explained → Tables → Type 0
-  Explains r t = explained-as (r .number) (all.lent (r .screen) t) (reason-of (r .reason)) ≡ explained file c d row tile (asked-of asked) (all.lent screen lent)
+  Explains r t = explained-as (r .number) (all.lent (r .screen) t) (reason-of (r .reason)) ≡ explained file (setup-of setup) row tile (asked-of asked) (all.lent screen lent)
 
   pub one-why : (r q : Explained) (t u : Tables) → Explains r t → Explains q u → (r ≡ q) × (t ≡ u)
   one-why r q t u e f =
@@ -78,7 +80,12 @@ module _ (screen : Screen) (file : List ℕ) (c d row tile : ℕ) (asked : Asked
 module _ {M : Type 1} (𝓤 : URA M) (H : Heap 𝓤) (A : Atoms 𝓤) (mem : Memory → SProp 𝓤) (run : Routine → Fun 𝓤) where
   recording-source : (κs : Lfts (recording-call.signature .lifetimes)) (a : Args recording-call.signature κs) (r : Built) (e : AtExit recording-call.ended κs)
       → (recording-call.clauses 𝓤 H A mem run κs a .requires tt ≡ emp 𝓤)
-      × (recording-call.clauses 𝓤 H A mem run κs a .ensures tt r e ≡ fact 𝓤 (Records (a .0) (now (a .1 .0)) (a .1 .1 .0) (a .1 .1 .1 .0) (tables (now (a .1 .1 .1 .1 .0)) (now (a .1 .1 .1 .1 .1 .0)) (now (a .1 .1 .1 .1 .1 .1 .0)) (now (a .1 .1 .1 .1 .1 .1 .1 .0)) (now (a .1 .1 .1 .1 .1 .1 .1 .1 .0)) (now (a .1 .1 .1 .1 .1 .1 .1 .1 .1 .0)) (now (a .1 .1 .1 .1 .1 .1 .1 .1 .1 .1 .0)) (now (a .1 .1 .1 .1 .1 .1 .1 .1 .1 .1 .1 .0)) (now (a .1 .1 .1 .1 .1 .1 .1 .1 .1 .1 .1 .1 .0)) (now (a .1 .1 .1 .1 .1 .1 .1 .1 .1 .1 .1 .1 .1 .0))) r (tables (now (e .1 .1 .1 .1 .0)) (now (e .1 .1 .1 .1 .1 .0)) (now (e .1 .1 .1 .1 .1 .1 .0)) (now (e .1 .1 .1 .1 .1 .1 .1 .0)) (now (e .1 .1 .1 .1 .1 .1 .1 .1 .0)) (now (e .1 .1 .1 .1 .1 .1 .1 .1 .1 .0)) (now (e .1 .1 .1 .1 .1 .1 .1 .1 .1 .1 .0)) (now (e .1 .1 .1 .1 .1 .1 .1 .1 .1 .1 .1 .0)) (now (e .1 .1 .1 .1 .1 .1 .1 .1 .1 .1 .1 .1 .0)) (now (e .1 .1 .1 .1 .1 .1 .1 .1 .1 .1 .1 .1 .1 .0)))))
+      × (recording-call.clauses 𝓤 H A mem run κs a .ensures tt r e ≡ fact 𝓤 (Records (a .0) (now (a .1 .0)) (a .1 .1 .0) (tables (now (a .1 .1 .1 .0))
+      (now (a .1 .1 .1 .1 .0)) (now (a .1 .1 .1 .1 .1 .0)) (now (a .1 .1 .1 .1 .1 .1 .0)) (now (a .1 .1 .1 .1 .1 .1 .1 .0)) (now (a .1 .1 .1 .1 .1 .1 .1 .1 .0))
+      (now (a .1 .1 .1 .1 .1 .1 .1 .1 .1 .0)) (now (a .1 .1 .1 .1 .1 .1 .1 .1 .1 .1 .0)) (now (a .1 .1 .1 .1 .1 .1 .1 .1 .1 .1 .1 .0)) (now (a .1 .1 .1 .1 .1 .1 .1 .1 .1 .1 .1 .1 .0)))
+      r (tables (now (e .1 .1 .1 .0)) (now (e .1 .1 .1 .1 .0)) (now (e .1 .1 .1 .1 .1 .0)) (now (e .1 .1 .1 .1 .1 .1 .0)) (now (e .1 .1 .1 .1 .1 .1 .1 .0))
+      (now (e .1 .1 .1 .1 .1 .1 .1 .1 .0)) (now (e .1 .1 .1 .1 .1 .1 .1 .1 .1 .0)) (now (e .1 .1 .1 .1 .1 .1 .1 .1 .1 .1 .0)) (now (e .1 .1 .1 .1 .1 .1 .1 .1 .1 .1 .1 .0))
+      (now (e .1 .1 .1 .1 .1 .1 .1 .1 .1 .1 .1 .1 .0)))))
   recording-source κs a r e = (refl, refl)
 
   why-source : (κs : Lfts (why-call.signature .lifetimes)) (a : Args why-call.signature κs) (r : Explained) (e : AtExit why-call.ended κs)
@@ -89,8 +96,8 @@ module _ {M : Type 1} (𝓤 : URA M) (H : Heap 𝓤) (A : Atoms 𝓤) (mem : Mem
       (why-call.clauses 𝓤 H A mem run κs a .requires tt ≡ emp 𝓤)
       × (why-call.clauses 𝓤 H A mem run κs a .ensures tt r e
       ≡ fact 𝓤
-      (Explains (a .0) (now (a .1 .0)) (a .1 .1 .0) (a .1 .1 .1 .0) (a .1 .1 .1 .1 .0) (a5 .0) (a5 .1 .0) (tables (now (a5 .1 .1 .0)) (now (a5 .1 .1 .1 .0)) (now (a5 .1 .1 .1 .1 .0)) (now (a10 .0)) (now (a10 .1 .0))
-      (now (a10 .1 .1 .0)) (now (a10 .1 .1 .1 .0)) (now (a10 .1 .1 .1 .1 .0)) (now (a10 .1 .1 .1 .1 .1 .0)) (now (a10 .1 .1 .1 .1 .1 .1 .0))) r
-      (tables (now (e5 .1 .1 .0)) (now (e5 .1 .1 .1 .0)) (now (e5 .1 .1 .1 .1 .0)) (now (e10 .0)) (now (e10 .1 .0))
-      (now (e10 .1 .1 .0)) (now (e10 .1 .1 .1 .0)) (now (e10 .1 .1 .1 .1 .0)) (now (e10 .1 .1 .1 .1 .1 .0)) (now (e10 .1 .1 .1 .1 .1 .1 .0)))))
+      (Explains (a .0) (now (a .1 .0)) (a .1 .1 .0) (a .1 .1 .1 .0) (a .1 .1 .1 .1 .0) (a5 .0) (tables (now (a5 .1 .0)) (now (a5 .1 .1 .0)) (now (a5 .1 .1 .1 .0)) (now (a5 .1 .1 .1 .1 .0)) (now (a10 .0))
+      (now (a10 .1 .0)) (now (a10 .1 .1 .0)) (now (a10 .1 .1 .1 .0)) (now (a10 .1 .1 .1 .1 .0)) (now (a10 .1 .1 .1 .1 .1 .0))) r
+      (tables (now (e5 .1 .0)) (now (e5 .1 .1 .0)) (now (e5 .1 .1 .1 .0)) (now (e5 .1 .1 .1 .1 .0)) (now (e10 .0))
+      (now (e10 .1 .0)) (now (e10 .1 .1 .0)) (now (e10 .1 .1 .1 .0)) (now (e10 .1 .1 .1 .1 .0)) (now (e10 .1 .1 .1 .1 .1 .0)))))
   why-source κs a r e = (refl, refl)

@@ -16,6 +16,8 @@ use denote.Triple.Entry.{Args}
 use denote.Triple.Clauses.{AtExit}
 use Rattle.row.specs.Words.{Words, words}
 use Rattle.screen.specs.declared.Screen.{Screen}
+use Rattle.screen.specs.declared.Setup.{Setup}
+use Rattle.screen.specs.Screens.{setup-of}
 use Rattle.screen.specs.Tables.{Tables, tables}
 use Rattle.paint_screen.specs.Stepping.{Attributes, attributes}
 use Rattle.text_screen.specs.declared.Listing.{Listing}
@@ -78,17 +80,17 @@ module _ (screen : Screen) (row : ℕ) (ids : Attributes) (given : paint.RowLent
       )
 
 -- `size_of`
-module _ (file : List ℕ) where
+module _ (file : List ℕ) (setup : Setup) where
   abbrev pub Sizes : Size → Type 0
-  Sizes r = r ≡ size-of file
+  Sizes r = r ≡ size-of file (setup-of setup)
 
   pub one-size : (r q : Size) → Sizes r → Sizes q → r ≡ q
   one-size r q e f = e ∙ sym f
 
 -- `recording_text`: the ten tables and the bytes
-module _ (file : List ℕ) (lent : Tables) (bytes : List ℕ) where
+module _ (file : List ℕ) (setup : Setup) (lent : Tables) (bytes : List ℕ) where
   abbrev pub Records : FileText → Tables → List ℕ → Type 0
-  Records r t b = file-out (showed r b) t ≡ recording-text file lent bytes
+  Records r t b = file-out (showed r b) t ≡ recording-text file (setup-of setup) lent bytes
 
   pub one-recording : (r q : FileText) (t u : Tables) (b c : List ℕ) → Records r t b → Records q u c → (r ≡ q) × (t ≡ u) × (b ≡ c)
   one-recording r q t u b c e f =
@@ -96,9 +98,9 @@ module _ (file : List ℕ) (lent : Tables) (bytes : List ℕ) where
       (ap (λ (x : FileOut). x .showed .text) h, ap (λ (x : FileOut). x .tables) h, ap (λ (x : FileOut). x .showed .bytes) h)
 
 -- `file_text`: the ten tables and the bytes
-module _ (file : List ℕ) (lent : Tables) (bytes : List ℕ) where
+module _ (file : List ℕ) (setup : Setup) (lent : Tables) (bytes : List ℕ) where
   abbrev pub Prints : FileText → Tables → List ℕ → Type 0
-  Prints r t b = file-out (showed r b) t ≡ bytes-text file lent bytes
+  Prints r t b = file-out (showed r b) t ≡ bytes-text file (setup-of setup) lent bytes
 
   pub one-file : (r q : FileText) (t u : Tables) (b c : List ℕ) → Prints r t b → Prints q u c → (r ≡ q) × (t ≡ u) × (b ≡ c)
   one-file r q t u b c e f =
@@ -124,21 +126,34 @@ module _ {M : Type 1} (𝓤 : URA M) (H : Heap 𝓤) (A : Atoms 𝓤) (mem : Mem
 
   row-source : (κs : Lfts (row-call.signature .lifetimes)) (a : Args row-call.signature κs) (r : Listing) (e : AtExit row-call.ended κs)
       → (row-call.clauses 𝓤 H A mem run κs a .requires tt ≡ emp 𝓤)
-      × (row-call.clauses 𝓤 H A mem run κs a .ensures tt r e ≡ fact 𝓤 (Paints (a .0) (a .1 .0) (attributes (now (a .1 .1 .1 .1 .1 .1 .1 .0)) (now (a .1 .1 .1 .1 .1 .1 .1 .1 .0))) (paint.lent (now (a .1 .1 .0)) (now (a .1 .1 .1 .0)) (now (a .1 .1 .1 .1 .0)) (now (a .1 .1 .1 .1 .1 .0)) (now (a .1 .1 .1 .1 .1 .1 .0)) (now (a .1 .1 .1 .1 .1 .1 .1 .1 .1 .0))) (now (a .1 .1 .1 .1 .1 .1 .1 .1 .1 .1 .0)) r (now (e .1 .1 .1 .1 .1 .0)) (now (e .1 .1 .1 .1 .1 .1 .0)) (now (e .1 .1 .1 .1 .1 .1 .1 .1 .1 .0)) (now (e .1 .1 .1 .1 .1 .1 .1 .1 .1 .1 .0))))
+      × (row-call.clauses 𝓤 H A mem run κs a .ensures tt r e ≡ fact 𝓤 (Paints (a .0) (a .1 .0) (attributes (now (a .1 .1 .1 .1 .1 .1 .1 .0)) (now (a .1 .1 .1 .1 .1 .1 .1 .1 .0)))
+      (paint.lent (now (a .1 .1 .0)) (now (a .1 .1 .1 .0)) (now (a .1 .1 .1 .1 .0)) (now (a .1 .1 .1 .1 .1 .0)) (now (a .1 .1 .1 .1 .1 .1 .0)) (now
+      (a .1 .1 .1 .1 .1 .1 .1 .1 .1 .0))) (now (a .1 .1 .1 .1 .1 .1 .1 .1 .1 .1 .0)) r (now (e .1 .1 .1 .1 .1 .0)) (now (e .1 .1 .1 .1 .1 .1 .0))
+      (now (e .1 .1 .1 .1 .1 .1 .1 .1 .1 .0)) (now (e .1 .1 .1 .1 .1 .1 .1 .1 .1 .1 .0))))
   row-source κs a r e = (refl, refl)
 
   -- its source has a second clause, that the numbers are small
   size-source : (κs : Lfts (size-call.signature .lifetimes)) (a : Args size-call.signature κs) (r : Size) (e : AtExit size-call.ended κs)
       → (size-call.clauses 𝓤 H A mem run κs a .requires tt ≡ emp 𝓤)
-      × (size-call.clauses 𝓤 H A mem run κs a .ensures tt r e ≡ sep 𝓤 (fact 𝓤 (Sizes (now (a .0)) r)) (fact 𝓤 ((r .rows ≤ 32) × (r .buckets ≤ 32))))
+      × (size-call.clauses 𝓤 H A mem run κs a .ensures tt r e ≡ sep 𝓤 (fact 𝓤 (Sizes (now (a .0)) (a .1 .0) r)) (fact 𝓤 ((r .rows ≤ 32) × (r .buckets ≤ 32))))
   size-source κs a r e = (refl, refl)
 
   recording-source : (κs : Lfts (recording-call.signature .lifetimes)) (a : Args recording-call.signature κs) (r : FileText) (e : AtExit recording-call.ended κs)
       → (recording-call.clauses 𝓤 H A mem run κs a .requires tt ≡ emp 𝓤)
-      × (recording-call.clauses 𝓤 H A mem run κs a .ensures tt r e ≡ fact 𝓤 (Records (now (a .0)) (tables (now (a .1 .0)) (now (a .1 .1 .0)) (now (a .1 .1 .1 .0)) (now (a .1 .1 .1 .1 .0)) (now (a .1 .1 .1 .1 .1 .0)) (now (a .1 .1 .1 .1 .1 .1 .0)) (now (a .1 .1 .1 .1 .1 .1 .1 .0)) (now (a .1 .1 .1 .1 .1 .1 .1 .1 .0)) (now (a .1 .1 .1 .1 .1 .1 .1 .1 .1 .0)) (now (a .1 .1 .1 .1 .1 .1 .1 .1 .1 .1 .0))) (now (a .1 .1 .1 .1 .1 .1 .1 .1 .1 .1 .1 .0)) r (tables (now (e .1 .0)) (now (e .1 .1 .0)) (now (e .1 .1 .1 .0)) (now (e .1 .1 .1 .1 .0)) (now (e .1 .1 .1 .1 .1 .0)) (now (e .1 .1 .1 .1 .1 .1 .0)) (now (e .1 .1 .1 .1 .1 .1 .1 .0)) (now (e .1 .1 .1 .1 .1 .1 .1 .1 .0)) (now (e .1 .1 .1 .1 .1 .1 .1 .1 .1 .0)) (now (e .1 .1 .1 .1 .1 .1 .1 .1 .1 .1 .0))) (now (e .1 .1 .1 .1 .1 .1 .1 .1 .1 .1 .1 .0))))
+      × (recording-call.clauses 𝓤 H A mem run κs a .ensures tt r e ≡ fact 𝓤 (Records (now (a .0)) (a .1 .0) (tables (now (a .1 .1 .0)) (now (a .1 .1 .1 .0))
+      (now (a .1 .1 .1 .1 .0)) (now (a .1 .1 .1 .1 .1 .0)) (now (a .1 .1 .1 .1 .1 .1 .0)) (now (a .1 .1 .1 .1 .1 .1 .1 .0)) (now (a .1 .1 .1 .1 .1 .1 .1 .1 .0))
+      (now (a .1 .1 .1 .1 .1 .1 .1 .1 .1 .0)) (now (a .1 .1 .1 .1 .1 .1 .1 .1 .1 .1 .0)) (now (a .1 .1 .1 .1 .1 .1 .1 .1 .1 .1 .1 .0))) (now (a .1 .1 .1 .1 .1 .1 .1 .1 .1 .1 .1 .1 .0))
+      r (tables (now (e .1 .1 .0)) (now (e .1 .1 .1 .0)) (now (e .1 .1 .1 .1 .0)) (now (e .1 .1 .1 .1 .1 .0)) (now (e .1 .1 .1 .1 .1 .1 .0)) (now (e .1 .1 .1 .1 .1 .1 .1 .0))
+      (now (e .1 .1 .1 .1 .1 .1 .1 .1 .0)) (now (e .1 .1 .1 .1 .1 .1 .1 .1 .1 .0)) (now (e .1 .1 .1 .1 .1 .1 .1 .1 .1 .1 .0)) (now (e .1 .1 .1 .1 .1 .1 .1 .1 .1 .1 .1 .0)))
+      (now (e .1 .1 .1 .1 .1 .1 .1 .1 .1 .1 .1 .1 .0))))
   recording-source κs a r e = (refl, refl)
 
   file-source : (κs : Lfts (file-call.signature .lifetimes)) (a : Args file-call.signature κs) (r : FileText) (e : AtExit file-call.ended κs)
       → (file-call.clauses 𝓤 H A mem run κs a .requires tt ≡ emp 𝓤)
-      × (file-call.clauses 𝓤 H A mem run κs a .ensures tt r e ≡ fact 𝓤 (Prints (now (a .0)) (tables (now (a .1 .0)) (now (a .1 .1 .0)) (now (a .1 .1 .1 .0)) (now (a .1 .1 .1 .1 .0)) (now (a .1 .1 .1 .1 .1 .0)) (now (a .1 .1 .1 .1 .1 .1 .0)) (now (a .1 .1 .1 .1 .1 .1 .1 .0)) (now (a .1 .1 .1 .1 .1 .1 .1 .1 .0)) (now (a .1 .1 .1 .1 .1 .1 .1 .1 .1 .0)) (now (a .1 .1 .1 .1 .1 .1 .1 .1 .1 .1 .0))) (now (a .1 .1 .1 .1 .1 .1 .1 .1 .1 .1 .1 .0)) r (tables (now (e .1 .0)) (now (e .1 .1 .0)) (now (e .1 .1 .1 .0)) (now (e .1 .1 .1 .1 .0)) (now (e .1 .1 .1 .1 .1 .0)) (now (e .1 .1 .1 .1 .1 .1 .0)) (now (e .1 .1 .1 .1 .1 .1 .1 .0)) (now (e .1 .1 .1 .1 .1 .1 .1 .1 .0)) (now (e .1 .1 .1 .1 .1 .1 .1 .1 .1 .0)) (now (e .1 .1 .1 .1 .1 .1 .1 .1 .1 .1 .0))) (now (e .1 .1 .1 .1 .1 .1 .1 .1 .1 .1 .1 .0))))
+      × (file-call.clauses 𝓤 H A mem run κs a .ensures tt r e ≡ fact 𝓤 (Prints (now (a .0)) (a .1 .0) (tables (now (a .1 .1 .0)) (now (a .1 .1 .1 .0))
+      (now (a .1 .1 .1 .1 .0)) (now (a .1 .1 .1 .1 .1 .0)) (now (a .1 .1 .1 .1 .1 .1 .0)) (now (a .1 .1 .1 .1 .1 .1 .1 .0)) (now (a .1 .1 .1 .1 .1 .1 .1 .1 .0))
+      (now (a .1 .1 .1 .1 .1 .1 .1 .1 .1 .0)) (now (a .1 .1 .1 .1 .1 .1 .1 .1 .1 .1 .0)) (now (a .1 .1 .1 .1 .1 .1 .1 .1 .1 .1 .1 .0))) (now (a .1 .1 .1 .1 .1 .1 .1 .1 .1 .1 .1 .1 .0))
+      r (tables (now (e .1 .1 .0)) (now (e .1 .1 .1 .0)) (now (e .1 .1 .1 .1 .0)) (now (e .1 .1 .1 .1 .1 .0)) (now (e .1 .1 .1 .1 .1 .1 .0)) (now (e .1 .1 .1 .1 .1 .1 .1 .0))
+      (now (e .1 .1 .1 .1 .1 .1 .1 .1 .0)) (now (e .1 .1 .1 .1 .1 .1 .1 .1 .1 .0)) (now (e .1 .1 .1 .1 .1 .1 .1 .1 .1 .1 .0)) (now (e .1 .1 .1 .1 .1 .1 .1 .1 .1 .1 .1 .0)))
+      (now (e .1 .1 .1 .1 .1 .1 .1 .1 .1 .1 .1 .1 .0))))
   file-source κs a r e = (refl, refl)

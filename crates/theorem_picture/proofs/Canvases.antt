@@ -8,6 +8,7 @@ use mathlib.Core.Option.{some}
 use Rattle.rules.specs.Answers.{Answer, answer}
 use Rattle.rules.specs.Boxes.{rows-of}
 use Rattle.rules.specs.Plans.{Step}
+use Rattle.rules.specs.Setups.{Setup, frame}
 use Rattle.rules.specs.Recording.{shape, sections, recording}
 use Rattle.rules.specs.Calls.{Canvas, fresh-canvas, step-call, record-call}
 use Rattle.screen.specs.Judging.{good-tables, arenas}
@@ -36,26 +37,26 @@ step-held x k l h =
       value = λ e. record { whole = step-whole x k (h .whole); same = ap (λ (a : Answer ScreenLent). a .value) q };
     }
 
-module _ (ws : List ℕ) (c d : ℕ) (k : Canvas)
-    (fit : (ss : List (List (List ℕ))) → sections shape ws ≡ some ss → good-tables (rows-of (recording ss .viewport)) (lengths (canvas-words k .tables)) ≡ true) where
+module _ (ws : List ℕ) (q : Setup) (k : Canvas)
+    (fit : (ss : List (List (List ℕ))) → sections shape ws ≡ some ss → good-tables (rows-of (frame q (recording ss .viewport) .viewport)) (lengths (canvas-words k .tables)) ≡ true) where
   -- the rules' call, with the arenas that are lent
   abbrev theirs : Answer Canvas
-  theirs = record-call 32 c d (arenas (lengths (canvas-words k .tables))) ws k
+  theirs = record-call 32 q (arenas (lengths (canvas-words k .tables))) ws k
 
-  plays : Plays Held k (canvas-words k) theirs (recorded ws c d (canvas-words k))
+  plays : Plays Held k (canvas-words k) theirs (recorded ws q (canvas-words k))
   unfolding record-call
   plays =
       words-play Canvas (step-call 32) (fresh-canvas 32) Held step-held
-      (λ v a b l z. record { whole = fresh-whole v a b l z; same = reset-words v a b l z })
-      ws c d (canvas-words k) k fit
+      (λ f l z. record { whole = fresh-whole f l z; same = reset-words f l z })
+      ws q (canvas-words k) k fit
 
-  -- The number and every word. The tables beside the arenas are as long as the file's viewport asks.
-  pub recorded-canvas : recorded ws c d (canvas-words k) ≡ answer (theirs .number) (canvas-words (theirs .value))
+  -- The number and every word. The tables beside the arenas are as long as the frame asks.
+  pub recorded-canvas : recorded ws q (canvas-words k) ≡ answer (theirs .number) (canvas-words (theirs .value))
   recorded-canvas =
-      ap (λ (n : ℕ). answer n (recorded ws c d (canvas-words k) .value)) (plays .number) ∙ ap (λ (l : ScreenLent). answer (theirs .number) l) (go (plays .value))
+      ap (λ (n : ℕ). answer n (recorded ws q (canvas-words k) .value)) (plays .number) ∙ ap (λ (l : ScreenLent). answer (theirs .number) l) (go (plays .value))
     where
-      go : Outcome Held (theirs .number) k (canvas-words k) (theirs .value) (recorded ws c d (canvas-words k) .value)
-          → recorded ws c d (canvas-words k) .value ≡ canvas-words (theirs .value)
+      go : Outcome Held (theirs .number) k (canvas-words k) (theirs .value) (recorded ws q (canvas-words k) .value)
+          → recorded ws q (canvas-words k) .value ≡ canvas-words (theirs .value)
       go (unaltered n s e) = e ∙ ap canvas-words (sym s)
       go (made h) = h .same
 
@@ -63,6 +64,6 @@ module _ (ws : List ℕ) (c d : ℕ) (k : Canvas)
   pub recorded-whole : WholeCanvas k → WholeCanvas (theirs .value)
   recorded-whole w = go (plays .value)
     where
-      go : Outcome Held (theirs .number) k (canvas-words k) (theirs .value) (recorded ws c d (canvas-words k) .value) → WholeCanvas (theirs .value)
+      go : Outcome Held (theirs .number) k (canvas-words k) (theirs .value) (recorded ws q (canvas-words k) .value) → WholeCanvas (theirs .value)
       go (unaltered n s e) = rw s w
       go (made h) = h .whole

@@ -19,7 +19,6 @@ use Rattle.rules.specs.Calls.{Canvas, fresh-canvas, step-call, begin-call, pain
 use Rattle.rules.proofs.All.{both}
 use Rattle.rect.specs.declared.Rect.{Rect}
 use Rattle.rect.specs.Rects.{box-of}
-use Rattle.screen.specs.Screens.{frame}
 use Rattle.screen.specs.Judging.{good-fixed, judged-reset}
 use Rattle.screen.specs.Tables.{zeros, lengths, ScreenLent, reset-to}
 use Rattle.file_read.specs.Reading.{draw-in, props-in}
@@ -42,31 +41,31 @@ use Rattle.theorem_picture.proofs.Calls.{fill-steps, push-steps, pop-st
 use Rattle.theorem_picture.proofs.Words.{step-words, begin-words, paint-words, write-words, begin-screen}
 
 -- a done reset
-module _ (v : Rect) (c d : ℕ) (l : ScreenLent) (z : judged-reset v c d (lengths (l .tables)) ≡ 0) where
+module _ (f : Frame) (l : ScreenLent) (z : judged-reset f (lengths (l .tables)) ≡ 0) where
   abbrev rows : ℕ
-  rows = rows-of (box-of v)
+  rows = rows-of (f .viewport)
 
   abbrev buckets : ℕ
-  buckets = buckets-of 32 (box-of v)
+  buckets = buckets-of 32 (f .viewport)
 
   abbrev fresh : Screen Row
-  fresh = reset fresh-row (frame v c d)
+  fresh = reset fresh-row f
 
   depth-long : length (l .tables .depth) ≡ rows * buckets
   depth-long =
       let k = lengths (l .tables) in
-      let a = both (good-room c && good-room d) _ (judged-facts v c d l z .1) in
-      eqb-true _ _ (both (eqb (k .render) (rows * (4 * c)) && eqb (k .fills) (rows * (2 * d))) (eqb (k .depth) (rows * buckets)) (a .1) .1)
+      let a = both (good-room (f .c) && good-room (f .d)) _ (judged-facts f l z .1) in
+      eqb-true _ _ (both (eqb (k .render) (rows * (4 * f .c)) && eqb (k .fills) (rows * (2 * f .d))) (eqb (k .depth) (rows * buckets)) (a .1) .1)
 
   painting-long : length (l .tables .painting) ≡ rows * 2
   painting-long =
       let k = lengths (l .tables) in
-      let b = both (eqb (k .rows) (rows * 54) && eqb (k .painting) (rows * 2)) (good-fixed k) (judged-facts v c d l z .2) in
+      let b = both (eqb (k .rows) (rows * 54) && eqb (k .painting) (rows * 2)) (good-fixed k) (judged-facts f l z .2) in
       eqb-true _ _ (both (eqb (k .rows) (rows * 54)) (eqb (k .painting) (rows * 2)) (b .0) .1)
 
   count : length (fresh .rows) ≡ rows
   unfolding reset
-  count = fresh-sound v c d l z .count
+  count = fresh-sound f l z .count
 
   zero-depth : zeros 0 (l .tables .depth) ≡ depth-of (blank 32 fresh)
   unfolding zeros reset
@@ -76,14 +75,14 @@ module _ (v : Rect) (c d : ℕ) (l : ScreenLent) (z : judged-reset v c d (length
   unfolding zeros reset
   zero-painting = ap (λ (n : ℕ). replicate n 0) (painting-long ∙ ap (λ (m : ℕ). m * 2) (sym count)) ∙ sym (blank-painting buckets (length (fresh .rows)))
 
-  pub fresh-whole : WholeCanvas (fresh-canvas 32 (frame v c d))
-  fresh-whole = reset-whole (frame v c d) (judged-facts v c d l z .0) (rooms v c d l z .0) (rooms v c d l z .1)
+  pub fresh-whole : WholeCanvas (fresh-canvas 32 f)
+  fresh-whole = reset-whole f (judged-facts f l z .0) (rooms f l z .0) (rooms f l z .1)
 
-  pub reset-words : reset-to v c d l .value ≡ canvas-words (fresh-canvas 32 (frame v c d))
-  reset-words = ap (λ (a : Answer ScreenLent). a .value) (fresh-words v c d l z) ∙ rw (zero-depth, zero-painting)
+  pub reset-words : reset-to f l .value ≡ canvas-words (fresh-canvas 32 f)
+  reset-words = ap (λ (a : Answer ScreenLent). a .value) (fresh-words f l z) ∙ rw (zero-depth, zero-painting)
 
-  reset-stands : Stands (frame v c d) [] (reset-to v c d l .value)
-  reset-stands = record { canvas = fresh-canvas 32 (frame v c d); whole = fresh-whole; built = no-step; same = reset-words }
+  reset-stands : Stands f [] (reset-to f l .value)
+  reset-stands = record { canvas = fresh-canvas 32 f; whole = fresh-whole; built = no-step; same = reset-words }
 
 -- a done step of the rules
 step-done : (x : Step) (k : Canvas) → step-call 32 x k .number ≡ Done
@@ -143,7 +142,7 @@ module _ {f : Frame} {xs : List Step} {l : ScreenLent} (h : Stands f xs l) where
 -- screen is built from the reset by the same done steps.
 pub reached : {f : Frame} {xs : List Step} {l : ScreenLent} → Reached f xs l → Stands f xs l
 unfolding reset-to
-reached (by-reset v c d l e) = reset-stands v c d l (sym (settle-number (judged-reset v c d (lengths (l .tables))) l _) ∙ e)
+reached (by-reset f l e) = reset-stands f l (sym (settle-number (judged-reset f (lengths (l .tables))) l _) ∙ e)
 reached (by-fill ps ss d r e) = called-stands (reached r) (fill-said ps ss d) _ (fill-steps ps ss d _ e) e
 reached (by-push p q s r e) = called-stands (reached r) (a-push q) _ (push-steps p q s _) e
 reached (by-pop ss r e) = called-stands (reached r) (pop-said ss) _ (pop-steps ss _ e) e

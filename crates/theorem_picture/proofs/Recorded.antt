@@ -14,11 +14,10 @@ use Rattle.rules.specs.Rows.{Row, fresh-row, row-ops}
 use Rattle.rules.specs.Plans.{Frame, Step, Layer}
 use Rattle.rules.specs.Steps.{Screen, reset}
 use Rattle.rules.specs.Recording.{Recording, shape, sections, recording, good-records, good-order}
+use Rattle.rules.specs.Setups.{Setup}
 use Rattle.rules.specs.Walk.{Place, frame-of, go-on, _then_, walk-all}
 use Rattle.rules.proofs.Logged.{Logged, logged-call, walk-logged}
 use Rattle.rules.specs.Calls.{begin-call}
-use Rattle.rect.specs.declared.Rect.{Rect}
-use Rattle.screen.specs.Screens.{rect-of}
 use Rattle.screen.specs.Judging.{judged-reset}
 use Rattle.screen.specs.Tables.{lengths, ScreenLent, reset-to}
 use Rattle.file_steps.specs.Steps.{call-at}
@@ -74,18 +73,15 @@ judged-late r = go (good-records r) (good-order r)
     go true false e = omega arith
     go true true e = absurd (eqb-false Done Done e refl)
 
-module _ (ws : List ℕ) (r : Readable ws) (c d : ℕ) (l : ScreenLent) where
+module _ (ws : List ℕ) (r : Readable ws) (q : Setup) (l : ScreenLent) where
   abbrev p : Place
-  p = place c d l
+  p = place q l
 
   abbrev f : Frame
   f = frame-of p (said r)
 
-  abbrev v : Rect
-  v = rect-of (said r .viewport)
-
   abbrev fresh : Answer ScreenLent
-  fresh = reset-to v c d l
+  fresh = reset-to f l
 
   abbrev walk : Answer ScreenLent
   walk = walk-all ScreenLent call-at (said r) (fresh .value)
@@ -97,10 +93,10 @@ module _ (ws : List ℕ) (r : Readable ws) (c d : ℕ) (l : ScreenLent) where
   walked : fresh .number ≡ Done → Both (Logs f) logged walk
   unfolding walk-logged reset-to
   walked e =
-      let z = sym (settle-number (judged-reset v c d (lengths (l .tables))) l _) ∙ e in
+      let z = sym (settle-number (judged-reset f (lengths (l .tables))) l _) ∙ e in
       walk-follows (Logs f) (logged-call Row row-ops 32) call-at (step-logs f) (said r)
       (record { screen = reset fresh-row f; log = [] }) (fresh .value)
-      (record { refines = reset-refines v c d l z .value; reached = by-reset v c d l e })
+      (record { refines = reset-refines f l z .value; reached = by-reset f l e })
 
   -- every layer that it opens it closes; a refusal is past 3
   walked-rules : (logged .number ≡ Done → logged .value .screen .state .layers ≡ []) × Late (logged .number)
@@ -111,13 +107,13 @@ module _ (ws : List ℕ) (r : Readable ws) (c d : ℕ) (l : ScreenLent) where
 
   -- by the answer
   abbrev Result : Answer ScreenLent → Type 0
-  Result a = (a .number ≡ Done → Accepted p ws (a .value)) × ((a .number ≡ Done → ⊥) → Refused c d ws l a)
+  Result a = (a .number ≡ Done → Accepted p ws (a .value)) × ((a .number ≡ Done → ⊥) → Refused q ws l a)
 
   reset-refused : eqb (fresh .number) Done ≡ false → fresh .value ≡ l
   unfolding reset-to
-  reset-refused e = settle-kept (judged-reset v c d (lengths (l .tables))) l _ e
+  reset-refused e = settle-kept (judged-reset f (lengths (l .tables))) l _ e
 
-  result : Result (recorded-in (said r) c d l)
+  result : Result (recorded-in (said r) q l)
   unfolding recorded-in _then_ played
   result = go (eqb (fresh .number) Done) refl
     where
@@ -127,7 +123,7 @@ module _ (ws : List ℕ) (r : Readable ws) (c d : ℕ) (l : ScreenLent) where
           record { words = r; reached = h .reached; begins = begins (reached (h .reached)) (open-none (logged .value .screen) (walk .value) (h .refines) (walked-rules .0 z)) }
 
       walks : fresh .number ≡ Done → (b : Bool) → eqb (walk .number) Done ≡ b → Result (cond b walk (answer (walk .number) (fresh .value)))
-      walks e true q = ((λ z. done e (sym (walked e .number) ∙ z)), λ z. absurd (z (eqb-true _ _ q)))
+      walks e true y = ((λ z. done e (sym (walked e .number) ∙ z)), λ z. absurd (z (eqb-true _ _ y)))
       walks e false q = ((λ z. absurd (eqb-false _ _ q z)), λ z. emptied r (rw (walked e .number) (walked-rules .1 (rw (walked e .number) at q))) e refl)
 
       plays : fresh .number ≡ Done → (b : Bool) → eqb (judged (said r)) Done ≡ b → Result (or-fresh (fresh .value) (go-on b (answer (judged (said r)) (fresh .value)) (walk-all ScreenLent call-at (said r))))
@@ -138,29 +134,29 @@ module _ (ws : List ℕ) (r : Readable ws) (c d : ℕ) (l : ScreenLent) where
       go true e = plays (eqb-true _ _ e) (eqb (judged (said r)) Done) refl
       go false e = ((λ z. absurd (eqb-false _ _ e z)), λ z. kept (reset-refused e))
 
-module _ (ws : List ℕ) (c d : ℕ) (l : ScreenLent) where
+module _ (ws : List ℕ) (q : Setup) (l : ScreenLent) where
   -- An accepted recording leaves words that the steps of its walk reach, and painting can begin there: `picture` speaks of it.
-  pub recorded-reached : recorded ws c d l .number ≡ Done → Accepted (place c d l) ws (recorded ws c d l .value)
+  pub recorded-reached : recorded ws q l .number ≡ Done → Accepted (place q l) ws (recorded ws q l .value)
   unfolding recorded
   recorded-reached = go (sections shape ws) refl
     where
-      go : (o : Option (List (List (List ℕ)))) → sections shape ws ≡ o → of-sections o c d l .number ≡ Done → Accepted (place c d l) ws (of-sections o c d l .value)
+      go : (o : Option (List (List (List ℕ)))) → sections shape ws ≡ o → of-sections o q l .number ≡ Done → Accepted (place q l) ws (of-sections o q l .value)
       go none e z = absurd (omega arith)
-      go (some ss) e z = result ws (record { parts = ss; formed = e }) c d l .0 z
+      go (some ss) e z = result ws (record { parts = ss; formed = e }) q l .0 z
 
   -- A refused one leaves the words as they were, or those of the file's reset.
-  pub recorded-refused : (recorded ws c d l .number ≡ Done → ⊥) → Refused c d ws l (recorded ws c d l)
+  pub recorded-refused : (recorded ws q l .number ≡ Done → ⊥) → Refused q ws l (recorded ws q l)
   unfolding recorded
   recorded-refused = go (sections shape ws) refl
     where
-      go : (o : Option (List (List (List ℕ)))) → sections shape ws ≡ o → (of-sections o c d l .number ≡ Done → ⊥) → Refused c d ws l (of-sections o c d l)
+      go : (o : Option (List (List (List ℕ)))) → sections shape ws ≡ o → (of-sections o q l .number ≡ Done → ⊥) → Refused q ws l (of-sections o q l)
       go none e z = kept refl
-      go (some ss) e z = result ws (record { parts = ss; formed = e }) c d l .1 z
+      go (some ss) e z = result ws (record { parts = ss; formed = e }) q l .1 z
 
   -- With 1, 2 or 3 it leaves them as they were.
-  pub recorded-early : 0 < recorded ws c d l .number → recorded ws c d l .number ≤ 3 → recorded ws c d l .value ≡ l
+  pub recorded-early : 0 < recorded ws q l .number → recorded ws q l .number ≤ 3 → recorded ws q l .value ≡ l
   recorded-early lo hi = go (recorded-refused (λ e. omega arith))
     where
-      go : Refused c d ws l (recorded ws c d l) → recorded ws c d l .value ≡ l
+      go : Refused q ws l (recorded ws q l) → recorded ws q l .value ≡ l
       go (kept e) = e
       go (emptied r n h q) = absurd (omega arith)

@@ -1,6 +1,6 @@
 -- The public call from the recording's answer on: each way that the code takes gives what the definition gives.
 use Prim.Native.Nat.{ℕ, _+_}
-use mathlib.Core.Path.{_≡_, sym, ap, _∙_}
+use mathlib.Core.Path.{_≡_, refl, sym, ap, _∙_}
 use mathlib.Core.Bool.{true, false}
 use mathlib.Core.List.{List}
 use mathlib.Core.Option.{none}
@@ -8,7 +8,8 @@ use lib.ListN.{replicate}
 use borrow.Author.Tests.{eq-eqb, ne-eqb}
 use Rattle.sizes.specs.Sizes.{bucket-tiles}
 use Rattle.rules.specs.Answers.{Answer, answer, Done, BadForm, BadRun}
-use Rattle.rules.specs.Boxes.{Box}
+use Rattle.rules.specs.Boxes.{Box, good-viewport}
+use Rattle.rules.specs.Setups.{Setup, frame, viewport-in}
 use Rattle.rules.specs.Recording.{Recording, shape, sections, recording}
 use Rattle.rules.specs.Walk.{walk-all}
 use Rattle.rules_reason.specs.Reasons.{Reason, Asked}
@@ -18,7 +19,9 @@ use Rattle.file_form.specs.Places as file
 use Rattle.file_form.proofs.Laid.{GoodForm}
 use Rattle.file_judge.specs.Judging.{box-from}
 use Rattle.rect.specs.declared.Rect.{Rect}
-use Rattle.rect.specs.Rects.{box-of}
+use Rattle.rect.specs.declared.Viewport.the-variants as viewport
+use Rattle.rect.specs.Rects.{box-of, seen}
+use Rattle.rect.proofs.Snapping.{good-seen, bad-seen}
 use Rattle.file_form.proofs.Reading.{reads}
 use Rattle.file_call.specs.Recorded.{recorded}
 use Rattle.sizes.specs.Sizes.{line-table}
@@ -29,59 +32,66 @@ use Rattle.rules_reason.specs.Answers.{off-screen}
 use Rattle.tile_call.specs.Explained.{Explained, explained-as, no-reason, told-of, reason-told, explained-of, explained}
 
 -- a story told to its end, or refused: the reason that it gives
-module _ (r : Recording) (v : Box) (row tile : ℕ) (a : Asked) (l : ScreenLent) (e : r .viewport ≡ v) (n : ℕ) (t : Telling)
+module _ (r : Recording) (v : Box) (row tile : ℕ) (a : Asked) (l : ScreenLent) (n : ℕ) (t : Telling)
     (s : Says (walk-all Telling (tell-at bucket-tiles v row tile) r (nothing-told (replicate line-table 0))) n t) where
-  told-here : told-of bucket-tiles r row tile ≡ walk-all Telling (tell-at bucket-tiles v row tile) r (nothing-told (replicate line-table 0))
+  told-here : told-of bucket-tiles v r row tile ≡ walk-all Telling (tell-at bucket-tiles v row tile) r (nothing-told (replicate line-table 0))
   unfolding told-of
-  told-here = rw e
+  told-here = refl
 
-  number-told : told-of bucket-tiles r row tile .number ≡ n
+  number-told : told-of bucket-tiles v r row tile .number ≡ n
   number-told = ap (λ (x : Answer Telling). x .number) told-here ∙ s .number
 
-  pub story-refused : (n ≡ Done → ⊥) → no-reason n l ≡ reason-told a (told-of bucket-tiles r row tile) l
+  pub story-refused : (n ≡ Done → ⊥) → no-reason n l ≡ reason-told a (told-of bucket-tiles v r row tile) l
   story-refused h = rw (number-told, ne-eqb n Done h)
 
   pub story-told : n ≡ Done → (x : Reason) → x ≡ reason-read a (t .lines) (t .paints + t .layers)
-      → explained-as Done l x ≡ reason-told a (told-of bucket-tiles r row tile) l
+      → explained-as Done l x ≡ reason-told a (told-of bucket-tiles v r row tile) l
   story-told z x q =
-      let same : told-of bucket-tiles r row tile .value ≡ t = ap (λ (y : Answer Telling). y .value) told-here ∙ s .value z in
+      let same : told-of bucket-tiles v r row tile .value ≡ t = ap (λ (y : Answer Telling). y .value) told-here ∙ s .value z in
       rw (number-told, eq-eqb n Done z, same, q)
 
--- the four words of a file's viewport
-pub view-is : (p : Layout) (ws : List ℕ) (v : Rect) → box-of v ≡ box-from ws 1 → file.recorded p ws .viewport ≡ box-of v
-unfolding file.recorded box-from
-view-is p ws v e = sym e
+-- the viewport that a file's four words give in a setup
+module _ (p : Layout) (ws : List ℕ) (q : Setup) (b : Rect) (e : box-of b ≡ box-from ws 1) where
+  view-is : viewport-in (q .mode) (box-of b) ≡ frame q (file.recorded p ws .viewport) .viewport
+  unfolding file.recorded box-from
+  view-is = rw e
+
+  pub view-seen : (v : Rect) → viewport.Good v ≡ seen (viewport-in (q .mode) (box-of b)) → frame q (file.recorded p ws .viewport) .viewport ≡ box-of v
+  view-seen v h = sym view-is ∙ sym (ap box-of (good-seen _ v h .1))
+
+  pub view-unseen : viewport.Bad ≡ seen (viewport-in (q .mode) (box-of b)) → good-viewport (frame q (file.recorded p ws .viewport) .viewport) ≡ false
+  view-unseen h = rw (← view-is) (bad-seen _ h)
 
 -- an accepted recording, by where the tile lies
-module _ (r : Recording) (row tile : ℕ) (a : Asked) (l : ScreenLent) where
-  past-screen : off-screen (r .viewport) row tile ≡ true → explained-of r row tile a l ≡ no-reason BadRun l
+module _ (v : Box) (r : Recording) (row tile : ℕ) (a : Asked) (l : ScreenLent) where
+  past-screen : off-screen v row tile ≡ true → explained-of v r row tile a l ≡ no-reason BadRun l
   unfolding explained-of
   past-screen q = rw q
 
-  on-screen : off-screen (r .viewport) row tile ≡ false → explained-of r row tile a l ≡ reason-told a (told-of bucket-tiles r row tile) l
+  on-screen : off-screen v row tile ≡ false → explained-of v r row tile a l ≡ reason-told a (told-of bucket-tiles v r row tile) l
   unfolding explained-of
   on-screen q = rw q
 
 -- the whole call, from what the recording call gave
-module _ (ws : List ℕ) (c d row tile : ℕ) (a : Asked) (old : ScreenLent) (n : ℕ) (l : ScreenLent) (e : answer n l ≡ recorded ws c d old) where
-  pub refused : (n ≡ Done → ⊥) → no-reason n l ≡ explained ws c d row tile a old
+module _ (ws : List ℕ) (q : Setup) (row tile : ℕ) (a : Asked) (old : ScreenLent) (n : ℕ) (l : ScreenLent) (e : answer n l ≡ recorded ws q old) where
+  pub refused : (n ≡ Done → ⊥) → no-reason n l ≡ explained ws q row tile a old
   unfolding explained
   refused h = rw (← e, ne-eqb n Done h)
 
   module _ (z : n ≡ Done) where
-    pub formless : sections shape ws ≡ none → no-reason BadForm l ≡ explained ws c d row tile a old
+    pub formless : sections shape ws ≡ none → no-reason BadForm l ≡ explained ws q row tile a old
     unfolding explained
-    formless q = rw (← e, eq-eqb n Done z, q)
+    formless h = rw (← e, eq-eqb n Done z, h)
 
     module _ (p : Layout) (g : GoodForm ws p) where
-      in-form : explained ws c d row tile a old ≡ explained-of (file.recorded p ws) row tile a l
+      in-form : explained ws q row tile a old ≡ explained-of (frame q (file.recorded p ws .viewport) .viewport) (file.recorded p ws) row tile a l
       unfolding explained
       in-form = rw (← e, eq-eqb n Done z, g .same, reads p ws (g .fits))
 
-      module _ (v : Box) (same : file.recorded p ws .viewport ≡ v) where
-        pub off : off-screen v row tile ≡ true → no-reason BadRun l ≡ explained ws c d row tile a old
-        off q = sym (in-form ∙ past-screen (file.recorded p ws) row tile a l (rw same q))
+      module _ (v : Box) (same : frame q (file.recorded p ws .viewport) .viewport ≡ v) where
+        pub off : off-screen v row tile ≡ true → no-reason BadRun l ≡ explained ws q row tile a old
+        off h = sym (in-form ∙ rw same (past-screen v (file.recorded p ws) row tile a l h))
 
-        pub reasoned : off-screen v row tile ≡ false → (x : Explained) → x ≡ reason-told a (told-of bucket-tiles (file.recorded p ws) row tile) l
-            → x ≡ explained ws c d row tile a old
-        reasoned q x h = h ∙ sym (in-form ∙ on-screen (file.recorded p ws) row tile a l (rw same q))
+        pub reasoned : off-screen v row tile ≡ false → (x : Explained) → x ≡ reason-told a (told-of bucket-tiles v (file.recorded p ws) row tile) l
+            → x ≡ explained ws q row tile a old
+        reasoned h x k = k ∙ sym (in-form ∙ rw same (on-screen v (file.recorded p ws) row tile a l h))

@@ -8,6 +8,8 @@ use lib.ListN.{replicate}
 use lib.Dec.{eqb}
 use Rattle.sizes.specs.Sizes.{bucket-tiles, line-table}
 use Rattle.rules.specs.Answers.{Answer, answer, Done, BadForm, BadRun}
+use Rattle.rules.specs.Boxes.{Box}
+use Rattle.rules.specs.Setups.{Setup, frame}
 use Rattle.rules.specs.Recording.{Recording, shape, sections, recording}
 use Rattle.rules.specs.Walk.{walk-all}
 use Rattle.rules_reason.specs.Answers.{off-screen}
@@ -30,9 +32,9 @@ explained-as n l r = record { number = n; lent = l; reason = r }
 abbrev pub no-reason : ℕ → ScreenLent → Explained
 no-reason n l = explained-as n l unknown-attribute
 
--- the story of a tile of a recording's screen, w tiles a bucket, into blank lines
-unfoldable pub told-of : ℕ → Recording → ℕ → ℕ → Answer Telling
-told-of w r row tile = walk-all Telling (tell-at w (r .viewport) row tile) r (nothing-told (replicate line-table 0))
+-- the story of a tile of a recording's screen, which has the viewport v and w tiles a bucket, into blank lines
+unfoldable pub told-of : ℕ → Box → Recording → ℕ → ℕ → Answer Telling
+told-of w v r row tile = walk-all Telling (tell-at w v row tile) r (nothing-told (replicate line-table 0))
 
 -- the reason that a story gives
 abbrev pub reason-told : Asked → Answer Telling → ScreenLent → Explained
@@ -41,24 +43,22 @@ reason-told a s l =
     (no-reason (s .number) l)
 
 -- an accepted recording
-unfoldable pub explained-of : Recording → ℕ → ℕ → Asked → ScreenLent → Explained
-explained-of r row tile a l =
-    cond (off-screen (r .viewport) row tile) (no-reason BadRun l) (reason-told a (told-of bucket-tiles r row tile) l)
+unfoldable pub explained-of : Box → Recording → ℕ → ℕ → Asked → ScreenLent → Explained
+explained-of v r row tile a l =
+    cond (off-screen v row tile) (no-reason BadRun l) (reason-told a (told-of bucket-tiles v r row tile) l)
 
-abbrev pub explained-in : Option (List (List (List ℕ))) → ℕ → ℕ → Asked → ScreenLent → Explained
-explained-in none row tile a l = no-reason BadForm l
-explained-in (some ss) row tile a l = explained-of (recording ss) row tile a l
+abbrev pub explained-in : Setup → Option (List (List (List ℕ))) → ℕ → ℕ → Asked → ScreenLent → Explained
+explained-in q none row tile a l = no-reason BadForm l
+explained-in q (some ss) row tile a l = let r = recording ss in explained-of (frame q (r .viewport) .viewport) r row tile a l
 
 -- A file's words: the recording's own number first; then 12; then the reason. The words are what the recording call leaves
-unfoldable pub explained : List ℕ → ℕ → ℕ → ℕ → ℕ → Asked → ScreenLent → Explained
-explained ws c d row tile a l =
-    let b = recorded ws c d l in
-    cond (eqb (b .number) Done) (explained-in (sections shape ws) row tile a (b .value)) (no-reason (b .number) (b .value))
+unfoldable pub explained : List ℕ → Setup → ℕ → ℕ → Asked → ScreenLent → Explained
+explained ws q row tile a l =
+    let b = recorded ws q l in
+    cond (eqb (b .number) Done) (explained-in q (sections shape ws) row tile a (b .value)) (no-reason (b .number) (b .value))
 
--- a number and a screen that the recording call gave of a file
-pub record GivenBy (ws : List ℕ) (n : ℕ) (s : Screen) : Type 0 where
-  pub c : ℕ
-  pub d : ℕ
+-- a number and a screen that the recording call gave of a file in a setup
+pub record GivenBy (ws : List ℕ) (q : Setup) (n : ℕ) (s : Screen) : Type 0 where
   pub before : ScreenLent
   pub after : Tables
-  pub same : answer n (lent s after) ≡ recorded ws c d before
+  pub same : answer n (lent s after) ≡ recorded ws q before

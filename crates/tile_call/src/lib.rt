@@ -1,5 +1,4 @@
 // Why a tile of a recording shows what it shows (T-01). `why` is a public call; the others are parts of it.
-ghost use Prim.Native.Nat.{ℕ};
 ghost use mathlib.Core.Path.{_≡_};
 ghost use mathlib.Core.Bool.{true, false};
 ghost use mathlib.Core.List.{[]};
@@ -9,6 +8,7 @@ ghost use Rattle.rules.specs.Boxes.{good-viewport};
 ghost use Rattle.rules.specs.Walk.{walk-all};
 ghost use Rattle.rect.specs.Rects.{box-of};
 ghost use Rattle.rules.specs.Answers.{answer};
+ghost use Rattle.screen.specs.Screens.{setup-of};
 ghost use Rattle.screen.specs.Tables.{Tables, ScreenLent, tables, lent};
 ghost use Rattle.file_form.specs.Places as file;
 ghost use Rattle.file_call.specs.Recorded.{recorded};
@@ -25,13 +25,16 @@ use file_form::Layout;
 use file_form::read_form;
 use file_judge::box_at;
 use rect::Rect;
+use rect::Viewport;
 use screen::Built;
 use screen::Screen;
+use screen::Setup;
 use sizes::BUCKET;
 use sizes::LINE_TABLE;
 use sizes::MOST_LAYERS;
 use sizes::answers::BAD_FORM;
 use sizes::answers::BAD_RUN;
+use sizes::answers::BAD_VIEWPORT;
 use sizes::answers::DONE;
 use sizes::wide;
 use tile_reason::Asked;
@@ -96,7 +99,7 @@ pub fn tell_tile(
     tell_nodes(MOST_LAYERS, spot, within, tale, w, l, first, end, lines)
 }
 
-// The reason of an attribute at a tile of the screen, of a recording that was judged and has this viewport.
+// The reason of an attribute at a tile of the screen of this viewport, of a recording that was judged.
 fn reason_at(
     w: &[u32],
     l: Layout,
@@ -106,9 +109,9 @@ fn reason_at(
     tile: u32,
     asked: Asked,
 ) -> Explained
-    requires { ⌜ WalkReady (now w) l × (file.recorded l (now w) .viewport ≡ box-of viewport) × (good-viewport (box-of viewport) ≡ true) × (off-screen (box-of viewport) row tile ≡ false) ⌝ }
+    requires { ⌜ WalkReady (now w) l × (good-viewport (box-of viewport) ≡ true) × (off-screen (box-of viewport) row tile ≡ false) ⌝ }
     ensures { λ r. ⌜ ((t : Tables) → explained-as (r .number) (lent (r .screen) t) (said-of (r .reason))
-        ≡ reason-told (asked-of asked) (told-of bucket-tiles (file.recorded l (now (w .entry))) row tile) (lent screen t)) ⌝ }
+        ≡ reason-told (asked-of asked) (told-of bucket-tiles (box-of viewport) (file.recorded l (now (w .entry))) row tile) (lent screen t)) ⌝ }
 {
     let mut lines = [0u32; LINE_TABLE];
     let told = tell_tile(w, l, viewport, row, tile, &mut lines);
@@ -129,10 +132,10 @@ fn reason_at(
 }
 
 // What the recording call gave of a file answers for one attribute at one tile.
-fn explain(file: &[u32], built: Built, row: u32, tile: u32, asked: Asked) -> Explained
-    requires { ⌜ GivenBy (now file) (built .number) (built .screen) ⌝ }
-    ensures { λ r. ⌜ ((c d : ℕ) (old : ScreenLent) (t : Tables) → answer (built .number) (lent (built .screen) t) ≡ recorded (now (file .entry)) c d old
-        → explained-as (r .number) (lent (r .screen) t) (said-of (r .reason)) ≡ explained (now (file .entry)) c d row tile (asked-of asked) old) ⌝ }
+fn explain(file: &[u32], setup: Setup, built: Built, row: u32, tile: u32, asked: Asked) -> Explained
+    requires { ⌜ GivenBy (now file) (setup-of setup) (built .number) (built .screen) ⌝ }
+    ensures { λ r. ⌜ ((old : ScreenLent) (t : Tables) → answer (built .number) (lent (built .screen) t) ≡ recorded (now (file .entry)) (setup-of setup) old
+        → explained-as (r .number) (lent (r .screen) t) (said-of (r .reason)) ≡ explained (now (file .entry)) (setup-of setup) row tile (asked-of asked) old) ⌝ }
 {
     let after = built.screen;
     if built.number != DONE {
@@ -149,7 +152,14 @@ fn explain(file: &[u32], built: Built, row: u32, tile: u32, asked: Asked) -> Exp
             reason: Reason::UnknownAttribute,
         };
     };
-    let viewport = box_at(file, 1);
+    let mode = setup.mode;
+    let Viewport::Good(viewport) = box_at(file, 1).viewport_in(mode) else {
+        return Explained {
+            number: BAD_VIEWPORT,
+            screen: after,
+            reason: Reason::UnknownAttribute,
+        };
+    };
     if is_off_screen(viewport, row, tile) {
         return Explained {
             number: BAD_RUN,
@@ -165,8 +175,7 @@ fn explain(file: &[u32], built: Built, row: u32, tile: u32, asked: Asked) -> Exp
 pub fn why(
     screen: Screen,
     file: &[u32],
-    c: u32,
-    d: u32,
+    setup: Setup,
     row: u32,
     tile: u32,
     asked: Asked,
@@ -182,13 +191,12 @@ pub fn why(
     filter_paints: &mut [i32],
 ) -> Explained
     ensures { λ r. ⌜ explained-as (r .number) (lent (r .screen) (tables (now (render .exit)) (now (fills .exit)) (now (depth .exit)) (now (rows .exit)) (now (painting .exit)) (now (layers .exit)) (now (opacities .exit)) (now («paint_attrs» .exit)) (now («layer_attrs» .exit)) (now («filter_paints» .exit)))) (said-of (r .reason))
-        ≡ explained (now (file .entry)) c d row tile (asked-of asked) (lent screen (tables (now (render .entry)) (now (fills .entry)) (now (depth .entry)) (now (rows .entry)) (now (painting .entry)) (now (layers .entry)) (now (opacities .entry)) (now («paint_attrs» .entry)) (now («layer_attrs» .entry)) (now («filter_paints» .entry)))) ⌝ }
+        ≡ explained (now (file .entry)) (setup-of setup) row tile (asked-of asked) (lent screen (tables (now (render .entry)) (now (fills .entry)) (now (depth .entry)) (now (rows .entry)) (now (painting .entry)) (now (layers .entry)) (now (opacities .entry)) (now («paint_attrs» .entry)) (now («layer_attrs» .entry)) (now («filter_paints» .entry)))) ⌝ }
 {
     let built = bucket_recording(
         screen,
         file,
-        c,
-        d,
+        setup,
         render,
         fills,
         depth,
@@ -200,5 +208,5 @@ pub fn why(
         layer_attrs,
         filter_paints,
     );
-    explain(file, built, row, tile, asked)
+    explain(file, setup, built, row, tile, asked)
 }

@@ -3,6 +3,7 @@
 use super::bucketer::RowState;
 use super::depth::DepthBuffer;
 use super::CommandBucketer;
+use std::fmt::{self, Write};
 use std::ops::Range;
 use vello_common::geometry::RectU16;
 
@@ -50,6 +51,38 @@ pub(crate) fn innermost_clip(bucketer: &CommandBucketer) -> Option<Option<Range<
 /// The box that fills are cut to.
 pub(crate) fn clip_box(bucketer: &CommandBucketer) -> RectU16 {
     *bucketer.clip_bboxes.last().expect("the screen's own")
+}
+
+/// The viewport from the Debug text, since it is private. It comes first; the text is left off after it.
+pub(crate) fn viewport(bucketer: &CommandBucketer) -> RectU16 {
+    struct Head(String);
+    impl Write for Head {
+        fn write_str(&mut self, text: &str) -> fmt::Result {
+            self.0.push_str(text);
+            if self.0.contains('}') {
+                Err(fmt::Error)
+            } else {
+                Ok(())
+            }
+        }
+    }
+    let mut head = Head(String::new());
+    write!(head, "{bucketer:?}").expect_err("more than the viewport");
+    let numbers = head
+        .0
+        .split_once("viewport: RectU16 {")
+        .and_then(|(_, rest)| rest.split_once('}'))
+        .expect("a viewport")
+        .0;
+    let numbers: Vec<u16> = numbers
+        .split(", ")
+        .map(|edge| edge.split_once(": ").expect("an edge").1.trim())
+        .map(|edge| edge.parse().expect("a number"))
+        .collect();
+    match numbers[..] {
+        [x0, y0, x1, y1] => RectU16::new(x0, y0, x1, y1),
+        _ => panic!("a viewport of another form: {numbers:?}"),
+    }
 }
 
 /// How many layers a row has a PushBuf of.

@@ -1,11 +1,13 @@
 //! Sequences of calls: building, painting by turns, runs, with edges and with calls that are refused in between.
 
+use super::boxes::{across, axis, down, longest, loosened, Edge};
 use super::damage::WORDS;
 use super::draft::{solid, HALF, ONE};
 use super::scenes::{any_pixmap, blend, bounds, new_list, viewport, OPACITIES};
 use crate::calls::Call;
 use crate::limits::{LAST_ID, MOST_ROOM};
 use crate::random::Random;
+use crate::viewport::{snapped, Mode};
 
 const DEFAULT: [u32; 2] = [0, 3];
 
@@ -17,11 +19,7 @@ const MOST_FILLS: u32 = 8_192;
 /// So many sequences, the edges first, as a stream: those that have at most so many words with their answers.
 pub fn stream(seed: u32, count: u32, most: u32) -> Vec<u8> {
     let mut random = Random::new(seed);
-    let small = |calls: &[Call]| {
-        calls.iter().map(|call| call.words().len()).sum::<usize>()
-            + crate::calls::answers(calls).len()
-            <= most as usize
-    };
+    let small = |calls: &[Call]| size(calls) <= most as usize;
     let mut all = edges();
     all.retain(|calls| small(calls));
     all.truncate(count as usize);
@@ -47,6 +45,7 @@ pub(crate) fn reset(width: u32, height: u32, c: u32, d: u32) -> Call {
         viewport: [0, 0, width, height],
         c,
         d,
+        mode: Mode::Exact,
     }
 }
 
@@ -211,6 +210,7 @@ fn edges() -> Vec<Vec<Call>> {
                 viewport: [128, 4, 384, 12],
                 c: 8,
                 d: 8,
+                mode: Mode::Exact,
             },
             fill(&[solid(1, 0, 8_192), [1, 2, 0, 8_192, u32::MAX - 16 * 8_192]]),
             Call::Show,
@@ -267,6 +267,7 @@ fn edges() -> Vec<Vec<Call>> {
                 viewport: [32, 8, 288, 24],
                 c: 8,
                 d: 8,
+                mode: Mode::Exact,
             },
             filter(5, [0, 9, 64, 15]),
             Call::Filter {
@@ -461,7 +462,70 @@ fn edges() -> Vec<Vec<Call>> {
     all.push(layers());
     all.extend([attributes(), layer_attributes(), filter_paints()]);
     all.push(skips());
+    all.extend(viewports());
     all
+}
+
+/// Words that a sequence of viewports has with its answers, unless one viewport alone has more.
+const MOST_WORDS: usize = 380;
+
+/// Viewports at the edges of the snapping mode, each reset in both modes. Where the snapping one is done, a fill that goes past the screen on
+/// both sides, on its last row and on the next.
+fn viewports() -> Vec<Vec<Call>> {
+    let mut all: Vec<Vec<Call>> = Vec::new();
+    for (viewport, good) in viewport_edges() {
+        let mut calls = vec![
+            sized(viewport, 4, 4, Mode::Exact),
+            sized(viewport, 4, 4, Mode::Snapping),
+        ];
+        if good && fits(viewport, 4, 4) {
+            let [left, _, right, bottom] = snapped(viewport).map(|edge| edge as u32 / 4);
+            let (first, end) = (left.saturating_sub(1), (right + 1).min(8_192));
+            let rows = bottom.saturating_sub(1)..=bottom.min(8_191);
+            let list: Vec<_> = rows.map(|row| solid(row, first, end)).collect();
+            calls.extend([fill(&list), Call::Show]);
+        }
+        match all.last_mut() {
+            Some(last) if size(last) + size(&calls) <= MOST_WORDS => last.extend(calls),
+            _ => all.push(calls),
+        }
+    }
+    all
+}
+
+/// Each with whether it is good once snapped.
+fn viewport_edges() -> Vec<Edge> {
+    let higher = |(start, end, _)| (start, end, true);
+    // 128 pixels are 32 rows, which a program has; one more is good, and not done.
+    let rows = longest(128).into_iter().map(higher).collect();
+    [across(4_096), down(axis(2_048)), down(rows)].concat()
+}
+
+/// The words of a sequence with its answers.
+fn size(calls: &[Call]) -> usize {
+    let words: usize = calls.iter().map(|call| call.words().len()).sum();
+    words + crate::calls::answers(calls).len()
+}
+
+/// Whether a program has room for what a reset asks for.
+fn fits(viewport: [u32; 4], c: u32, d: u32) -> bool {
+    let [_, y0, _, y1] = snapped(viewport);
+    let rows = y1.saturating_sub(y0) / 4;
+    let room = |room: u32| u64::from(room.min(MOST_ROOM));
+    rows <= MOST_ROWS.into()
+        && rows * 4 * room(c) <= MOST_RENDER.into()
+        && rows * 2 * room(d) <= MOST_FILLS.into()
+}
+
+/// A reset that asks for no more than a program has: otherwise for rows without room, which refuse it by 1 unless 2 does.
+fn sized(viewport: [u32; 4], c: u32, d: u32, mode: Mode) -> Call {
+    let (c, d) = if fits(viewport, c, d) { (c, d) } else { (0, 0) };
+    Call::Reset {
+        viewport,
+        c,
+        d,
+        mode,
+    }
 }
 
 /// 16 layers and a 17th, with fills in between, closed again.
@@ -544,6 +608,7 @@ fn skips() -> Vec<Call> {
 
 /// What a sequence has on its screen so far, as far as it is known without doing it.
 struct Sketch {
+    /// The box that the screen holds.
     viewport: [u32; 4],
     /// The clip range of each open layer, if all was done so far.
     open: Vec<Option<(u32, u32)>>,
@@ -566,8 +631,20 @@ fn sequence(random: &mut Random) -> Vec<Call> {
     let mut sketch = Sketch {
         viewport,
         open: Vec::new(),
-        calls: vec![Call::Reset { viewport, c, d }],
+        calls: Vec::new(),
     };
+    if random.chance(6) {
+        let call = edge_reset(&mut sketch, random);
+        sketch.calls.push(call);
+        sketch.viewport = viewport;
+    }
+    let (viewport, mode) = given(viewport, random);
+    sketch.calls.push(Call::Reset {
+        viewport,
+        c,
+        d,
+        mode,
+    });
     if random.chance(3) {
         sketch.calls.push(Call::NextId(LAST_ID - random.below(4)));
     }
@@ -597,15 +674,60 @@ fn build(sketch: &mut Sketch, random: &mut Random) {
         55..70 => open(sketch, random),
         70..80 => close(sketch, random),
         80..92 => sketch.calls.push(any_filter(sketch, random)),
-        92..99 => {
+        92..98 => {
             let call = damaged(sketch, random);
             sketch.calls.push(call);
         }
-        _ => {
+        98 => {
             let call = damaged_reset(sketch, random);
             sketch.calls.push(call);
         }
+        _ => {
+            let call = edge_reset(sketch, random);
+            sketch.calls.push(call);
+        }
     }
+}
+
+/// A viewport of which the screen holds this box: in a third of the cases for the snapping mode, and then mostly loosened.
+fn given(held: [u32; 4], random: &mut Random) -> ([u32; 4], Mode) {
+    if random.chance(67) {
+        (held, Mode::Exact)
+    } else if random.chance(15) {
+        (held, Mode::Snapping)
+    } else {
+        (loosened(held, random), Mode::Snapping)
+    }
+}
+
+/// A reset to a viewport at an edge of the snapping mode, or to one that snaps to the box there; in either mode.
+fn edge_reset(sketch: &mut Sketch, random: &mut Random) -> Call {
+    let mode = if random.chance(67) {
+        Mode::Exact
+    } else {
+        Mode::Snapping
+    };
+    let viewport = if random.chance(40) {
+        loosened(sketch.viewport, random)
+    } else {
+        let side = |random: &mut Random, most: u32| {
+            let (start, end, _) = random.pick(&axis(most));
+            (start, end)
+        };
+        let most = random.pick(&[128, 2_048]);
+        let ((x0, x1), (y0, y1)) = match random.below(3) {
+            0 => (side(random, 4_096), (1, 7)),
+            1 => ((2, 5), side(random, most)),
+            _ => (side(random, 4_096), side(random, most)),
+        };
+        [x0, y0, x1, y1]
+    };
+    let call = sized(viewport, 4, 4, mode);
+    if let (Some(held), Call::Reset { c: 4, .. }) = (mode.held(viewport), &call) {
+        sketch.viewport = held;
+        sketch.open.clear();
+    }
+    call
 }
 
 /// A list of segments with, at times, others around the range that is read.
@@ -807,24 +929,15 @@ fn damaged(sketch: &mut Sketch, random: &mut Random) -> Call {
     }
 }
 
-/// A reset with one word changed. One that would be done asks for no more than a program has.
+/// A reset with one word changed.
 fn damaged_reset(sketch: &mut Sketch, random: &mut Random) -> Call {
-    let [x0, y0, x1, y1] = sketch.viewport;
+    let ([x0, y0, x1, y1], mode) = given(sketch.viewport, random);
     let mut words = [x0, y0, x1, y1, 4, 4];
     change(random, &mut words);
     let [x0, y0, x1, y1, c, d] = words;
-    let rows = y1.saturating_sub(y0).div_ceil(4);
-    let fits = rows <= MOST_ROWS
-        && rows * 4 * c.min(MOST_ROOM) <= MOST_RENDER
-        && rows * 2 * d.min(MOST_ROOM) <= MOST_FILLS;
-    let (c, d) = if fits { (c, d) } else { (0, 0) };
     // Known only as a guess: pops that come later may be refused.
     sketch.open.clear();
-    Call::Reset {
-        viewport: [x0, y0, x1, y1],
-        c,
-        d,
-    }
+    sized([x0, y0, x1, y1], c, d, mode)
 }
 
 /// Painting by turns, and runs in between.
@@ -880,5 +993,48 @@ fn paint(sketch: &mut Sketch, random: &mut Random) {
         if ended && random.chance(70) {
             sketch.calls.push(Call::Begin);
         }
+    }
+}
+
+#[cfg(test)]
+mod tests {
+    use super::{fits, sequence, sized, viewport_edges};
+    use crate::calls::{answers, Call};
+    use crate::random::Random;
+    use crate::viewport::Mode;
+
+    #[test]
+    fn every_reset_has_its_number() {
+        for (viewport, good) in viewport_edges() {
+            let aligned = viewport.iter().all(|edge| edge % 4 == 0);
+            for (mode, good) in [(Mode::Snapping, good), (Mode::Exact, good && aligned)] {
+                let answer = match (good, fits(viewport, 4, 4)) {
+                    (false, _) => 2,
+                    (true, false) => 1,
+                    (true, true) => 0,
+                };
+                let said = answers(&[sized(viewport, 4, 4, mode)]);
+                assert_eq!(said, [answer], "{viewport:?} {mode:?}");
+            }
+        }
+    }
+
+    #[test]
+    fn a_third_of_the_resets_snap() {
+        let mut random = Random::new(1);
+        let (mut resets, mut snapping, mut loose, mut refused) = (0, 0, 0, 0);
+        for call in (0..3_000).flat_map(|_| sequence(&mut random)) {
+            let Call::Reset { viewport, mode, .. } = call else {
+                continue;
+            };
+            let aligned = viewport.iter().all(|edge| edge % 4 == 0);
+            resets += 1;
+            snapping += u32::from(mode == Mode::Snapping);
+            loose += u32::from(mode == Mode::Snapping && !aligned);
+            refused += u32::from(mode == Mode::Exact && !aligned);
+        }
+        assert!((30..37).contains(&(100 * snapping / resets)), "{snapping}");
+        assert!(2 * loose > snapping, "{loose} of {snapping}");
+        assert!(refused > 100, "{refused}");
     }
 }

@@ -33,6 +33,10 @@ pub(crate) const WORDS: [u32; 22] = [
 
 pub(crate) fn damaged(random: &mut Random) -> Made {
     let draft = scene(random);
+    damaged_of(draft, random)
+}
+
+pub(crate) fn damaged_of(draft: Draft, random: &mut Random) -> Made {
     let (name, bytes) = match random.below(8) {
         0 => ("bit turned", bit(random, draft.bytes())),
         1 => ("cut short", cut(random, draft.bytes())),

@@ -9,12 +9,11 @@ use super::Made;
 #[derive(Clone)]
 pub(crate) struct Edge {
     pub(super) made: Made,
-    /// Document 01's number, 0 for done. Only the test reads it.
-    #[cfg_attr(not(test), allow(dead_code))]
+    /// Document 01's number, 0 for done.
     pub(super) answer: u32,
 }
 
-fn edge(name: &str, answer: u32, bytes: Vec<u8>) -> Edge {
+pub(super) fn edge(name: &str, answer: u32, bytes: Vec<u8>) -> Edge {
     Edge {
         made: Made {
             name: format!("edge: {name}"),
@@ -900,11 +899,12 @@ fn full_attrs() -> Vec<Edge> {
 #[cfg(test)]
 mod tests {
     use super::{edges, heavy, ids};
+    use crate::viewport::Mode;
     use crate::walk::Player;
 
     #[test]
     fn every_edge_has_its_number() {
-        let mut player = Player::new(1);
+        let mut player = Player::new(Mode::Exact, 1);
         for edge in [edges(), heavy(), ids()].concat() {
             let answer = player.play(&edge.made.bytes).err().unwrap_or(0);
             assert_eq!(answer, edge.answer, "{}", edge.made.name);

@@ -1,28 +1,37 @@
 //! Makes questions for `why`: recordings with rows and tiles at the edges of what they hold.
 
+use super::boxes::loosened;
 use super::draft::{solid, Draft};
-use super::{another, fixed, is_endless, reasons, scenes, Made};
+use super::snapped::loosened_file;
+use super::{another, fixed, is_endless, mode, reasons, scenes, Made};
 use crate::file::{self, Recording};
 use crate::random::Random;
 use crate::scene::{scene, Scene};
+use crate::viewport::Mode;
 use crate::walk::Player;
 use crate::why::{self, Reason};
+use vello_common::geometry::RectU16;
 
 /// Questions to a hand-made recording beside its own.
 const HAND_MADE: usize = 24;
 
-/// A stream of so many questions, fewer where the kind is a fixed list: of the kind `all` first the recordings made for the reasons, then
-/// those of the kind, each with several questions.
+/// A stream of so many questions, fewer where the kind is a fixed list: of the kinds `all` and `snapped` first the recordings made for the reasons,
+/// their viewports loosened for the latter, then those of the kind, each with several questions.
 pub fn stream(seed: u32, count: u32, kind: &str) -> Option<Vec<u8>> {
+    let mode = mode(kind);
     let mut maker = Maker {
         random: Random::new(seed),
-        player: Player::new(1),
+        mode,
+        player: Player::new(mode, 1),
         left: count,
         out: Vec::new(),
     };
     let fixed = fixed(kind)?;
-    if kind == "all" {
-        for case in reasons::cases() {
+    if ["all", "snapped"].contains(&kind) {
+        for mut case in reasons::cases() {
+            if mode == Mode::Snapping {
+                case.made.bytes = loosened_file(&case.made.bytes, &mut maker.random);
+            }
             let own = case.asked.iter().map(|&(row, tile, _)| (row, tile));
             maker.ask(&case.made, own.collect(), HAND_MADE);
         }
@@ -32,7 +41,7 @@ pub fn stream(seed: u32, count: u32, kind: &str) -> Option<Vec<u8>> {
     }
     while is_endless(kind) && maker.left > 0 {
         let made = if kind != "damaged" && maker.random.chance(25) {
-            with_fills(&mut maker.random)
+            with_fills(&mut maker.random, mode)
         } else {
             another(&mut maker.random, kind)
         };
@@ -47,7 +56,7 @@ fn several(made: &Made) -> usize {
 }
 
 /// A scene with wide opaque fills put between the nodes of its root, so that layers and filter fills are hidden too.
-fn with_fills(random: &mut Random) -> Made {
+fn with_fills(random: &mut Random, mode: Mode) -> Made {
     let mut draft = scenes::scene(random);
     let [x0, y0, x1, y1] = draft.viewport;
     let (left, buckets) = (x0 / 4, (x1 - x0) / 128);
@@ -70,6 +79,9 @@ fn with_fills(random: &mut Random) -> Made {
         }
     }
     let root = draft.nodes(&nodes);
+    if mode == Mode::Snapping {
+        draft.viewport = loosened(draft.viewport, random);
+    }
     Made {
         name: "scene with fills".into(),
         bytes: draft.rooted(root).bytes(),
@@ -89,6 +101,7 @@ type Place = (u32, u32);
 
 struct Maker {
     random: Random,
+    mode: Mode,
     player: Player,
     left: u32,
     out: Vec<u8>,
@@ -101,9 +114,9 @@ impl Maker {
             let far = self.random.pick(&FAR);
             places.push((self.random.pick(&[0, 1, far]), self.random.below(9)));
         } else {
-            let recording = file::judged(&made.bytes).expect("an accepted recording");
-            let edges = Edges::of(&recording);
-            let scene = scene(&recording);
+            let recording = file::judged(&made.bytes, self.mode).expect("an accepted recording");
+            let scene = scene(&recording, self.mode);
+            let edges = Edges::of(&recording, scene.viewport);
             for _ in 0..more {
                 let place = edges.place(&mut self.random, &scene);
                 if !places.contains(&place) {
@@ -137,8 +150,9 @@ struct Edges {
 }
 
 impl Edges {
-    fn of(recording: &Recording) -> Self {
-        let [x0, y0, x1, y1] = recording.viewport;
+    /// Of a recording whose screen holds this box.
+    fn of(recording: &Recording, held: RectU16) -> Self {
+        let [x0, y0, x1, y1] = [held.x0, held.y0, held.x1, held.y1].map(u32::from);
         let (rows, tiles) = ((y1 - y0) / 4, (x1 - x0) / 4);
         let across = |tile: u32| tile.saturating_sub(x0 / 4).min(tiles);
         let down = |row: u32| row.saturating_sub(y0 / 4).min(rows);
@@ -240,14 +254,21 @@ impl Edges {
 mod tests {
     use super::stream;
     use crate::questions::{self, Answerer};
+    use crate::viewport::Mode;
     use crate::walk::Player;
 
     #[test]
     fn many_questions_meet_every_reason() {
-        let bytes = stream(1, 4_000, "all").expect("a kind");
+        for (kind, mode) in [("all", Mode::Exact), ("snapped", Mode::Snapping)] {
+            meet_every_reason(kind, mode);
+        }
+    }
+
+    fn meet_every_reason(kind: &str, mode: Mode) {
+        let bytes = stream(1, 4_000, kind).expect("a kind");
         let questions = questions::stream(&bytes);
         assert_eq!(questions.len(), 4_000);
-        let mut answerer = Answerer::new(Player::new(1));
+        let mut answerer = Answerer::new(Player::new(mode, 1));
         let answers: Vec<String> = questions.into_iter().map(|q| answerer.all(q)).collect();
         assert_eq!(answerer.disagreements, Vec::<String>::new());
         for (kind, reason) in [

@@ -601,8 +601,11 @@ fn deep() -> Vec<Case> {
 
 #[cfg(test)]
 mod tests {
+    use super::super::snapped::loosened_file;
     use super::cases;
     use crate::questions::{Answerer, Question};
+    use crate::random::Random;
+    use crate::viewport::Mode;
     use crate::walk::Player;
 
     /// The lines of `why` in short.
@@ -624,10 +627,21 @@ mod tests {
 
     #[test]
     fn every_tile_has_its_reasons() {
-        let mut answerer = Answerer::new(Player::new(1));
+        has_its_reasons(Mode::Exact, |bytes| bytes);
+    }
+
+    /// A viewport that snaps to the one there changes nothing.
+    #[test]
+    fn every_tile_of_a_snapped_box_has_its_reasons() {
+        let mut random = Random::new(1);
+        has_its_reasons(Mode::Snapping, |bytes| loosened_file(&bytes, &mut random));
+    }
+
+    fn has_its_reasons(mode: Mode, mut file: impl FnMut(Vec<u8>) -> Vec<u8>) {
+        let mut answerer = Answerer::new(Player::new(mode, 1));
         for case in cases() {
+            let bytes = &file(case.made.bytes)[..];
             for (row, tile, said) in case.asked {
-                let bytes = &case.made.bytes[..];
                 let lines = answerer.all(Question { row, tile, bytes });
                 assert_eq!(
                     short(&lines),

@@ -66,8 +66,14 @@ fn stack(random: &mut Random) -> Draft {
 }
 
 fn tree(random: &mut Random) -> Draft {
+    let viewport = viewport(random);
+    tree_on(viewport, random)
+}
+
+/// Fills, layers and filter layers on and around a box of multiples of 4.
+pub(crate) fn tree_on(viewport: [u32; 4], random: &mut Random) -> Draft {
     let mut draft = Draft {
-        viewport: viewport(random),
+        viewport,
         ..Draft::default()
     };
     for _ in 0..random.from(1, 3) {

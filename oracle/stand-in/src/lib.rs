@@ -383,6 +383,7 @@ pub mod strip {
 pub mod util {
     use crate::geometry::RectU16;
     use crate::strip::Strip;
+    use crate::tile::Tile;
     use std::ops::{Index, IndexMut};
 
     /// The hull of segments in pixels; record.rs names it, no run uses it.
@@ -418,9 +419,16 @@ pub mod util {
             }
         }
 
-        /// Viewports are multiples of 4 already.
+        /// Starts lowered and ends raised to multiples of the tile's size, as request T-02 says it. The function itself was not to be had. What
+        /// bucketer.rs tells of it: `new` and `reset` take their viewport through it before anything else, and afterwards hold the
+        /// viewport's start, width and height to be multiples of the tile's size. An end past 65,532 has no multiple to be raised to, and none is given.
         fn snap_to_tile_coordinates(self) -> Self {
-            self
+            Self {
+                x0: self.x0 / Tile::WIDTH * Tile::WIDTH,
+                y0: self.y0 / Tile::HEIGHT * Tile::HEIGHT,
+                x1: self.x1.next_multiple_of(Tile::WIDTH),
+                y1: self.y1.next_multiple_of(Tile::HEIGHT),
+            }
         }
     }
 

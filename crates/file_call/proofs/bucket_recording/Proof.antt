@@ -3,6 +3,7 @@
 use Rattle.file_call.proofs.Recordings.{bad-file, not-reset, all-done, left-fresh}
 use mathlib.Core.Path.{refl, sym, _∙_}
 use mathlib.Core.List.{[]}
+use Rattle.screen.specs.Screens.{setup-of}
 use Rattle.screen.specs.Tables.{ScreenLent, lent, tables}
 use Rattle.file_form.proofs.Laid.{good-form, bad-form}
 use borrow.Author.Needs.{needs}
@@ -19,7 +20,7 @@ enum-told : tie.Need-enum-told
 enum-told c = search needs
 
 returns : tie.Need-returns
-returns c = bad-file _ _ _ _ (bad-form _ (sym (c .enum-told .given .1) ∙ c .before .before .read-form .ensures))
+returns c = bad-file _ (setup-of (c .before .before .before .before .before .before .before .before .before .before .before .before .before .args .setup)) _ (bad-form _ (sym (c .enum-told .given .1) ∙ c .before .before .read-form .ensures))
 
 box-at-requires : tie.Need-box-at-requires
 box-at-requires c κs =
@@ -70,7 +71,7 @@ returns-2 c =
     let at-read-form = at-l .before .before in
     let at-args = at-read-form .before .before .before .before .before .before .before .before .before .before .before in
     not-reset _ _ (good-form (at-args .args .file .now) (at-l .l .given .0 .0) (sym (at-l .l .given .1) ∙ at-read-form .read-form .ensures)) _
-    (at-box-at .box-at .ensures) _ _ _ _ _ (at-reset .reset .ensures) (c .if1 .taken)
+    (at-box-at .box-at .ensures) (setup-of (at-args .args .setup)) _ _ _ (at-reset .reset .ensures) (c .if1 .taken)
 
 play-requires : tie.Need-play-requires
 play-requires c κs =
@@ -86,70 +87,70 @@ same-length-11 c =
     let at-play = c .before .before .before .before .before .before .before .before .before .before .before .before .before .before .before .before .before in
     let at-reset = at-play .before .before .before .before .before .before .before .before .before .before .before .before .before .before .before
     .before .before .before .before .before .before .before .before .before .before .before .before .before .before .before .before in
-    at-play .play .kept .1 .1 .1 .1 .0 ∙ at-reset .reset .kept .1 .1 .1 .1 .0
+    at-play .play .kept .1 .1 .1 .1 .0 ∙ at-reset .reset .kept .1 .1 .1 .0
 
 same-length-12 : tie.Need-same-length-12
 same-length-12 c =
     let at-play = c .before .before .before .before .before .before .before .before .before .before .before .before .before .before .before .before .before in
     let at-reset = at-play .before .before .before .before .before .before .before .before .before .before .before .before .before .before .before
     .before .before .before .before .before .before .before .before .before .before .before .before .before .before .before .before in
-    at-play .play .kept .1 .1 .1 .1 .1 .0 ∙ at-reset .reset .kept .1 .1 .1 .1 .1 .0
+    at-play .play .kept .1 .1 .1 .1 .1 .0 ∙ at-reset .reset .kept .1 .1 .1 .1 .0
 
 same-length-13 : tie.Need-same-length-13
 same-length-13 c =
     let at-reset = c .before .before .before .before .before .before .before .before .before .before .before .before .before .before .before .before
     .before .before .before .before .before .before .before .before .before .before .before .before .before .before .before .before .before .before
     .before .before .before .before .before .before .before .before .before .before .before .before .before .before in
-    at-reset .reset .kept .1 .1 .1 .1 .1 .1 .0
+    at-reset .reset .kept .1 .1 .1 .1 .1 .0
 
 same-length-14 : tie.Need-same-length-14
 same-length-14 c =
     let at-play = c .before .before .before .before .before .before .before .before .before .before .before .before .before .before .before .before .before in
     let at-reset = at-play .before .before .before .before .before .before .before .before .before .before .before .before .before .before .before
     .before .before .before .before .before .before .before .before .before .before .before .before .before .before .before .before in
-    at-play .play .kept .1 .1 .1 .0 ∙ at-reset .reset .kept .1 .1 .1 .1 .1 .1 .1 .0
+    at-play .play .kept .1 .1 .1 .0 ∙ at-reset .reset .kept .1 .1 .1 .1 .1 .1 .0
 
 same-length-15 : tie.Need-same-length-15
 same-length-15 c =
     let at-reset = c .before .before .before .before .before .before .before .before .before .before .before .before .before .before .before .before
     .before .before .before .before .before .before .before .before .before .before .before .before .before .before .before .before .before .before
     .before .before .before .before .before .before .before .before .before .before .before .before .before .before in
-    at-reset .reset .kept .1 .1 .1 .1 .1 .1 .1 .1 .0
+    at-reset .reset .kept .1 .1 .1 .1 .1 .1 .1 .0
 
 same-length-16 : tie.Need-same-length-16
 same-length-16 c =
     let at-play = c .before .before .before .before .before .before .before .before .before .before .before .before .before .before .before .before .before in
     let at-reset = at-play .before .before .before .before .before .before .before .before .before .before .before .before .before .before .before
     .before .before .before .before .before .before .before .before .before .before .before .before .before .before .before .before in
-    at-play .play .kept .1 .1 .1 .1 .1 .1 .0 ∙ at-reset .reset .kept .1 .1 .1 .1 .1 .1 .1 .1 .1 .0
+    at-play .play .kept .1 .1 .1 .1 .1 .1 .0 ∙ at-reset .reset .kept .1 .1 .1 .1 .1 .1 .1 .1 .0
 
 same-length-17 : tie.Need-same-length-17
 same-length-17 c =
     let at-play = c .before .before .before .before .before .before .before .before .before .before .before .before .before .before .before .before .before in
     let at-reset = at-play .before .before .before .before .before .before .before .before .before .before .before .before .before .before .before
     .before .before .before .before .before .before .before .before .before .before .before .before .before .before .before .before in
-    at-play .play .kept .1 .1 .1 .1 .1 .1 .1 .0 ∙ at-reset .reset .kept .1 .1 .1 .1 .1 .1 .1 .1 .1 .1 .0
+    at-play .play .kept .1 .1 .1 .1 .1 .1 .1 .0 ∙ at-reset .reset .kept .1 .1 .1 .1 .1 .1 .1 .1 .1 .0
 
 same-length-18 : tie.Need-same-length-18
 same-length-18 c =
     let at-play = c .before .before .before .before .before .before .before .before .before .before .before .before .before .before .before .before .before in
     let at-reset = at-play .before .before .before .before .before .before .before .before .before .before .before .before .before .before .before
     .before .before .before .before .before .before .before .before .before .before .before .before .before .before .before .before in
-    at-play .play .kept .1 .1 .1 .1 .1 .1 .1 .1 .0 ∙ at-reset .reset .kept .1 .1 .1 .1 .1 .1 .1 .1 .1 .1 .1 .0
+    at-play .play .kept .1 .1 .1 .1 .1 .1 .1 .1 .0 ∙ at-reset .reset .kept .1 .1 .1 .1 .1 .1 .1 .1 .1 .1 .0
 
 same-length-19 : tie.Need-same-length-19
 same-length-19 c =
     let at-play = c .before .before .before .before .before .before .before .before .before .before .before .before .before .before .before .before .before in
     let at-reset = at-play .before .before .before .before .before .before .before .before .before .before .before .before .before .before .before
     .before .before .before .before .before .before .before .before .before .before .before .before .before .before .before .before in
-    at-play .play .kept .1 .1 .1 .1 .1 .1 .1 .1 .1 .0 ∙ at-reset .reset .kept .1 .1 .1 .1 .1 .1 .1 .1 .1 .1 .1 .1 .0
+    at-play .play .kept .1 .1 .1 .1 .1 .1 .1 .1 .1 .0 ∙ at-reset .reset .kept .1 .1 .1 .1 .1 .1 .1 .1 .1 .1 .1 .0
 
 same-length-20 : tie.Need-same-length-20
 same-length-20 c =
     let at-play = c .before .before .before .before .before .before .before .before .before .before .before .before .before .before .before .before .before in
     let at-reset = at-play .before .before .before .before .before .before .before .before .before .before .before .before .before .before .before
     .before .before .before .before .before .before .before .before .before .before .before .before .before .before .before .before in
-    at-play .play .kept .1 .1 .1 .1 .1 .1 .1 .1 .1 .1 .0 ∙ at-reset .reset .kept .1 .1 .1 .1 .1 .1 .1 .1 .1 .1 .1 .1 .1 .0
+    at-play .play .kept .1 .1 .1 .1 .1 .1 .1 .1 .1 .1 .0 ∙ at-reset .reset .kept .1 .1 .1 .1 .1 .1 .1 .1 .1 .1 .1 .1 .0
 
 returns-3 : tie.Need-returns-3
 returns-3 c =
@@ -163,8 +164,8 @@ returns-3 c =
     let at-read-form = at-l .before .before in
     let at-args = at-read-form .before .before .before .before .before .before .before .before .before .before .before in
     all-done _ _ (good-form (at-args .args .file .now) (at-l .l .given .0 .0) (sym (at-l .l .given .1) ∙ at-read-form .read-form .ensures)) _
-    (at-box-at .box-at .ensures) _ _ _ _ _ (at-reset .reset .ensures) (at-if1 .if1 .left) _ _ (at-play .play .ensures (tables
-    [] [] (at-reset .reset .last .1 .1 .1 .1 .1 .1 .0) [] (at-reset .reset .last .1 .1 .1 .1 .1 .1 .1 .1 .0) [] [] [] [] [])) (c .if2 .taken)
+    (at-box-at .box-at .ensures) (setup-of (at-args .args .setup)) _ _ _ (at-reset .reset .ensures) (at-if1 .if1 .left) _ _ (at-play .play .ensures (tables
+    [] [] (at-reset .reset .last .1 .1 .1 .1 .1 .0) [] (at-reset .reset .last .1 .1 .1 .1 .1 .1 .1 .0) [] [] [] [] [])) (c .if2 .taken)
 
 reset-requires-2 : tie.Need-reset-requires-2
 reset-requires-2 c κs = search needs
@@ -177,7 +178,7 @@ same-length-21 c =
     .before .before .before .before .before .before .before .before .before .before .before .before .before in
     let at-reset = at-play .before .before .before .before .before .before .before .before .before .before .before .before .before .before .before
     .before .before .before .before .before .before .before .before .before .before .before .before .before .before .before .before in
-    at-reset2 .reset2 .kept .1 .1 .1 .1 .0 ∙ at-play .play .kept .1 .1 .1 .1 .0 ∙ at-reset .reset .kept .1 .1 .1 .1 .0
+    at-reset2 .reset2 .kept .1 .1 .1 .0 ∙ at-play .play .kept .1 .1 .1 .1 .0 ∙ at-reset .reset .kept .1 .1 .1 .0
 
 same-length-22 : tie.Need-same-length-22
 same-length-22 c =
@@ -187,7 +188,7 @@ same-length-22 c =
     .before .before .before .before .before .before .before .before .before .before .before .before .before in
     let at-reset = at-play .before .before .before .before .before .before .before .before .before .before .before .before .before .before .before
     .before .before .before .before .before .before .before .before .before .before .before .before .before .before .before .before in
-    at-reset2 .reset2 .kept .1 .1 .1 .1 .1 .0 ∙ at-play .play .kept .1 .1 .1 .1 .1 .0 ∙ at-reset .reset .kept .1 .1 .1 .1 .1 .0
+    at-reset2 .reset2 .kept .1 .1 .1 .1 .0 ∙ at-play .play .kept .1 .1 .1 .1 .1 .0 ∙ at-reset .reset .kept .1 .1 .1 .1 .0
 
 same-length-23 : tie.Need-same-length-23
 same-length-23 c =
@@ -197,7 +198,7 @@ same-length-23 c =
     .before .before .before .before .before .before .before .before .before .before .before .before .before .before .before .before .before .before
     .before .before .before .before .before .before .before .before .before .before .before .before .before .before .before .before .before .before
     .before .before .before .before .before .before .before .before in
-    at-reset2 .reset2 .kept .1 .1 .1 .1 .1 .1 .0 ∙ at-reset .reset .kept .1 .1 .1 .1 .1 .1 .0
+    at-reset2 .reset2 .kept .1 .1 .1 .1 .1 .0 ∙ at-reset .reset .kept .1 .1 .1 .1 .1 .0
 
 same-length-24 : tie.Need-same-length-24
 same-length-24 c =
@@ -207,7 +208,7 @@ same-length-24 c =
     .before .before .before .before .before .before .before .before .before .before .before .before .before in
     let at-reset = at-play .before .before .before .before .before .before .before .before .before .before .before .before .before .before .before
     .before .before .before .before .before .before .before .before .before .before .before .before .before .before .before .before in
-    at-reset2 .reset2 .kept .1 .1 .1 .1 .1 .1 .1 .0 ∙ at-play .play .kept .1 .1 .1 .0 ∙ at-reset .reset .kept .1 .1 .1 .1 .1 .1 .1 .0
+    at-reset2 .reset2 .kept .1 .1 .1 .1 .1 .1 .0 ∙ at-play .play .kept .1 .1 .1 .0 ∙ at-reset .reset .kept .1 .1 .1 .1 .1 .1 .0
 
 same-length-25 : tie.Need-same-length-25
 same-length-25 c =
@@ -217,7 +218,7 @@ same-length-25 c =
     .before .before .before .before .before .before .before .before .before .before .before .before .before .before .before .before .before .before
     .before .before .before .before .before .before .before .before .before .before .before .before .before .before .before .before .before .before
     .before .before .before .before .before .before .before .before in
-    at-reset2 .reset2 .kept .1 .1 .1 .1 .1 .1 .1 .1 .0 ∙ at-reset .reset .kept .1 .1 .1 .1 .1 .1 .1 .1 .0
+    at-reset2 .reset2 .kept .1 .1 .1 .1 .1 .1 .1 .0 ∙ at-reset .reset .kept .1 .1 .1 .1 .1 .1 .1 .0
 
 same-length-26 : tie.Need-same-length-26
 same-length-26 c =
@@ -227,7 +228,7 @@ same-length-26 c =
     .before .before .before .before .before .before .before .before .before .before .before .before .before in
     let at-reset = at-play .before .before .before .before .before .before .before .before .before .before .before .before .before .before .before
     .before .before .before .before .before .before .before .before .before .before .before .before .before .before .before .before in
-    at-reset2 .reset2 .kept .1 .1 .1 .1 .1 .1 .1 .1 .1 .0 ∙ at-play .play .kept .1 .1 .1 .1 .1 .1 .0 ∙ at-reset .reset .kept .1 .1 .1 .1 .1 .1 .1 .1 .1 .0
+    at-reset2 .reset2 .kept .1 .1 .1 .1 .1 .1 .1 .1 .0 ∙ at-play .play .kept .1 .1 .1 .1 .1 .1 .0 ∙ at-reset .reset .kept .1 .1 .1 .1 .1 .1 .1 .1 .0
 
 same-length-27 : tie.Need-same-length-27
 same-length-27 c =
@@ -237,8 +238,8 @@ same-length-27 c =
     .before .before .before .before .before .before .before .before .before .before .before .before .before in
     let at-reset = at-play .before .before .before .before .before .before .before .before .before .before .before .before .before .before .before
     .before .before .before .before .before .before .before .before .before .before .before .before .before .before .before .before in
-    at-reset2 .reset2 .kept .1 .1 .1 .1 .1 .1 .1 .1 .1 .1 .0 ∙ at-play .play .kept .1 .1 .1 .1 .1 .1 .1 .0 ∙
-    at-reset .reset .kept .1 .1 .1 .1 .1 .1 .1 .1 .1 .1 .0
+    at-reset2 .reset2 .kept .1 .1 .1 .1 .1 .1 .1 .1 .1 .0 ∙ at-play .play .kept .1 .1 .1 .1 .1 .1 .1 .0 ∙
+    at-reset .reset .kept .1 .1 .1 .1 .1 .1 .1 .1 .1 .0
 
 same-length-28 : tie.Need-same-length-28
 same-length-28 c =
@@ -248,8 +249,8 @@ same-length-28 c =
     .before .before .before .before .before .before .before .before .before .before .before .before .before in
     let at-reset = at-play .before .before .before .before .before .before .before .before .before .before .before .before .before .before .before
     .before .before .before .before .before .before .before .before .before .before .before .before .before .before .before .before in
-    at-reset2 .reset2 .kept .1 .1 .1 .1 .1 .1 .1 .1 .1 .1 .1 .0 ∙ at-play .play .kept .1 .1 .1 .1 .1 .1 .1 .1 .0 ∙
-    at-reset .reset .kept .1 .1 .1 .1 .1 .1 .1 .1 .1 .1 .1 .0
+    at-reset2 .reset2 .kept .1 .1 .1 .1 .1 .1 .1 .1 .1 .1 .0 ∙ at-play .play .kept .1 .1 .1 .1 .1 .1 .1 .1 .0 ∙
+    at-reset .reset .kept .1 .1 .1 .1 .1 .1 .1 .1 .1 .1 .0
 
 same-length-29 : tie.Need-same-length-29
 same-length-29 c =
@@ -259,8 +260,8 @@ same-length-29 c =
     .before .before .before .before .before .before .before .before .before .before .before .before .before in
     let at-reset = at-play .before .before .before .before .before .before .before .before .before .before .before .before .before .before .before
     .before .before .before .before .before .before .before .before .before .before .before .before .before .before .before .before in
-    at-reset2 .reset2 .kept .1 .1 .1 .1 .1 .1 .1 .1 .1 .1 .1 .1 .0 ∙ at-play .play .kept .1 .1 .1 .1 .1 .1 .1 .1 .1 .0 ∙
-    at-reset .reset .kept .1 .1 .1 .1 .1 .1 .1 .1 .1 .1 .1 .1 .0
+    at-reset2 .reset2 .kept .1 .1 .1 .1 .1 .1 .1 .1 .1 .1 .1 .0 ∙ at-play .play .kept .1 .1 .1 .1 .1 .1 .1 .1 .1 .0 ∙
+    at-reset .reset .kept .1 .1 .1 .1 .1 .1 .1 .1 .1 .1 .1 .0
 
 same-length-30 : tie.Need-same-length-30
 same-length-30 c =
@@ -270,8 +271,8 @@ same-length-30 c =
     .before .before .before .before .before .before .before .before .before .before .before .before .before in
     let at-reset = at-play .before .before .before .before .before .before .before .before .before .before .before .before .before .before .before
     .before .before .before .before .before .before .before .before .before .before .before .before .before .before .before .before in
-    at-reset2 .reset2 .kept .1 .1 .1 .1 .1 .1 .1 .1 .1 .1 .1 .1 .1 .0 ∙ at-play .play .kept .1 .1 .1 .1 .1 .1 .1 .1 .1 .1 .0 ∙
-    at-reset .reset .kept .1 .1 .1 .1 .1 .1 .1 .1 .1 .1 .1 .1 .1 .0
+    at-reset2 .reset2 .kept .1 .1 .1 .1 .1 .1 .1 .1 .1 .1 .1 .1 .0 ∙ at-play .play .kept .1 .1 .1 .1 .1 .1 .1 .1 .1 .1 .0 ∙
+    at-reset .reset .kept .1 .1 .1 .1 .1 .1 .1 .1 .1 .1 .1 .1 .0
 
 returns-4 : tie.Need-returns-4
 returns-4 c =
@@ -289,21 +290,21 @@ returns-4 c =
     let at-read-form = at-l .before .before in
     let at-args = at-read-form .before .before .before .before .before .before .before .before .before .before .before in
     let fresh : ScreenLent =
-    (lent (at-reset .reset .result .screen) (tables (at-reset .reset .last .1 .1 .1 .1 .0) (at-reset .reset .last .1 .1 .1 .1 .1 .0)
-    (at-reset .reset .last .1 .1 .1 .1 .1 .1 .0) (at-reset .reset .last .1 .1 .1 .1 .1 .1 .1 .0)
-    (at-reset .reset .last .1 .1 .1 .1 .1 .1 .1 .1 .0) (at-reset .reset .last .1 .1 .1 .1 .1 .1 .1 .1 .1 .0)
-    (at-reset .reset .last .1 .1 .1 .1 .1 .1 .1 .1 .1 .1 .0) (at-reset .reset .last .1 .1 .1 .1 .1 .1 .1 .1 .1 .1 .1 .0)
-    (at-reset .reset .last .1 .1 .1 .1 .1 .1 .1 .1 .1 .1 .1 .1 .0)
-    (at-reset .reset .last .1 .1 .1 .1 .1 .1 .1 .1 .1 .1 .1 .1 .1 .0))) in
+    (lent (at-reset .reset .result .screen) (tables (at-reset .reset .last .1 .1 .1 .0) (at-reset .reset .last .1 .1 .1 .1 .0)
+    (at-reset .reset .last .1 .1 .1 .1 .1 .0) (at-reset .reset .last .1 .1 .1 .1 .1 .1 .0)
+    (at-reset .reset .last .1 .1 .1 .1 .1 .1 .1 .0) (at-reset .reset .last .1 .1 .1 .1 .1 .1 .1 .1 .0)
+    (at-reset .reset .last .1 .1 .1 .1 .1 .1 .1 .1 .1 .0) (at-reset .reset .last .1 .1 .1 .1 .1 .1 .1 .1 .1 .1 .0)
+    (at-reset .reset .last .1 .1 .1 .1 .1 .1 .1 .1 .1 .1 .1 .0)
+    (at-reset .reset .last .1 .1 .1 .1 .1 .1 .1 .1 .1 .1 .1 .1 .0))) in
     let after : ScreenLent =
     (lent (at-play .play .result .screen) (tables (at-play .play .last .1 .1 .1 .1 .0) (at-play .play .last .1 .1 .1 .1 .1 .0)
-    (at-reset .reset .last .1 .1 .1 .1 .1 .1 .0) (at-play .play .last .1 .1 .1 .0) (at-reset .reset .last .1 .1 .1 .1 .1 .1 .1 .1 .0)
+    (at-reset .reset .last .1 .1 .1 .1 .1 .0) (at-play .play .last .1 .1 .1 .0) (at-reset .reset .last .1 .1 .1 .1 .1 .1 .1 .0)
     (at-play .play .last .1 .1 .1 .1 .1 .1 .0) (at-play .play .last .1 .1 .1 .1 .1 .1 .1 .0)
     (at-play .play .last .1 .1 .1 .1 .1 .1 .1 .1 .0) (at-play .play .last .1 .1 .1 .1 .1 .1 .1 .1 .1 .0)
     (at-play .play .last .1 .1 .1 .1 .1 .1 .1 .1 .1 .1 .0))) in
     left-fresh _ _ (good-form (at-args .args .file .now) (at-l .l .given .0 .0) (sym (at-l .l .given .1) ∙ at-read-form .read-form .ensures)) _
-    (at-box-at .box-at .ensures) _ _ _ _ fresh (at-reset .reset .ensures) (at-if1 .if1 .left) _ after (at-play .play .ensures (tables
-    [] [] (at-reset .reset .last .1 .1 .1 .1 .1 .1 .0) [] (at-reset .reset .last .1 .1 .1 .1 .1 .1 .1 .1 .0) [] [] [] [] [])) (at-if2 .if2 .left) _ (record {
+    (at-box-at .box-at .ensures) (setup-of (at-args .args .setup)) _ _ fresh (at-reset .reset .ensures) (at-if1 .if1 .left) _ after (at-play .play .ensures (tables
+    [] [] (at-reset .reset .last .1 .1 .1 .1 .1 .0) [] (at-reset .reset .last .1 .1 .1 .1 .1 .1 .1 .0) [] [] [] [] [])) (at-if2 .if2 .left) _ (record {
       render = at-play .play .kept .1 .1 .1 .1 .0;
       fills = at-play .play .kept .1 .1 .1 .1 .1 .0;
       depth = refl;
@@ -315,16 +316,16 @@ returns-4 c =
       layer-attrs = at-play .play .kept .1 .1 .1 .1 .1 .1 .1 .1 .1 .0;
       filter-paints = at-play .play .kept .1 .1 .1 .1 .1 .1 .1 .1 .1 .1 .0;
     }) (record {
-      render = at-reset .reset .kept .1 .1 .1 .1 .0;
-      fills = at-reset .reset .kept .1 .1 .1 .1 .1 .0;
-      depth = at-reset .reset .kept .1 .1 .1 .1 .1 .1 .0;
-      rows = at-reset .reset .kept .1 .1 .1 .1 .1 .1 .1 .0;
-      painting = at-reset .reset .kept .1 .1 .1 .1 .1 .1 .1 .1 .0;
-      layers = at-reset .reset .kept .1 .1 .1 .1 .1 .1 .1 .1 .1 .0;
-      opacities = at-reset .reset .kept .1 .1 .1 .1 .1 .1 .1 .1 .1 .1 .0;
-      paint-attrs = at-reset .reset .kept .1 .1 .1 .1 .1 .1 .1 .1 .1 .1 .1 .0;
-      layer-attrs = at-reset .reset .kept .1 .1 .1 .1 .1 .1 .1 .1 .1 .1 .1 .1 .0;
-      filter-paints = at-reset .reset .kept .1 .1 .1 .1 .1 .1 .1 .1 .1 .1 .1 .1 .1 .0;
+      render = at-reset .reset .kept .1 .1 .1 .0;
+      fills = at-reset .reset .kept .1 .1 .1 .1 .0;
+      depth = at-reset .reset .kept .1 .1 .1 .1 .1 .0;
+      rows = at-reset .reset .kept .1 .1 .1 .1 .1 .1 .0;
+      painting = at-reset .reset .kept .1 .1 .1 .1 .1 .1 .1 .0;
+      layers = at-reset .reset .kept .1 .1 .1 .1 .1 .1 .1 .1 .0;
+      opacities = at-reset .reset .kept .1 .1 .1 .1 .1 .1 .1 .1 .1 .0;
+      paint-attrs = at-reset .reset .kept .1 .1 .1 .1 .1 .1 .1 .1 .1 .1 .0;
+      layer-attrs = at-reset .reset .kept .1 .1 .1 .1 .1 .1 .1 .1 .1 .1 .1 .0;
+      filter-paints = at-reset .reset .kept .1 .1 .1 .1 .1 .1 .1 .1 .1 .1 .1 .1 .0;
     }) _ _ (at-reset2 .reset2 .ensures)
 
 pub bucket-recording-spec : {M : Type 1} → statement M

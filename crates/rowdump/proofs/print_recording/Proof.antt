@@ -5,6 +5,7 @@ use Prim.Native.Nat.{ℕ, _≤_}
 use native.Mathlib.Omega.{arith}
 use lib.ListN.{length, drop, length-append}
 use lib.Seq.{length-take-le}
+use Rattle.screen.specs.Screens.{setup-of}
 use Rattle.text_programs.specs.Programs.{first}
 use Rattle.text_programs.proofs.Laws.{first-taken}
 use Rattle.text_dump.specs.Rowdump.{rowdump-text}
@@ -22,19 +23,19 @@ slice-reshare-prefix-print : tie.Need-slice-reshare-prefix-print
 slice-reshare-prefix-print c =
     let at-text = c .before .before in
     let entry = at-text .before .before .before .before in
-    long (rowdump-text (entry .args .i) (entry .args .file .now)) (entry .args .out .now) (at-text .rowdump-text .result) _ (at-text .rowdump-text .ensures .0) (at-text .rowdump-text .ensures .1)
+    long (rowdump-text (setup-of (entry .args .setup)) (entry .args .i) (entry .args .file .now)) (entry .args .out .now) (at-text .rowdump-text .result) _ (at-text .rowdump-text .ensures .0) (at-text .rowdump-text .ensures .1)
 
 slice-aggregate-print : tie.Need-slice-aggregate-print
 slice-aggregate-print c =
     let at-text = c .before .before .before in
     let entry = at-text .before .before .before .before in
-    sym (length-take-le _ _ (long (rowdump-text (entry .args .i) (entry .args .file .now)) (entry .args .out .now) (at-text .rowdump-text .result) _ (at-text .rowdump-text .ensures .0) (at-text .rowdump-text .ensures .1)))
+    sym (length-take-le _ _ (long (rowdump-text (setup-of (entry .args .setup)) (entry .args .i) (entry .args .file .now)) (entry .args .out .now) (at-text .rowdump-text .result) _ (at-text .rowdump-text .ensures .0) (at-text .rowdump-text .ensures .1)))
 
 print-requires : tie.Need-print-requires
 print-requires c κs =
     let at-text = c .before .before .before in
     let entry = at-text .before .before .before .before in
-    first-taken (rowdump-text (entry .args .i) (entry .args .file .now)) (entry .args .out .now) (at-text .rowdump-text .result) _ (at-text .rowdump-text .ensures .0) (at-text .rowdump-text .ensures .1)
+    first-taken (rowdump-text (setup-of (entry .args .setup)) (entry .args .i) (entry .args .file .now)) (entry .args .out .now) (at-text .rowdump-text .result) _ (at-text .rowdump-text .ensures .0) (at-text .rowdump-text .ensures .1)
 
 same-length : tie.Need-same-length
 same-length c = search needs

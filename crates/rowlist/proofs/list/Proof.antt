@@ -5,6 +5,7 @@ use Prim.Native.Nat.{ℕ, _≤_}
 use native.Mathlib.Omega.{arith}
 use lib.ListN.{length, drop, length-append}
 use lib.Seq.{length-take-le}
+use Rattle.screen.specs.Screens.{setup-of}
 use Rattle.text_programs.specs.Programs.{rowlist-text, first}
 use Rattle.text_programs.proofs.Laws.{first-taken}
 use borrow.Author.Needs.{needs}
@@ -29,7 +30,7 @@ array-share-prefix-out c =
     let back = at-rowlist-text .before .before in
     let at-text-buffer = back in
     let entry = at-text-buffer .before .before in
-    long (rowlist-text (entry .args .file .now)) (at-text-buffer .text-buffer .result) (at-rowlist-text .rowlist-text .result) _
+    long (rowlist-text (setup-of (entry .args .setup)) (entry .args .file .now)) (at-text-buffer .text-buffer .result) (at-rowlist-text .rowlist-text .result) _
     (at-rowlist-text .rowlist-text .ensures .0) (at-rowlist-text .rowlist-text .ensures .1)
 
 slice-aggregate-print : tie.Need-slice-aggregate-print
@@ -37,14 +38,14 @@ slice-aggregate-print c =
     let at-rowlist-text = c .before .before in
     let at-text-buffer = at-rowlist-text .before .before in
     let entry = at-text-buffer .before .before in
-    sym (length-take-le _ _ (long (rowlist-text (entry .args .file .now)) (at-text-buffer .text-buffer .result) (at-rowlist-text .rowlist-text .result) _ (at-rowlist-text .rowlist-text .ensures .0) (at-rowlist-text .rowlist-text .ensures .1)))
+    sym (length-take-le _ _ (long (rowlist-text (setup-of (entry .args .setup)) (entry .args .file .now)) (at-text-buffer .text-buffer .result) (at-rowlist-text .rowlist-text .result) _ (at-rowlist-text .rowlist-text .ensures .0) (at-rowlist-text .rowlist-text .ensures .1)))
 
 print-requires : tie.Need-print-requires
 print-requires c κs =
     let at-rowlist-text = c .before .before in
     let at-text-buffer = at-rowlist-text .before .before in
     let entry = at-text-buffer .before .before in
-    first-taken (rowlist-text (entry .args .file .now)) (at-text-buffer .text-buffer .result) (at-rowlist-text .rowlist-text .result) _ (at-rowlist-text .rowlist-text .ensures .0) (at-rowlist-text .rowlist-text .ensures .1)
+    first-taken (rowlist-text (setup-of (entry .args .setup)) (entry .args .file .now)) (at-text-buffer .text-buffer .result) (at-rowlist-text .rowlist-text .result) _ (at-rowlist-text .rowlist-text .ensures .0) (at-rowlist-text .rowlist-text .ensures .1)
 
 returns : tie.Need-returns
 returns c = search needs

@@ -1,6 +1,6 @@
 use mathlib.Core.Path.{ap}
 use borrow.Author.Needs.{needs}
-use Rattle.screen.specs.Screens.{rect-of}
+use Rattle.rect.specs.Rects.{rect-of}
 use Rattle.screen.proofs.fresh.Statement.{statement}
 use Rattle.screen.proofs.fresh.Tie as tie
 

@@ -1,47 +1,78 @@
--- Judged first; refused, nothing changes. Done, every table is cleared and the screen's numbers are those of the viewport.
-use mathlib.Core.Path.{ap, _∙_}
+-- The viewport first, then what is lent; refused, nothing changes. Done, every table is cleared and the screen's numbers are those of the frame.
+use mathlib.Core.Path.{_≡_, sym, ap, _∙_}
 use lib.ListN.{length}
 use borrow.Author.Needs.{needs}
-use Rattle.screen.proofs.Resets.{length-zeros, refused, done, all-zero}
+use Rattle.rect.specs.declared.Viewport.the-variants as viewport
+use Rattle.rect.specs.Rects.{seen}
+use Rattle.screen.specs.Screens.{frame}
+use Rattle.screen.proofs.Resets.{length-zeros, refused, done, bad-box, begun, begun-good, begun-judged, all-zero}
 use Rattle.screen.proofs.reset.Statement.{statement}
 use Rattle.screen.proofs.reset.Tie as tie
 
 -- each call, seen from the end
-abbrev at-10 : tie.After-fresh → tie.After-clear-signed
-at-10 c = c .before .before
+abbrev at-10 : tie.After-filter-paints → tie.After-clear-signed
+at-10 c = c .before
 
-abbrev at-9 : tie.After-fresh → tie.After-clear8
+abbrev at-9 : tie.After-filter-paints → tie.After-clear8
 at-9 c = at-10 c .before .before .before .before
 
-abbrev at-8 : tie.After-fresh → tie.After-clear7
+abbrev at-8 : tie.After-filter-paints → tie.After-clear7
 at-8 c = at-9 c .before .before .before .before
 
-abbrev at-7 : tie.After-fresh → tie.After-clear-floats
+abbrev at-7 : tie.After-filter-paints → tie.After-clear-floats
 at-7 c = at-8 c .before .before .before .before
 
-abbrev at-6 : tie.After-fresh → tie.After-clear6
+abbrev at-6 : tie.After-filter-paints → tie.After-clear6
 at-6 c = at-7 c .before .before .before .before
 
-abbrev at-5 : tie.After-fresh → tie.After-clear5
+abbrev at-5 : tie.After-filter-paints → tie.After-clear5
 at-5 c = at-6 c .before .before .before .before
 
-abbrev at-4 : tie.After-fresh → tie.After-clear4
+abbrev at-4 : tie.After-filter-paints → tie.After-clear4
 at-4 c = at-5 c .before .before .before .before
 
-abbrev at-3 : tie.After-fresh → tie.After-clear3
+abbrev at-3 : tie.After-filter-paints → tie.After-clear3
 at-3 c = at-4 c .before .before .before .before
 
-abbrev at-2 : tie.After-fresh → tie.After-clear2
+abbrev at-2 : tie.After-filter-paints → tie.After-clear2
 at-2 c = at-3 c .before .before .before .before
 
-abbrev at-1 : tie.After-fresh → tie.After-clear
+abbrev at-1 : tie.After-filter-paints → tie.After-clear
 at-1 c = at-2 c .before .before .before .before
 
-judge-reset-requires : tie.Need-judge-reset-requires
-judge-reset-requires c κs = search needs
+-- the viewport is good: what the mode gave, and the screen of it
+good-box : (c : tie.After-fresh) → let a = c .before .before .before .before .before .before .before .before .before .before .before .before .before .before .args in
+    viewport.Good (c .before .before .seen .given .0 .0) ≡ seen (frame (a .setup) (a .viewport) .viewport)
+good-box c = sym (c .before .before .seen .given .1) ∙ c .before .before .before .before .viewport-in .ensures
+
+viewport-in-requires : tie.Need-viewport-in-requires
+viewport-in-requires c κs = search needs
+
+enum-known-seen : tie.Need-enum-known-seen
+enum-known-seen c = search needs
+
+enum-told : tie.Need-enum-told
+enum-told c = search needs
 
 returns : tie.Need-returns
-returns c = refused _ _ _ _ _ (c .before .judge-reset .ensures) (c .if1 .taken)
+returns c =
+    let a = c .before .before .before .before .before .before .before .before .before .before .before .before .args in
+    bad-box (a .setup) (a .viewport) _ (sym (c .enum-told .given .1) ∙ c .before .before .viewport-in .ensures)
+
+fresh-requires : tie.Need-fresh-requires
+fresh-requires c κs = search needs
+
+judge-reset-requires : tie.Need-judge-reset-requires
+judge-reset-requires c κs =
+    let a = c .before .before .before .before .before .before .before .before .before .before .before .before .before .before .args in
+    begun-good (a .setup) (a .viewport) _ (good-box c) _ (c .fresh .ensures)
+
+returns-2 : tie.Need-returns-2
+returns-2 c =
+    let at-judge = c .before in
+    let at-fresh = at-judge .before in
+    let a = at-fresh .before .before .before .before .before .before .before .before .before .before .before .before .before .before .args in
+    refused (frame (a .setup) (a .viewport)) _ _ (begun-judged (a .setup) (a .viewport) _ (good-box at-fresh) _ (at-fresh .fresh .ensures) _ (at-judge .judge-reset .ensures)) (c .if1 .taken)
 
 clear-requires : tie.Need-clear-requires
 clear-requires c κs = search needs
@@ -73,9 +104,6 @@ clear-requires-8 c κs = search needs
 clear-signed-requires : tie.Need-clear-signed-requires
 clear-signed-requires c κs = search needs
 
-fresh-requires : tie.Need-fresh-requires
-fresh-requires c κs = search needs
-
 same-length : tie.Need-same-length
 same-length c = ap length (at-1 c .clear .ensures) ∙ length-zeros _ _
 
@@ -106,18 +134,27 @@ same-length-9 c = search needs
 same-length-10 : tie.Need-same-length-10
 same-length-10 c = search needs
 
-returns-2 : tie.Need-returns-2
-returns-2 c =
-    let judged = at-1 c .before .before in
-    done _ _ _ _ _ (judged .before .judge-reset .ensures) (judged .if1 .left) _ _ (c .fresh .ensures)
+returns-3 : tie.Need-returns-3
+returns-3 c =
+    let at-if1 = at-1 c .before .before in
+    let at-judge = at-if1 .before in
+    let at-fresh = at-judge .before in
+    let a = at-fresh .before .before .before .before .before .before .before .before .before .before .before .before .before .before .args in
+    let judged = begun-judged (a .setup) (a .viewport) _ (good-box at-fresh) _ (at-fresh .fresh .ensures) _ (at-judge .judge-reset .ensures) in
+    done (frame (a .setup) (a .viewport)) _ _ judged (at-if1 .if1 .left) _ _ (begun (a .setup) (a .viewport) _ (good-box at-fresh) _ (at-fresh .fresh .ensures))
     (all-zero _ (at-1 c .clear .ensures) (at-2 c .clear2 .ensures) (at-3 c .clear3 .ensures) (at-4 c .clear4 .ensures) (at-5 c .clear5 .ensures) (at-6 c .clear6 .ensures) (at-7 c .clear-floats .ensures) (at-8 c .clear7 .ensures) (at-9 c .clear8 .ensures) (at-10 c .clear-signed .ensures))
 
 pub reset-spec : {M : Type 1} → statement M
 reset-spec =
     tie.close
     (tie.spec
-    judge-reset-requires
+    viewport-in-requires
+    enum-known-seen
+    enum-told
     returns
+    fresh-requires
+    judge-reset-requires
+    returns-2
     clear-requires
     clear-requires-2
     clear-requires-3
@@ -128,7 +165,6 @@ reset-spec =
     clear-requires-7
     clear-requires-8
     clear-signed-requires
-    fresh-requires
     same-length
     same-length-2
     same-length-3
@@ -139,4 +175,4 @@ reset-spec =
     same-length-8
     same-length-9
     same-length-10
-    returns-2)
+    returns-3)

@@ -28,78 +28,47 @@ parent-box-requires c κs =
 do-rows-requires : tie.Need-do-rows-requires
 do-rows-requires c κs =
     let at-args = c .before .before .before .before .before .before .before .before .before .before .before .before .before .before in
-    zero-judged (at-args .args .screen) (lent (words (at-args .args .rows .now) (at-args .args .render .now) (at-args .args .fills .now))
-    (at-args .args .layers .now) (at-args .args .opacities .now) (at-args .args .layer-attrs .now)) (at-args .args .list .now) (at-args .pre)
+    let l = (lent (words (at-args .args .rows .now) (at-args .args .render .now) (at-args .args .fills .now)) (at-args .args .layers .now) (at-args .args .opacities .now) (at-args .args .layer-attrs .now)) in
+    let judged = zero-judged (at-args .args .screen) l (at-args .args .list .now) (at-args .pre) in
+    judged
 
 do-tables-requires : tie.Need-do-tables-requires
 do-tables-requires c κs =
-    let at-args = c .before .before .before .before .before .before .before .before .before .before .before .before .before .before .before .before
-    .before .before .before .before .before .before .before .before in (
-      zero-lengths (at-args .args .screen) (lent (words (at-args .args .rows .now) (at-args .args .render .now) (at-args .args .fills .now))
-          (at-args .args .layers .now) (at-args .args .opacities .now) (at-args .args .layer-attrs .now)) (at-args .args .list .now) (at-args .pre) .0,
-      zero-lengths (at-args .args .screen) (lent (words (at-args .args .rows .now) (at-args .args .render .now) (at-args .args .fills .now))
-          (at-args .args .layers .now) (at-args .args .opacities .now) (at-args .args .layer-attrs .now)) (at-args .args .list .now) (at-args .pre) .1,
-      zero-lengths (at-args .args .screen) (lent (words (at-args .args .rows .now) (at-args .args .render .now) (at-args .args .fills .now))
-          (at-args .args .layers .now) (at-args .args .opacities .now) (at-args .args .layer-attrs .now)) (at-args .args .list .now) (at-args .pre) .2,
-      zero-judged (at-args .args .screen) (lent (words (at-args .args .rows .now) (at-args .args .render .now) (at-args .args .fills .now))
-          (at-args .args .layers .now) (at-args .args .opacities .now) (at-args .args .layer-attrs .now)) (at-args .args .list .now) (at-args .pre) .some,
-      seen (zero-judged (at-args .args .screen) (lent (words (at-args .args .rows .now) (at-args .args .render .now) (at-args .args .fills .now))
-          (at-args .args .layers .now) (at-args .args .opacities .now) (at-args .args .layer-attrs .now)) (at-args .args .list .now) (at-args .pre)) .bounds .deep,
-      ready (zero-judged (at-args .args .screen) (lent (words (at-args .args .rows .now) (at-args .args .render .now) (at-args .args .fills .now))
-          (at-args .args .layers .now) (at-args .args .opacities .now) (at-args .args .layer-attrs .now)) (at-args .args .list .now) (at-args .pre)) .attrs,
-    )
+    let at-args = c .before .before .before .before .before .before .before .before .before .before .before .before .before .before .before .before .before .before .before .before .before .before .before .before in
+    let l = (lent (words (at-args .args .rows .now) (at-args .args .render .now) (at-args .args .fills .now)) (at-args .args .layers .now) (at-args .args .opacities .now) (at-args .args .layer-attrs .now)) in
+    let judged = zero-judged (at-args .args .screen) l (at-args .args .list .now) (at-args .pre) in
+    let lengths = zero-lengths (at-args .args .screen) l (at-args .args .list .now) (at-args .pre) in
+    (lengths .0, lengths .1, lengths .2, judged .some, seen judged .bounds .deep, ready judged .attrs)
 
-add-t28 : tie.Need-add-t28
-add-t28 c =
-    let at-args = c .before .before .before .before .before .before .before .before .before .before .before .before .before .before .before .before
-    .before .before .before .before .before .before .before .before .before .before .before .before .before .before .before .before in
-    record {
-      fits = omega (
-        arith,
-        ready (zero-judged (at-args .args .screen) (lent (words (at-args .args .rows .now) (at-args .args .render .now)
-            (at-args .args .fills .now)) (at-args .args .layers .now) (at-args .args .opacities .now) (at-args .args .layer-attrs .now)) (at-args .args .list .now)
-            (at-args .pre)) .ids,
-      );
-    }
+add-next : tie.Need-add-next
+add-next c =
+    let at-args = c .before .before .before .before .before .before .before .before .before .before .before .before .before .before .before .before .before .before .before .before .before .before .before .before .before .before .before .before .before .before .before .before in
+    let l = (lent (words (at-args .args .rows .now) (at-args .args .render .now) (at-args .args .fills .now)) (at-args .args .layers .now) (at-args .args .opacities .now) (at-args .args .layer-attrs .now)) in
+    let judged = zero-judged (at-args .args .screen) l (at-args .args .list .now) (at-args .pre) in
+    record { fits = omega (arith, ready judged .ids) }
 
-add-t29 : tie.Need-add-t29
-add-t29 c =
-    let at-args = c .before .before .before .before .before .before .before .before .before .before .before .before .before .before .before .before
-    .before .before .before .before .before .before .before .before .before .before .before .before .before .before .before .before .before in
-    record {
-      fits = omega (
-        arith,
-        ready (zero-judged (at-args .args .screen) (lent (words (at-args .args .rows .now) (at-args .args .render .now)
-            (at-args .args .fills .now)) (at-args .args .layers .now) (at-args .args .opacities .now) (at-args .args .layer-attrs .now)) (at-args .args .list .now)
-            (at-args .pre)) .attrs,
-      );
-    }
+add-next-2 : tie.Need-add-next-2
+add-next-2 c =
+    let at-args = c .before .before .before .before .before .before .before .before .before .before .before .before .before .before .before .before .before .before .before .before .before .before .before .before .before .before .before .before .before .before .before .before .before in
+    let l = (lent (words (at-args .args .rows .now) (at-args .args .render .now) (at-args .args .fills .now)) (at-args .args .layers .now) (at-args .args .opacities .now) (at-args .args .layer-attrs .now)) in
+    let judged = zero-judged (at-args .args .screen) l (at-args .args .list .now) (at-args .pre) in
+    record { fits = omega (arith, ready judged .attrs) }
 
-sub-t30 : tie.Need-sub-t30
-sub-t30 c =
-    let at-args = c .before .before .before .before .before .before .before .before .before .before .before .before .before .before .before .before
-    .before .before .before .before .before .before .before .before .before .before .before .before .before .before .before .before .before .before in
-    omega (
-      arith,
-      zero-judged (at-args .args .screen) (lent (words (at-args .args .rows .now) (at-args .args .render .now) (at-args .args .fills .now))
-          (at-args .args .layers .now) (at-args .args .opacities .now) (at-args .args .layer-attrs .now)) (at-args .args .list .now) (at-args .pre) .some,
-    )
+sub-next : tie.Need-sub-next
+sub-next c =
+    let at-args = c .before .before .before .before .before .before .before .before .before .before .before .before .before .before .before .before .before .before .before .before .before .before .before .before .before .before .before .before .before .before .before .before .before .before in
+    let l = (lent (words (at-args .args .rows .now) (at-args .args .render .now) (at-args .args .fills .now)) (at-args .args .layers .now) (at-args .args .opacities .now) (at-args .args .layer-attrs .now)) in
+    let judged = zero-judged (at-args .args .screen) l (at-args .args .list .now) (at-args .pre) in
+    omega (arith, judged .some)
 
 same-length : tie.Need-same-length
-same-length c =
-    let at-rows = c .before .before .before .before .before .before .before .before .before .before .before .before .before .before .before .before
-    .before .before in
-    at-rows .rows .given
+same-length c = c .before .before .before .before .before .before .before .before .before .before .before .before .before .before .before .before .before .before .rows .given
 
 same-length-2 : tie.Need-same-length-2
-same-length-2 c =
-    let at-render = c .before .before .before .before .before .before .before .before .before .before .before .before .before .before .before .before in
-    at-render .render .given
+same-length-2 c = c .before .before .before .before .before .before .before .before .before .before .before .before .before .before .before .before .render .given
 
 same-length-3 : tie.Need-same-length-3
-same-length-3 c =
-    let at-fills = c .before .before .before .before .before .before .before .before .before .before .before .before .before .before in
-    at-fills .fills .given
+same-length-3 c = c .before .before .before .before .before .before .before .before .before .before .before .before .before .before .fills .given
 
 same-length-4 : tie.Need-same-length-4
 same-length-4 c = search needs
@@ -116,15 +85,10 @@ returns c =
     let at-do-rows = at-do-tables .before .before .before .before .before .before .before .before .before .before in
     let at-parent-box = at-do-rows .before .before .before .before .before in
     let at-args = at-parent-box .before .before .before .before .before .before .before .before .before .before in
-    pop-out (at-args .args .screen) (lent (words (at-args .args .rows .now) (at-args .args .render .now) (at-args .args .fills .now))
-    (at-args .args .layers .now) (at-args .args .opacities .now) (at-args .args .layer-attrs .now)) (at-args .args .list .now) (zero-judged
-    (at-args .args .screen) (lent (words (at-args .args .rows .now) (at-args .args .render .now) (at-args .args .fills .now)) (at-args .args .layers .now)
-    (at-args .args .opacities .now) (at-args .args .layer-attrs .now)) (at-args .args .list .now) (at-args .pre)) (at-args .pre) (screen-is
-    (at-args .args .screen) (lent (words (at-args .args .rows .now) (at-args .args .render .now) (at-args .args .fills .now)) (at-args .args .layers .now)
-    (at-args .args .opacities .now) (at-args .args .layer-attrs .now)) (at-args .args .list .now) (zero-judged (at-args .args .screen) (lent (words
-    (at-args .args .rows .now) (at-args .args .render .now) (at-args .args .fills .now)) (at-args .args .layers .now) (at-args .args .opacities .now)
-    (at-args .args .layer-attrs .now)) (at-args .args .list .now) (at-args .pre)) (at-parent-box .parent-box .result) (at-parent-box .parent-box .ensures))
-    (at-do-rows .do-rows .ensures) (at-do-tables .do-tables .ensures)
+    let l = (lent (words (at-args .args .rows .now) (at-args .args .render .now) (at-args .args .fills .now)) (at-args .args .layers .now) (at-args .args .opacities .now) (at-args .args .layer-attrs .now)) in
+    let judged = zero-judged (at-args .args .screen) l (at-args .args .list .now) (at-args .pre) in
+    let screen-after = screen-is (at-args .args .screen) l (at-args .args .list .now) judged (at-parent-box .parent-box .result) (at-parent-box .parent-box .ensures) in
+    pop-out (at-args .args .screen) l (at-args .args .list .now) judged (at-args .pre) screen-after (at-do-rows .do-rows .ensures) (at-do-tables .do-tables .ensures)
 
 pub do-pop-spec : {M : Type 1} → statement M
 do-pop-spec =
@@ -133,9 +97,9 @@ do-pop-spec =
     parent-box-requires
     do-rows-requires
     do-tables-requires
-    add-t28
-    add-t29
-    sub-t30
+    add-next
+    add-next-2
+    sub-next
     same-length
     same-length-2
     same-length-3

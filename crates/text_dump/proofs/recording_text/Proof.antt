@@ -104,25 +104,23 @@ tables-text-requires c κs =
     let at-depth-words = at-row-words .before in
     let at-fill-words = at-depth-words .before in
     let at-render-words = at-fill-words .before in
-    let at-pre = at-render-words .before .before .before in
-    record {
-      render = at-render-words .render-words .ensures;
-      fills = at-fill-words .fill-words .ensures;
-      depth = at-depth-words .depth-words .ensures;
-      rows =
-          at-row-words .row-words .ensures;
-      painting = at-painting-words .painting-words .ensures;
-      layers = at-layer-words .layer-words .ensures;
-      opacities =
-          at-opacity-words .opacity-words .ensures;
-      paint-attrs = at-render-words2 .render-words2 .ensures;
-      layer-attrs =
-          at-layer-attr-words .layer-attr-words .ensures;
-      filter-paints = at-filter-words .filter-words .ensures;
-      pieces = at-piece-words .piece-words .ensures;
-      room
-          = at-pre .pre;
-    }
+    let at-pre = at-render-words .before .before .before in (
+      at-pre .pre .0,
+      record {
+        render = at-render-words .render-words .ensures;
+        fills = at-fill-words .fill-words .ensures;
+        depth = at-depth-words .depth-words .ensures;
+        rows = at-row-words .row-words .ensures;
+        painting = at-painting-words .painting-words .ensures;
+        layers = at-layer-words .layer-words .ensures;
+        opacities = at-opacity-words .opacity-words .ensures;
+        paint-attrs = at-render-words2 .render-words2 .ensures;
+        layer-attrs = at-layer-attr-words .layer-attr-words .ensures;
+        filter-paints = at-filter-words .filter-words .ensures;
+        pieces = at-piece-words .piece-words .ensures;
+        room = at-pre .pre .1;
+      },
+    )
 
 same-length : tie.Need-same-length
 same-length c = omega (arith, c .before .out .given)

@@ -1,6 +1,7 @@
 -- The first line stands first, the file's text after it.
 use native.Mathlib.Omega.{arith}
 use lib.ListN.{length-take, length-drop}
+use Rattle.screen.specs.Screens.{setup-of}
 use Rattle.text_dump.proofs.Files.{line-first, whole-text}
 use Rattle.text_dump.proofs.rowdump_text.Statement.{statement}
 use Rattle.text_dump.proofs.rowdump_text.Tie as tie
@@ -12,15 +13,15 @@ sub-recording-text : tie.Need-sub-recording-text
 sub-recording-text c =
     let at-put = c .before .before in
     let entry = at-put .before .before .before .before in
-    let line = line-first (entry .args .i) (entry .args .out .now) (omega (arith, entry .pre)) (at-put .put-recording .ensures) in
-    omega (arith, line .2, entry .pre, c .before .out .given)
+    let line = line-first (entry .args .i) (entry .args .out .now) (omega (arith, entry .pre .1)) (at-put .put-recording .ensures) in
+    omega (arith, line .2, entry .pre .1, c .before .out .given)
 
 part-recording-text-start : tie.Need-part-recording-text-start
 part-recording-text-start c =
     let at-put = c .before .before in
     let entry = at-put .before .before .before .before in
-    let line = line-first (entry .args .i) (entry .args .out .now) (omega (arith, entry .pre)) (at-put .put-recording .ensures) in
-    omega (arith, line .2, entry .pre, c .before .out .given)
+    let line = line-first (entry .args .i) (entry .args .out .now) (omega (arith, entry .pre .1)) (at-put .put-recording .ensures) in
+    omega (arith, line .2, entry .pre .1, c .before .out .given)
 
 part-recording-text-end : tie.Need-part-recording-text-end
 part-recording-text-end c = omega arith
@@ -29,15 +30,15 @@ recording-text-requires : tie.Need-recording-text-requires
 recording-text-requires c κs =
     let at-put = c .before .before .before in
     let entry = at-put .before .before .before .before in
-    let line = line-first (entry .args .i) (entry .args .out .now) (omega (arith, entry .pre)) (at-put .put-recording .ensures) in
-    simp (length-take, length-drop) (omega (arith, line .2, entry .pre, c .before .before .out .given))
+    let line = line-first (entry .args .i) (entry .args .out .now) (omega (arith, entry .pre .1)) (at-put .put-recording .ensures) in
+    (entry .pre .0, simp (length-take, length-drop) (omega (arith, line .2, entry .pre .1, c .before .before .out .given)))
 
 add-result : tie.Need-add-result
 add-result c =
     let at-put = c .before .before .before .before .before .before in
     let entry = at-put .before .before .before .before in
-    let line = line-first (entry .args .i) (entry .args .out .now) (omega (arith, entry .pre)) (at-put .put-recording .ensures) in
-    record { fits = omega (arith, line .2, entry .pre, c .before .before .before .before .before .out .given, simp (length-take, length-drop) at (c .before .before .recording-text .ensures .few)) }
+    let line = line-first (entry .args .i) (entry .args .out .now) (omega (arith, entry .pre .1)) (at-put .put-recording .ensures) in
+    record { fits = omega (arith, line .2, entry .pre .1, c .before .before .before .before .before .out .given, simp (length-take, length-drop) at (c .before .before .recording-text .ensures .few)) }
 
 same-length : tie.Need-same-length
 same-length c = omega arith
@@ -46,8 +47,8 @@ returns : tie.Need-returns
 returns c =
     let at-put = c .before .before .before .before .before .before in
     let entry = at-put .before .before .before .before in
-    let line = line-first (entry .args .i) (entry .args .out .now) (omega (arith, entry .pre)) (at-put .put-recording .ensures) in
-    whole-text (entry .args .i) (entry .args .file .now) (entry .args .out .now) (line .0) (line .1) (c .before .before .recording-text .ensures) (omega (arith, c .before .before .before .before .before .out .given))
+    let line = line-first (entry .args .i) (entry .args .out .now) (omega (arith, entry .pre .1)) (at-put .put-recording .ensures) in
+    whole-text (setup-of (entry .args .setup)) (entry .args .i) (entry .args .file .now) (entry .args .out .now) (line .0) (line .1) (c .before .before .recording-text .ensures) (omega (arith, c .before .before .before .before .before .out .given))
 
 pub rowdump-text-spec : {M : Type 1} → statement M
 rowdump-text-spec =

@@ -2,6 +2,7 @@
 use Prim.Native.Nat.{ℕ, _<_}
 use native.Mathlib.Omega.{arith}
 use lib.ListN.{getD, length-take, length-drop}
+use Rattle.screen.specs.Screens.{setup-of}
 use Rattle.screen.specs.Tables.{tables}
 use Rattle.text_programs.proofs.Laws.{Long}
 use Rattle.text_dump.proofs.Files.{long-of, lines-few, refused-whole, screen-wide, accepted-whole}
@@ -138,12 +139,12 @@ returns c =
     let known = at-file .before .before .before .before .before .before .before .before .before .before .before .before .before .before .before .before .before .before .before .before .before .before .before in
     let entry = known .before in
     let a = entry .args in
-    let p = entry .pre in
+    let p = entry .pre .1 in
     let t = tables (a .render .now) (a .fills .now) (a .depth .now) (a .rows .now) (a .painting .now) (a .layers .now) (a .opacities .now) (a .paint-attrs .now)
     (a .layer-attrs .now) (a .filter-paints .now) in
     let h : Long t = long-of t (a .list .now) (a .out .now) p in
     let byte : (i : ℕ) → getD (a .file .now) i 0 < 256 = λ i. omega (arith, known .shared-slice-known .given i) in
-    refused-whole (a .file .now) byte t h (a .out .now) (p .room) (at-file .file-text .ensures) (c .if1 .taken)
+    refused-whole (setup-of (a .setup)) (entry .pre .0) (a .file .now) byte t h (a .out .now) (p .room) (at-file .file-text .ensures) (c .if1 .taken)
 
 sub-screen-text : tie.Need-sub-screen-text
 sub-screen-text c =
@@ -162,12 +163,12 @@ sub-screen-text c =
     let known = at-file .before .before .before .before .before .before .before .before .before .before .before .before .before .before .before .before .before .before .before .before .before .before .before in
     let entry = known .before in
     let a = entry .args in
-    let p = entry .pre in
+    let p = entry .pre .1 in
     let t = tables (a .render .now) (a .fills .now) (a .depth .now) (a .rows .now) (a .painting .now) (a .layers .now) (a .opacities .now) (a .paint-attrs .now)
     (a .layer-attrs .now) (a .filter-paints .now) in
     let h : Long t = long-of t (a .list .now) (a .out .now) p in
     let byte : (i : ℕ) → getD (a .file .now) i 0 < 256 = λ i. omega (arith, known .shared-slice-known .given i) in
-    omega (arith, lines-few (a .file .now) byte t h (a .out .now) (p .room) (at-file .file-text .ensures), p .room, at-out .out .given)
+    omega (arith, lines-few (setup-of (a .setup)) (entry .pre .0) (a .file .now) byte t h (a .out .now) (p .room) (at-file .file-text .ensures), p .room, at-out .out .given)
 
 part-screen-text-start : tie.Need-part-screen-text-start
 part-screen-text-start c =
@@ -186,12 +187,12 @@ part-screen-text-start c =
     let known = at-file .before .before .before .before .before .before .before .before .before .before .before .before .before .before .before .before .before .before .before .before .before .before .before in
     let entry = known .before in
     let a = entry .args in
-    let p = entry .pre in
+    let p = entry .pre .1 in
     let t = tables (a .render .now) (a .fills .now) (a .depth .now) (a .rows .now) (a .painting .now) (a .layers .now) (a .opacities .now) (a .paint-attrs .now)
     (a .layer-attrs .now) (a .filter-paints .now) in
     let h : Long t = long-of t (a .list .now) (a .out .now) p in
     let byte : (i : ℕ) → getD (a .file .now) i 0 < 256 = λ i. omega (arith, known .shared-slice-known .given i) in
-    omega (arith, lines-few (a .file .now) byte t h (a .out .now) (p .room) (at-file .file-text .ensures), p .room, at-out .out .given)
+    omega (arith, lines-few (setup-of (a .setup)) (entry .pre .0) (a .file .now) byte t h (a .out .now) (p .room) (at-file .file-text .ensures), p .room, at-out .out .given)
 
 part-screen-text-end : tie.Need-part-screen-text-end
 part-screen-text-end c = omega arith
@@ -214,12 +215,12 @@ screen-text-requires c κs =
     let known = at-file .before .before .before .before .before .before .before .before .before .before .before .before .before .before .before .before .before .before .before .before .before .before .before in
     let entry = known .before in
     let a = entry .args in
-    let p = entry .pre in
+    let p = entry .pre .1 in
     let t = tables (a .render .now) (a .fills .now) (a .depth .now) (a .rows .now) (a .painting .now) (a .layers .now) (a .opacities .now) (a .paint-attrs .now)
     (a .layer-attrs .now) (a .filter-paints .now) in
     let h : Long t = long-of t (a .list .now) (a .out .now) p in
     let byte : (i : ℕ) → getD (a .file .now) i 0 < 256 = λ i. omega (arith, known .shared-slice-known .given i) in
-    screen-wide (a .file .now) byte t h (a .out .now) (p .room) (at-file .file-text .ensures)
+    screen-wide (setup-of (a .setup)) (entry .pre .0) (a .file .now) byte t h (a .out .now) (p .room) (at-file .file-text .ensures)
     (record {
       render = omega (arith, p .render, at-render .render .given);
       fills = omega (arith, p .fills, at-fills .fills .given);
@@ -253,14 +254,14 @@ add-result c =
     let known = at-file .before .before .before .before .before .before .before .before .before .before .before .before .before .before .before .before .before .before .before .before .before .before .before in
     let entry = known .before in
     let a = entry .args in
-    let p = entry .pre in
+    let p = entry .pre .1 in
     let t = tables (a .render .now) (a .fills .now) (a .depth .now) (a .rows .now) (a .painting .now) (a .layers .now) (a .opacities .now) (a .paint-attrs .now)
     (a .layer-attrs .now) (a .filter-paints .now) in
     let h : Long t = long-of t (a .list .now) (a .out .now) p in
     let byte : (i : ℕ) → getD (a .file .now) i 0 < 256 = λ i. omega (arith, known .shared-slice-known .given i) in
-    let few = lines-few (a .file .now) byte t h (a .out .now) (p .room) (at-file .file-text .ensures) in
+    let few = lines-few (setup-of (a .setup)) (entry .pre .0) (a .file .now) byte t h (a .out .now) (p .room) (at-file .file-text .ensures) in
     let more = simp (length-take, length-drop) at (at-screen .screen-text .ensures .1) in
-    record { fits = omega (arith, few, p .room, at-out .out .given, entry .good .1 .1 .1 .1 .1 .1 .1 .1 .1 .1 .1 .1 .0, more) }
+    record { fits = omega (arith, few, p .room, at-out .out .given, entry .good .1 .1 .1 .1 .1 .1 .1 .1 .1 .1 .1 .1 .1 .0, more) }
 
 same-length-12 : tie.Need-same-length-12
 same-length-12 c =
@@ -416,12 +417,12 @@ returns-2 c =
     let known = at-file .before .before .before .before .before .before .before .before .before .before .before .before .before .before .before .before .before .before .before .before .before .before .before in
     let entry = known .before in
     let a = entry .args in
-    let p = entry .pre in
+    let p = entry .pre .1 in
     let t = tables (a .render .now) (a .fills .now) (a .depth .now) (a .rows .now) (a .painting .now) (a .layers .now) (a .opacities .now) (a .paint-attrs .now)
     (a .layer-attrs .now) (a .filter-paints .now) in
     let h : Long t = long-of t (a .list .now) (a .out .now) p in
     let byte : (i : ℕ) → getD (a .file .now) i 0 < 256 = λ i. omega (arith, known .shared-slice-known .given i) in
-    accepted-whole (a .file .now) byte t h (a .out .now) (p .room) (at-file .file-text .ensures)
+    accepted-whole (setup-of (a .setup)) (entry .pre .0) (a .file .now) byte t h (a .out .now) (p .room) (at-file .file-text .ensures)
     (record {
       render = omega (arith, p .render, at-render .render .given);
       fills = omega (arith, p .fills, at-fills .fills .given);

@@ -4,6 +4,7 @@ use native.Mathlib.Omega.{arith}
 use lib.ListN.{length}
 use lib.Seq.{length-take-le}
 use Rattle.text_screen.proofs.Runs.{not-true, not-false}
+use Rattle.screen.specs.Screens.{setup-of}
 use Rattle.screen.specs.Tables.{tables}
 use Rattle.text_file.proofs.Bytes.{bytes-bad, few-words, filled-in, bytes-shown}
 use borrow.Author.Needs.{needs}
@@ -33,7 +34,7 @@ returns c =
     let a = entry .args in
     let t = tables (a .render .now) (a .fills .now) (a .depth .now) (a .rows .now) (a .painting .now) (a .layers .now) (a .opacities .now) (a .paint-attrs .now)
     (a .layer-attrs .now) (a .filter-paints .now) in
-    bytes-bad (entry .args .file .now) t (entry .args .out .now) (at-no-screen .no-screen .ensures) (sym (at-is-good-bytes .is-good-bytes .ensures) ∙ not-true _
+    bytes-bad (entry .args .file .now) (setup-of (entry .args .setup)) t (entry .args .out .now) (at-no-screen .no-screen .ensures) (sym (at-is-good-bytes .is-good-bytes .ensures) ∙ not-true _
     (at-if1 .if1 .taken)) (at-refuse .refuse .ensures)
 
 no-words-requires : tie.Need-no-words-requires
@@ -125,7 +126,7 @@ returns-2 c =
     let t = tables (a .render .now) (a .fills .now) (a .depth .now) (a .rows .now) (a .painting .now) (a .layers .now) (a .opacities .now) (a .paint-attrs .now)
     (a .layer-attrs .now) (a .filter-paints .now) in
     bytes-shown (entry .args .file .now) (at-no-words .no-words .result) (sym (at-is-good-bytes .is-good-bytes .ensures) ∙ not-false _ (at-if1 .if1 .left))
-    (at-words-of-bytes .words-of-bytes .ensures) t (entry .args .out .now) (at-words-text .words-text .ensures)
+    (at-words-of-bytes .words-of-bytes .ensures) (setup-of (entry .args .setup)) t (entry .args .out .now) (at-words-text .words-text .ensures)
 
 pub file-text-spec : {M : Type 1} → statement M
 file-text-spec =

@@ -2,6 +2,7 @@
 use mathlib.Core.Path.{sym}
 use native.Mathlib.Omega.{arith}
 use lib.Seq.{length-take-le}
+use Rattle.screen.specs.Screens.{setup-of}
 use Rattle.screen.specs.Tables.{tables}
 use Rattle.text_file.proofs.Texts.{small, front-shown}
 use borrow.Author.Needs.{needs}
@@ -114,7 +115,7 @@ returns c =
     let a = entry .args in
     let t = tables (a .render .now) (a .fills .now) (a .depth .now) (a .rows .now) (a .painting .now) (a .layers .now) (a .opacities .now) (a .paint-attrs .now)
     (a .layer-attrs .now) (a .filter-paints .now) in
-    front-shown (entry .args .n) (entry .args .b) (entry .args .file .now) t (entry .args .out .now) (at-recording-text .recording-text .ensures)
+    front-shown (entry .args .n) (entry .args .b) (entry .args .file .now) (setup-of (entry .args .setup)) t (entry .args .out .now) (at-recording-text .recording-text .ensures)
 
 pub front-text-spec : {M : Type 1} → statement M
 front-text-spec =

@@ -1,4 +1,5 @@
 -- The recording is bucketed into the lent tables, and its screen listed, or the refusal's line written.
+use Rattle.screen.specs.Screens.{setup-of}
 use Rattle.screen.specs.Tables.{tables}
 use Rattle.text_file.proofs.Texts.{text-refused, text-shown}
 use borrow.Author.Needs.{needs}
@@ -18,7 +19,7 @@ same-length : tie.Need-same-length
 same-length c =
     let at-bucket-recording = c .before .before .before .before .before .before .before .before .before .before .before .before .before .before
     .before .before .before .before .before .before .before .before .before .before .before in
-    (at-bucket-recording .bucket-recording) .kept .1 .1 .1 .1 .0
+    (at-bucket-recording .bucket-recording) .kept .1 .1 .1 .0
 
 same-length-2 : tie.Need-same-length-2
 same-length-2 c = search needs
@@ -58,7 +59,7 @@ returns c =
     .before .before .before .before .before .before .before in
     let at-no-screen = at-bucket-recording .before .before .before .before .before .before .before .before .before .before .before in
     let at-args = at-no-screen .before .before .before .before .before .before .before .before .before .before .before .before in
-    text-refused ((at-args .args) .file .now) (tables ((at-args .args) .render .now) ((at-args .args) .fills .now) ((at-args .args) .depth .now)
+    text-refused ((at-args .args) .file .now) (setup-of ((at-args .args) .setup)) (tables ((at-args .args) .render .now) ((at-args .args) .fills .now) ((at-args .args) .depth .now)
     ((at-args .args) .rows .now) ((at-args .args) .painting .now) ((at-args .args) .layers .now) ((at-args .args) .opacities .now)
     ((at-args .args) .paint-attrs .now) ((at-args .args) .layer-attrs .now) ((at-args .args) .filter-paints .now)) ((at-args .args) .out .now)
     ((at-no-screen .no-screen) .ensures) ((at-bucket-recording .bucket-recording) .ensures) ((at-if1 .if1) .taken)
@@ -71,25 +72,25 @@ same-length-12 : tie.Need-same-length-12
 same-length-12 c =
     let at-bucket-recording = c .before .before .before .before .before .before .before .before .before .before .before .before .before .before
     .before .before .before .before .before .before .before .before .before .before .before .before .before .before in
-    (at-bucket-recording .bucket-recording) .kept .1 .1 .1 .1 .0
+    (at-bucket-recording .bucket-recording) .kept .1 .1 .1 .0
 
 same-length-13 : tie.Need-same-length-13
 same-length-13 c =
     let at-bucket-recording = c .before .before .before .before .before .before .before .before .before .before .before .before .before .before
     .before .before .before .before .before .before .before .before .before .before .before .before .before .before in
-    (at-bucket-recording .bucket-recording) .kept .1 .1 .1 .1 .1 .0
+    (at-bucket-recording .bucket-recording) .kept .1 .1 .1 .1 .0
 
 same-length-14 : tie.Need-same-length-14
 same-length-14 c =
     let at-bucket-recording = c .before .before .before .before .before .before .before .before .before .before .before .before .before .before
     .before .before .before .before .before .before .before .before .before .before .before .before .before .before in
-    (at-bucket-recording .bucket-recording) .kept .1 .1 .1 .1 .1 .1 .0
+    (at-bucket-recording .bucket-recording) .kept .1 .1 .1 .1 .1 .0
 
 same-length-15 : tie.Need-same-length-15
 same-length-15 c =
     let at-bucket-recording = c .before .before .before .before .before .before .before .before .before .before .before .before .before .before
     .before .before .before .before .before .before .before .before .before .before .before .before .before .before in
-    (at-bucket-recording .bucket-recording) .kept .1 .1 .1 .1 .1 .1 .1 .0
+    (at-bucket-recording .bucket-recording) .kept .1 .1 .1 .1 .1 .1 .0
 
 same-length-16 : tie.Need-same-length-16
 same-length-16 c = search needs
@@ -120,7 +121,7 @@ returns-2 c =
     .before .before .before .before .before .before .before in
     let at-no-screen = at-bucket-recording .before .before .before .before .before .before .before .before .before .before .before in
     let at-args = at-no-screen .before .before .before .before .before .before .before .before .before .before .before .before in
-    text-shown ((at-args .args) .file .now) (tables ((at-args .args) .render .now) ((at-args .args) .fills .now) ((at-args .args) .depth .now)
+    text-shown ((at-args .args) .file .now) (setup-of ((at-args .args) .setup)) (tables ((at-args .args) .render .now) ((at-args .args) .fills .now) ((at-args .args) .depth .now)
     ((at-args .args) .rows .now) ((at-args .args) .painting .now) ((at-args .args) .layers .now) ((at-args .args) .opacities .now)
     ((at-args .args) .paint-attrs .now) ((at-args .args) .layer-attrs .now) ((at-args .args) .filter-paints .now)) ((at-args .args) .out .now)
     ((at-no-screen .no-screen) .ensures) ((at-bucket-recording .bucket-recording) .ensures) ((at-if1 .if1) .left)

@@ -1,9 +1,9 @@
-use Rattle.screen.proofs.Laws.{few-buckets}
+-- 3 for the form, then 2 for the viewport that the screen would have, or for its rows.
 use mathlib.Core.Path.{sym, _∙_}
 use native.Mathlib.Omega.{arith}
+use Rattle.screen.specs.Screens.{setup-of}
 use Rattle.file_form.proofs.Laid.{good-form}
-use Rattle.text_screen.proofs.Runs.{not-true, not-false}
-use Rattle.text_file.proofs.Texts.{bad-form, bad-viewport, many-rows, good-size}
+use Rattle.text_file.proofs.Texts.{bad-form, bad-viewport, many-rows, good-size, few}
 use borrow.Author.Needs.{needs}
 use Rattle.text_file.proofs.size_of.Statement.{statement}
 use Rattle.text_file.proofs.size_of.Tie as tie
@@ -18,10 +18,34 @@ enum-told-2 : tie.Need-enum-told-2
 enum-told-2 c = search needs
 
 returns : tie.Need-returns
-returns c = (bad-form _ (sym ((c .enum-told2) .given .1) ∙ (c .before .before .read-form) .ensures), (omega arith, omega arith))
+returns c =
+    let a = c .before .before .before .before .args in
+    (bad-form _ (setup-of (a .setup)) (sym (c .enum-told2 .given .1) ∙ c .before .before .read-form .ensures), (omega arith, omega arith))
 
 box-at-requires : tie.Need-box-at-requires
-box-at-requires c κs = good-form ((c .before .before .before .before .args) .file .now) _ (sym ((c .enum-told) .given .1) ∙ (c .before .before .read-form) .ensures) .fits .viewport .ends
+box-at-requires c κs =
+    let a = c .before .before .before .before .args in
+    good-form (a .file .now) _ (sym (c .enum-told .given .1) ∙ c .before .before .read-form .ensures) .fits .viewport .ends
+
+viewport-in-requires : tie.Need-viewport-in-requires
+viewport-in-requires c κs = search needs
+
+enum-known-viewport : tie.Need-enum-known-viewport
+enum-known-viewport c = search needs
+
+enum-told-3 : tie.Need-enum-told-3
+enum-told-3 c = search needs
+
+returns-2 : tie.Need-returns-2
+returns-2 c =
+    let at-viewport-in = c .before .before in
+    let at-box-at = at-viewport-in .before in
+    let at-form = at-box-at .before in
+    let a = at-form .before .before .before .before .args in (
+      bad-viewport _ (setup-of (a .setup)) (sym (at-form .enum-told .given .1) ∙ at-form .before .before .read-form .ensures) (at-box-at .box-at .ensures)
+          (sym (c .enum-told3 .given .1) ∙ at-viewport-in .viewport-in .ensures),
+      (omega arith, omega arith),
+    )
 
 fresh-requires : tie.Need-fresh-requires
 fresh-requires c κs = search needs
@@ -29,36 +53,39 @@ fresh-requires c κs = search needs
 rows-requires : tie.Need-rows-requires
 rows-requires c κs = search needs
 
-is-good-viewport-requires : tie.Need-is-good-viewport-requires
-is-good-viewport-requires c κs = search needs
-
-returns-2 : tie.Need-returns-2
-returns-2 c = (bad-viewport _ (sym ((c .before .before .before .before .before .enum-told) .given .1) ∙ (c .before .before .before .before .before .before .before .read-form) .ensures) ((c .before .before .before .before .box-at) .ensures) (sym ((c .before .is-good-viewport) .ensures) ∙ not-true _ ((c .if1) .taken)), (omega arith, omega arith))
-
 returns-3 : tie.Need-returns-3
-returns-3 c = (many-rows _ (sym ((c .before .before .before .before .before .before .enum-told) .given .1) ∙ (c .before .before .before .before .before .before .before .before .read-form) .ensures) ((c .before .before .before .before .before .box-at) .ensures) (sym ((c .before .before .is-good-viewport) .ensures) ∙ not-false _ ((c .before .if1) .left)) (rw ((c .before .before .before .before .fresh) .ensures) at ((c .before .before .before .rows) .ensures)) ((c .if2) .taken), (omega arith, omega arith))
+returns-3 c =
+    let at-rows = c .before in
+    let at-fresh = at-rows .before in
+    let at-viewport = at-fresh .before .before in
+    let at-viewport-in = at-viewport .before .before in
+    let at-box-at = at-viewport-in .before in
+    let at-form = at-box-at .before in
+    let a = at-form .before .before .before .before .args in (
+      many-rows _ (setup-of (a .setup)) (sym (at-form .enum-told .given .1) ∙ at-form .before .before .read-form .ensures) (at-box-at .box-at .ensures)
+          (sym (at-viewport .viewport .given .1) ∙ at-viewport-in .viewport-in .ensures) (rw (at-fresh .fresh .ensures) at (at-rows .rows .ensures)) (c .if1 .taken),
+      (omega arith, omega arith),
+    )
 
 buckets-requires : tie.Need-buckets-requires
 buckets-requires c κs = search needs
 
 returns-4 : tie.Need-returns-4
 returns-4 c =
-    let at-if2 = c .before in
-    let at-if1 = at-if2 .before in
-    let at-is-good-viewport = at-if1 .before in
-    let at-rows = at-is-good-viewport .before in
+    let at-if1 = c .before in
+    let at-rows = at-if1 .before in
     let at-fresh = at-rows .before in
-    let at-box-at = at-fresh .before in
-    let at-enum-told = at-box-at .before in
-    let at-read-form = at-enum-told .before .before in (
-      good-size _ (sym ((at-enum-told .enum-told) .given .1) ∙ (at-read-form .read-form) .ensures) ((at-box-at .box-at) .ensures) (sym
-          ((at-is-good-viewport .is-good-viewport) .ensures) ∙ not-false _ ((at-if1 .if1) .left)) (rw ((at-fresh .fresh) .ensures) at ((at-rows .rows) .ensures)) (rw
-          ((at-fresh .fresh) .ensures) at ((c .buckets) .ensures)) ((at-if2 .if2) .left),
-      (
-        (at-if2 .if2) .left,
-        rw (rw ((at-fresh .fresh) .ensures) at ((c .buckets) .ensures)) (few-buckets _ (sym ((at-is-good-viewport .is-good-viewport) .ensures) ∙ not-false _
-            ((at-if1 .if1) .left))),
-      ),
+    let at-viewport = at-fresh .before .before in
+    let at-viewport-in = at-viewport .before .before in
+    let at-box-at = at-viewport-in .before in
+    let at-form = at-box-at .before in
+    let a = at-form .before .before .before .before .args in
+    let q = setup-of (a .setup) in
+    let e = sym (at-form .enum-told .given .1) ∙ at-form .before .before .read-form .ensures in
+    let h = sym (at-viewport .viewport .given .1) ∙ at-viewport-in .viewport-in .ensures in (
+      good-size _ q e (at-box-at .box-at .ensures) h (rw (at-fresh .fresh .ensures) at (at-rows .rows .ensures))
+          (rw (at-fresh .fresh .ensures) at (c .buckets .ensures)) (at-if1 .if1 .left),
+      (at-if1 .if1 .left, few _ q e (at-box-at .box-at .ensures) h (rw (at-fresh .fresh .ensures) at (c .buckets .ensures))),
     )
 
 pub size-of-spec : {M : Type 1} → statement M
@@ -70,10 +97,12 @@ size-of-spec =
     enum-told-2
     returns
     box-at-requires
+    viewport-in-requires
+    enum-known-viewport
+    enum-told-3
+    returns-2
     fresh-requires
     rows-requires
-    is-good-viewport-requires
-    returns-2
     returns-3
     buckets-requires
     returns-4)

@@ -1,6 +1,7 @@
 -- 3 and 2 of the file, then 4 of the tables, then the text.
 use mathlib.Core.Path.{sym, _∙_}
 use Rattle.text_screen.proofs.Runs.{not-true, not-false}
+use Rattle.screen.specs.Screens.{setup-of}
 use Rattle.screen.specs.Tables.{tables}
 use Rattle.text_file.proofs.Bytes.{enough}
 use Rattle.text_file.proofs.Texts.{words-refused, words-short, words-shown}
@@ -31,7 +32,7 @@ returns c =
     let a = entry .args in
     let t = tables (a .render .now) (a .fills .now) (a .depth .now) (a .rows .now) (a .painting .now) (a .layers .now) (a .opacities .now) (a .paint-attrs .now)
     (a .layer-attrs .now) (a .filter-paints .now) in
-    words-refused (entry .args .file .now) t (entry .args .out .now) (at-size-of .size-of .ensures .0) (at-no-screen .no-screen .ensures) (at-if1 .if1 .taken)
+    words-refused (entry .args .file .now) (setup-of (entry .args .setup)) t (entry .args .out .now) (at-size-of .size-of .ensures .0) (at-no-screen .no-screen .ensures) (at-if1 .if1 .taken)
     (at-refuse .refuse .ensures)
 
 is-roomy-requires : tie.Need-is-roomy-requires
@@ -59,7 +60,7 @@ returns-2 c =
     let a = entry .args in
     let t = tables (a .render .now) (a .fills .now) (a .depth .now) (a .rows .now) (a .painting .now) (a .layers .now) (a .opacities .now) (a .paint-attrs .now)
     (a .layer-attrs .now) (a .filter-paints .now) in
-    words-short (entry .args .file .now) t (entry .args .out .now) (at-size-of .size-of .ensures .0) (at-no-screen2 .no-screen2 .ensures) (at-if1 .if1 .left)
+    words-short (entry .args .file .now) (setup-of (entry .args .setup)) t (entry .args .out .now) (at-size-of .size-of .ensures .0) (at-no-screen2 .no-screen2 .ensures) (at-if1 .if1 .left)
     (sym (at-is-roomy .is-roomy .ensures) ∙ not-true _ (at-if2 .if2 .taken)) (at-refuse2 .refuse2 .ensures)
 
 front-text-requires : tie.Need-front-text-requires
@@ -120,7 +121,7 @@ returns-3 c =
     let a = entry .args in
     let t = tables (a .render .now) (a .fills .now) (a .depth .now) (a .rows .now) (a .painting .now) (a .layers .now) (a .opacities .now) (a .paint-attrs .now)
     (a .layer-attrs .now) (a .filter-paints .now) in
-    words-shown (entry .args .file .now) t (entry .args .out .now) (at-size-of .size-of .ensures .0) (at-if1 .if1 .left) (sym (at-is-roomy .is-roomy .ensures) ∙
+    words-shown (entry .args .file .now) (setup-of (entry .args .setup)) t (entry .args .out .now) (at-size-of .size-of .ensures .0) (at-if1 .if1 .left) (sym (at-is-roomy .is-roomy .ensures) ∙
     not-false _ (at-if2 .if2 .left)) (at-front-text .front-text .ensures)
 
 pub words-text-spec : {M : Type 1} → statement M

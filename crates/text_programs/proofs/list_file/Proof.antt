@@ -1,4 +1,5 @@
 -- The tables have the programs' lengths, so that what the file's call writes is the rules' text.
+use Rattle.screen.specs.Screens.{setup-of}
 use Rattle.screen.specs.Tables.{tables}
 use Rattle.text_programs.proofs.Laws.{Long, rowlist-shown, number-shown}
 use borrow.Author.Needs.{needs}
@@ -102,8 +103,11 @@ returns c =
       layer-attrs = at-layer-attr-words .layer-attr-words .ensures;
       filter-paints = at-filter-words .filter-words .ensures;
     } in
-    let lines = rowlist-shown t h (entry .args .file .now) (entry .args .out .now) (entry .pre) (at-file-text .file-text .ensures) in
-    ((number-shown t h (entry .args .file .now) (entry .args .out .now) (entry .pre) (at-file-text .file-text .ensures), lines .0), lines .1)
+    let q = setup-of (entry .args .setup) in
+    let lines = rowlist-shown t h q (entry .pre .0) (entry .args .file .now) (entry .args .out .now) (entry .pre .1) (at-file-text .file-text .ensures) in (
+      (number-shown t h q (entry .pre .0) (entry .args .file .now) (entry .args .out .now) (entry .pre .1) (at-file-text .file-text .ensures), lines .0),
+      lines .1,
+    )
 
 pub list-file-spec : {M : Type 1} → statement M
 list-file-spec =

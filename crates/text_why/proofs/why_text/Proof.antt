@@ -1,6 +1,7 @@
 -- Where the file is refused, the refusal is printed as `rowlist` prints it; else the answer, over what was written before.
 use mathlib.Core.Path.{sym, _∙_}
 use native.Mathlib.Omega.{arith}
+use Rattle.screen.specs.Screens.{setup-of}
 use Rattle.text_why.specs.Questions.{question-of}
 use Rattle.text_why.proofs.Files.{refused-text, accepted-file, written-first}
 use borrow.Author.Needs.{needs}
@@ -19,7 +20,7 @@ returns c =
     let entry = at-list .before .before .before .before in
     let a = entry .args in
     let listed = at-list .list-file .ensures in
-    refused-text (a .file .now) (a .row) (a .tile) (question-of (a .question)) (a .out .now) (λ z. c .if1 .taken (listed .0 .0 ∙ z)) (listed .0 .1) (listed .1)
+    refused-text (setup-of (a .setup)) (a .file .now) (a .row) (a .tile) (question-of (a .question)) (a .out .now) (λ z. c .if1 .taken (listed .0 .0 ∙ z)) (listed .0 .1) (listed .1)
 
 accepted-text-requires : tie.Need-accepted-text-requires
 accepted-text-requires c κs =
@@ -28,7 +29,7 @@ accepted-text-requires c κs =
     let entry = at-list .before .before .before .before in
     let a = entry .args in
     let listed = at-list .list-file .ensures in
-    let accepted = accepted-file (a .file .now) (a .row) (a .tile) (question-of (a .question)) (sym (listed .0 .0) ∙ at-if1 .if1 .left) in
+    let accepted = accepted-file (setup-of (a .setup)) (a .file .now) (a .row) (a .tile) (question-of (a .question)) (sym (listed .0 .0) ∙ at-if1 .if1 .left) in
     (accepted .few, accepted .done)
 
 same-length-2 : tie.Need-same-length-2
@@ -43,8 +44,8 @@ returns-2 c =
     let entry = at-list .before .before .before .before in
     let a = entry .args in
     let listed = at-list .list-file .ensures in
-    let accepted = accepted-file (a .file .now) (a .row) (a .tile) (question-of (a .question)) (sym (listed .0 .0) ∙ at-if1 .if1 .left) in
-    rw (accepted .text) (written-first _ _ _ (omega (arith, at-out .out .given, entry .pre)) (at-accepted .accepted-text .ensures))
+    let accepted = accepted-file (setup-of (a .setup)) (a .file .now) (a .row) (a .tile) (question-of (a .question)) (sym (listed .0 .0) ∙ at-if1 .if1 .left) in
+    rw (accepted .text) (written-first _ _ _ (omega (arith, at-out .out .given, entry .pre .1)) (at-accepted .accepted-text .ensures))
 
 pub why-text-spec : {M : Type 1} → statement M
 why-text-spec =

@@ -11,11 +11,11 @@ explain-requires : tie.Need-explain-requires
 explain-requires c κs =
     let at-recording = c .before .before .before .before .before .before .before .before .before .before .before .before .before .before .before .before .before .before .before in
     let args = at-recording .before .before .before .before .before .before .before .before .before .before .before .before .before .before .before .before .before .before .before .before .before .args in
-    let last = at-recording .bucket-recording .last .1 .1 .1 .1 in
+    let last = at-recording .bucket-recording .last .1 .1 .1 in
     let old : ScreenLent = lent (args .screen) (tables (args .render .now) (args .fills .now) (args .depth .now) (args .rows .now) (args .painting .now) (args .layers .now) (args .opacities .now) (args .paint-attrs .now) (args .layer-attrs .now) (args .filter-paints .now)) in
     let left : Tables =
     tables (last .0) (last .1 .0) (last .1 .1 .0) (last .1 .1 .1 .0) (last .1 .1 .1 .1 .0) (last .1 .1 .1 .1 .1 .0) (last .1 .1 .1 .1 .1 .1 .0) (last .1 .1 .1 .1 .1 .1 .1 .0) (last .1 .1 .1 .1 .1 .1 .1 .1 .0) (last .1 .1 .1 .1 .1 .1 .1 .1 .1 .0) in
-    record { c = args .c; d = args .d; before = old; after = left; same = at-recording .bucket-recording .ensures }
+    record { before = old; after = left; same = at-recording .bucket-recording .ensures }
 
 same-length : tie.Need-same-length
 same-length c = search needs
@@ -51,11 +51,11 @@ returns : tie.Need-returns
 returns c =
     let at-recording = c .before .before .before .before .before .before .before .before .before .before .before .before .before .before .before .before .before .before .before .before in
     let args = at-recording .before .before .before .before .before .before .before .before .before .before .before .before .before .before .before .before .before .before .before .before .before .args in
-    let last = at-recording .bucket-recording .last .1 .1 .1 .1 in
+    let last = at-recording .bucket-recording .last .1 .1 .1 in
     let old : ScreenLent = lent (args .screen) (tables (args .render .now) (args .fills .now) (args .depth .now) (args .rows .now) (args .painting .now) (args .layers .now) (args .opacities .now) (args .paint-attrs .now) (args .layer-attrs .now) (args .filter-paints .now)) in
     let left : Tables =
     tables (last .0) (last .1 .0) (last .1 .1 .0) (last .1 .1 .1 .0) (last .1 .1 .1 .1 .0) (last .1 .1 .1 .1 .1 .0) (last .1 .1 .1 .1 .1 .1 .0) (last .1 .1 .1 .1 .1 .1 .1 .0) (last .1 .1 .1 .1 .1 .1 .1 .1 .0) (last .1 .1 .1 .1 .1 .1 .1 .1 .1 .0) in
-    c .explain .ensures (args .c) (args .d) old left (at-recording .bucket-recording .ensures)
+    c .explain .ensures old left (at-recording .bucket-recording .ensures)
 
 pub why-spec : {M : Type 1} → statement M
 why-spec =

@@ -1,20 +1,21 @@
 -- The questions left to count fall.
 use Prim.Native.Nat.{_-_, _≤_}
 use native.Mathlib.Omega.{arith}
+use borrow.Author.Needs.{needs}
 use Rattle.why.proofs.ask_all.Statement.{statement}
 use Rattle.why.proofs.ask_all.Tie as tie
 
 abbrev Inv-loop : tie.InvT-loop
-Inv-loop i₀ i = i ≤ 18446744073709551615
+Inv-loop setup i₀ i = i ≤ 18446744073709551615
 
 abbrev μ-loop : tie.MeasureT-loop
-μ-loop i₀ i = 18446744073709551615 - i
+μ-loop setup i₀ i = 18446744073709551615 - i
 
 loop-holds : tie.Need-loop-holds Inv-loop μ-loop
 loop-holds c = omega arith
 
 next-requires : tie.Need-next-requires Inv-loop μ-loop
-next-requires c κs = tt
+next-requires c κs = search needs
 
 returns : tie.Need-returns Inv-loop μ-loop
 returns c = tt

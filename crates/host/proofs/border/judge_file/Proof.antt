@@ -1,5 +1,6 @@
 -- The form, then the reset to the viewport that stands at place 1.
 use mathlib.Core.Path.{sym, _∙_}
+use Rattle.screen.specs.Screens.{setup-of}
 use Rattle.file_form.proofs.Laid.{good-form, bad-form}
 use Rattle.host.proofs.Ways.{no-file, a-file}
 use borrow.Author.Needs.{needs}
@@ -18,7 +19,7 @@ enum-told c = search needs
 returns : tie.Need-returns
 returns c =
     let at-read-form = c .before .before in
-    no-file _ _ _ _ (bad-form _ (sym (c .enum-told .given .1) ∙ at-read-form .read-form .ensures))
+    no-file _ (setup-of (at-read-form .before .before .args .setup)) _ (bad-form _ (sym (c .enum-told .given .1) ∙ at-read-form .read-form .ensures))
 
 box-at-requires : tie.Need-box-at-requires
 box-at-requires c κs =
@@ -36,7 +37,8 @@ returns-2 c =
     let at-l = at-box-at .before .before in
     let at-read-form = at-l .before .before in
     let at-args = at-read-form .before .before in
-    a-file _ _ (good-form (at-args .args .file .now) (at-l .l .given .0 .0) (sym (at-l .l .given .1) ∙ at-read-form .read-form .ensures)) _ (at-box-at .box-at .ensures) _ _ _ _ (c .judge-arenas .ensures)
+    a-file _ _ (good-form (at-args .args .file .now) (at-l .l .given .0 .0) (sym (at-l .l .given .1) ∙ at-read-form .read-form .ensures)) _ (at-box-at .box-at .ensures)
+    (setup-of (at-args .args .setup)) _ _ (c .judge-arenas .ensures)
 
 pub judge-file-spec : {M : Type 1} → statement M
 judge-file-spec =

@@ -1,12 +1,29 @@
--- Where the words stand for no screen the border answers; else the call's own equation, carried over to the words.
+-- Words that ask for no setup are refused. Where the state's words stand for no screen the border answers; else the call's own equation, carried over to
+-- the words.
+use Rattle.screen.specs.Screens.{setup-of}
 use Rattle.screen.specs.Tables.{tables}
-use mathlib.Core.Path.{sym, _∙_}
+use mathlib.Core.Path.{sym, ap, _∙_}
+use Rattle.host_screen.specs.Asked.{asked-for}
 use Rattle.host_screen.proofs.Words.{long}
+use Rattle.host.proofs.Asked.{reset-unasked, reset-asked}
 use Rattle.host.proofs.Built.{reset-built}
 use Rattle.host.proofs.Unheld.{reset-unheld}
 use borrow.Author.Needs.{needs}
 use Rattle.host.proofs.build.coarse_reset.Statement.{statement}
 use Rattle.host.proofs.build.coarse_reset.Tie as tie
+
+read-setup-requires : tie.Need-read-setup-requires
+read-setup-requires c κs = search needs
+
+enum-known-asked : tie.Need-enum-known-asked
+enum-known-asked c = search needs
+
+enum-told : tie.Need-enum-told
+enum-told c = search needs
+
+returns : tie.Need-returns
+returns c =
+    reset-unasked _ (sym (ap asked-for (c .enum-told .given .1)) ∙ c .before .before .read-setup .ensures) _ _ (tables _ _ _ _ _ _ _ _ _ _)
 
 screen-of-requires : tie.Need-screen-of-requires
 screen-of-requires c κs = search needs
@@ -14,8 +31,8 @@ screen-of-requires c κs = search needs
 enum-known-screen : tie.Need-enum-known-screen
 enum-known-screen c = search needs
 
-enum-told : tie.Need-enum-told
-enum-told c = search needs
+enum-told-2 : tie.Need-enum-told-2
+enum-told-2 c = search needs
 
 refuse-reset-requires : tie.Need-refuse-reset-requires
 refuse-reset-requires c κs = search needs
@@ -23,22 +40,22 @@ refuse-reset-requires c κs = search needs
 same-length : tie.Need-same-length
 same-length c = search needs
 
-returns : tie.Need-returns
-returns c =
-    let at-enum-told = c .before .before in
-    let at-screen-of = at-enum-told .before .before in
-    reset-unheld _ _ _ _ _ (tables _ _ _ _ _ _ _ _ _ _) (sym (at-enum-told .enum-told .given .1) ∙ at-screen-of .screen-of .ensures) (c .refuse-reset .ensures)
+returns-2 : tie.Need-returns-2
+returns-2 c =
+    let at-told = c .before .before in
+    let at-screen-of = at-told .before .before in
+    let at-asked = at-screen-of .before .before .before in
+    let q = setup-of (at-asked .asked .given .0 .0) in
+    reset-asked _ q (sym (ap asked-for (at-asked .asked .given .1)) ∙ at-asked .before .before .read-setup .ensures) _ _ (tables _ _ _ _ _ _ _ _ _ _)
+    (reset-unheld _ _ _ q (tables _ _ _ _ _ _ _ _ _ _) (sym (at-told .enum-told2 .given .1) ∙ at-screen-of .screen-of .ensures) (c .refuse-reset .ensures))
 
 reset-requires : tie.Need-reset-requires
 reset-requires c κs = search needs
 
 leave-requires : tie.Need-leave-requires
 leave-requires c κs =
-    let back = c .before .before .before .before .before .before .before .before .before .before .before .before .before .before .before .before .before
-    .before .before .before .before .before .before .before .before .before .before .before .before .before .before .before in
-    let at-screen = back in
-    let at-screen-of = at-screen .before .before in
-    long _ _ _ (sym (at-screen .screen .given .1) ∙ at-screen-of .screen-of .ensures)
+    let at-screen = c .before .before .before .before .before .before .before .before .before .before .before .before .before .before .before .before .before .before .before .before .before .before .before .before .before .before .before .before .before .before .before .before in
+    long _ _ _ (sym (at-screen .screen .given .1) ∙ at-screen .before .before .screen-of .ensures)
 
 same-length-2 : tie.Need-same-length-2
 same-length-2 c = search needs
@@ -73,28 +90,32 @@ same-length-11 c = search needs
 same-length-12 : tie.Need-same-length-12
 same-length-12 c = search needs
 
-returns-2 : tie.Need-returns-2
-returns-2 c =
-    let back = c .before .before in
-    let at-leave = back in
-    let at-reset =
-    at-leave .before .before .before .before .before .before .before .before .before .before .before .before .before .before .before .before .before .before .before .before .before
-    in
+returns-3 : tie.Need-returns-3
+returns-3 c =
+    let at-leave = c .before .before in
+    let at-reset = at-leave .before .before .before .before .before .before .before .before .before .before .before .before .before .before .before .before .before .before .before .before .before in
     let at-screen = at-reset .before .before .before .before .before .before .before .before .before .before .before .before in
     let at-screen-of = at-screen .before .before in
-    reset-built _ _ _ _ _ _ (sym (at-screen .screen .given .1) ∙ at-screen-of .screen-of .ensures) (at-leave .leave .ensures .0) (at-leave .leave .ensures .1) _
-    _ _ _ _ (at-reset .reset .ensures)
+    let at-asked = at-screen-of .before .before .before in
+    let q = setup-of (at-asked .asked .given .0 .0) in
+    reset-asked _ q (sym (ap asked-for (at-asked .asked .given .1)) ∙ at-asked .before .before .read-setup .ensures) _ _ (tables _ _ _ _ _ _ _ _ _ _)
+    (reset-built _ _ _ _ _ _ (sym (at-screen .screen .given .1) ∙ at-screen-of .screen-of .ensures) (at-leave .leave .ensures .0) (at-leave .leave .ensures .1) _ q
+    _ _ (at-reset .reset .ensures))
 
 pub coarse-reset-spec : {M : Type 1} → statement M
 coarse-reset-spec =
     tie.close
     (tie.spec
+    read-setup-requires
+    enum-known-asked
+    enum-told
+    returns
     screen-of-requires
     enum-known-screen
-    enum-told
+    enum-told-2
     refuse-reset-requires
     same-length
-    returns
+    returns-2
     reset-requires
     leave-requires
     same-length-2
@@ -108,4 +129,4 @@ coarse-reset-spec =
     same-length-10
     same-length-11
     same-length-12
-    returns-2)
+    returns-3)

@@ -2,17 +2,17 @@
 use mathlib.Core.Path.{sym}
 use Prim.Native.Nat.{ℕ}
 use lib.ListN.{length-replicate}
-use Rattle.rowdump.proofs.main.Statement.{statement}
-use Rattle.rowdump.proofs.main.Tie as tie
+use Rattle.rowdump.proofs.print_stream.Statement.{statement}
+use Rattle.rowdump.proofs.print_stream.Tie as tie
 
 slice-aggregate-print-all : tie.Need-slice-aggregate-print-all
 slice-aggregate-print-all c = sym (length-replicate {A = ℕ} 4682240 0)
 
 print-all-requires : tie.Need-print-all-requires
-print-all-requires c κs = sym (length-replicate {A = ℕ} 4682240 0)
+print-all-requires c κs = (c .before .pre, sym (length-replicate {A = ℕ} 4682240 0))
 
 returns : tie.Need-returns
 returns c = tt
 
-pub main-spec : {M : Type 1} → statement M
-main-spec = tie.close (tie.spec slice-aggregate-print-all print-all-requires returns)
+pub print-stream-spec : {M : Type 1} → statement M
+print-stream-spec = tie.close (tie.spec slice-aggregate-print-all print-all-requires returns)

@@ -2,8 +2,8 @@
 use Prim.Native.Nat.{_-_, _≤_}
 use native.Mathlib.Omega.{arith}
 use lib.ListN.{length}
-use Rattle.why.proofs.number_of.Statement.{statement}
-use Rattle.why.proofs.number_of.Tie as tie
+use Rattle.text_programs.proofs.options.number_of.Statement.{statement}
+use Rattle.text_programs.proofs.options.number_of.Tie as tie
 
 abbrev Inv-loop : tie.InvT-loop
 Inv-loop text n₀ i₀ n i = (i ≤ length text) × (n ≤ 4294967295)

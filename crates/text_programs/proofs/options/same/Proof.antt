@@ -2,8 +2,8 @@
 use Prim.Native.Nat.{_-_, _≤_}
 use native.Mathlib.Omega.{arith}
 use lib.ListN.{length}
-use Rattle.why.proofs.same.Statement.{statement}
-use Rattle.why.proofs.same.Tie as tie
+use Rattle.text_programs.proofs.options.same.Statement.{statement}
+use Rattle.text_programs.proofs.options.same.Tie as tie
 
 abbrev Inv-loop : tie.InvT-loop
 Inv-loop a b i₀ i = i ≤ length a

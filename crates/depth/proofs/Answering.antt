@@ -3,6 +3,7 @@ use mathlib.Core.Path.{_≡_, refl, sym, ap, _∙_}
 use mathlib.Core.Bool.{Bool, true, false, _&&_, _||_, not, cond}
 use mathlib.Core.List.{List, [], map}
 use Prim.Native.Nat.{ℕ, _≤_, _<_, _+_, _-_, _*_, _/_, min}
+use native.Mathlib.Nat.{mul-le-mul-right, div-mul-le-self, min-le-left}
 use native.Mathlib.Omega.{arith}
 use lib.ListN.{length, length-map}
 use lib.Dec.{leb, ltb, eqb}
@@ -33,11 +34,14 @@ met-within w n s = go (ltb (s .first) (s .end))
     go false = omega arith
 
 -- .. and its end counts few tiles
-pub met-small : (n : ℕ) (s : Span) → s .end ≤ 8192 → met-end 32 s n * 32 < 4294967296
-met-small n s h = go (ltb (s .first) (s .end))
+pub met-small : (w n : ℕ) (s : Span) → w ≤ 64 → s .end ≤ 8192 → met-end w s n * w < 4294967296
+met-small w n s h g = go (ltb (s .first) (s .end))
   where
-    go : (t : Bool) → cond t (min ((s .end + 31) / 32) n) 0 * 32 < 4294967296
-    go true = omega arith
+    x : ℕ
+    x = s .end + (w - 1)
+
+    go : (t : Bool) → cond t (min (x / w) n) 0 * w < 4294967296
+    go true = omega (arith, mul-le-mul-right w (min-le-left (x / w) n), div-mul-le-self x w)
     go false = omega arith
 
 -- a refusal leaves the list
@@ -91,19 +95,19 @@ module _ (w : ℕ) (bs : List ℕ) (id : ℕ) (s : Span) (l : List ℕ) where
   unfolding visible-answer
   tiles-past h = listed-bad (length l / 2) (visible-runs w bs id s) l _ (past 8192 s h)
 
-  module _ (h : s .first ≤ s .end) (g : s .end ≤ 8192) (hi : ℕ) (e : hi ≡ met-end w s (length bs)) where
-    many : length (runs-in (is-visible id) bs (span (s .first / w) hi)) ≡ length (visible-runs w bs id s)
-    many = rw e (sym (length-map (runs-in (is-visible id) bs (span (s .first / w) (met-end w s (length bs)))) _) ∙ ap (λ (a : Answer (List Span)). length (a .value)) cut-all)
+  module _ (h : s .first ≤ s .end) (g : s .end ≤ 8192) (lo hi : ℕ) (d : lo ≡ s .first / w) (e : hi ≡ met-end w s (length bs)) where
+    many : length (runs-in (is-visible id) bs (span lo hi)) ≡ length (visible-runs w bs id s)
+    many = rw (d, e) (sym (length-map (runs-in (is-visible id) bs (span (s .first / w) (met-end w s (length bs)))) _) ∙ ap (λ (a : Answer (List Span)). length (a .value)) cut-all)
 
-    pub tiles-short : true ≡ ltb (length l / 2) (length (runs-in (is-visible id) bs (span (s .first / w) hi))) → refused 14 l ≡ listing (visible-answer w bs id s (length l / 2)) l
+    pub tiles-short : true ≡ ltb (length l / 2) (length (runs-in (is-visible id) bs (span lo hi))) → refused 14 l ≡ listing (visible-answer w bs id s (length l / 2)) l
     unfolding visible-answer
     tiles-short q = listed-short (length l / 2) (visible-runs w bs id s) l _ (good 8192 s h g) (rw (← many) (sym q))
 
-    pub tiles-done : (n : ℕ) (l′ : List ℕ) → false ≡ ltb (length l / 2) (length (runs-in (is-visible id) bs (span (s .first / w) hi)))
-        → done n l′ ≡ listing (cut-runs s w id bs (s .first / w) hi) l → done n l′ ≡ listing (visible-answer w bs id s (length l / 2)) l
+    pub tiles-done : (n : ℕ) (l′ : List ℕ) (k : ℕ) → k ≡ w → false ≡ ltb (length l / 2) (length (runs-in (is-visible id) bs (span lo hi)))
+        → done n l′ ≡ listing (cut-runs s k id bs lo hi) l → done n l′ ≡ listing (visible-answer w bs id s (length l / 2)) l
     unfolding visible-answer
-    tiles-done n l′ q d =
-        d ∙ rw e (ap (λ (a : Answer (List Span)). listing a l) (cut-all ∙ listed-done (length l / 2) (visible-runs w bs id s) _ (good 8192 s h g) (rw (← many) (sym q))))
+    tiles-done n l′ k f q m =
+        m ∙ rw (f, d, e) (ap (λ (a : Answer (List Span)). listing a l) (cut-all ∙ listed-done (length l / 2) (visible-runs w bs id s) _ (good 8192 s h g) (rw (← many) (sym q))))
 
 pub unset-same : (w : ℕ) (bs : List ℕ) (s : Span) (n : ℕ) → visible-answer w bs 0 s n ≡ unset-answer w bs s n
 unfolding visible-answer unset-answer visible-runs unset-runs

@@ -1,21 +1,22 @@
 // Runs of buckets in one row's depth words. The private functions are parts: their callers have judged the range and the room.
-use sizes::BUCKET;
 use sizes::TILE_END;
 use sizes::answers::BAD_RUN;
 use sizes::answers::DONE;
 use sizes::answers::NO_ROOM;
 use span::BucketRange;
 use span::TileSpan;
+use span::Width;
 use span::larger;
 use span::smaller;
 ghost use mathlib.Core.Path.{_≡_};
 ghost use Prim.Native.Nat.{_≤_, _<_, _*_, _/_};
 ghost use lib.ListN.{length};
 ghost use lib.Dec.{ltb};
-ghost use Rattle.sizes.specs.Sizes.{bucket-tiles, tile-end};
+ghost use Rattle.sizes.specs.Sizes.{tile-end};
 ghost use Rattle.rules.specs.Spans.{span};
 ghost use Rattle.rules.specs.Depth.{is-visible, runs-in, unset-answer, visible-answer, written};
 ghost use Rattle.span.specs.Spans.{tiles, buckets};
+ghost use Rattle.span.specs.Widths.{wide};
 ghost use Rattle.depth.specs.Listing.{out, out-write, done, cut-runs, open-runs, listing, writing, met-end};
 
 // What a call over runs gives: its number, and how many runs are listed.
@@ -129,20 +130,26 @@ fn is_short(depth: &[u32], lo: usize, hi: usize, ceiling: u32, words: usize) -> 
 }
 
 // Where the search over a span's buckets ends: at the buffer's end at the latest. An empty span has no bucket to search.
-fn met_end(span: TileSpan, buckets: usize) -> usize
+fn met_end(span: TileSpan, buckets: usize, width: Width) -> usize
     requires { ⌜ span .«end» ≤ tile-end ⌝ }
-    ensures { λ r. ⌜ r ≡ met-end bucket-tiles (tiles span) buckets ⌝ }
+    ensures { λ r. ⌜ r ≡ met-end (wide width) (tiles span) buckets ⌝ }
 {
     if span.end <= span.first {
         return 0;
     }
-    let met = ((span.end + (BUCKET - 1)) / BUCKET) as usize;
+    let met = width.above(span.end) as usize;
     if met < buckets { met } else { buckets }
 }
 
 // The runs of a span's tiles whose buckets hold at most the id.
-pub fn visible_runs(depth: &[u32], span: TileSpan, draw_id: u32, list: &mut [u32]) -> Runs
-    ensures { λ r. ⌜ out r (now (list .exit)) ≡ listing (visible-answer bucket-tiles (now (depth .entry)) «draw_id» (tiles span) (length (now (list .entry)) / 2)) (now (list .entry)) ⌝ }
+pub fn visible_runs(
+    depth: &[u32],
+    span: TileSpan,
+    draw_id: u32,
+    list: &mut [u32],
+    width: Width,
+) -> Runs
+    ensures { λ r. ⌜ out r (now (list .exit)) ≡ listing (visible-answer (wide width) (now (depth .entry)) «draw_id» (tiles span) (length (now (list .entry)) / 2)) (now (list .entry)) ⌝ }
 {
     if span.end < span.first {
         return Runs {
@@ -156,8 +163,8 @@ pub fn visible_runs(depth: &[u32], span: TileSpan, draw_id: u32, list: &mut [u32
             count: 0,
         };
     }
-    let lo = (span.first / BUCKET) as usize;
-    let hi = met_end(span, depth.len());
+    let lo = width.below(span.first) as usize;
+    let hi = met_end(span, depth.len(), width);
     if is_short(depth, lo, hi, draw_id, list.len()) {
         return Runs {
             number: NO_ROOM,
@@ -169,7 +176,7 @@ pub fn visible_runs(depth: &[u32], span: TileSpan, draw_id: u32, list: &mut [u32
         lo,
         hi,
         draw_id,
-        BUCKET as usize,
+        width.tiles() as usize,
         span.first,
         span.end,
         list,
@@ -181,10 +188,10 @@ pub fn visible_runs(depth: &[u32], span: TileSpan, draw_id: u32, list: &mut [u32
 }
 
 // The runs of a span's tiles whose buckets hold 0: what is visible at id 0.
-pub fn unset_runs(depth: &[u32], span: TileSpan, list: &mut [u32]) -> Runs
-    ensures { λ r. ⌜ out r (now (list .exit)) ≡ listing (unset-answer bucket-tiles (now (depth .entry)) (tiles span) (length (now (list .entry)) / 2)) (now (list .entry)) ⌝ }
+pub fn unset_runs(depth: &[u32], span: TileSpan, list: &mut [u32], width: Width) -> Runs
+    ensures { λ r. ⌜ out r (now (list .exit)) ≡ listing (unset-answer (wide width) (now (depth .entry)) (tiles span) (length (now (list .entry)) / 2)) (now (list .entry)) ⌝ }
 {
-    visible_runs(depth, span, 0, list)
+    visible_runs(depth, span, 0, list, width)
 }
 
 // Writes the unset runs from lo to hi to the start of the list, as buckets, and stores the id over them, in the one pass that finds them:

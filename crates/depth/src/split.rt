@@ -1,12 +1,12 @@
 // Rule 7: an opaque span is split into a depth fill of whole buckets and regular pieces beside it.
-use sizes::BUCKET;
 use sizes::TILE_END;
 use span::BucketRange;
 use span::TileSpan;
+use span::Width;
 ghost use mathlib.Core.Path.{_≡_};
-ghost use Rattle.sizes.specs.Sizes.{bucket-tiles};
 ghost use Rattle.rules.specs.Split.{split-answer};
 ghost use Rattle.span.specs.Spans.{tiles};
+ghost use Rattle.span.specs.Widths.{wide};
 ghost use Rattle.depth.specs.Answers.{piece-of, split-of};
 
 // A regular piece beside a depth fill, where there is one.
@@ -27,8 +27,8 @@ pub enum Split {
 }
 
 // Rule 7: the whole buckets of a span, and what is left of it on each side.
-pub fn split_opaque_span(span: TileSpan) -> Split
-    ensures { λ r. ⌜ split-of r ≡ split-answer bucket-tiles (tiles span) ⌝ }
+pub fn split_opaque_span(span: TileSpan, width: Width) -> Split
+    ensures { λ r. ⌜ split-of r ≡ split-answer (wide width) (tiles span) ⌝ }
 {
     let first = span.first;
     let end = span.end;
@@ -38,18 +38,18 @@ pub fn split_opaque_span(span: TileSpan) -> Split
     if TILE_END < end {
         return Split::Refused;
     }
-    let aligned_first = (first + (BUCKET - 1)) / BUCKET * BUCKET;
-    let aligned_end = end / BUCKET * BUCKET;
-    if aligned_end <= aligned_first {
+    let low = width.above(first);
+    let high = width.below(end);
+    if high <= low {
         return Split::Whole(span);
     }
     Split::Opaque {
-        before: piece(first, aligned_first),
+        before: piece(first, width.times(low)),
         buckets: BucketRange {
-            first: aligned_first / BUCKET,
-            end: aligned_end / BUCKET,
+            first: low,
+            end: high,
         },
-        after: piece(aligned_end, end),
+        after: piece(width.times(high), end),
     }
 }
 

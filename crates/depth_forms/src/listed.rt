@@ -5,6 +5,7 @@ use depth::visible_runs;
 use sizes::BUCKET_END;
 use sizes::answers::NO_ROOM;
 use span::TileSpan;
+use span::Width;
 ghost use mathlib.Core.Path.{_≡_};
 ghost use lib.ListN.{length, replicate};
 ghost use Rattle.sizes.specs.Sizes.{bucket-tiles, bucket-end};
@@ -20,13 +21,14 @@ struct Found {
     words: [u32; BUCKET_END],
 }
 
-// The runs that a list of so many spans has room for. Tiles end at 8,192, in 256 buckets, which have at most 128 runs: the words hold
-// them all.
+// The runs that a list of so many spans has room for. Tiles end at 8,192, in 256 buckets of 128 pixels, which have at most 128 runs: the
+// words hold them all.
 fn found_runs(depth: &[u32], span: TileSpan, draw_id: u32, room: usize) -> Found
     ensures { λ r. ⌜ (words.out (r .runs) (r .words) ≡ words.listing (visible-answer bucket-tiles (now (depth .entry)) «draw_id» (tiles span) room) (replicate bucket-end 0)) × (r .count ≡ counted (r .runs)) ⌝ }
 {
     let mut words = [0u32; BUCKET_END];
-    let runs = visible_runs(depth, span, draw_id, &mut words);
+    let width = Width::W128;
+    let runs = visible_runs(depth, span, draw_id, &mut words, width);
     let count = runs.count;
     if room < count {
         let short = Runs {

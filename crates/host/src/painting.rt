@@ -22,6 +22,7 @@ use paint_whole::paint_step;
 use sizes::answers::BAD_RECORD;
 use span::BucketRange;
 use span::TileSpan;
+use span::Width;
 ghost use mathlib.Core.Path.{_≡_};
 ghost use Rattle.rules.specs.Answers.{answer};
 ghost use Rattle.rules.specs.Spans.{span};
@@ -241,5 +242,5 @@ pub extern "C" fn coarse_split_opaque_span(first: u32, end: u32, parts: &mut [u3
         return BAD_RECORD;
     }
     let span = TileSpan { first, end };
-    put_split(parts, split_opaque_span(span))
+    put_split(parts, split_opaque_span(span, Width::W128))
 }

@@ -107,7 +107,7 @@ module _ (ps : List ℕ) (paints : ℕ) (ls : List ℕ) (layers : ℕ) (D P l : 
         forged D P l _ p (rw (e, good-paint-is ps paints ls layers (f .«attrs_idx») ∙ bad)) q
 
     pub paint-taken : (x : StepOut) → (id ≡ 0 → ⊥)
-        → x ≡ settled (some (fill-shown no-attrs v false id (f .«attrs_idx») (tiles (f .span)) (alpha (f .alpha)) (painter-at D P))) D P l
+        → x ≡ settled (some (fill-shown no-attrs 32 v false id (f .«attrs_idx») (tiles (f .span)) (alpha (f .alpha)) (painter-at D P))) D P l
         → x ≡ settled (command-step attrs v (painter-at D P) (some (command c))) D P l
     unfolding command-step command-shown fill-shown
     paint-taken x nz q =
@@ -129,7 +129,7 @@ module _ (ps : List ℕ) (paints : ℕ) (ls : List ℕ) (layers : ℕ) (D P l : 
         forged D P l _ p (rw (e, good-layer-is ps paints ls layers (f .«attrs_idx») ∙ bad)) q
 
     pub layer-taken : (x : StepOut) → (id ≡ 0 → ⊥)
-        → x ≡ settled (some (fill-shown no-attrs v true id (f .«attrs_idx») (tiles (f .span)) (alpha (f .alpha)) (painter-at D P))) D P l
+        → x ≡ settled (some (fill-shown no-attrs 32 v true id (f .«attrs_idx») (tiles (f .span)) (alpha (f .alpha)) (painter-at D P))) D P l
         → x ≡ settled (command-step attrs v (painter-at D P) (some (command c))) D P l
     unfolding command-step command-shown fill-shown
     layer-taken x nz q =

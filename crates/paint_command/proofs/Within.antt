@@ -2,8 +2,8 @@
 use mathlib.Core.Path.{_≡_, refl}
 use mathlib.Core.Bool.{Bool, true, false, cond}
 use mathlib.Core.List.{List, [], _∷_, map}
-use Prim.Native.Nat.{ℕ, zero, suc, _≤_, _<_, _+_, _-_, _/_}
-use native.Mathlib.Nat.{not-suc-le-zero, le-of-suc-le-suc}
+use Prim.Native.Nat.{ℕ, zero, suc, _≤_, _<_, _+_, _-_, _*_, _/_}
+use native.Mathlib.Nat.{not-suc-le-zero, le-of-suc-le-suc, mul-le-mul}
 use native.Mathlib.Omega.{arith}
 use lib.ListN.{length, getD, length-take, length-drop}
 use lib.Dec.{ltb, eqb}
@@ -13,7 +13,10 @@ use Rattle.rules.specs.Spans.{Span, span, common}
 use Rattle.rules.specs.Depth.{Summary, join-run, bucket-runs, runs-in, runs, tiles-of, is-unset, is-visible, visible-runs, write-runs}
 use Rattle.span.specs.declared.Alpha.{Alpha}
 use Rattle.span.specs.declared.Alpha.the-variants.{Solid, At}
+use Rattle.span.specs.declared.Width.{Width}
 use Rattle.span.specs.Spans.{Moves}
+use Rattle.span.specs.Widths.{wide}
+use Rattle.span.proofs.Widths.{meets, starts-before}
 use Rattle.paint_pieces.specs.declared.Brush.{Brush}
 use Rattle.paint_pieces.specs.Pieces.{Fits}
 use Rattle.paint_runs.specs.Summaries.{whole-run, is-clear, shown-runs}
@@ -74,16 +77,19 @@ unfolding runs-in
 runs-are-in p bs lo hi h = buckets-in p lo hi (slice lo hi bs) (rw (length-take, length-drop) (omega arith))
 
 -- the pieces of a depth fill are u32's
-pub depth-fits : (bs : List ℕ) (r : Span) (b : Brush) → r .first ≤ r .end → r .end ≤ 65535 → b .first ≡ 0 → b .alpha ≡ Solid → Each (Fits 32 b) (write-runs bs r)
+pub depth-fits : (v : ℕ) → v ≤ 64 → (bs : List ℕ) (r : Span) (b : Brush) → r .first ≤ r .end → r .end ≤ 65535 → b .first ≡ 0 → b .alpha ≡ Solid → Each (Fits v b) (write-runs bs r)
 unfolding write-runs
-depth-fits bs r b h g e q =
-    each-of (In (r .first) (r .end)) (Fits 32 b) fits (runs-in is-unset bs r) (runs-are-in is-unset bs (r .first) (r .end) h)
+depth-fits v n bs r b h g e q =
+    each-of (In (r .first) (r .end)) (Fits v b) fits (runs-in is-unset bs r) (runs-are-in is-unset bs (r .first) (r .end) h)
   where
-    fits : (t : Span) → In (r .first) (r .end) t → Fits 32 b t
+    small : (x : ℕ) → x ≤ 65535 → x * v < 4294967296
+    small x l = omega (arith, mul-le-mul {n₁ = x} {m₁ = v} {n₂ = 65535} {m₂ = 64} l n)
+
+    fits : (t : Span) → In (r .first) (r .end) t → Fits v b t
     fits t i =
         record {
-          small-first = omega (arith, i .some-bucket, i .high);
-          small-end = omega (arith, i .high);
+          small-first = small (t .first) (omega (arith, i .some-bucket, i .high));
+          small-end = small (t .end) (omega (arith, i .high));
           begun = omega arith;
           moves = rw q tt;
         }
@@ -93,31 +99,35 @@ moved-less Solid m n h g = tt
 moved-less (At a) m n h g = omega arith
 
 -- .. and those of a fill
-module _ (bs : List ℕ) (id : ℕ) (s : Span) (b : Brush) (h : s .first ≤ s .end) (g : s .end ≤ 8192)
+module _ (width : Width) (bs : List ℕ) (id : ℕ) (s : Span) (b : Brush) (h : s .first ≤ s .end) (g : s .end ≤ 8192)
     (e : b .first ≡ s .first) (m : Moves (b .alpha) (s .end - s .first)) where
-  cut-fits : s .first < s .end → (t : Span) → In (s .first / 32) ((s .end + 31) / 32) t → Fits 1 b (common s (tiles-of 32 t))
+  abbrev v : ℕ
+  v = wide width
+
+  cut-fits : s .first < s .end → (t : Span) → In (s .first / v) ((s .end + (v - 1)) / v) t → Fits 1 b (common s (tiles-of v t))
   cut-fits l t i =
+      let early : t .first * v < s .end = starts-before width (t .first) (s .end) (omega (arith, i .some-bucket, i .high)) in
       record {
-        small-first = omega (arith, i .some-bucket, i .high);
+        small-first = omega arith;
         small-end = omega arith;
         begun = omega arith;
-        moves = moved-less (b .alpha) _ (s .end - s .first) (omega (arith, i .some-bucket, i .high)) m;
+        moves = moved-less (b .alpha) _ (s .end - s .first) (omega arith) m;
       }
 
-  pub fill-fits : Each (Fits 1 b) (visible-runs 32 bs id s)
+  pub fill-fits : Each (Fits 1 b) (visible-runs v bs id s)
   unfolding visible-runs runs
   fill-fits = go (ltb (s .first) (s .end)) refl
     where
       cut : Span → Span
-      cut r = common s (tiles-of 32 r)
+      cut r = common s (tiles-of v r)
 
       go : (t : Bool) → ltb (s .first) (s .end) ≡ t
-          → Each (Fits 1 b) (cond t (map cut (runs-in (is-visible id) bs (span (s .first / 32) ((s .end + 31) / 32)))) [])
+          → Each (Fits 1 b) (cond t (map cut (runs-in (is-visible id) bs (span (s .first / v) ((s .end + (v - 1)) / v)))) [])
       go true q =
           let l = ltb-true (s .first) (s .end) q in
-          each-map (In (s .first / 32) ((s .end + 31) / 32)) (Fits 1 b) cut (cut-fits l)
-          (runs-in (is-visible id) bs (span (s .first / 32) ((s .end + 31) / 32)))
-          (runs-are-in (is-visible id) bs (s .first / 32) ((s .end + 31) / 32) (omega arith))
+          each-map (In (s .first / v) ((s .end + (v - 1)) / v)) (Fits 1 b) cut (cut-fits l)
+          (runs-in (is-visible id) bs (span (s .first / v) ((s .end + (v - 1)) / v)))
+          (runs-are-in (is-visible id) bs (s .first / v) ((s .end + (v - 1)) / v) (omega (arith, meets width (s .first) (s .end) l)))
       go false q = tt
 
   whole-fits : s .first < s .end → Fits 1 b s
@@ -130,14 +140,14 @@ module _ (bs : List ℕ) (id : ℕ) (s : Span) (b : Brush) (h : s .first ≤ s .
       }
 
   -- also by the summary
-  pub shown-fits : (u : Summary) → Each (Fits 1 b) (shown-runs u bs id s)
+  pub shown-fits : (u : Summary) → Each (Fits 1 b) (shown-runs v u bs id s)
   unfolding shown-runs
-  shown-fits u = go (is-clear u (length bs) id s)
+  shown-fits u = go (is-clear v u (length bs) id s)
     where
       one : (t : Bool) → ltb (s .first) (s .end) ≡ t → Each (Fits 1 b) (cond t (s ∷ []) [])
       one true q = (whole-fits (ltb-true _ _ q), tt)
       one false q = tt
 
-      go : (t : Bool) → Each (Fits 1 b) (cond t (whole-run s) (visible-runs 32 bs id s))
+      go : (t : Bool) → Each (Fits 1 b) (cond t (whole-run s) (visible-runs v bs id s))
       go true = one (ltb (s .first) (s .end)) refl
       go false = fill-fits

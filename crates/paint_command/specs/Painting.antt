@@ -82,18 +82,18 @@ module _ (attrs : Attrs) where
   good-command n (push-buf s) = ltb n most-layers
   good-command n pop-buf = ltb 0 n
 
-  -- a fill gives the runs that are shown, for its attribute's id
-  unfoldable pub fill-shown : Summary → Bool → ℕ → ℕ → Span → Option ℕ → Painter → rules.Painted
-  fill-shown u l id i s a p =
-      gives (map (fill-piece bucket-tiles attrs l i s a (p .nesting)) (shown-runs u (p .buckets) id s))
+  -- a fill gives the runs that are shown, for its attribute's id; v tiles a bucket
+  unfoldable pub fill-shown : ℕ → Summary → Bool → ℕ → ℕ → Span → Option ℕ → Painter → rules.Painted
+  fill-shown v u l id i s a p =
+      gives (map (fill-piece v attrs l i s a (p .nesting)) (shown-runs v u (p .buckets) id s))
       (p .buckets)
       (p .steps + 1)
       (p .nesting)
 
   -- a command by the rules, its fill's runs by the row's summary
   unfoldable pub command-shown : Summary → Command → Painter → rules.Painted
-  command-shown u (paint-fill s a i) p = fill-shown u false (paint-id attrs i) i s a p
-  command-shown u (layer-fill s a i) p = fill-shown u true (layer-id attrs i) i s a p
+  command-shown u (paint-fill s a i) p = fill-shown bucket-tiles u false (paint-id attrs i) i s a p
+  command-shown u (layer-fill s a i) p = fill-shown bucket-tiles u true (layer-id attrs i) i s a p
   command-shown u (push-buf s) p = paint-command bucket-tiles attrs (push-buf s) p
   command-shown u pop-buf p = paint-command bucket-tiles attrs pop-buf p
 

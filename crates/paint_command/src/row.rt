@@ -21,6 +21,7 @@ use sizes::RENDERS;
 use sizes::answers::BAD_RECORD;
 use sizes::answers::DONE;
 use sizes::wide;
+use span::Width;
 ghost use mathlib.Core.Path.{_≡_};
 ghost use mathlib.Core.Bool.{true};
 ghost use mathlib.Core.List.{[]};
@@ -89,7 +90,7 @@ fn step_depth(
             if id == 0 {
                 return refused(BAD_RECORD);
             }
-            paint_depth(depth, painting, fill, id, list)
+            paint_depth(depth, painting, fill, id, list, Width::W128)
         }
     }
 }
@@ -116,14 +117,14 @@ fn step_command(
             if id == 0 {
                 return refused(BAD_RECORD);
             }
-            paint_fill(depth, painting, sum, false, fill, id, list)
+            paint_fill(depth, painting, sum, false, fill, id, list, Width::W128)
         }
         RenderCmd::LayerFill(fill) => {
             let id = layer_taken(layer_attrs, layers, fill.attrs_idx);
             if id == 0 {
                 return refused(BAD_RECORD);
             }
-            paint_fill(depth, painting, sum, true, fill, id, list)
+            paint_fill(depth, painting, sum, true, fill, id, list, Width::W128)
         }
         RenderCmd::PushBuf(_) => {
             let nesting = painting[1];

@@ -44,14 +44,14 @@ module _ (s : Span) where
     whole-one (a ∷ []) g = absurd (omega arith)
     whole-one (a ∷ b ∷ l) g = rw (lt-ltb _ _ h, le-ltb (length (a ∷ b ∷ l) / 2) 1 (omega arith))
 
-module _ (u : Summary) (bs : List ℕ) (id : ℕ) (s : Span) (l : List ℕ) (x : RunsOut) where
-  pub shown-whole : is-clear u (length bs) id s ≡ true → x ≡ listing (listed false (length l / 2) (whole-run s)) l
-      → x ≡ listing (listed false (length l / 2) (shown-runs u bs id s)) l
+module _ (v : ℕ) (u : Summary) (bs : List ℕ) (id : ℕ) (s : Span) (l : List ℕ) (x : RunsOut) where
+  pub shown-whole : is-clear v u (length bs) id s ≡ true → x ≡ listing (listed false (length l / 2) (whole-run s)) l
+      → x ≡ listing (listed false (length l / 2) (shown-runs v u bs id s)) l
   unfolding shown-runs
   shown-whole h e = rw h e
 
-  pub shown-searched : s .first ≤ s .end → s .end ≤ 8192 → is-clear u (length bs) id s ≡ false
-      → x ≡ listing (visible-answer 32 bs id s (length l / 2)) l
-      → x ≡ listing (listed false (length l / 2) (shown-runs u bs id s)) l
+  pub shown-searched : s .first ≤ s .end → s .end ≤ 8192 → is-clear v u (length bs) id s ≡ false
+      → x ≡ listing (visible-answer v bs id s (length l / 2)) l
+      → x ≡ listing (listed false (length l / 2) (shown-runs v u bs id s)) l
   unfolding shown-runs visible-answer
   shown-searched h g c e = rw c (e ∙ rw (le-leb _ _ h, le-leb _ _ g))

@@ -92,7 +92,7 @@ module _ (u : Summary) (bs : List ℕ) (o : Sound u bs) (id : ℕ) (s : Span) wh
       go false p q = by-apart q k l m h
 
   -- the pieces are the same with the summary and without it
-  pub same-runs : shown-runs u bs id s ≡ visible-runs 32 bs id s
+  pub same-runs : shown-runs 32 u bs id s ≡ visible-runs 32 bs id s
   unfolding shown-runs
   same-runs = go (can-skip u s id) (leb (s .end) (32 * length bs)) refl refl
     where

@@ -24,13 +24,13 @@ summary-at s =
 abbrev pub whole-run : Span → List Span
 whole-run s = cond (ltb (s .first) (s .end)) (s ∷ []) []
 
--- the summary says that nothing hides the span, and all of it lies within the buffer
-abbrev pub is-clear : Summary → ℕ → ℕ → Span → Bool
-is-clear u n id s = can-skip u s id && leb (s .end) (bucket-tiles * n)
+-- the summary says that nothing hides the span, and all of it lies within the buffer of n buckets, v tiles each
+abbrev pub is-clear : ℕ → Summary → ℕ → ℕ → Span → Bool
+is-clear v u n id s = can-skip u s id && leb (s .end) (v * n)
 
 -- a fill's runs: the depth words are searched only where something may hide it
-unfoldable pub shown-runs : Summary → List ℕ → ℕ → Span → List Span
-shown-runs u bs id s = cond (is-clear u (length bs) id s) (whole-run s) (visible-runs bucket-tiles bs id s)
+unfoldable pub shown-runs : ℕ → Summary → List ℕ → ℕ → Span → List Span
+shown-runs v u bs id s = cond (is-clear v u (length bs) id s) (whole-run s) (visible-runs v bs id s)
 
 -- what listing them leaves
 abbrev pub listing-out : Runs → List ℕ → depth.RunsOut

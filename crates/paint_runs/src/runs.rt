@@ -2,10 +2,10 @@
 use depth::DepthState;
 use depth::Runs;
 use depth::visible_runs;
-use sizes::BUCKET_TILES;
 use sizes::answers::DONE;
 use sizes::answers::NO_ROOM;
 use span::TileSpan;
+use span::Width;
 ghost use mathlib.Core.Path.{_≡_};
 ghost use mathlib.Core.Bool.{false};
 ghost use Prim.Native.Nat.{_/_, _≤_};
@@ -13,18 +13,19 @@ ghost use lib.ListN.{length};
 ghost use Rattle.sizes.specs.Sizes.{tile-end};
 ghost use Rattle.rules.specs.Depth.{listed};
 ghost use Rattle.span.specs.Spans.{tiles};
+ghost use Rattle.span.specs.Widths.{wide};
 ghost use Rattle.depth.specs.Answers.{summary};
 ghost use Rattle.depth.specs.Listing.{listing};
 ghost use Rattle.paint_runs.specs.Summaries.{listing-out, whole-run, is-clear, shown-runs};
 
 // Whether the summary of a row of so many buckets says that nothing hides the span.
-fn is_clear(sum: DepthState, span: TileSpan, id: u32, buckets: usize) -> bool
+fn is_clear(sum: DepthState, span: TileSpan, id: u32, buckets: usize, width: Width) -> bool
     requires { ⌜ (span .first ≤ span .«end») × (span .«end» ≤ tile-end) × (buckets ≤ 65535) ⌝ }
-    ensures { λ r. ⌜ r ≡ is-clear (summary sum) buckets id (tiles span) ⌝ }
+    ensures { λ r. ⌜ r ≡ is-clear (wide width) (summary sum) buckets id (tiles span) ⌝ }
 {
     let skip = sum.can_skip(span, id);
     if skip.yes {
-        return (span.end as usize) <= BUCKET_TILES * buckets;
+        return (span.end as usize) <= width.tiles() as usize * buckets;
     }
     false
 }
@@ -54,12 +55,19 @@ fn list_whole(span: TileSpan, list: &mut [u32]) -> Runs
 }
 
 // The runs of a fill, whole where the summary says so: only else are the depth words searched.
-pub fn shown_runs(depth: &[u32], sum: DepthState, span: TileSpan, id: u32, list: &mut [u32]) -> Runs
+pub fn shown_runs(
+    depth: &[u32],
+    sum: DepthState,
+    span: TileSpan,
+    id: u32,
+    list: &mut [u32],
+    width: Width,
+) -> Runs
     requires { ⌜ (span .first ≤ span .«end») × (span .«end» ≤ tile-end) × (length (now depth) ≤ 65535) ⌝ }
-    ensures { λ r. ⌜ listing-out r (now (list .exit)) ≡ listing (listed false (length (now (list .entry)) / 2) (shown-runs (summary sum) (now (depth .entry)) id (tiles span))) (now (list .entry)) ⌝ }
+    ensures { λ r. ⌜ listing-out r (now (list .exit)) ≡ listing (listed false (length (now (list .entry)) / 2) (shown-runs (wide width) (summary sum) (now (depth .entry)) id (tiles span))) (now (list .entry)) ⌝ }
 {
-    if is_clear(sum, span, id, depth.len()) {
+    if is_clear(sum, span, id, depth.len(), width) {
         return list_whole(span, list);
     }
-    visible_runs(depth, span, id, list)
+    visible_runs(depth, span, id, list, width)
 }

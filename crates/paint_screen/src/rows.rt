@@ -12,6 +12,7 @@ use sizes::answers::BAD_RECORD;
 use sizes::answers::DONE;
 use span::BucketRange;
 use span::TileSpan;
+use span::Width;
 ghost use mathlib.Core.Path.{_≡_};
 ghost use lib.ListN.{length};
 ghost use Rattle.sizes.specs.Sizes.{row-size};
@@ -45,7 +46,7 @@ pub fn unset_runs(
     }
     let b = screen.buckets();
     let at = row * b;
-    depth::unset_runs(&depth[at..at + b], span, list)
+    depth::unset_runs(&depth[at..at + b], span, list, Width::W128)
 }
 
 // The runs of a span's tiles whose buckets hold at most the id.
@@ -68,7 +69,7 @@ pub fn visible_runs(
     }
     let b = screen.buckets();
     let at = row * b;
-    depth::visible_runs(&depth[at..at + b], span, draw_id, list)
+    depth::visible_runs(&depth[at..at + b], span, draw_id, list, Width::W128)
 }
 
 // Lists the unset runs of a bucket range as buckets, and stores the id there. Done, it ends painting.

@@ -134,14 +134,14 @@ module _ (a : Attrs) (s re fi D : List ℕ) (c : Calm s re fi) where
 
     -- the pieces of a fill that is shown in part
     abbrev found : List Span
-    found = runs-met D id (word re (4 * at + 1))
+    found = runs-met 32 D id (word re (4 * at + 1))
 
     abbrev words : List ℕ
-    words = join (run-words (word re (4 * at)) (word re (4 * at + 3)) (word re (4 * at + 1)) (word re (4 * at + 2)) m) found
+    words = join (run-words 32 (word re (4 * at)) (word re (4 * at + 3)) (word re (4 * at + 1)) (word re (4 * at + 2)) m) found
 
     module _ (room : 6 * (n + length found) ≤ length l) where
       words-long : length words ≡ 6 * length found
-      words-long = length-runs (word re (4 * at)) (word re (4 * at + 3)) (word re (4 * at + 1)) (word re (4 * at + 2)) m found
+      words-long = length-runs 32 (word re (4 * at)) (word re (4 * at + 3)) (word re (4 * at + 1)) (word re (4 * at + 2)) m found
 
       runs-step : 4 < r → one-more steps (stands D d (place at n m l)) ≡ stands D d (place (at + 1) (n + length found) m (words-at l (6 * n) words))
       unfolding one-more

@@ -10,6 +10,9 @@ use lib.Dec.{leb, ltb, eqb}
 use borrow.Author.Tests.{lt-ltb, le-leb, lt-leb, eq-eqb, ne-eqb, eqb-true, ltb-true}
 use Rattle.rules.specs.Spans.{Span, span, common}
 use Rattle.rules.specs.Depth.{Summary, can-skip, is-visible, runs-in, tiles-of, runs, visible-runs}
+use Rattle.span.specs.declared.Width.{Width}
+use Rattle.span.specs.Widths.{wide}
+use Rattle.span.proofs.Widths.{each, raised-least, lowered-most}
 use Rattle.cmd.specs.Reading.{word-span}
 use Rattle.cmd.proofs.Tests.{sum-test}
 use Rattle.depth.proofs.Searching.{runs-end, runs-closed, Reached, reach-first, reach-closed, reach-end}
@@ -104,100 +107,126 @@ module _ (D : List ℕ) (id a e : ℕ) (f : e ≤ length D) where
     one-hidden i = hidden-all (a + 1) (hidden-end (a + 1) (hidden-first h i) g) g
 
 -- the buckets that a fill meets, all open or all shut
-module _ (D : List ℕ) (id f g : ℕ) (h : f < g) where
-  low : max f (f / 32 * 32) ≡ f
-  low = omega arith
+module _ (width : Width) (D : List ℕ) (id f g : ℕ) (h : f < g) where
+  abbrev v : ℕ
+  v = wide width
 
-  high : min g ((g + 31) / 32 * 32) ≡ g
-  high = omega arith
+  low : max f (f / v * v) ≡ f
+  low = omega (arith, lowered-most width f)
 
-  pub met-seen : runs-in (is-visible id) D (span (f / 32) ((g + 31) / 32)) ≡ span (f / 32) ((g + 31) / 32) ∷ []
-      → visible-runs 32 D id (span f g) ≡ span f g ∷ []
+  high : min g ((g + (v - 1)) / v * v) ≡ g
+  high = omega (arith, raised-least width g)
+
+  pub met-seen : runs-in (is-visible id) D (span (f / v) ((g + (v - 1)) / v)) ≡ span (f / v) ((g + (v - 1)) / v) ∷ []
+      → visible-runs v D id (span f g) ≡ span f g ∷ []
   unfolding visible-runs runs
   met-seen e = rw (lt-ltb _ _ h, e, low, high)
 
-  pub met-hidden : runs-in (is-visible id) D (span (f / 32) ((g + 31) / 32)) ≡ [] → visible-runs 32 D id (span f g) ≡ []
+  pub met-hidden : runs-in (is-visible id) D (span (f / v) ((g + (v - 1)) / v)) ≡ [] → visible-runs v D id (span f g) ≡ []
   unfolding visible-runs runs
   met-hidden e = rw (lt-ltb _ _ h, e)
 
   -- .. or some of them
-  pub met-runs : visible-runs 32 D id (span f g) ≡ map (λ (r : Span). common (span f g) (tiles-of 32 r)) (runs-in (is-visible id) D (span (f / 32) ((g + 31) / 32)))
+  pub met-runs : visible-runs v D id (span f g) ≡ map (λ (r : Span). common (span f g) (tiles-of v r)) (runs-in (is-visible id) D (span (f / v) ((g + (v - 1)) / v)))
   unfolding visible-runs runs
   met-runs = rw (lt-ltb _ _ h)
 
 -- what is shown of a fill, by the summary or the depth words
-module _ (u : Summary) (D : List ℕ) (id : ℕ) (s : Span) (h : s .first < s .end) (g : s .end ≤ 32 * length D) where
-  pub clear-whole : true ≡ can-skip u s id → shown-runs u D id s ≡ s ∷ []
+module _ (v : ℕ) (u : Summary) (D : List ℕ) (id : ℕ) (s : Span) (h : s .first < s .end) (g : s .end ≤ v * length D) where
+  pub clear-whole : true ≡ can-skip u s id → shown-runs v u D id s ≡ s ∷ []
   unfolding shown-runs
   clear-whole e = rw (← e, le-leb _ _ g, lt-ltb _ _ h)
 
-  module _ (e : can-skip u s id ≡ false) (rs : List Span) (q : visible-runs 32 D id s ≡ rs) where
-    pub searched : shown-runs u D id s ≡ rs
+  module _ (e : can-skip u s id ≡ false) (rs : List Span) (q : visible-runs v D id s ≡ rs) where
+    pub searched : shown-runs v u D id s ≡ rs
     unfolding shown-runs
     searched = rw (e, q)
 
+-- the tiles are there if the buckets that they meet are
+tiles-there : (w : Width) (g n : ℕ) → (g + (wide w - 1)) / wide w ≤ n → g ≤ wide w * n
+tiles-there w g n h = each (λ w. (g + (w - 1)) / w ≤ n → g ≤ w * n) (λ h. omega arith) (λ h. omega arith) (λ h. omega arith) w h
+
 -- what is said
-module _ (u : Summary) (D : List ℕ) (id t w x : ℕ) where
-  pub none-said : FillSaid u D id t w x 0 0 0
-  none-said =
+pub none-said : (v : ℕ) (u : Summary) (D : List ℕ) (id t w x : ℕ) → FillSaid v u D id t w x 0 0 0
+none-said v u D id t w x =
+    record {
+      no-push = λ h. omega arith;
+      no-pop = λ h. omega arith;
+      good = λ h. absurd (omega arith);
+      whole = λ h. absurd (omega arith);
+      hidden = λ h. absurd (omega arith);
+      partly = λ h. absurd (omega arith);
+    }
+
+-- .. of a fill in order, whose buckets end at e and are there
+module _ (width : Width) (u : Summary) (D : List ℕ) (id t w x : ℕ) (h : w / 65536 < w % 65536) (g : w % 65536 ≤ 8192)
+    (i : good-index t x (w % 65536 - w / 65536) ≡ true) (e : ℕ) (q : e ≡ high-met (wide width) w) (f : e ≤ length D) where
+  fills : Fills t w x
+  fills = record { low = omega arith; high = g; index = i }
+
+  there : w % 65536 ≤ wide width * length D
+  there = tiles-there width (w % 65536) (length D) (rw q at f)
+
+  whole-said : shown-runs (wide width) u D id (word-span w) ≡ word-span w ∷ [] → FillSaid (wide width) u D id t w x 1 0 0
+  whole-said z =
       record {
-        no-push = λ h. omega arith;
-        no-pop = λ h. omega arith;
-        good = λ h. absurd (omega arith);
-        whole = λ h. absurd (omega arith);
-        hidden = λ h. absurd (omega arith);
-        partly = λ h. absurd (omega arith);
+        no-push = λ z. omega arith;
+        no-pop = λ z. omega arith;
+        good = λ z. fills;
+        whole = λ _. z;
+        hidden = λ z. absurd (omega arith);
+        partly = λ z. absurd (omega arith);
       }
 
-  module _ (h : w / 65536 < w % 65536) (g : w % 65536 ≤ 8192) (i : good-index t x (w % 65536 - w / 65536) ≡ true) where
-    fills : Fills t w x
-    fills = record { low = omega arith; high = g; index = i }
+  pub clear-said : true ≡ can-skip u (word-span w) id → FillSaid (wide width) u D id t w x 1 0 0
+  clear-said z = whole-said (clear-whole (wide width) u D id (word-span w) h there z)
 
-    pub whole-said : shown-runs u D id (word-span w) ≡ word-span w ∷ [] → FillSaid u D id t w x 1 0 0
-    whole-said e =
-        record {
-          no-push = λ z. omega arith;
-          no-pop = λ z. omega arith;
-          good = λ z. fills;
-          whole = λ z. e;
-          hidden = λ z. absurd (omega arith);
-          partly = λ z. absurd (omega arith);
-        }
+  -- .. and start at a
+  module _ (a : ℕ) (p : a ≡ low-met (wide width) w) where
+    module _ (n : can-skip u (word-span w) id ≡ false) where
+      abbrev met : List Span
+      met = runs-in (is-visible id) D (span a e)
 
-    pub hidden-said : shown-runs u D id (word-span w) ≡ [] → FillSaid u D id t w x 2 0 0
-    hidden-said e =
-        record {
-          no-push = λ z. omega arith;
-          no-pop = λ z. omega arith;
-          good = λ z. fills;
-          whole = λ z. absurd (omega arith);
-          hidden = λ z. e;
-          partly = λ z. absurd (omega arith);
-        }
+      pub all-seen : met ≡ span a e ∷ [] → FillSaid (wide width) u D id t w x 1 0 0
+      all-seen z = whole-said (searched (wide width) u D id (word-span w) h there n _ (met-seen width D id (w / 65536) (w % 65536) h (rw (p, q) at z)))
 
-    -- of a fill that is shown in part, where the look stopped
-    module _ (e : can-skip u (word-span w) id ≡ false) (k : w % 65536 ≤ 32 * length D) (stop : ℕ) where
-      cut-runs : shown-runs u D id (word-span w) ≡ map (λ (r : Span). common (word-span w) (tiles-of 32 r)) (runs-met D id w)
-      cut-runs = searched u D id (word-span w) h k e _ (met-runs D id (w / 65536) (w % 65536) h)
-
-      part-said : (kind : ℕ) → 4 < kind → Looked D id w (eqb kind 5) stop → FillSaid u D id t w x kind stop id
-      part-said kind m r =
+      pub all-hidden : met ≡ [] → FillSaid (wide width) u D id t w x 2 0 0
+      all-hidden z =
+          let none = searched (wide width) u D id (word-span w) h there n _ (met-hidden width D id (w / 65536) (w % 65536) h (rw (p, q) at z)) in
           record {
             no-push = λ z. omega arith;
             no-pop = λ z. omega arith;
             good = λ z. fills;
             whole = λ z. absurd (omega arith);
-            hidden = λ z. absurd (omega arith);
-            partly = λ z. (cut-runs, r, refl);
+            hidden = λ _. none;
+            partly = λ z. absurd (omega arith);
           }
 
-      pub seen-said : SeenTo D id (low-met w) (high-met w) stop → stop < high-met w → FillSaid u D id t w x 5 stop id
-      seen-said r m =
-          part-said 5 (omega arith) (record { past = r .past; within = m; fits = omega arith; found = r .found; other = r .other m })
+      -- .. of one that is shown in part, where the look stopped
+      module _ (stop : ℕ) (m : stop < e) where
+        cut-runs : shown-runs (wide width) u D id (word-span w) ≡ map (λ (r : Span). common (word-span w) (tiles-of (wide width) r)) (runs-met (wide width) D id w)
+        cut-runs = searched (wide width) u D id (word-span w) h there n _ (met-runs width D id (w / 65536) (w % 65536) h)
 
-      pub unseen-said : HiddenTo D id (low-met w) (high-met w) stop → stop < high-met w → FillSaid u D id t w x 6 stop id
-      unseen-said r m =
-          part-said 6 (omega arith) (record { past = r .past; within = m; fits = omega arith; found = r .found; other = r .other m })
+        part-said : (kind : ℕ) → 4 < kind → Looked (wide width) D id w (eqb kind 5) stop → FillSaid (wide width) u D id t w x kind stop id
+        part-said kind l r =
+            record {
+              no-push = λ z. omega arith;
+              no-pop = λ z. omega arith;
+              good = λ z. fills;
+              whole = λ z. absurd (omega arith);
+              hidden = λ z. absurd (omega arith);
+              partly = λ z. (cut-runs, r, refl);
+            }
+
+        pub some-seen : SeenTo D id a e stop → FillSaid (wide width) u D id t w x 5 stop id
+        some-seen r =
+            let o = rw (p, q) at r in
+            part-said 5 (omega arith) (record { past = o .past; within = rw q at m; fits = rw q at f; found = o .found; other = r .other m })
+
+        pub some-hidden : HiddenTo D id a e stop → FillSaid (wide width) u D id t w x 6 stop id
+        some-hidden r =
+            let o = rw (p, q) at r in
+            part-said 6 (omega arith) (record { past = o .past; within = rw q at m; fits = rw q at f; found = o .found; other = r .other m })
 
 -- a fill's alpha index can be moved over its width
 pub index-moves : (t w x n : ℕ) → Fills t w x → n ≤ w % 65536 - w / 65536 → x + 16 * n < 4294967296

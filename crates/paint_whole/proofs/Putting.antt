@@ -34,16 +34,16 @@ module _ (xs : List ℕ) (at : ℕ) (vs ws : List ℕ) (h : at + length vs ≤ l
 pub words-none : (xs : List ℕ) (at : ℕ) → words-at xs at [] ≡ xs
 words-none xs at = let e : at + 0 ≡ at = omega arith in rw (append-nil, e, take-append-drop at xs)
 
-pub length-runs : (t i w x m : ℕ) (rs : List Span) → length (join (run-words t i w x m) rs) ≡ 6 * length rs
-length-runs t i w x m [] = refl
-length-runs t i w x m (r ∷ rs) = let h = length-runs t i w x m rs in omega arith
+pub length-runs : (v t i w x m : ℕ) (rs : List Span) → length (join (run-words v t i w x m) rs) ≡ 6 * length rs
+length-runs v t i w x m [] = refl
+length-runs v t i w x m (r ∷ rs) = let h = length-runs v t i w x m rs in omega arith
 
-module _ (D : List ℕ) (id hi t i w x m start k : ℕ) (l₀ : List ℕ) where
+module _ (D : List ℕ) (id hi v t i w x m start k : ℕ) (l₀ : List ℕ) where
   abbrev runs : ℕ → List Span
   runs at = runs-in (is-visible id) D (span at hi)
 
   abbrev words : ℕ → List ℕ
-  words at = join (run-words t i w x m) (runs at)
+  words at = join (run-words v t i w x m) (runs at)
 
   -- the runs up to bucket `at` are in the list l, n pieces with those before, and those from there on are still to come
   pub record Put (at n : ℕ) (l : List ℕ) : Type 0 where
@@ -64,15 +64,15 @@ module _ (D : List ℕ) (id hi t i w x m start k : ℕ) (l₀ : List ℕ) where
       pub put-room : (j : ℕ) → SeenTo D id at hi j → 6 * n + 6 ≤ length l
       put-room j e = omega (arith, s .count, s .kept, ap length (e .found))
 
-      pub put-more : (j : ℕ) → SeenTo D id at hi j → (l′ : List ℕ) → l′ ≡ words-at l (6 * n) (run-words t i w x m (span at j)) → Put j (n + 1) l′
+      pub put-more : (j : ℕ) → SeenTo D id at hi j → (l′ : List ℕ) → l′ ≡ words-at l (6 * n) (run-words v t i w x m (span at j)) → Put j (n + 1) l′
       put-more j e l′ q =
           let six : 6 * (n + 1) ≡ 6 * n + 6 = omega arith in
           let fits = put-room j e in
-          let long : length (words-at l (6 * n) (run-words t i w x m (span at j))) ≡ length l = length-at l (6 * n) (run-words t i w x m (span at j)) fits in
+          let long : length (words-at l (6 * n) (run-words v t i w x m (span at j))) ≡ length l = length-at l (6 * n) (run-words v t i w x m (span at j)) fits in
           rw q (record {
             kept = long ∙ s .kept;
             count = omega (arith, s .count, ap length (e .found));
-            rest = rw six (words-on l (6 * n) (run-words t i w x m (span at j)) (words j) fits ∙ (rw (e .found) at (s .rest)));
+            rest = rw six (words-on l (6 * n) (run-words v t i w x m (span at j)) (words j) fits ∙ (rw (e .found) at (s .rest)));
           })
 
     pub put-end : hi ≤ at → (n ≡ k + length (runs start)) × (l ≡ words-at l₀ (6 * k) (words start))
@@ -82,11 +82,11 @@ module _ (D : List ℕ) (id hi t i w x m start k : ℕ) (l₀ : List ℕ) where
 
   -- a run that was found before the search, and those that it finds
   pub put-both : (stop : ℕ) → runs start ≡ span start stop ∷ runs stop → 6 * (k + length (runs start)) ≤ length l₀ → (l l′ : List ℕ) (n : ℕ)
-      → l ≡ words-at l₀ (6 * k) (run-words t i w x m (span start stop)) → n ≡ k + 1 + length (runs stop) → l′ ≡ words-at l (6 * (k + 1)) (words stop)
+      → l ≡ words-at l₀ (6 * k) (run-words v t i w x m (span start stop)) → n ≡ k + 1 + length (runs stop) → l′ ≡ words-at l (6 * (k + 1)) (words stop)
       → (n ≡ k + length (runs start)) × (l′ ≡ words-at l₀ (6 * k) (words start))
   put-both stop e room l l′ n p c q =
       let six : 6 * (k + 1) ≡ 6 * k + 6 = omega arith in
       let all : words-at l (6 * (k + 1)) (words stop) ≡ words-at l₀ (6 * k) (words start) =
-      rw (p, six, e) (words-on l₀ (6 * k) (run-words t i w x m (span start stop)) (words stop) (omega (arith, ap length e)))
+      rw (p, six, e) (words-on l₀ (6 * k) (run-words v t i w x m (span start stop)) (words stop) (omega (arith, ap length e)))
       in
       (omega (arith, c, ap length e), q ∙ all)

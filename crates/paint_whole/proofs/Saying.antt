@@ -38,21 +38,21 @@ stay (some a) n = ap some (omega arith)
 module _ (attrs : Attrs) (u : Summary) (D : List ℕ) (m : ℕ) where
   -- a fill that is shown whole, or not at all
   module _ (layer : Bool) (a : Option ℕ) (s : Span) (i id q : ℕ) (P l : List ℕ) where
-    fill-whole : shown-runs u D id s ≡ s ∷ [] → 6 ≤ length l
-        → settled (some (fill-shown attrs u layer id i s a (at-step D q m))) D P l
+    fill-whole : shown-runs 32 u D id s ≡ s ∷ [] → 6 ≤ length l
+        → settled (some (fill-shown attrs 32 u layer id i s a (at-step D q m))) D P l
         ≡ out (listed 1) D ((q + 1) ∷ m ∷ []) (over (tag-of layer a ∷ i ∷ s .first ∷ s .end ∷ index-of a ∷ m ∷ []) l)
     unfolding fill-shown settled
     fill-whole e h = rw (e, stay a (s .first), le-ltb (length l / 6) 1 (omega arith))
 
-    fill-hidden : shown-runs u D id s ≡ []
-        → settled (some (fill-shown attrs u layer id i s a (at-step D q m))) D P l ≡ out (listed 0) D ((q + 1) ∷ m ∷ []) l
+    fill-hidden : shown-runs 32 u D id s ≡ []
+        → settled (some (fill-shown attrs 32 u layer id i s a (at-step D q m))) D P l ≡ out (listed 0) D ((q + 1) ∷ m ∷ []) l
     unfolding fill-shown
     fill-hidden e = rw e (sym (bare D P l false (at-step D (q + 1) m) refl))
 
   -- the pieces of a fill's runs
   module _ (w i : ℕ) where
     piece-same : (layer : Bool) (a : Option ℕ) (r : Span)
-        → piece-words (fill-piece 32 attrs layer i (word-span w) a m (common (word-span w) (tiles-of 32 r))) ≡ run-words (tag-of layer a) i w (index-of a) m r
+        → piece-words (fill-piece 32 attrs layer i (word-span w) a m (common (word-span w) (tiles-of 32 r))) ≡ run-words 32 (tag-of layer a) i w (index-of a) m r
     piece-same false none r = refl
     piece-same false (some y) r = refl
     piece-same true none r = refl
@@ -60,17 +60,17 @@ module _ (attrs : Attrs) (u : Summary) (D : List ℕ) (m : ℕ) where
 
     pieces-same : (layer : Bool) (a : Option ℕ) (rs : List Span)
         → join piece-words (map (fill-piece 32 attrs layer i (word-span w) a m) (map (λ (r : Span). common (word-span w) (tiles-of 32 r)) rs))
-        ≡ join (run-words (tag-of layer a) i w (index-of a) m) rs
+        ≡ join (run-words 32 (tag-of layer a) i w (index-of a) m) rs
     pieces-same layer a [] = refl
     pieces-same layer a (r ∷ rs) =
         let cut : List Span = map (λ (q : Span). common (word-span w) (tiles-of 32 q)) rs in
         ap (λ (ws : List ℕ). ws ++ join piece-words (map (fill-piece 32 attrs layer i (word-span w) a m) cut)) (piece-same layer a r)
-        ∙ ap (λ (ws : List ℕ). run-words (tag-of layer a) i w (index-of a) m r ++ ws) (pieces-same layer a rs)
+        ∙ ap (λ (ws : List ℕ). run-words 32 (tag-of layer a) i w (index-of a) m r ++ ws) (pieces-same layer a rs)
 
     fill-runs : (layer : Bool) (a : Option ℕ) (id q : ℕ) (P l : List ℕ) (rs : List Span)
-        → shown-runs u D id (word-span w) ≡ map (λ (r : Span). common (word-span w) (tiles-of 32 r)) rs → 6 * length rs ≤ length l
-        → settled (some (fill-shown attrs u layer id i (word-span w) a (at-step D q m))) D P l
-        ≡ out (listed (length rs)) D ((q + 1) ∷ m ∷ []) (over (join (run-words (tag-of layer a) i w (index-of a) m) rs) l)
+        → shown-runs 32 u D id (word-span w) ≡ map (λ (r : Span). common (word-span w) (tiles-of 32 r)) rs → 6 * length rs ≤ length l
+        → settled (some (fill-shown attrs 32 u layer id i (word-span w) a (at-step D q m))) D P l
+        ≡ out (listed (length rs)) D ((q + 1) ∷ m ∷ []) (over (join (run-words 32 (tag-of layer a) i w (index-of a) m) rs) l)
     unfolding fill-shown settled
     fill-runs layer a id q P l rs e h =
         let n : length (map (fill-piece 32 attrs layer i (word-span w) a m) (map (λ (r : Span). common (word-span w) (tiles-of 32 r)) rs)) ≡ length rs = rw (length-map, length-map) in
@@ -122,9 +122,9 @@ module _ (attrs : Attrs) (u : Summary) (D : List ℕ) (m : ℕ) where
       pop-bare et ew h = said-pop h (sym (tag-7 t w x i true et (rw (eq-eqb _ _ ew, eq-eqb _ _ ex, eq-eqb _ _ ei))))
 
     -- a fill of either kind
-    from-fill : (layer : Bool) (a : Option ℕ) (id r stop j : ℕ) → FillSaid u D id t w x r stop j
+    from-fill : (layer : Bool) (a : Option ℕ) (id r stop j : ℕ) → FillSaid 32 u D id t w x r stop j
         → (0 < r
-        → ((q : ℕ) → command-step attrs u (at-step D q m) (command-of t w x i) ≡ some (fill-shown attrs u layer id i (word-span w) a (at-step D q m)))
+        → ((q : ℕ) → command-step attrs u (at-step D q m) (command-of t w x i) ≡ some (fill-shown attrs 32 u layer id i (word-span w) a (at-step D q m)))
         × (tag-of layer a ≡ t)
         × (index-of a ≡ x))
         → Said attrs u D m t w x i r stop j
@@ -141,7 +141,7 @@ module _ (attrs : Attrs) (u : Summary) (D : List ℕ) (m : ℕ) where
                 looked = h .1;
                 good = f .good (omega arith);
                 pieces = λ q P l k.
-                    ap (λ (c : Option rules.Painted). settled c D P l) (o .0 q) ∙ fill-runs w i layer a id q P l (runs-met D id w) (h .0) k ∙ rw (o .1, o .2);
+                    ap (λ (c : Option rules.Painted). settled c D P l) (o .0 q) ∙ fill-runs w i layer a id q P l (runs-met 32 D id w) (h .0) k ∙ rw (o .1, o .2);
               });
         }
 
@@ -164,7 +164,7 @@ module _ (t w x : ℕ) (f : Fills t w x) where
   alpha : t % 2 ≡ 0 → good-alpha x w ≡ true
   alpha e = let i : good-index t x (w % 65536 - w / 65536) ≡ true = f .index in (rw e at i)
 
-module _ (ps : List ℕ) (paints : ℕ) (ls : List ℕ) (layers : ℕ) (u : Summary) (D : List ℕ) (m t w x i id r stop j : ℕ) (nz : id ≡ 0 → ⊥) (f : FillSaid u D id t w x r stop j) where
+module _ (ps : List ℕ) (paints : ℕ) (ls : List ℕ) (layers : ℕ) (u : Summary) (D : List ℕ) (m t w x i id r stop j : ℕ) (nz : id ≡ 0 → ⊥) (f : FillSaid 32 u D id t w x r stop j) where
   abbrev attrs : Attrs
   attrs = attrs-at ps paints ls layers
 
@@ -177,7 +177,7 @@ module _ (ps : List ℕ) (paints : ℕ) (ls : List ℕ) (layers : ℕ) (u : Summ
         (good-paint-is ps paints ls layers i ∙ o .0, paint-id-is ps paints ls layers i h ∙ sym (g ∙ o .1))
 
     paint-step : (a : Option ℕ) → command-of t w x i ≡ some (paint-fill (word-span w) a i) → (q : ℕ)
-        → command-step attrs u (at-step D q m) (command-of t w x i) ≡ some (fill-shown attrs u false id i (word-span w) a (at-step D q m))
+        → command-step attrs u (at-step D q m) (command-of t w x i) ≡ some (fill-shown attrs 32 u false id i (word-span w) a (at-step D q m))
     unfolding command-step command-shown
     paint-step a e q = rw (e, paint-good .0, paint-good .1)
 
@@ -202,7 +202,7 @@ module _ (ps : List ℕ) (paints : ℕ) (ls : List ℕ) (layers : ℕ) (u : Summ
         (good-layer-is ps paints ls layers i ∙ o .0, layer-id-is ps paints ls layers i h ∙ sym (g ∙ o .1))
 
     layer-step : (a : Option ℕ) → command-of t w x i ≡ some (layer-fill (word-span w) a i) → (q : ℕ)
-        → command-step attrs u (at-step D q m) (command-of t w x i) ≡ some (fill-shown attrs u true id i (word-span w) a (at-step D q m))
+        → command-step attrs u (at-step D q m) (command-of t w x i) ≡ some (fill-shown attrs 32 u true id i (word-span w) a (at-step D q m))
     unfolding command-step command-shown
     layer-step a e q = rw (e, layer-good .0, layer-good .1)
 

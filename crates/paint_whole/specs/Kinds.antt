@@ -36,15 +36,15 @@ pub record Fills (t w x : ℕ) : Type 0 where
   pub high : w % 65536 ≤ tile-end
   pub index : good-index t x (w % 65536 - w / 65536) ≡ true
 
--- the first bucket that a span word's tiles meet, and the end of those, and the runs that the id shows of them
-abbrev pub low-met : ℕ → ℕ
-low-met w = w / 65536 / bucket-tiles
+-- at v tiles a bucket: the first bucket that a span word's tiles meet, and the end of those, and the runs that the id shows of them
+abbrev pub low-met : ℕ → ℕ → ℕ
+low-met v w = w / 65536 / v
 
-abbrev pub high-met : ℕ → ℕ
-high-met w = (w % 65536 + (bucket-tiles - 1)) / bucket-tiles
+abbrev pub high-met : ℕ → ℕ → ℕ
+high-met v w = (w % 65536 + (v - 1)) / v
 
-abbrev pub runs-met : List ℕ → ℕ → ℕ → List Span
-runs-met D id w = runs-in (is-visible id) D (span (low-met w) (high-met w))
+abbrev pub runs-met : ℕ → List ℕ → ℕ → ℕ → List Span
+runs-met v D id w = runs-in (is-visible id) D (span (low-met v w) (high-met v w))
 
 -- the buckets from a to r are shown for the id, and at r that ends, or at e
 pub record SeenTo (D : List ℕ) (id a e r : ℕ) : Type 0 where
@@ -61,30 +61,30 @@ pub record HiddenTo (D : List ℕ) (id a e r : ℕ) : Type 0 where
   pub other : r < e → is-visible id (word D r) ≡ true
 
 -- the buckets that a fill meets, looked at up to `stop`: they are all seen or all hidden, and bucket `stop`, which is there, is not
-pub record Looked (D : List ℕ) (id w : ℕ) (seen : Bool) (stop : ℕ) : Type 0 where
-  pub past : low-met w < stop
-  pub within : stop < high-met w
-  pub fits : high-met w ≤ length D
-  pub found : runs-met D id w ≡ cond seen (span (low-met w) stop ∷ runs-in (is-visible id) D (span stop (high-met w))) (runs-in (is-visible id) D (span stop (high-met w)))
+pub record Looked (v : ℕ) (D : List ℕ) (id w : ℕ) (seen : Bool) (stop : ℕ) : Type 0 where
+  pub past : low-met v w < stop
+  pub within : stop < high-met v w
+  pub fits : high-met v w ≤ length D
+  pub found : runs-met v D id w ≡ cond seen (span (low-met v w) stop ∷ runs-in (is-visible id) D (span stop (high-met v w))) (runs-in (is-visible id) D (span stop (high-met v w)))
   pub other : is-visible id (word D stop) ≡ not seen
 
 -- what is said of a fill: 1 all of it is shown, 2 nothing of it, 5 and 6 what the look has seen of one that is shown in part; 0 says nothing
-pub record FillSaid (u : Summary) (D : List ℕ) (id t w x kind stop j : ℕ) : Type 0 where
+pub record FillSaid (v : ℕ) (u : Summary) (D : List ℕ) (id t w x kind stop j : ℕ) : Type 0 where
   pub no-push : kind ≡ 3 → ⊥
   pub no-pop : kind ≡ 4 → ⊥
   pub good : 0 < kind → Fills t w x
-  pub whole : kind ≡ 1 → shown-runs u D id (word-span w) ≡ word-span w ∷ []
-  pub hidden : kind ≡ 2 → shown-runs u D id (word-span w) ≡ []
-  pub partly : 4 < kind → (shown-runs u D id (word-span w) ≡ map (λ (r : Span). common (word-span w) (tiles-of bucket-tiles r)) (runs-met D id w)) × Looked D id w (eqb kind 5) stop × (j ≡ id)
+  pub whole : kind ≡ 1 → shown-runs v u D id (word-span w) ≡ word-span w ∷ []
+  pub hidden : kind ≡ 2 → shown-runs v u D id (word-span w) ≡ []
+  pub partly : 4 < kind → (shown-runs v u D id (word-span w) ≡ map (λ (r : Span). common (word-span w) (tiles-of v r)) (runs-met v D id w)) × Looked v D id w (eqb kind 5) stop × (j ≡ id)
 
 -- an alpha index, so many tiles further; a solid fill has none
 abbrev pub moved-index : ℕ → ℕ → ℕ → ℕ
 moved-index t x n = cond (eqb (t % 2) 1) x (x + tile-alphas * n)
 
 -- the six words of a fill's run, cut to its tiles
-abbrev pub run-words : ℕ → ℕ → ℕ → ℕ → ℕ → Span → List ℕ
-run-words t i w x m r =
-    let c = common (word-span w) (tiles-of bucket-tiles r) in
+abbrev pub run-words : ℕ → ℕ → ℕ → ℕ → ℕ → ℕ → Span → List ℕ
+run-words v t i w x m r =
+    let c = common (word-span w) (tiles-of v r) in
     t ∷ i ∷ c .first ∷ c .end ∷ moved-index t x (c .first - w / 65536) ∷ m ∷ []
 
 module _ (attrs : Attrs) (u : Summary) (D : List ℕ) (m t w x i : ℕ) where
@@ -94,10 +94,10 @@ module _ (attrs : Attrs) (u : Summary) (D : List ℕ) (m t w x i : ℕ) where
 
   -- a fill that is shown in part: what the look has seen of it, and its pieces
   pub record PartSaid (seen : Bool) (stop id : ℕ) : Type 0 where
-    pub looked : Looked D id w seen stop
+    pub looked : Looked bucket-tiles D id w seen stop
     pub good : Fills t w x
-    pub pieces : (q : ℕ) (P l : List ℕ) → 6 * length (runs-met D id w) ≤ length l
-        → step-to q P l ≡ out (listed (length (runs-met D id w))) D ((q + 1) ∷ m ∷ []) (over (join (run-words t i w x m) (runs-met D id w)) l)
+    pub pieces : (q : ℕ) (P l : List ℕ) → 6 * length (runs-met bucket-tiles D id w) ≤ length l
+        → step-to q P l ≡ out (listed (length (runs-met bucket-tiles D id w))) D ((q + 1) ∷ m ∷ []) (over (join (run-words bucket-tiles t i w x m) (runs-met bucket-tiles D id w)) l)
 
   -- what is said of a command: 1 one piece with all of the fill, 2 no piece, 3 nesting up, 4 nesting down, 5 and 6 a fill that is shown in part; 0 says nothing
   pub record Said (kind stop id : ℕ) : Type 0 where

@@ -1,10 +1,8 @@
 // Pieces in the list, six words each. Parts: where a function asks something, its callers have judged it.
 use paint_pieces::put_words;
-use sizes::BUCKET;
-use sizes::BUCKET_ROUND;
-use sizes::BUCKET_TILES;
 use sizes::TILE_ALPHAS;
 use sizes::wide;
+use span::Width;
 use span::larger;
 use span::smaller;
 ghost use mathlib.Core.Path.{_≡_};
@@ -15,6 +13,7 @@ ghost use Rattle.sizes.specs.Sizes.{tile-alphas};
 ghost use Rattle.rules.specs.Lists.{join};
 ghost use Rattle.rules.specs.Spans.{span};
 ghost use Rattle.rules.specs.Depth.{is-visible, runs-in};
+ghost use Rattle.span.specs.Widths as widths;
 ghost use Rattle.cmd.specs.Attrs.{words-at};
 ghost use Rattle.paint_command.specs.Painting.{word};
 ghost use Rattle.paint_whole.specs.Kinds.{Fills, low-met, high-met, moved-index, run-words, runs-met, Looked};
@@ -41,13 +40,14 @@ fn put_run(
     level: u32,
     a: usize,
     b: usize,
+    width: Width,
 )
-    requires { ⌜ (6 * k + 6 ≤ length (now list)) × Fills tag tiles alpha × (a < high-met tiles) × (b ≤ high-met tiles) ⌝ }
-    ensures { λ _. ⌜ now (list .exit) ≡ words-at (now (list .entry)) (6 * k) (run-words tag i tiles alpha level (span a b)) ⌝ }
+    requires { ⌜ (6 * k + 6 ≤ length (now list)) × Fills tag tiles alpha × (a < high-met (widths.wide width) tiles) × (b ≤ high-met (widths.wide width) tiles) ⌝ }
+    ensures { λ _. ⌜ now (list .exit) ≡ words-at (now (list .entry)) (6 * k) (run-words (widths.wide width) tag i tiles alpha level (span a b)) ⌝ }
 {
     let first = tiles / 65536;
-    let from = larger(first, (a * BUCKET_TILES) as u32);
-    let to = smaller(tiles % 65536, (b * BUCKET_TILES) as u32);
+    let from = larger(first, width.times(a as u32));
+    let to = smaller(tiles % 65536, width.times(b as u32));
     let index = moved_index(tag, alpha, from - first);
     put_words(list, k, tag, i, from, to, index, level);
 }
@@ -67,11 +67,12 @@ fn put_runs(
     tiles: u32,
     alpha: u32,
     level: u32,
+    width: Width,
 ) -> usize
     requires { ⌜ (start < e) × (e ≤ length (now depth)) × (is-visible id (word (now depth) start) ≡ shown) ⌝ }
-    requires { ⌜ Fills tag tiles alpha × (e ≡ high-met tiles) × (6 * (k + length (runs-in (is-visible id) (now depth) (span start e))) ≤ length (now list)) ⌝ }
+    requires { ⌜ Fills tag tiles alpha × (e ≡ high-met (widths.wide width) tiles) × (6 * (k + length (runs-in (is-visible id) (now depth) (span start e))) ≤ length (now list)) ⌝ }
     ensures { λ r. ⌜ r ≡ k + length (runs-in (is-visible id) (now (depth .entry)) (span start e)) ⌝ }
-    ensures { λ _. ⌜ now (list .exit) ≡ words-at (now (list .entry)) (6 * k) (join (run-words tag i tiles alpha level) (runs-in (is-visible id) (now (depth .entry)) (span start e))) ⌝ }
+    ensures { λ _. ⌜ now (list .exit) ≡ words-at (now (list .entry)) (6 * k) (join (run-words (widths.wide width) tag i tiles alpha level) (runs-in (is-visible id) (now (depth .entry)) (span start e))) ⌝ }
 {
     let mut at = start;
     let mut open = shown;
@@ -88,7 +89,7 @@ fn put_runs(
                 }
                 next += 1;
             };
-            put_run(list, n, tag, i, tiles, alpha, level, at, stop);
+            put_run(list, n, tag, i, tiles, alpha, level, at, stop, width);
             n += 1;
             at = stop;
             open = false;
@@ -116,15 +117,16 @@ pub fn put_fill(
     tiles: u32,
     alpha: u32,
     level: u32,
+    width: Width,
 ) -> usize
-    requires { ⌜ Looked (now depth) id tiles seen stop × Fills tag tiles alpha × (6 * (k + length (runs-met (now depth) id tiles)) ≤ length (now list)) ⌝ }
-    ensures { λ r. ⌜ r ≡ k + length (runs-met (now (depth .entry)) id tiles) ⌝ }
-    ensures { λ _. ⌜ now (list .exit) ≡ words-at (now (list .entry)) (6 * k) (join (run-words tag i tiles alpha level) (runs-met (now (depth .entry)) id tiles)) ⌝ }
+    requires { ⌜ Looked (widths.wide width) (now depth) id tiles seen stop × Fills tag tiles alpha × (6 * (k + length (runs-met (widths.wide width) (now depth) id tiles)) ≤ length (now list)) ⌝ }
+    ensures { λ r. ⌜ r ≡ k + length (runs-met (widths.wide width) (now (depth .entry)) id tiles) ⌝ }
+    ensures { λ _. ⌜ now (list .exit) ≡ words-at (now (list .entry)) (6 * k) (join (run-words (widths.wide width) tag i tiles alpha level) (runs-met (widths.wide width) (now (depth .entry)) id tiles)) ⌝ }
 {
-    let e = wide((tiles % 65536 + BUCKET_ROUND) / BUCKET);
+    let e = wide(width.above(tiles % 65536));
     if seen {
-        let a = wide(tiles / 65536 / BUCKET);
-        put_run(list, k, tag, i, tiles, alpha, level, a, stop);
+        let a = wide(width.below(tiles / 65536));
+        put_run(list, k, tag, i, tiles, alpha, level, a, stop, width);
         return put_runs(
             depth,
             stop,
@@ -138,6 +140,7 @@ pub fn put_fill(
             tiles,
             alpha,
             level,
+            width,
         );
     }
     put_runs(
@@ -153,15 +156,16 @@ pub fn put_fill(
         tiles,
         alpha,
         level,
+        width,
     )
 }
 
 // How many runs the buckets that a fill meets can have.
-pub fn most_runs(tiles: u32) -> usize
-    requires { ⌜ low-met tiles ≤ high-met tiles ⌝ }
-    ensures { λ r. ⌜ r ≡ (high-met tiles - low-met tiles + 1) / 2 ⌝ }
+pub fn most_runs(tiles: u32, width: Width) -> usize
+    requires { ⌜ low-met (widths.wide width) tiles ≤ high-met (widths.wide width) tiles ⌝ }
+    ensures { λ r. ⌜ r ≡ (high-met (widths.wide width) tiles - low-met (widths.wide width) tiles + 1) / 2 ⌝ }
 {
-    let a = wide(tiles / 65536 / BUCKET);
-    let e = wide((tiles % 65536 + BUCKET_ROUND) / BUCKET);
+    let a = wide(width.below(tiles / 65536));
+    let e = wide(width.above(tiles % 65536));
     (e - a + 1) / 2
 }

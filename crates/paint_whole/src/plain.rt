@@ -4,9 +4,6 @@ use crate::pieces::most_runs;
 use crate::pieces::put_fill;
 use paint_pieces::put_words;
 use paint_runs::is_good_summary;
-use sizes::BUCKET;
-use sizes::BUCKET_ROUND;
-use sizes::BUCKET_TILES;
 use sizes::DEPTHS;
 use sizes::END;
 use sizes::FIRST;
@@ -19,6 +16,7 @@ use sizes::RENDERS;
 use sizes::TILE_ALPHAS;
 use sizes::TILE_END;
 use sizes::wide;
+use span::Width;
 ghost use mathlib.Core.Path.{_≡_};
 ghost use mathlib.Core.Bool.{true};
 ghost use mathlib.Core.List.{List};
@@ -28,6 +26,7 @@ ghost use Rattle.sizes.specs.Sizes.{tile-end, most-layers, most-room, most-attr
 ghost use Rattle.rules.specs.Attributes.{Attrs};
 ghost use Rattle.rules.specs.Spans.{span};
 ghost use Rattle.rules.specs.Depth.{Summary, can-skip};
+ghost use Rattle.span.specs.Widths as widths;
 ghost use Rattle.paint_runs.specs.Summaries.{summary-at};
 ghost use Rattle.paint_command.specs.Painting.{word, given, attrs-at, out, listed};
 ghost use Rattle.paint_whole.specs.Running.{most, own-step};
@@ -140,9 +139,10 @@ fn sure_fill(
     to: u32,
     largest: u32,
     depth: &[u32],
+    width: Width,
 ) -> Look
     requires { ⌜ length (now depth) ≤ 65535 ⌝ }
-    ensures { λ r. ⌜ FillSaid (summary-by from to largest) (now (depth .entry)) id tag tiles alpha (r .kind) (r .stop) (r .id) ⌝ }
+    ensures { λ r. ⌜ FillSaid (widths.wide width) (summary-by from to largest) (now (depth .entry)) id tag tiles alpha (r .kind) (r .stop) (r .id) ⌝ }
 {
     let first = tiles / 65536;
     let end = tiles % 65536;
@@ -167,7 +167,8 @@ fn sure_fill(
             id: 0,
         };
     }
-    if BUCKET_TILES * depth.len() < wide(end) {
+    let e = wide(width.above(end));
+    if depth.len() < e {
         return Look {
             kind: 0,
             stop: 0,
@@ -181,8 +182,7 @@ fn sure_fill(
             id: 0,
         };
     }
-    let a = wide(first / BUCKET);
-    let e = wide((end + BUCKET_ROUND) / BUCKET);
+    let a = wide(width.below(first));
     if depth[a] <= id {
         if e <= a + 1 {
             return Look {
@@ -304,7 +304,7 @@ fn sure_kind(
             id: 0,
         };
     }
-    sure_fill(tag, tiles, alpha, id, from, to, largest, depth)
+    sure_fill(tag, tiles, alpha, id, from, to, largest, depth, Width::W128)
 }
 
 // Where a run of commands ended: the place of the next command, the pieces listed, the nesting, what the look showed of that command.
@@ -467,7 +467,7 @@ fn run_commands(
         let k = 4 * next;
         let tiles = render[k + 1];
         let so_far = reached.pieces;
-        if list.len() - 6 * so_far < 6 * most_runs(tiles) {
+        if list.len() - 6 * so_far < 6 * most_runs(tiles, Width::W128) {
             return reached;
         }
         level = reached.nesting;
@@ -483,6 +483,7 @@ fn run_commands(
             tiles,
             render[k + 2],
             level,
+            Width::W128,
         );
         at = next + 1;
     }

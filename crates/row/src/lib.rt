@@ -2,7 +2,6 @@
 // one row and not its place on the screen; all take the row's three slices: state, render commands, depth fills.
 use cmd::command::span_word;
 use cmd::depth_fill::DepthFill;
-use sizes::BUCKET;
 use sizes::DEPTHS;
 use sizes::END;
 use sizes::FIRST;
@@ -14,17 +13,19 @@ use sizes::RENDERS;
 use sizes::wide;
 use span::Alpha;
 use span::TileSpan;
+use span::Width;
 use span::larger;
 use span::smaller;
 ghost use mathlib.Core.Path.{_≡_};
 ghost use Prim.Native.Nat.{_+_, _*_, _≤_, _<_};
 ghost use lib.ListN.{length, getD, set};
-ghost use Rattle.sizes.specs.Sizes.{bucket-tiles, tile-end, most-layers, most-room, row-size, renders-at, levels-at};
+ghost use Rattle.sizes.specs.Sizes.{tile-end, most-layers, most-room, row-size, renders-at, levels-at};
 ghost use Rattle.rules.specs.Spans.{span};
 ghost use Rattle.rules.specs.Commands.{span-word, paint-fill, layer-fill};
 ghost use Rattle.cmd.specs.DepthFills.{depth-fill};
 ghost use Rattle.span.specs.Spans.{tiles, buckets};
 ghost use Rattle.span.specs.Spans as spans;
+ghost use Rattle.span.specs.Widths as widths;
 ghost use Rattle.row.specs.Cmds.{Short};
 ghost use Rattle.row.specs.Words.{words, put4, hull-word, include-span, put-command, put-buf, end-buf, put-depth, Room, Ends};
 
@@ -167,26 +168,29 @@ pub fn pop_buf(state: &mut [u32], render: &mut [u32], fills: &mut [u32])
     state[RENDERS] = n + 1;
 }
 
-// Rule 7: a depth fill; the row's summary takes in its tiles, 32 a bucket, and its id.
+// Rule 7: a depth fill; the row's summary takes in its tiles and its id.
 pub fn push_depth_fill(
     state: &mut [u32],
     render: &mut [u32],
     fills: &mut [u32],
     cmd: DepthFill,
     draw_id: u32,
+    width: Width,
 )
-    requires { ⌜ Short (buckets (cmd .buckets)) × Room (words (now state) (now render) (now fills)) (put-depth bucket-tiles (depth-fill cmd) «draw_id» (words (now state) (now render) (now fills))) ⌝ }
-    ensures { λ _. ⌜ words (now (state .exit)) (now (render .exit)) (now (fills .exit)) ≡ put-depth bucket-tiles (depth-fill cmd) «draw_id» (words (now (state .entry)) (now (render .entry)) (now (fills .entry))) ⌝ }
+    requires { ⌜ Short (buckets (cmd .buckets)) × Room (words (now state) (now render) (now fills)) (put-depth (widths.wide width) (depth-fill cmd) «draw_id» (words (now state) (now render) (now fills))) ⌝ }
+    ensures { λ _. ⌜ words (now (state .exit)) (now (render .exit)) (now (fills .exit)) ≡ put-depth (widths.wide width) (depth-fill cmd) «draw_id» (words (now (state .entry)) (now (render .entry)) (now (fills .entry))) ⌝ }
 {
     let two = cmd.words();
     let range = cmd.buckets;
+    let low = width.times(range.first);
+    let high = width.times(range.end);
     let n = state[DEPTHS];
     let first = if n == 0 {
-        range.first * BUCKET
+        low
     } else {
-        smaller(state[FIRST], range.first * BUCKET)
+        smaller(state[FIRST], low)
     };
-    let end = larger(state[END], range.end * BUCKET);
+    let end = larger(state[END], high);
     let largest = larger(state[LARGEST], draw_id);
     state[FIRST] = first;
     state[END] = end;

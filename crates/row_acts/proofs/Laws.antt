@@ -19,6 +19,9 @@ use Rattle.rules.proofs.All.{All, nil, cons, head, tail, all-if, all-keep}
 use Rattle.span.specs.Spans.{tiles, buckets as bucket-span}
 use Rattle.span.specs.declared.TileSpan.{TileSpan}
 use Rattle.span.specs.declared.BucketRange.{BucketRange}
+use Rattle.span.specs.declared.Width.{Width}
+use Rattle.span.specs.Widths.{wide}
+use Rattle.span.proofs.Widths.{below-small, raised-short, raised-least, lowered-most}
 use Rattle.depth.specs.declared.split.Edge.{Edge}
 use Rattle.depth.specs.declared.split.Edge.the-variants.{Absent, Tiles}
 use Rattle.depth.specs.declared.split.Split.{Split}
@@ -117,98 +120,106 @@ module _ {n k : ℕ} {s t w : Words} (v : Layering n t s k w) where
 abbrev deep : Span → ℕ → DepthFill
 deep s i = record { buckets = s; attribute = i }
 
-module _ (i id : ℕ) where
-  part-sound : (w : Words) → length (w .state) ≡ 54 → word 5 w ≤ 16 → (p : Part) → Sound w (put-part Words word-ops 32 i id w p)
+module _ (v i id : ℕ) where
+  part-sound : (w : Words) → length (w .state) ≡ 54 → word 5 w ≤ 16 → (p : Part) → Sound w (put-part Words word-ops v i id w p)
   part-sound w l k (regular s) = cmd-sound w l k (paint-fill s none i)
-  part-sound w l k (buckets s) = fill-sound w l k 32 (record { buckets = s; attribute = i }) id
+  part-sound w l k (buckets s) = fill-sound w l k v (record { buckets = s; attribute = i }) id
 
-  parts-sound : (ps : List Part) (w : Words) → length (w .state) ≡ 54 → word 5 w ≤ 16 → Sound w (foldl (put-part Words word-ops 32 i id) w ps)
+  parts-sound : (ps : List Part) (w : Words) → length (w .state) ≡ 54 → word 5 w ≤ 16 → Sound w (foldl (put-part Words word-ops v i id) w ps)
   parts-sound [] w l k = same-sound w l k
   parts-sound (p ∷ ps) w l k =
-      let s : Sound w (put-part Words word-ops 32 i id w p) = part-sound w l k p in
-      sound-trans s (parts-sound ps (put-part Words word-ops 32 i id w p) (state-long s l) (s .levels))
+      let s : Sound w (put-part Words word-ops v i id w p) = part-sound w l k p in
+      sound-trans s (parts-sound ps (put-part Words word-ops v i id w p) (state-long s l) (s .levels))
 
 -- what the split of a span says of its parts
 abbrev ShortPart : Part → Type 0
 ShortPart (regular s) = Short s
 ShortPart (buckets s) = Short s
 
-parts-short : (s : Span) → Short s → All ShortPart (split 32 s)
+parts-short : (width : Width) (s : Span) → Short s → All ShortPart (split (wide width) s)
 unfolding split
-parts-short s h =
-    let a = raised 32 (s .first) in
-    let b = lowered 32 (s .end) in
+parts-short width s h =
+    let a = raised (wide width) (s .first) in
+    let b = lowered (wide width) (s .end) in
+    let low : a ≤ 8192 = raised-short width (s .first) (h .0) in
+    let high : b ≤ s .end = lowered-most width (s .end) in
     all-if (leb b a) (cons h nil)
-    (all-keep (ltb (s .first) a) (regular (span (s .first) a)) (h .0, omega arith)
-    (cons (omega arith, omega arith) (all-keep (ltb b (s .end)) (regular (span b (s .end))) (omega arith, h .1) nil)))
+    (all-keep (ltb (s .first) a) (regular (span (s .first) a)) (h .0, low)
+    (cons (omega (arith, below-small width a), omega (arith, below-small width b)) (all-keep (ltb b (s .end)) (regular (span b (s .end))) (omega arith, h .1) nil)))
 
-told-by : (s : Span) (ps : List Part) (t : Bool) → answer 0 ps ≡ cond t (answer 12 []) (answer 0 (split 32 s)) → split 32 s ≡ ps
-told-by s ps true e = let z : _≡_ {A = ℕ} 0 12 = ap (λ (x : Answer (List Part)). x .number) e in absurd (omega arith)
-told-by s ps false e = sym (ap (λ (x : Answer (List Part)). x .value) e)
+told-by : (v : ℕ) (s : Span) (ps : List Part) (t : Bool) → answer 0 ps ≡ cond t (answer 12 []) (answer 0 (split v s)) → split v s ≡ ps
+told-by v s ps true e = let z : _≡_ {A = ℕ} 0 12 = ap (λ (x : Answer (List Part)). x .number) e in absurd (omega arith)
+told-by v s ps false e = sym (ap (λ (x : Answer (List Part)). x .value) e)
 
-split-told : (s : Span) (ps : List Part) → answer 0 ps ≡ split-answer 32 s → split 32 s ≡ ps
+split-told : (v : ℕ) (s : Span) (ps : List Part) → answer 0 ps ≡ split-answer v s → split v s ≡ ps
 unfolding split-answer
-split-told s ps e = told-by s ps (bad-range 8192 s) e
+split-told v s ps e = told-by v s ps (bad-range 8192 s) e
 
 some-parts : (t c d : Bool) (x y z v : Part) → 1 ≤ length (cond t (x ∷ []) (keep c y (z ∷ keep d v [])))
 some-parts true c d x y z v = omega arith
 some-parts false true d x y z v = omega arith
 some-parts false false d x y z v = omega arith
 
-split-some : (s : Span) → 1 ≤ length (split 32 s)
+split-some : (v : ℕ) (s : Span) → 1 ≤ length (split v s)
 unfolding split
-split-some s =
-    let a = raised 32 (s .first) in
-    let b = lowered 32 (s .end) in
-    some-parts (leb b a) (ltb (s .first) a) (ltb b (s .end)) (regular s) (regular (span (s .first) a)) (buckets (span (a / 32) (b / 32))) (regular (span b (s .end)))
+split-some v s =
+    let a = raised v (s .first) in
+    let b = lowered v (s .end) in
+    some-parts (leb b a) (ltb (s .first) a) (ltb b (s .end)) (regular s) (regular (span (s .first) a)) (buckets (span (a / v) (b / v))) (regular (span b (s .end)))
 
 -- a span that is refused starts after its end
-backwards : (s : Span) → s .end ≤ 8192 → (b c : Bool) → leb (s .first) (s .end) ≡ b → leb (s .end) 8192 ≡ c
-    → answer 12 [] ≡ cond (not (b && c)) (answer 12 []) (answer 0 (split 32 s)) → s .end ≤ s .first
-backwards s h false c p q e = omega (arith, leb-false (s .first) (s .end) p)
-backwards s h true false p q e = absurd (omega (arith, leb-false (s .end) 8192 q))
-backwards s h true true p q e =
-    let z : _≡_ {A = ℕ} 0 (length (split 32 s)) = ap (λ (x : Answer (List Part)). length (x .value)) e in
-    absurd (omega (arith, split-some s))
+backwards : (v : ℕ) (s : Span) → s .end ≤ 8192 → (b c : Bool) → leb (s .first) (s .end) ≡ b → leb (s .end) 8192 ≡ c
+    → answer 12 [] ≡ cond (not (b && c)) (answer 12 []) (answer 0 (split v s)) → s .end ≤ s .first
+backwards v s h false c p q e = omega (arith, leb-false (s .first) (s .end) p)
+backwards v s h true false p q e = absurd (omega (arith, leb-false (s .end) 8192 q))
+backwards v s h true true p q e =
+    let z : _≡_ {A = ℕ} 0 (length (split v s)) = ap (λ (x : Answer (List Part)). length (x .value)) e in
+    absurd (omega (arith, split-some v s))
 
-refused-back : (s : Span) → s .end ≤ 8192 → answer 12 [] ≡ split-answer 32 s → s .end ≤ s .first
+refused-back : (v : ℕ) (s : Span) → s .end ≤ 8192 → answer 12 [] ≡ split-answer v s → s .end ≤ s .first
 unfolding split-answer
-refused-back s h e = backwards s h _ _ refl refl e
+refused-back v s h e = backwards v s h _ _ refl refl e
 
 -- by what the code finds of a span's split: its parts are short, they come to the whole, and each has room
-module _ (i id : ℕ) (s : Span) (h : Short s) (w : Words) (o : Room w (parted i id s w)) {r : Split} (e : split-of r ≡ split-answer 32 s) where
-  pub refused-is : r ≡ Refused → parted i id s w ≡ put-command (paint-fill s none i) w
+module _ (width : Width) (i id : ℕ) (s : Span) (h : Short s) (w : Words) (o : Room w (parted (wide width) i id s w)) {r : Split} (e : split-of r ≡ split-answer (wide width) s) where
+  pub refused-is : r ≡ Refused → parted (wide width) i id s w ≡ put-command (paint-fill s none i) w
   unfolding split
-  refused-is t = rw (le-leb (lowered 32 (s .end)) (raised 32 (s .first)) (omega (arith, refused-back s (h .1) (ap split-of (sym t) ∙ e))))
+  refused-is t =
+      rw (le-leb (lowered (wide width) (s .end)) (raised (wide width) (s .first)) (omega (
+        arith,
+        refused-back (wide width) s (h .1) (ap split-of (sym t) ∙ e),
+        raised-least width (s .first),
+        lowered-most width (s .end),
+      )))
 
   pub refused-asks : r ≡ Refused → Short s × Room w (put-command (paint-fill s none i) w)
   refused-asks t = (h, rw (refused-is t) at o)
 
   module _ (u : TileSpan) (t : r ≡ Whole u) where
-    only : split 32 s ≡ regular (tiles u) ∷ []
-    only = split-told s (regular (tiles u) ∷ []) (ap split-of (sym t) ∙ e)
+    only : split (wide width) s ≡ regular (tiles u) ∷ []
+    only = split-told (wide width) s (regular (tiles u) ∷ []) (ap split-of (sym t) ∙ e)
 
-    pub whole-is : parted i id s w ≡ put-command (paint-fill (tiles u) none i) w
-    whole-is = ap (λ (ps : List Part). foldl (put-part Words word-ops 32 i id) w ps) only
+    pub whole-is : parted (wide width) i id s w ≡ put-command (paint-fill (tiles u) none i) w
+    whole-is = ap (λ (ps : List Part). foldl (put-part Words word-ops (wide width) i id) w ps) only
 
     pub whole-asks : Short (tiles u) × Room w (put-command (paint-fill (tiles u) none i) w)
-    whole-asks = (head (rw only at (parts-short s h)), rw whole-is at o)
+    whole-asks = (head (rw only at (parts-short width s h)), rw whole-is at o)
 
   module _ (a : Edge) (b : BucketRange) (c : Edge) (t : r ≡ Opaque a b c) where
-    three : split 32 s ≡ beside a (buckets (bucket-span b) ∷ beside c [])
-    three = split-told s (beside a (buckets (bucket-span b) ∷ beside c [])) (ap split-of (sym t) ∙ e)
+    three : split (wide width) s ≡ beside a (buckets (bucket-span b) ∷ beside c [])
+    three = split-told (wide width) s (beside a (buckets (bucket-span b) ∷ beside c [])) (ap split-of (sym t) ∙ e)
 
     abbrev mid : Words
-    mid = put-depth 32 (deep (bucket-span b) i) id (edged a i w)
+    mid = put-depth (wide width) (deep (bucket-span b) i) id (edged a i w)
 
-    folded : (x y : Edge) → foldl (put-part Words word-ops 32 i id) w (beside x (buckets (bucket-span b) ∷ beside y [])) ≡ edged y i (put-depth 32 (deep (bucket-span b) i) id (edged x i w))
+    folded : (x y : Edge) → foldl (put-part Words word-ops (wide width) i id) w (beside x (buckets (bucket-span b) ∷ beside y [])) ≡ edged y i (put-depth (wide width) (deep (bucket-span b) i) id (edged x i w))
     folded Absent Absent = refl
     folded Absent (Tiles v) = refl
     folded (Tiles u) Absent = refl
     folded (Tiles u) (Tiles v) = refl
 
-    pieces-are : parted i id s w ≡ edged c i mid
-    pieces-are = ap (λ (ps : List Part). foldl (put-part Words word-ops 32 i id) w ps) three ∙ folded a c
+    pieces-are : parted (wide width) i id s w ≡ edged c i mid
+    pieces-are = ap (λ (ps : List Part). foldl (put-part Words word-ops (wide width) i id) w ps) three ∙ folded a c
 
     all-short : (x y : Edge) → All ShortPart (beside x (buckets (bucket-span b) ∷ beside y [])) → ShortEdge x × Short (bucket-span b) × ShortEdge y
     all-short Absent Absent k = (tt, head k, tt)
@@ -217,7 +228,7 @@ module _ (i id : ℕ) (s : Span) (h : Short s) (w : Words) (o : Room w (parted i
     all-short (Tiles u) (Tiles v) k = (head k, head (tail k), head (tail (tail k)))
 
     short : ShortEdge a × Short (bucket-span b) × ShortEdge c
-    short = all-short a c (rw three at (parts-short s h))
+    short = all-short a c (rw three at (parts-short width s h))
 
     room : Room w (edged c i mid)
     room = rw pieces-are at o
@@ -226,7 +237,7 @@ module _ (i id : ℕ) (s : Span) (h : Short s) (w : Words) (o : Room w (parted i
     s1 = edge-sound w (o .state) (o .levels) a i
 
     s2 : Sound (edged a i w) mid
-    s2 = fill-sound (edged a i w) (state-long s1 (o .state)) (s1 .levels) 32 (deep (bucket-span b) i) id
+    s2 = fill-sound (edged a i w) (state-long s1 (o .state)) (s1 .levels) (wide width) (deep (bucket-span b) i) id
 
     s3 : Sound mid (edged c i mid)
     s3 = edge-sound mid (state-long (sound-trans s1 s2) (o .state)) (s2 .levels) c i
@@ -235,48 +246,48 @@ module _ (i id : ℕ) (s : Span) (h : Short s) (w : Words) (o : Room w (parted i
     before-asks = (short .0, room-first (sound-trans s2 s3 .grown) room)
 
     module _ {u : Words} (p : u ≡ edged a i w) where
-      pub buckets-ask : Short (bucket-span b) × Room u (put-depth 32 (deep (bucket-span b) i) id u)
+      pub buckets-ask : Short (bucket-span b) × Room u (put-depth (wide width) (deep (bucket-span b) i) id u)
       buckets-ask = (short .1, rw p (room-first (s3 .grown) (room-after s1 room)))
 
-      module _ {v : Words} (q : v ≡ put-depth 32 (deep (bucket-span b) i) id u) where
+      module _ {v : Words} (q : v ≡ put-depth (wide width) (deep (bucket-span b) i) id u) where
         pub after-asks : ShortEdge c × Room v (edged c i v)
         after-asks = (short .2, rw (q, p) (room-after (sound-trans s1 s2) room))
 
-        pub pieces-done : {x : Words} → x ≡ edged c i v → x ≡ parted i id s w
+        pub pieces-done : {x : Words} → x ≡ edged c i v → x ≡ parted (wide width) i id s w
         pieces-done k = rw (k, q, p) (sym pieces-are)
 
 -- rules 5 to 7
-module _ (n : ℕ) (s : Span) (i id : ℕ) (w : Words) where
-  pub drawn-alpha : (e : Bool) (a : ℕ) → drawn n e s (some a) i id w ≡ put-command (paint-fill s (some a) i) (ensured n w)
+module _ (v n : ℕ) (s : Span) (i id : ℕ) (w : Words) where
+  pub drawn-alpha : (e : Bool) (a : ℕ) → drawn v n e s (some a) i id w ≡ put-command (paint-fill s (some a) i) (ensured n w)
   unfolding do-act draw-act
   drawn-alpha true a = refl
   drawn-alpha false a = refl
 
-  pub drawn-parts : drawn n true s none i id w ≡ parted i id s (ensured n w)
+  pub drawn-parts : drawn v n true s none i id w ≡ parted v i id s (ensured n w)
   unfolding do-act draw-act
   drawn-parts = refl
 
-  pub drawn-plain : drawn n false s none i id w ≡ put-command (paint-fill s none i) (ensured n w)
+  pub drawn-plain : drawn v n false s none i id w ≡ put-command (paint-fill s none i) (ensured n w)
   unfolding do-act draw-act
   drawn-plain = refl
 
-module _ (n i id : ℕ) (s : Span) (w : Words) (l : length (w .state) ≡ 54) (k : word 5 w ≤ 16) (m : n ≤ 16) where
+module _ (v n i id : ℕ) (s : Span) (w : Words) (l : length (w .state) ≡ 54) (k : word 5 w ≤ 16) (m : n ≤ 16) where
   layered : Sound w (ensured n w)
   layered = ensured-sound n w m l k
 
   -- the act after its layers
-  drawn-after : (e : Bool) (a : Option ℕ) → Sound (ensured n w) (drawn n e s a i id w)
+  drawn-after : (e : Bool) (a : Option ℕ) → Sound (ensured n w) (drawn v n e s a i id w)
   unfolding do-act draw-act
-  drawn-after true none = parts-sound i id (split 32 s) (ensured n w) (state-long layered l) (layered .levels)
+  drawn-after true none = parts-sound v i id (split v s) (ensured n w) (state-long layered l) (layered .levels)
   drawn-after true (some a) = cmd-sound (ensured n w) (state-long layered l) (layered .levels) (paint-fill s (some a) i)
   drawn-after false none = cmd-sound (ensured n w) (state-long layered l) (layered .levels) (paint-fill s none i)
   drawn-after false (some a) = cmd-sound (ensured n w) (state-long layered l) (layered .levels) (paint-fill s (some a) i)
 
   -- its layers have room
-  pub first-room : (e : Bool) (a : Option ℕ) → Room w (drawn n e s a i id w) → Room w (ensured n w)
+  pub first-room : (e : Bool) (a : Option ℕ) → Room w (drawn v n e s a i id w) → Room w (ensured n w)
   first-room e a r = room-first (drawn-after e a .grown) r
 
-  pub drawn-sound : (e : Bool) (a : Option ℕ) → Sound w (drawn n e s a i id w)
+  pub drawn-sound : (e : Bool) (a : Option ℕ) → Sound w (drawn v n e s a i id w)
   drawn-sound e a = sound-trans layered (drawn-after e a)
 
 -- after the layers, at u, the rest has room
@@ -284,29 +295,29 @@ pub layers-then : (n : ℕ) {u w t : Words} → n ≤ 16 → u ≡ ensured n w �
 layers-then n {u} {w} m e r = rw e (room-after (ensured-sound n w m (r .state) (r .levels)) r)
 
 -- any act
-pub acted-sound : (n : ℕ) (w : Words) → length (w .state) ≡ 54 → word 5 w ≤ 16 → n ≤ 16 → (a : Act) → Sound w (acted n a w)
+pub acted-sound : (v n : ℕ) (w : Words) → length (w .state) ≡ 54 → word 5 w ≤ 16 → n ≤ 16 → (a : Act) → Sound w (acted v n a w)
 unfolding do-act draw-act
-acted-sound n w l k m (paint s a i) = drawn-sound n i 0 s w l k m false a
-acted-sound n w l k m (opaque s i id) = drawn-sound n i id s w l k m true none
-acted-sound n w l k m touch = ensured-sound n w m l k
-acted-sound n w l k m (close s a i) = cmd-sound w l k (layer-fill s a i)
-acted-sound n w l k m pop = end-sound w l k
+acted-sound v n w l k m (paint s a i) = drawn-sound v n i 0 s w l k m false a
+acted-sound v n w l k m (opaque s i id) = drawn-sound v n i id s w l k m true none
+acted-sound v n w l k m touch = ensured-sound n w m l k
+acted-sound v n w l k m (close s a i) = cmd-sound w l k (layer-fill s a i)
+acted-sound v n w l k m pop = end-sound w l k
 
 -- the acts that are one operation, or rule 5 alone
-module _ (n : ℕ) (w : Words) where
-  pub touch-is : acted n touch w ≡ ensured n w
+module _ (v n : ℕ) (w : Words) where
+  pub touch-is : acted v n touch w ≡ ensured n w
   unfolding do-act
   touch-is = refl
 
-  pub close-is : (s : Span) (a : Option ℕ) (i : ℕ) → acted n (close s a i) w ≡ put-command (layer-fill s a i) w
+  pub close-is : (s : Span) (a : Option ℕ) (i : ℕ) → acted v n (close s a i) w ≡ put-command (layer-fill s a i) w
   unfolding do-act
   close-is s a i = refl
 
-  pub pop-is : acted n pop w ≡ end-buf w
+  pub pop-is : acted v n pop w ≡ end-buf w
   unfolding do-act
   pop-is = refl
 
   -- rule 11: a filter's row is a solid fill that is not eligible
-  pub paint-is : (s : Span) (i id : ℕ) → acted n (paint s none i) w ≡ drawn n false s none i id w
+  pub paint-is : (s : Span) (i id : ℕ) → acted v n (paint s none i) w ≡ drawn v n false s none i id w
   unfolding draw-act
   paint-is s i id = refl

@@ -1,4 +1,4 @@
--- The rules' acts, at rows of words and 32 tiles a bucket.
+-- The rules' acts at rows of words. The first number is that of a bucket's tiles, where it matters.
 use Prim.Native.Nat.{ℕ}
 use mathlib.Core.Bool.{Bool}
 use mathlib.Core.List.{foldl}
@@ -20,17 +20,17 @@ use Rattle.row.specs.Cmds.{Short}
 abbrev pub alpha-of : Alpha → Option ℕ
 alpha-of a = alpha a
 
--- rule 5, with n layers open
+-- rule 5, with n layers open: no depth fill, so that it is the same at each width
 abbrev pub ensured : ℕ → Words → Words
 ensured n w = ensure Words word-ops bucket-tiles n w
 
 -- any act, with n layers open
-abbrev pub acted : ℕ → Act → Words → Words
-acted n a w = do-act Words word-ops bucket-tiles n a w
+abbrev pub acted : ℕ → ℕ → Act → Words → Words
+acted v n a w = do-act Words word-ops v n a w
 
 -- rule 7, all the parts
-abbrev pub parted : ℕ → ℕ → Span → Words → Words
-parted i id s w = foldl (put-part Words word-ops bucket-tiles i id) w (split bucket-tiles s)
+abbrev pub parted : ℕ → ℕ → ℕ → Span → Words → Words
+parted v i id s w = foldl (put-part Words word-ops v i id) w (split v s)
 
 -- the regular piece on one side of a depth fill, where there is one
 abbrev pub edged : Edge → ℕ → Words → Words
@@ -42,5 +42,5 @@ ShortEdge Absent = Unit
 ShortEdge (Tiles s) = Short (tiles s)
 
 -- rules 5 to 7: what is left of a segment; `e` says that the draw is eligible
-abbrev pub drawn : ℕ → Bool → Span → Option ℕ → ℕ → ℕ → Words → Words
-drawn n e s a i id w = acted n (draw-act e i id s a) w
+abbrev pub drawn : ℕ → ℕ → Bool → Span → Option ℕ → ℕ → ℕ → Words → Words
+drawn v n e s a i id w = acted v n (draw-act e i id s a) w

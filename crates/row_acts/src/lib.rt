@@ -10,11 +10,13 @@ use row::push_paint;
 use sizes::LEVELS;
 use span::Alpha;
 use span::TileSpan;
+use span::Width;
 ghost use mathlib.Core.Path.{_≡_};
 ghost use Prim.Native.Nat.{_≤_};
 ghost use Rattle.sizes.specs.Sizes.{most-layers};
 ghost use Rattle.rules.specs.Commands.{paint-fill, layer-fill};
 ghost use Rattle.span.specs.Spans.{tiles};
+ghost use Rattle.span.specs.Widths.{wide};
 ghost use Rattle.row.specs.Words.{words, put-command, Room};
 ghost use Rattle.row.specs.Cmds.{Short};
 ghost use Rattle.row_acts.specs.Acts.{alpha-of, ensured, parted, ShortEdge, edged, drawn};
@@ -44,7 +46,7 @@ fn push_edge(state: &mut [u32], render: &mut [u32], fills: &mut [u32], edge: Edg
     }
 }
 
-// Rule 7: an eligible span, split over buckets of 32 tiles. No caller has a span that starts after its end; it would stay whole.
+// Rule 7: an eligible span, split over buckets. No caller has a span that starts after its end; it would stay whole.
 fn push_opaque(
     state: &mut [u32],
     render: &mut [u32],
@@ -52,11 +54,12 @@ fn push_opaque(
     span: TileSpan,
     attrs_idx: u32,
     draw_id: u32,
+    width: Width,
 )
-    requires { ⌜ Short (tiles span) × Room (words (now state) (now render) (now fills)) (parted «attrs_idx» «draw_id» (tiles span) (words (now state) (now render) (now fills))) ⌝ }
-    ensures { λ _. ⌜ words (now (state .exit)) (now (render .exit)) (now (fills .exit)) ≡ parted «attrs_idx» «draw_id» (tiles span) (words (now (state .entry)) (now (render .entry)) (now (fills .entry))) ⌝ }
+    requires { ⌜ Short (tiles span) × Room (words (now state) (now render) (now fills)) (parted (wide width) «attrs_idx» «draw_id» (tiles span) (words (now state) (now render) (now fills))) ⌝ }
+    ensures { λ _. ⌜ words (now (state .exit)) (now (render .exit)) (now (fills .exit)) ≡ parted (wide width) «attrs_idx» «draw_id» (tiles span) (words (now (state .entry)) (now (render .entry)) (now (fills .entry))) ⌝ }
 {
-    let split = split_opaque_span(span);
+    let split = split_opaque_span(span, width);
     match split {
         Split::Refused => {
             push_paint(state, render, fills, span, Alpha::Solid, attrs_idx);
@@ -76,6 +79,7 @@ fn push_opaque(
                 fills,
                 DepthFill { buckets, attrs_idx },
                 draw_id,
+                width,
             );
             push_edge(state, render, fills, after, attrs_idx);
         }
@@ -93,15 +97,16 @@ pub fn push_fill(
     alpha: Alpha,
     attrs_idx: u32,
     draw_id: u32,
+    width: Width,
 )
-    requires { ⌜ Short (tiles span) × (n ≤ most-layers) × Room (words (now state) (now render) (now fills)) (drawn n eligible (tiles span) (alpha-of alpha) «attrs_idx» «draw_id» (words (now state) (now render) (now fills))) ⌝ }
-    ensures { λ _. ⌜ words (now (state .exit)) (now (render .exit)) (now (fills .exit)) ≡ drawn n eligible (tiles span) (alpha-of alpha) «attrs_idx» «draw_id» (words (now (state .entry)) (now (render .entry)) (now (fills .entry))) ⌝ }
+    requires { ⌜ Short (tiles span) × (n ≤ most-layers) × Room (words (now state) (now render) (now fills)) (drawn (wide width) n eligible (tiles span) (alpha-of alpha) «attrs_idx» «draw_id» (words (now state) (now render) (now fills))) ⌝ }
+    ensures { λ _. ⌜ words (now (state .exit)) (now (render .exit)) (now (fills .exit)) ≡ drawn (wide width) n eligible (tiles span) (alpha-of alpha) «attrs_idx» «draw_id» (words (now (state .entry)) (now (render .entry)) (now (fills .entry))) ⌝ }
 {
     ensure_row_layers(state, render, fills, n);
     match alpha {
         Alpha::Solid => {
             if eligible {
-                push_opaque(state, render, fills, span, attrs_idx, draw_id);
+                push_opaque(state, render, fills, span, attrs_idx, draw_id, width);
                 return;
             }
             push_paint(state, render, fills, span, Alpha::Solid, attrs_idx);

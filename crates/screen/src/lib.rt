@@ -14,8 +14,6 @@ ghost use Rattle.screen.specs.Tables.{zeros, tables, lent, reset-to, flo
 use rect::Mode;
 use rect::Rect;
 use rect::Viewport;
-use sizes::BUCKET;
-use sizes::BUCKET_ROUND;
 use sizes::FILTER_TABLE;
 use sizes::LAYER_TABLE;
 use sizes::MOST_ATTRS;
@@ -30,6 +28,7 @@ use sizes::answers::BAD_ARENA;
 use sizes::answers::BAD_RECORD;
 use sizes::answers::BAD_VIEWPORT;
 use sizes::answers::DONE;
+use span::Width;
 
 pub struct Screen {
     pub viewport: Rect,
@@ -130,7 +129,8 @@ impl Screen {
         ensures { λ r. ⌜ r ≡ buckets-of bucket-tiles (box-of (self .viewport)) ⌝ }
     {
         let viewport = self.viewport;
-        ((viewport.width() / 4 + BUCKET_ROUND) / BUCKET) as usize
+        let width = Width::W128;
+        width.above(viewport.width() / 4) as usize
     }
 
     // The screen's own numbers, answer 4.

@@ -25,6 +25,7 @@ use Rattle.screen.specs.Screens.{frame-of, state-of, screen-after, good-screen}
 use Rattle.screen.specs.Judging.{judged}
 use Rattle.segments.specs.declared.Scene.{Scene}
 use Rattle.segments.specs.Segs.{segs-of}
+use Rattle.span.specs.declared.Width.the-variants.{W128}
 use Rattle.step_fill_rows.specs.declared.Job.{Job}
 use Rattle.step_fill.specs.declared.Draw.{Draw}
 
@@ -64,6 +65,7 @@ job-of s ps d =
       eligible = eligible (eqb (s .layers) 0) (draw-paint (paints-of ps) (draw-of d)) (draw-of d);
       attr = s .«paint_attrs»;
       id = s .«next_draw_id»;
+      width = W128;
     }
 
 -- a screen that is judged: its numbers are good

@@ -14,6 +14,7 @@ use sizes::answers::BAD_RECORD;
 use sizes::answers::DONE;
 use sizes::answers::FULL_ATTRS;
 use sizes::answers::IDS;
+use span::Width;
 use step_fill_judge::judge_list;
 use step_fill_rows::Job;
 use step_fill_rows::fill_rows;
@@ -114,6 +115,7 @@ fn job_of(screen: Screen, paints: &[u32], draw: Draw) -> Job
         eligible: is_eligible(screen.layers, paints, draw),
         attr: screen.paint_attrs,
         id: screen.next_draw_id,
+        width: Width::W128,
     }
 }
 

@@ -21,7 +21,7 @@ use Rattle.row_room.specs.declared.Limits.{Limits}
 use Rattle.row_room.specs.declared.Hand.{Hand}
 use Rattle.row_room.specs.Room.{record-at, hand-of, loaded, turned-to, noted, added-to, Low}
 use Rattle.row_room.proofs.Laws.{good-small}
-use Rattle.step_fill_judge.specs.Tallies.{Tally, added, known, tallied, tally-cuts, verdict, cuts-of, none-yet, Rowed, list-number, marked-by, limits-of, stretched, counted-cut, hand-cuts}
+use Rattle.step_fill_judge.specs.Tallies.{Tally, job-adds, known, tallied, tally-cuts, verdict, cuts-of, none-yet, Rowed, list-number, marked-by, limits-of, stretched, counted-cut, hand-cuts}
 use Rattle.step_fill_judge.proofs.Laws.{turned, Fits, took-none, took-bad, took-good, tally-more, tally-stop, at-most-one, fits-after, lands}
 
 -- the number for an order that is kept if ok, and for rows that are full or deep
@@ -107,8 +107,8 @@ module _ (j : Job) (rows : List ℕ) (h : Hand) (ok : Bool) (t : Tally) (o : Hol
         rw (← turned j (record-at rows (k .row)) t k (known t (record-at rows (k .row)) (k .row)) refl (v .levels))
         (record {
           row = v .row;
-          renders = ap (λ (x : ℕ). x + added (j .eligible) (k .stretch .tiles) (k .stretch .alpha) .renders) (v .renders);
-          depths = ap (λ (x : ℕ). x + added (j .eligible) (k .stretch .tiles) (k .stretch .alpha) .depths) (v .depths);
+          renders = ap (λ (x : ℕ). x + job-adds j (k .stretch .tiles) (k .stretch .alpha) .renders) (v .renders);
+          depths = ap (λ (x : ℕ). x + job-adds j (k .stretch .tiles) (k .stretch .alpha) .depths) (v .depths);
           code = rw (v .renders, v .depths, v .code, o .code) (noted-is ok (t .full) (t .deep) _ _);
           levels = λ z. refl;
           good = λ z. g;
@@ -173,7 +173,7 @@ module _ (j : Job) (rows : List ℕ) (h : Hand) (ok : Bool) (t : Tally) (o : Hol
   held-cuts (k ∷ m ∷ ks) l b n = absurd (omega arith)
 
 -- a stretch, as the code adds it
-pub stretch-is : (j : Job) (h : Hand) (s : Span) (a : Option ℕ) {l : Limits} {x y : ℕ} {w : Hand} → l ≡ limits-of j → counts x y 0 ≡ added (j .eligible) s a → w ≡ added-to l h x y → w ≡ stretched j h s a
+pub stretch-is : (j : Job) (h : Hand) (s : Span) (a : Option ℕ) {l : Limits} {x y : ℕ} {w : Hand} → l ≡ limits-of j → counts x y 0 ≡ job-adds j s a → w ≡ added-to l h x y → w ≡ stretched j h s a
 unfolding stretched
 stretch-is j h s a p q e = rw (← q, ← p) e
 

@@ -16,6 +16,7 @@ use Rattle.rules.specs.Steps.{passes}
 use Rattle.rules.proofs.All.{All, nil, cons, both, all-map, all-join, every-all, none-of}
 use Rattle.rules.proofs.laws.Maps.{ActOk, paints, splits, follows-act}
 use Rattle.rules.proofs.laws.Changes.{change-length, change-same, change-else}
+use Rattle.span.specs.Widths.{wide}
 use Rattle.row.specs.Words.{Words, word, word-ops, Room}
 use Rattle.row_screen.specs.Arena.{nowhere, sizes, cut, Long}
 use Rattle.row_screen.proofs.Laws.{cut-length, cut-at, at-state, at-render, at-fills}
@@ -74,7 +75,7 @@ module _ (j : Job) (n : ℕ) (rows : List ℕ) (m : j .layers ≤ 16) where
     turn-counts : drawn-counts j k (known t (record-at rows (k .row)) (k .row)) ≡ count (getD (change (draws j (k .stretch .tiles) (k .stretch .alpha)) (k .row) us) (k .row) nowhere)
     turn-counts =
         ap (drawn-counts j k) (o .knows (k .row) h (f .0))
-        ∙ sym (follows-act (counted 32) (j .layers) m (act-ok (j .eligible) (j .attr) (j .id) k (k .stretch .alpha)) (getD us (k .row) nowhere) (f .1) .0)
+        ∙ sym (follows-act (counted (wide (j .width))) (j .layers) m (act-ok (j .eligible) (j .attr) (j .id) k (k .stretch .alpha)) (getD us (k .row) nowhere) (f .1) .0)
         ∙ ap count (sym after-act)
 
     turn-is : tallied j (record-at rows (k .row)) t k ≡ tally-of j t (k .row) (count (getD (change (draws j (k .stretch .tiles) (k .stretch .alpha)) (k .row) us) (k .row) nowhere))
@@ -193,20 +194,20 @@ module _ (j : Job) (v : Box) (n : ℕ) (w : Words) (m : j .layers ≤ 16) (l : L
     both-flags : (run j (w .state) none-yet ks .full ≡ running j (word 0) (j .c) (puts-of j ks) (cut (sizes (j .c) (j .d)) n w)) × (run j (w .state) none-yet ks .deep ≡ running j (word 1) (j .d) (puts-of j ks) (cut (sizes (j .c) (j .d)) n w))
     both-flags = goes j n (w .state) m ks none-yet (cut (sizes (j .c) (j .d)) n w) 0 (cut-length (sizes (j .c) (j .d)) n w) r fine (first-knows q)
 
-    full-is : run j (w .state) none-yet ks .full ≡ passes Words word-ops 32 (word 0) (j .c) (puts-of j ks) (done j (puts-of j ks) (cut (sizes (j .c) (j .d)) n w))
+    full-is : run j (w .state) none-yet ks .full ≡ passes Words word-ops (wide (j .width)) (word 0) (j .c) (puts-of j ks) (done j (puts-of j ks) (cut (sizes (j .c) (j .d)) n w))
     full-is =
         both-flags .0 ∙ sym (runs j m (word 0) (j .c) (λ u u′ s. s .commands) (puts-of j ks) (cut (sizes (j .c) (j .d)) n w) (puts-sane (cut (sizes (j .c) (j .d)) n w) fine))
         ∙ sym (passes-are j m (word 0) (j .c) refl (puts-of j ks) (done j (puts-of j ks) (cut (sizes (j .c) (j .d)) n w)))
 
-    deep-is : run j (w .state) none-yet ks .deep ≡ passes Words word-ops 32 (word 1) (j .d) (puts-of j ks) (done j (puts-of j ks) (cut (sizes (j .c) (j .d)) n w))
+    deep-is : run j (w .state) none-yet ks .deep ≡ passes Words word-ops (wide (j .width)) (word 1) (j .d) (puts-of j ks) (done j (puts-of j ks) (cut (sizes (j .c) (j .d)) n w))
     deep-is =
         both-flags .1 ∙ sym (runs j m (word 1) (j .d) (λ u u′ s. s .depths) (puts-of j ks) (cut (sizes (j .c) (j .d)) n w) (puts-sane (cut (sizes (j .c) (j .d)) n w) fine))
         ∙ sym (passes-are j m (word 1) (j .d) refl (puts-of j ks) (done j (puts-of j ks) (cut (sizes (j .c) (j .d)) n w)))
 
     -- the flags are the rules' tests on the rows after
     pub flags-are : flags (run j (w .state) none-yet ks)
-        ≡ cond (passes Words word-ops 32 (word 0) (j .c) (puts-of j ks) (done j (puts-of j ks) (cut (sizes (j .c) (j .d)) n w))) 10
-        (cond (passes Words word-ops 32 (word 1) (j .d) (puts-of j ks) (done j (puts-of j ks) (cut (sizes (j .c) (j .d)) n w))) 11 0)
+        ≡ cond (passes Words word-ops (wide (j .width)) (word 0) (j .c) (puts-of j ks) (done j (puts-of j ks) (cut (sizes (j .c) (j .d)) n w))) 10
+        (cond (passes Words word-ops (wide (j .width)) (word 1) (j .d) (puts-of j ks) (done j (puts-of j ks) (cut (sizes (j .c) (j .d)) n w))) 11 0)
     flags-are = rw (full-is, deep-is)
 
     -- a row within its room
@@ -233,8 +234,8 @@ module _ (j : Job) (v : Box) (n : ℕ) (w : Words) (m : j .layers ≤ 16) (l : L
 
     -- what is not refused has room
     pub roomy-judged : j .c ≤ 1024 → j .d ≤ 1024
-        → passes Words word-ops 32 (word 0) (j .c) (puts-of j ks) (done j (puts-of j ks) (cut (sizes (j .c) (j .d)) n w)) ≡ false
-        → passes Words word-ops 32 (word 1) (j .d) (puts-of j ks) (done j (puts-of j ks) (cut (sizes (j .c) (j .d)) n w)) ≡ false
+        → passes Words word-ops (wide (j .width)) (word 0) (j .c) (puts-of j ks) (done j (puts-of j ks) (cut (sizes (j .c) (j .d)) n w)) ≡ false
+        → passes Words word-ops (wide (j .width)) (word 1) (j .d) (puts-of j ks) (done j (puts-of j ks) (cut (sizes (j .c) (j .d)) n w)) ≡ false
         → Roomy (puts-of j ks) (cut (sizes (j .c) (j .d)) n w) (done j (puts-of j ks) (cut (sizes (j .c) (j .d)) n w))
     roomy-judged c d e f =
         roomy-by (done j (puts-of j ks) (cut (sizes (j .c) (j .d)) n w)) c d fine
@@ -245,16 +246,16 @@ module _ (j : Job) (v : Box) (n : ℕ) (w : Words) (m : j .layers ≤ 16) (l : L
   pub verdict-is : n ≤ 512 → {ks : List Cut} → All (λ (k : Cut). k .row < n) ks → Rising 0 ks
       → verdict (tally-cuts j (w .state) none-yet ks)
       ≡ cond (good-rows (record { viewport = v; c = j .c; d = j .d }) (j .layers) (puts-of j ks) (cut (sizes (j .c) (j .d)) n w))
-      (cond (passes Words word-ops 32 (word 0) (j .c) (puts-of j ks) (done j (puts-of j ks) (cut (sizes (j .c) (j .d)) n w))) 10
-      (cond (passes Words word-ops 32 (word 1) (j .d) (puts-of j ks) (done j (puts-of j ks) (cut (sizes (j .c) (j .d)) n w))) 11 0))
+      (cond (passes Words word-ops (wide (j .width)) (word 0) (j .c) (puts-of j ks) (done j (puts-of j ks) (cut (sizes (j .c) (j .d)) n w))) 10
+      (cond (passes Words word-ops (wide (j .width)) (word 1) (j .d) (puts-of j ks) (done j (puts-of j ks) (cut (sizes (j .c) (j .d)) n w))) 11 0))
       4
   verdict-is q {ks} a r = verdict-any a ∙ go (good-rows (record { viewport = v; c = j .c; d = j .d }) (j .layers) (puts-of j ks) (cut (sizes (j .c) (j .d)) n w)) refl
     where
       go : (b : Bool) → good-rows (record { viewport = v; c = j .c; d = j .d }) (j .layers) (puts-of j ks) (cut (sizes (j .c) (j .d)) n w) ≡ b
           → cond b (flags (run j (w .state) none-yet ks)) 4
           ≡ cond b
-          (cond (passes Words word-ops 32 (word 0) (j .c) (puts-of j ks) (done j (puts-of j ks) (cut (sizes (j .c) (j .d)) n w))) 10
-          (cond (passes Words word-ops 32 (word 1) (j .d) (puts-of j ks) (done j (puts-of j ks) (cut (sizes (j .c) (j .d)) n w))) 11 0))
+          (cond (passes Words word-ops (wide (j .width)) (word 0) (j .c) (puts-of j ks) (done j (puts-of j ks) (cut (sizes (j .c) (j .d)) n w))) 10
+          (cond (passes Words word-ops (wide (j .width)) (word 1) (j .d) (puts-of j ks) (done j (puts-of j ks) (cut (sizes (j .c) (j .d)) n w))) 11 0))
           4
       go true e = flags-are q a r e
       go false e = refl

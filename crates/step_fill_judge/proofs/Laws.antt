@@ -4,6 +4,7 @@ use mathlib.Core.Bool.{Bool, true, false, _||_, cond}
 use mathlib.Core.List.{List, [], _∷_, _++_, foldl}
 use mathlib.Core.Option.{Option, none, some}
 use Prim.Native.Nat.{ℕ, zero, suc, _+_, _-_, _*_, _/_, _≤_, _<_}
+use native.Mathlib.Nat.{mul-le-mul-right, mul-lt-mul-of-pos-right}
 use native.Mathlib.Omega.{arith}
 use lib.Dec.{leb, ltb, eqb}
 use lib.ListN.{length}
@@ -15,6 +16,7 @@ use Rattle.rules.specs.Boxes.{Box}
 use Rattle.rules.specs.Segments.{Segment, good-segment, Cut, localised, on-row, stretch-of, cut-in}
 use Rattle.rules.specs.Plans.{draw-act}
 use Rattle.rules.specs.Steps.{do-act, put-part, ensure}
+use Rattle.span.specs.Widths.{wide}
 use Rattle.row_counts.specs.Counts.{Counts, counts, count-ops}
 use Rattle.step_fill_rows.specs.declared.Job.{Job}
 use Rattle.row_judge.specs.Building.{good-row}
@@ -22,7 +24,7 @@ use Rattle.segments.specs.Segs.{origin, bounds}
 use Rattle.segments.proofs.Laws.{landed}
 use Rattle.row_room.specs.Room.{record-at}
 use Rattle.row_room.proofs.Laws.{good-small}
-use Rattle.step_fill_judge.specs.Tallies.{Tally, edge-count, added, stored, known, tallied, tally-cuts, Rowed}
+use Rattle.step_fill_judge.specs.Tallies.{Tally, edge-count, added, job-adds, stored, known, tallied, tally-cuts, Rowed}
 
 -- the parts of a split span: how many are regular, and how many are depth fills
 abbrev regulars : List Part → ℕ
@@ -38,10 +40,10 @@ deeps (buckets s ∷ ps) = suc (deeps ps)
 sums : (a b x y : ℕ) (l : ℕ) → a ≡ x → b ≡ y → counts a b l ≡ counts x y l
 sums a b x y l p q = rw (p, q)
 
-parts-add : (i id : ℕ) (ps : List Part) (k : Counts) → foldl (put-part Counts count-ops 32 i id) k ps ≡ counts (k .renders + regulars ps) (k .depths + deeps ps) (k .levels)
-parts-add i id [] k = sums (k .renders) (k .depths) (k .renders + 0) (k .depths + 0) (k .levels) (omega arith) (omega arith)
-parts-add i id (regular s ∷ ps) k = parts-add i id ps (counts (k .renders + 1) (k .depths) (k .levels)) ∙ sums (k .renders + 1 + regulars ps) (k .depths + deeps ps) (k .renders + suc (regulars ps)) (k .depths + deeps ps) (k .levels) (omega arith) refl
-parts-add i id (buckets s ∷ ps) k = parts-add i id ps (counts (k .renders) (k .depths + 1) (k .levels)) ∙ sums (k .renders + regulars ps) (k .depths + 1 + deeps ps) (k .renders + regulars ps) (k .depths + suc (deeps ps)) (k .levels) refl (omega arith)
+parts-add : (v i id : ℕ) (ps : List Part) (k : Counts) → foldl (put-part Counts count-ops v i id) k ps ≡ counts (k .renders + regulars ps) (k .depths + deeps ps) (k .levels)
+parts-add v i id [] k = sums (k .renders) (k .depths) (k .renders + 0) (k .depths + 0) (k .levels) (omega arith) (omega arith)
+parts-add v i id (regular s ∷ ps) k = parts-add v i id ps (counts (k .renders + 1) (k .depths) (k .levels)) ∙ sums (k .renders + 1 + regulars ps) (k .depths + deeps ps) (k .renders + suc (regulars ps)) (k .depths + deeps ps) (k .levels) (omega arith) refl
+parts-add v i id (buckets s ∷ ps) k = parts-add v i id ps (counts (k .renders) (k .depths + 1) (k .levels)) ∙ sums (k .renders + regulars ps) (k .depths + 1 + deeps ps) (k .renders + regulars ps) (k .depths + suc (deeps ps)) (k .levels) refl (omega arith)
 
 -- rule 5 on counts
 pushes-add : (j : ℕ) (k : Counts) → times j (λ (c : Counts). counts (c .renders + 1) (c .depths) (c .levels + 1)) k ≡ counts (k .renders + j) (k .depths) (k .levels + j)
@@ -55,56 +57,64 @@ pushes-add (suc j) k =
     pushes-add j (counts (k .renders + 1) (k .depths) (k .levels + 1)) ∙ rw (p, q)
 
 -- one act on counts: the layers that are lacking, and what the stretch adds
-module _ (n i id : ℕ) (s : Span) (k : Counts) where
-  layered : ensure Counts count-ops 32 n k ≡ counts (k .renders + (n - k .levels)) (k .depths) (k .levels + (n - k .levels))
+module _ (v n i id : ℕ) (s : Span) (k : Counts) where
+  layered : ensure Counts count-ops v n k ≡ counts (k .renders + (n - k .levels)) (k .depths) (k .levels + (n - k .levels))
   layered = pushes-add (n - k .levels) k
 
-  one-command : (a : Option ℕ) → counts (ensure Counts count-ops 32 n k .renders + 1) (ensure Counts count-ops 32 n k .depths) (ensure Counts count-ops 32 n k .levels)
+  one-command : (a : Option ℕ) → counts (ensure Counts count-ops v n k .renders + 1) (ensure Counts count-ops v n k .depths) (ensure Counts count-ops v n k .levels)
       ≡ counts (k .renders + (n - k .levels) + 1) (k .depths + 0) (k .levels + (n - k .levels))
   one-command a = let z : k .depths ≡ k .depths + 0 = omega arith in rw layered (ap (λ (d : ℕ). counts (k .renders + (n - k .levels) + 1) d (k .levels + (n - k .levels))) z)
 
-  split-parts : foldl (put-part Counts count-ops 32 i id) (ensure Counts count-ops 32 n k) (split 32 s)
-      ≡ counts (k .renders + (n - k .levels) + regulars (split 32 s)) (k .depths + deeps (split 32 s)) (k .levels + (n - k .levels))
-  split-parts = rw layered (parts-add i id (split 32 s) (counts (k .renders + (n - k .levels)) (k .depths) (k .levels + (n - k .levels))))
+  split-parts : foldl (put-part Counts count-ops v i id) (ensure Counts count-ops v n k) (split v s)
+      ≡ counts (k .renders + (n - k .levels) + regulars (split v s)) (k .depths + deeps (split v s)) (k .levels + (n - k .levels))
+  split-parts = rw layered (parts-add v i id (split v s) (counts (k .renders + (n - k .levels)) (k .depths) (k .levels + (n - k .levels))))
 
-  pub counts-drawn : (e : Bool) (a : Option ℕ) → do-act Counts count-ops 32 n (draw-act e i id s a) k
-      ≡ counts (k .renders + (n - k .levels) + added e s a .renders) (k .depths + added e s a .depths) (k .levels + (n - k .levels))
+  pub counts-drawn : (e : Bool) (a : Option ℕ) → do-act Counts count-ops v n (draw-act e i id s a) k
+      ≡ counts (k .renders + (n - k .levels) + added v e s a .renders) (k .depths + added v e s a .depths) (k .levels + (n - k .levels))
   unfolding do-act draw-act added
-  counts-drawn true none = split-parts ∙ rw (parts-add 0 0 (split 32 s) (counts 0 0 0)) (sums _ _ _ _ (k .levels + (n - k .levels)) (omega arith) (omega arith))
+  counts-drawn true none = split-parts ∙ rw (parts-add v 0 0 (split v s) (counts 0 0 0)) (sums _ _ _ _ (k .levels + (n - k .levels)) (omega arith) (omega arith))
   counts-drawn true (some x) = one-command (some x)
   counts-drawn false none = one-command none
   counts-drawn false (some x) = one-command (some x)
 
 -- what a stretch adds, by cases
-module _ (s : Span) where
-  pub added-alpha : (e : Bool) (a : ℕ) → added e s (some a) ≡ counts 1 0 0
+module _ (v : ℕ) (s : Span) where
+  pub added-alpha : (e : Bool) (a : ℕ) → added v e s (some a) ≡ counts 1 0 0
   unfolding do-act draw-act added
   added-alpha true a = refl
   added-alpha false a = refl
 
-  pub added-plain : added false s none ≡ counts 1 0 0
+  pub added-plain : added v false s none ≡ counts 1 0 0
   unfolding do-act draw-act added
   added-plain = refl
 
-  pub added-one : lowered 32 (s .end) ≤ raised 32 (s .first) → added true s none ≡ counts 1 0 0
+  pub added-one : lowered v (s .end) ≤ raised v (s .first) → added v true s none ≡ counts 1 0 0
   unfolding do-act draw-act added split
   added-one h = rw (le-leb _ _ h)
 
   sides : (c d : Bool) (a b x y : ℕ)
-      → foldl (put-part Counts count-ops 32 0 0) (counts 0 0 0) (keep c (regular (span (s .first) a)) (buckets (span x y) ∷ keep d (regular (span b (s .end))) []))
+      → foldl (put-part Counts count-ops v 0 0) (counts 0 0 0) (keep c (regular (span (s .first) a)) (buckets (span x y) ∷ keep d (regular (span b (s .end))) []))
       ≡ counts (cond c 1 0 + cond d 1 0) 1 0
   sides true true a b x y = refl
   sides true false a b x y = refl
   sides false true a b x y = refl
   sides false false a b x y = refl
 
-  pub added-more : raised 32 (s .first) < lowered 32 (s .end)
-      → added true s none ≡ counts (edge-count (s .first) (raised 32 (s .first)) + edge-count (lowered 32 (s .end)) (s .end)) 1 0
+  pub added-more : raised v (s .first) < lowered v (s .end)
+      → added v true s none ≡ counts (edge-count (s .first) (raised v (s .first)) + edge-count (lowered v (s .end)) (s .end)) 1 0
   unfolding do-act draw-act added split
   added-more h =
-      let a = raised 32 (s .first) in
-      let b = lowered 32 (s .end) in
-      rw (lt-leb (lowered 32 (s .end)) (raised 32 (s .first)) h) (sides (ltb (s .first) a) (ltb b (s .end)) a b (a / 32) (b / 32))
+      let a = raised v (s .first) in
+      let b = lowered v (s .end) in
+      rw (lt-leb (lowered v (s .end)) (raised v (s .first)) h) (sides (ltb (s .first) a) (ltb b (s .end)) a b (a / v) (b / v))
+
+  -- .. by the span's whole buckets, from a to b
+  module _ (a b : ℕ) (e₁ : a ≡ (s .first + (v - 1)) / v) (e₂ : b ≡ s .end / v) where
+    pub found-one : b ≤ a → added v true s none ≡ counts 1 0 0
+    found-one h = added-one (rw (← e₁, ← e₂) (mul-le-mul-right v h))
+
+    pub found-more : 0 < v → a < b → added v true s none ≡ counts (edge-count (s .first) (a * v) + edge-count (b * v) (s .end)) 1 0
+    found-more pos h = rw (e₁, e₂) (added-more (rw (← e₁, ← e₂) (mul-lt-mul-of-pos-right h pos)))
 
 pub edge-small : (a b : ℕ) → edge-count a b ≤ 1
 edge-small a b = go (ltb a b)
@@ -114,25 +124,25 @@ edge-small a b = go (ltb a b)
     go false = omega arith
 
 -- .. which is little
-few-added : (e : Bool) (s : Span) (a : Option ℕ) → (added e s a .renders ≤ 2) × (added e s a .depths ≤ 1)
-few-added e s (some a) = rw (added-alpha s e a) (omega arith, omega arith)
-few-added false s none = rw (added-plain s) (omega arith, omega arith)
-few-added true s none = go (leb (lowered 32 (s .end)) (raised 32 (s .first))) refl
+few-added : (v : ℕ) (e : Bool) (s : Span) (a : Option ℕ) → (added v e s a .renders ≤ 2) × (added v e s a .depths ≤ 1)
+few-added v e s (some a) = rw (added-alpha v s e a) (omega arith, omega arith)
+few-added v false s none = rw (added-plain v s) (omega arith, omega arith)
+few-added v true s none = go (leb (lowered v (s .end)) (raised v (s .first))) refl
   where
-    go : (t : Bool) → leb (lowered 32 (s .end)) (raised 32 (s .first)) ≡ t → (added true s none .renders ≤ 2) × (added true s none .depths ≤ 1)
-    go true h = rw (added-one s (leb-true _ _ h)) (omega arith, omega arith)
-    go false h = rw (added-more s (leb-false _ _ h)) (omega (arith, edge-small (s .first) (raised 32 (s .first)), edge-small (lowered 32 (s .end)) (s .end)), omega arith)
+    go : (t : Bool) → leb (lowered v (s .end)) (raised v (s .first)) ≡ t → (added v true s none .renders ≤ 2) × (added v true s none .depths ≤ 1)
+    go true h = rw (added-one v s (leb-true _ _ h)) (omega arith, omega arith)
+    go false h = rw (added-more v s (leb-false _ _ h)) (omega (arith, edge-small (s .first) (raised v (s .first)), edge-small (lowered v (s .end)) (s .end)), omega arith)
 
-pub few-commands : (e : Bool) (s : Span) (a : Option ℕ) → added e s a .renders ≤ 2
-few-commands e s a = few-added e s a .0
+pub few-commands : (v : ℕ) (e : Bool) (s : Span) (a : Option ℕ) → added v e s a .renders ≤ 2
+few-commands v e s a = few-added v e s a .0
 
-pub few-depths : (e : Bool) (s : Span) (a : Option ℕ) → added e s a .depths ≤ 1
-few-depths e s a = few-added e s a .1
+pub few-depths : (v : ℕ) (e : Bool) (s : Span) (a : Option ℕ) → added v e s a .depths ≤ 1
+few-depths v e s a = few-added v e s a .1
 
-pub few-more : (e : Bool) (s : Span) (a : Option ℕ) {x y : ℕ} → counts x y 0 ≡ added e s a → (x ≤ 1024) × (y ≤ 1024)
-few-more e s a q = (
-  omega (arith, ap (λ (k : Counts). k .renders) q, few-commands e s a),
-  omega (arith, ap (λ (k : Counts). k .depths) q, few-depths e s a),
+pub few-more : (v : ℕ) (e : Bool) (s : Span) (a : Option ℕ) {x y : ℕ} → counts x y 0 ≡ added v e s a → (x ≤ 1024) × (y ≤ 1024)
+few-more v e s a q = (
+  omega (arith, ap (λ (k : Counts). k .renders) q, few-commands v e s a),
+  omega (arith, ap (λ (k : Counts). k .depths) q, few-depths v e s a),
 )
 
 -- the counts at hand are small before segment i
@@ -157,16 +167,16 @@ module _ (j : Job) (s : List ℕ) (t : Tally) where
   module _ (k : Cut) (c : Counts) (e : c ≡ known t s (k .row)) (h : c .levels ≤ j .layers) where
     pub turned : record {
       row = k .row;
-      renders = c .renders + (j .layers - c .levels) + added (j .eligible) (k .stretch .tiles) (k .stretch .alpha) .renders;
-      depths = c .depths + added (j .eligible) (k .stretch .tiles) (k .stretch .alpha) .depths;
+      renders = c .renders + (j .layers - c .levels) + job-adds j (k .stretch .tiles) (k .stretch .alpha) .renders;
+      depths = c .depths + job-adds j (k .stretch .tiles) (k .stretch .alpha) .depths;
       levels = j .layers;
-      full = t .full || ltb (j .c) (c .renders + (j .layers - c .levels) + added (j .eligible) (k .stretch .tiles) (k .stretch .alpha) .renders);
-      deep = t .deep || ltb (j .d) (c .depths + added (j .eligible) (k .stretch .tiles) (k .stretch .alpha) .depths);
+      full = t .full || ltb (j .c) (c .renders + (j .layers - c .levels) + job-adds j (k .stretch .tiles) (k .stretch .alpha) .renders);
+      deep = t .deep || ltb (j .d) (c .depths + job-adds j (k .stretch .tiles) (k .stretch .alpha) .depths);
     } ≡ tallied j s t k
     unfolding tallied
     turned =
         let l : c .levels + (j .layers - c .levels) ≡ j .layers = omega arith in
-        rw (← e, counts-drawn (j .layers) (j .attr) (j .id) (k .stretch .tiles) c (j .eligible) (k .stretch .alpha), l)
+        rw (← e, counts-drawn (wide (j .width)) (j .layers) (j .attr) (j .id) (k .stretch .tiles) c (j .eligible) (k .stretch .alpha), l)
 
   -- the counts at hand stay small
   fits-turned : (k : Cut) (i : ℕ) → Fits j i t → j .c ≤ 1024 → j .d ≤ 1024 → j .layers ≤ 16 → good-row (j .c) (j .d) (j .layers) s ≡ true → Fits j (i + 1) (tallied j s t k)
@@ -175,8 +185,8 @@ module _ (j : Job) (s : List ℕ) (t : Tally) where
       rw (← turned k (known t s (k .row)) refl (o .0))
       (record {
         levels = omega arith;
-        renders = omega (arith, o .1, few-commands (j .eligible) (k .stretch .tiles) (k .stretch .alpha));
-        depths = omega (arith, o .2, few-depths (j .eligible) (k .stretch .tiles) (k .stretch .alpha));
+        renders = omega (arith, o .1, few-commands (wide (j .width)) (j .eligible) (k .stretch .tiles) (k .stretch .alpha));
+        depths = omega (arith, o .2, few-depths (wide (j .width)) (j .eligible) (k .stretch .tiles) (k .stretch .alpha));
       })
 
 -- one cut segment, and then more

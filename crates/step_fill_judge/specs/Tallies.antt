@@ -6,13 +6,14 @@ use mathlib.Core.List.{List, [], _∷_}
 use mathlib.Core.Option.{Option, none, some}
 use lib.Dec.{ltb, eqb}
 use lib.ListN.{getD, length}
-use Rattle.sizes.specs.Sizes.{bucket-tiles, tile-end, most-layers, most-room, most-rows, row-size, renders-at, depths-at, levels-at}
+use Rattle.sizes.specs.Sizes.{tile-end, most-layers, most-room, most-rows, row-size, renders-at, depths-at, levels-at}
 use Rattle.rules.specs.Lists.{join}
 use Rattle.rules.specs.Answers.{Done, BadRecord, BadOrder, FullRow, FullDepth}
 use Rattle.rules.specs.Spans.{Span}
 use Rattle.rules.specs.Segments.{Cut, cut-in}
 use Rattle.rules.specs.Plans.{draw-act}
 use Rattle.rules.specs.Steps.{do-act}
+use Rattle.span.specs.Widths.{wide}
 use Rattle.row_counts.specs.Counts as count
 use Rattle.row_counts.specs.Counts.{counts, count-ops}
 use Rattle.row_judge.specs.Building.{good-row}
@@ -34,9 +35,9 @@ pub record Tally : Type 0 where
 abbrev pub edge-count : ℕ → ℕ → ℕ
 edge-count a b = cond (ltb a b) 1 0
 
--- what a stretch adds to the counts of a row that has its layers (rules 6 and 7)
-unfoldable pub added : Bool → Span → Option ℕ → count.Counts
-added e s a = do-act count.Counts count-ops bucket-tiles 0 (draw-act e 0 0 s a) (counts 0 0 0)
+-- what a stretch adds to the counts of a row that has its layers (rules 6 and 7), at v tiles a bucket
+unfoldable pub added : ℕ → Bool → Span → Option ℕ → count.Counts
+added v e s a = do-act count.Counts count-ops v 0 (draw-act e 0 0 s a) (counts 0 0 0)
 
 -- the counts that a row's record holds
 abbrev pub stored : List ℕ → count.Counts
@@ -48,7 +49,7 @@ known t s r = cond (eqb (t .row) r) (counts (t .renders) (t .depths) (t .levels)
 
 -- a cut segment's act, on counts
 abbrev pub drawn-counts : Job → Cut → count.Counts → count.Counts
-drawn-counts j k c = do-act count.Counts count-ops bucket-tiles (j .layers) (draw-act (j .eligible) (j .attr) (j .id) (k .stretch .tiles) (k .stretch .alpha)) c
+drawn-counts j k c = do-act count.Counts count-ops (wide (j .width)) (j .layers) (draw-act (j .eligible) (j .attr) (j .id) (k .stretch .tiles) (k .stretch .alpha)) c
 
 abbrev pub tally-of : Job → Tally → ℕ → count.Counts → Tally
 tally-of j t r c =
@@ -107,9 +108,13 @@ marked-by h follows = cond follows h (record { row = h .row; renders = h .render
 abbrev pub limits-of : Job → Limits
 limits-of j = limits (j .c) (j .d) (j .layers) 0
 
+-- what it adds in a job
+abbrev pub job-adds : Job → Span → Option ℕ → count.Counts
+job-adds j s a = added (wide (j .width)) (j .eligible) s a
+
 -- one more stretch on the row at hand
 unfoldable pub stretched : Job → Hand → Span → Option ℕ → Hand
-stretched j h s a = added-to (limits-of j) h (added (j .eligible) s a .renders) (added (j .eligible) s a .depths)
+stretched j h s a = added-to (limits-of j) h (job-adds j s a .renders) (job-adds j s a .depths)
 
 -- one more cut segment: on the row at hand, or on its own, whose record is judged
 unfoldable pub counted-cut : Job → List ℕ → Hand → Cut → Hand

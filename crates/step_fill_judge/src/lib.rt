@@ -10,12 +10,11 @@ use segments::Placed;
 use segments::Segment;
 use segments::place;
 use segments::segment_at;
-use sizes::BUCKET;
-use sizes::BUCKET_ROUND;
 use sizes::answers::BAD_ORDER;
 use sizes::answers::BAD_RECORD;
 use span::Alpha;
 use span::Stretch;
+use span::Width;
 use step_fill_rows::Job;
 ghost use mathlib.Core.Path.{_≡_};
 ghost use mathlib.Core.Bool.{true, false};
@@ -24,6 +23,7 @@ ghost use lib.ListN.{length};
 ghost use Rattle.sizes.specs.Sizes.{tile-end};
 ghost use Rattle.rules.specs.Segments.{cut-in, good-segment, judge-segments};
 ghost use Rattle.span.specs.Spans.{tiles, alpha};
+ghost use Rattle.span.specs.Widths.{wide};
 ghost use Rattle.row_counts.specs.Counts.{counts};
 ghost use Rattle.segments.specs.Segs.{segs, segment-of, origin, bounds};
 ghost use Rattle.row_screen.specs.Arena.{count-rows};
@@ -37,9 +37,9 @@ fn edge(first: u32, end: u32) -> usize
 }
 
 // What a stretch becomes, on a row that has its layers.
-fn added_by(eligible: bool, stretch: Stretch) -> Counts
+fn added_by(eligible: bool, stretch: Stretch, width: Width) -> Counts
     requires { ⌜ (stretch .tiles .first ≤ tile-end) × (stretch .tiles .«end» ≤ tile-end) ⌝ }
-    ensures { λ r. ⌜ counts (r .renders) (r .depths) 0 ≡ added eligible (tiles (stretch .tiles)) (alpha (stretch .alpha)) ⌝ }
+    ensures { λ r. ⌜ counts (r .renders) (r .depths) 0 ≡ added (wide width) eligible (tiles (stretch .tiles)) (alpha (stretch .alpha)) ⌝ }
 {
     let alpha = stretch.alpha;
     let tiles = stretch.tiles;
@@ -50,16 +50,17 @@ fn added_by(eligible: bool, stretch: Stretch) -> Counts
         },
         Alpha::Solid => {
             if eligible {
-                let a = (tiles.first + BUCKET_ROUND) / BUCKET * BUCKET;
-                let b = tiles.end / BUCKET * BUCKET;
-                if b <= a {
+                let low = width.above(tiles.first);
+                let high = width.below(tiles.end);
+                if high <= low {
                     return Counts {
                         renders: 1,
                         depths: 0,
                     };
                 }
                 return Counts {
-                    renders: edge(tiles.first, a) + edge(b, tiles.end),
+                    renders: edge(tiles.first, width.times(low))
+                        + edge(width.times(high), tiles.end),
                     depths: 1,
                 };
             }
@@ -109,7 +110,8 @@ fn judge_segment(rows: &[u32], job: Job, hand: Hand, segment: Segment) -> Hand
         Placed::Nothing => hand,
         Placed::On(r, stretch) => {
             let limits = limits_of(job);
-            let more = added_by(job.eligible, stretch);
+            let width = job.width;
+            let more = added_by(job.eligible, stretch, width);
             if hand.row == r {
                 return add(limits, hand, more);
             }

@@ -10,6 +10,7 @@ use sizes::LEVELS;
 use span::Alpha;
 use span::Stretch;
 use span::TileSpan;
+use span::Width;
 ghost use mathlib.Core.Path.{_≡_};
 ghost use mathlib.Core.Bool.{true};
 ghost use Prim.Native.Nat.{_+_, _*_, _-_, _≤_, _<_};
@@ -18,6 +19,7 @@ ghost use Rattle.sizes.specs.Sizes.{most-layers};
 ghost use Rattle.rules.specs.Lists.{change};
 ghost use Rattle.rules.specs.Segments.{good-segment};
 ghost use Rattle.span.specs.Spans.{tiles, alpha};
+ghost use Rattle.span.specs.Widths.{wide};
 ghost use Rattle.row.specs.Words.{words, Room};
 ghost use Rattle.row.specs.Cmds.{Short};
 ghost use Rattle.row_acts.specs.Acts.{alpha-of, drawn};
@@ -26,7 +28,7 @@ ghost use Rattle.segments.specs.Segs.{seg-at};
 ghost use Rattle.step_fill_rows.specs.Filling.{draws, one-put, puts, done, unsplit, Roomy, Fits, FillReady};
 
 // What stays the same over all the segments of a fill: the scene, room for commands and depth fills in a row, open layers, whether
-// solid segments are eligible, attribute and id.
+// solid segments are eligible, attribute and id, and the width of a depth bucket.
 pub struct Job {
     pub scene: Scene,
     pub c: u32,
@@ -35,6 +37,7 @@ pub struct Job {
     pub eligible: bool,
     pub attr: u32,
     pub id: u32,
+    pub width: Width,
 }
 
 // One command comes of it.
@@ -58,9 +61,10 @@ fn push_row(
     alpha: Alpha,
     attrs_idx: u32,
     draw_id: u32,
+    width: Width,
 )
-    requires { ⌜ Short (tiles span) × (n ≤ most-layers) × Room (words (now state) (now render) (now fills)) (drawn n eligible (tiles span) (alpha-of alpha) «attrs_idx» «draw_id» (words (now state) (now render) (now fills))) ⌝ }
-    ensures { λ _. ⌜ words (now (state .exit)) (now (render .exit)) (now (fills .exit)) ≡ drawn n eligible (tiles span) (alpha-of alpha) «attrs_idx» «draw_id» (words (now (state .entry)) (now (render .entry)) (now (fills .entry))) ⌝ }
+    requires { ⌜ Short (tiles span) × (n ≤ most-layers) × Room (words (now state) (now render) (now fills)) (drawn (wide width) n eligible (tiles span) (alpha-of alpha) «attrs_idx» «draw_id» (words (now state) (now render) (now fills))) ⌝ }
+    ensures { λ _. ⌜ words (now (state .exit)) (now (render .exit)) (now (fills .exit)) ≡ drawn (wide width) n eligible (tiles span) (alpha-of alpha) «attrs_idx» «draw_id» (words (now (state .entry)) (now (render .entry)) (now (fills .entry))) ⌝ }
 {
     let levels = state[LEVELS];
     if levels == n {
@@ -79,6 +83,7 @@ fn push_row(
         alpha,
         attrs_idx,
         draw_id,
+        width,
     );
 }
 
@@ -105,6 +110,7 @@ fn fill_row(
     let z1 = p.z1;
     let tiles = stretch.tiles;
     let alpha = stretch.alpha;
+    let width = job.width;
     push_row(
         &mut rows[x0..x1],
         &mut render[y0..y1],
@@ -115,6 +121,7 @@ fn fill_row(
         alpha,
         job.attr,
         job.id,
+        width,
     );
 }
 

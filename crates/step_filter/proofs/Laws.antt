@@ -329,7 +329,7 @@ pub record Free (g : FilterGiven) (s : Screen) (w : Words) : Type 0 where
   pub id : s .«next_draw_id» < 1048577
   pub attr : s .«paint_attrs» < 1024
   pub paint : s .«filter_paints» < 256
-  pub on : OnRows s (s .layers) (acted (s .layers) (own-act g s)) (own-box g s .y0 / 4) ((own-box g s .y1 + 3) / 4) w
+  pub on : OnRows s (s .layers) (acted 32 (s .layers) (own-act g s)) (own-box g s .y0 / 4) ((own-box g s .y1 + 3) / 4) w
 
 module _ (g : FilterGiven) (s : Screen) (w : Words) (ps : List ℕ) (fs : List ℤ) (q : filter-number g (lent s w ps fs) ≡ 0) where
   not-zero : {n : ℕ} → suc n ≡ filter-number g (lent s w ps fs) → ⊥
@@ -424,7 +424,7 @@ module _ (g : FilterGiven) (s : Screen) (w : Words) (ps : List ℕ) (fs : List �
     drawn-screen = same-layers s ok-screen drawn same-open ∙ rw (drawn-next s ok-screen g, drawn-paints s ok-screen g, drawn-layers s ok-screen g, drawn-filters s ok-screen g)
 
     drawn-rows : done Words word-ops 32 drawn (screen-at (state-of s) w) .rows
-        ≡ each (acted (s .layers) (own-act g s)) (range (own-box g s .y0 / 4) ((own-box g s .y1 + 3) / 4)) (rows-at (frame-of s) w)
+        ≡ each (acted 32 (s .layers) (own-act g s)) (range (own-box g s .y0 / 4) ((own-box g s .y1 + 3) / 4)) (rows-at (frame-of s) w)
     unfolding done
     drawn-rows =
         rw (drawn-open s ok-screen g, drawn-puts s ok-screen g, frame-is s)
@@ -442,7 +442,7 @@ module _ (g : FilterGiven) (s : Screen) (w : Words) (ps : List ℕ) (fs : List �
 
     pub after-drawn : (x : Screen) (ws : Words) (t : Span) (b : Rect) → box-of b ≡ own-box g s → t ≡ span-of (box-of b)
         → x ≡ counted s (s .«next_draw_id» + 1) (s .«paint_attrs» + 1) (s .«layer_attrs») (s .«filter_paints» + 1)
-        → ws ≡ lay (each (acted (s .layers) (paint t none (s .«paint_attrs»))) (range (b .y0 / 4) ((b .y1 + 3) / 4)) (rows-at (frame-of s) w))
+        → ws ≡ lay (each (acted 32 (s .layers) (paint t none (s .«paint_attrs»))) (range (b .y0 / 4) ((b .y1 + 3) / 4)) (rows-at (frame-of s) w))
         → lent x ws (put-paint ps (s .«paint_attrs») (attrs-of s (g .count))) (put-filter fs (s .«filter_paints») (paint-from (g .placement .dest) (g .placement .«source_x») (g .placement .«source_y») (Option·getD (g .pixmap) 0))) ≡ after g (lent s w ps fs)
     unfolding after
     after-drawn x ws t b e f h i =
@@ -466,7 +466,7 @@ told-by g s b t e h = sym (ap (λ (x : Box). draws-nothing (filter-of g) x) e) �
 -- what painting its rows asks
 pub paint-asked : (g : FilterGiven) (s : Screen) (w : Words) (ps : List ℕ) (fs : List ℤ) (q : filter-number g (lent s w ps fs) ≡ 0) (d : draws-nothing (filter-of g) (own-box g s) ≡ false)
     (b : Rect) (t : Span) → box-of b ≡ own-box g s → t ≡ span-of (box-of b)
-    → Short t × OnRows s (s .layers) (acted (s .layers) (paint t none (s .«paint_attrs»))) (b .y0 / 4) ((b .y1 + 3) / 4) w
+    → Short t × OnRows s (s .layers) (acted 32 (s .layers) (paint t none (s .«paint_attrs»))) (b .y0 / 4) ((b .y1 + 3) / 4) w
 paint-asked g s w ps fs q d b t e f =
     let z = ready g s w ps fs q .zero in
     rw (f ∙ ap span-of e, top-is g s w z b e, bottom-is g s w z b e) (short g s w ps fs q d, free g s w ps fs q d .on)

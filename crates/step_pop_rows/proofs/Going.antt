@@ -52,10 +52,10 @@ module _ {t : Act} {P : Words → Type 0} {m n a b : ℕ} {start : List Words} {
 
     -- a row that is not r stays as it was
     kept : {xs : List ℕ} → All (λ (x : ℕ). P (row-of now x)) xs → All (λ (x : ℕ). ((r + 1 ≤ x) × (x < b)) × (word 5 (row-of now x) ≡ n)) xs
-        → All (λ (x : ℕ). P (row-of (change (acted m t) r now) x)) xs
+        → All (λ (x : ℕ). P (row-of (change (acted 32 m t) r now) x)) xs
     kept nil q = nil
     kept (cons {x} p ps) (cons q qs) =
-        let k : P (row-of (change (acted m t) r now) x) = rw (change-else (acted m t) r x now nowhere (λ (z : r ≡ x). omega (arith, q .0 .0))) p in
+        let k : P (row-of (change (acted 32 m t) r now) x) = rw (change-else (acted 32 m t) r x now nowhere (λ (z : r ≡ x). omega (arith, q .0 .0))) p in
         cons k (kept ps qs)
 
     pub going-on : {u : List Words} → u ≡ done-puts m (map (on t) (touched-in n now (r ∷ []))) now → Going t P m n a b start (r + 1) u
@@ -68,7 +68,7 @@ module _ {t : Act} {P : Words → Type 0} {m n a b : ℕ} {start : List Words} {
             → Going t P m n a b start (r + 1) u
         go false p q i = rw i (record { ready = p; rest = q })
         go true p q i =
-            let same : touched-in n (change (acted m t) r now) (range (r + 1) b) ≡ touched-in n now (range (r + 1) b) = touched-later n now (acted m t) r (b - (r + 1)) (r + 1) (omega arith) in
+            let same : touched-in n (change (acted 32 m t) r now) (range (r + 1) b) ≡ touched-in n now (range (r + 1) b) = touched-later n now (acted 32 m t) r (b - (r + 1)) (r + 1) (omega arith) in
             rw i
             (record {
               ready = rw same (kept (tail p) (all-touched n now later));

@@ -74,11 +74,11 @@ module _ (m : ℕ) (h : m ≤ 16) where
   unfolding do-puts
   done-sound [] rs x l k = record { grown = grown-refl (row-of rs x); levels = k }
   done-sound (p ∷ ps) rs x l k =
-      let f : Words → Words = acted m (p .act) in
+      let f : Words → Words = acted 32 m (p .act) in
       let s : Sound (row-of rs x) (row-of (change f (p .row) rs) x) =
       change-at (λ (u : Words). Sound (row-of rs x) u) f (p .row) x rs nowhere
       (record { grown = grown-refl (row-of rs x); levels = k })
-      (acted-sound m (row-of rs x) l k h (p .act)) in
+      (acted-sound 32 m (row-of rs x) l k h (p .act)) in
       sound-trans s (done-sound ps (change f (p .row) rs) x (s .grown .state ∙ l) (s .levels))
 
   -- room for all puts is room for the first, and after them for the rest

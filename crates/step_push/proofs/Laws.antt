@@ -88,7 +88,7 @@ module _ (p : LayerProps) (s : Screen) (g : good-screen s ≡ true) where
   unfolding plan-push
   plan-fine h = rw h
 
-  plan-adds : length (plan-of p s .layers) ≤ 16 → Adding (s .layers) (acted (length (plan-of p s .layers)) touch)
+  plan-adds : length (plan-of p s .layers) ≤ 16 → Adding (s .layers) (acted 32 (length (plan-of p s .layers)) touch)
   plan-adds h = rw plan-deep (touch-adds (s .layers) (omega (arith, plan-deep)))
 
 -- the box lies on the screen, and so do the rows
@@ -227,7 +227,7 @@ pub record PushReady (p : LayerProps) (s : Screen) (w : Words) (ls : List ℕ) (
   pub layers : length ls ≡ 256
   pub opacities : length os ≡ 1040
   pub free : s .layers < 16
-  pub on : OnRows s (s .layers + 1) (acted (s .layers + 1) touch) (own-run p s .a) (own-run p s .b) w
+  pub on : OnRows s (s .layers + 1) (acted 32 (s .layers + 1) touch) (own-run p s .a) (own-run p s .b) w
 
 module _ (p : LayerProps) (s : Screen) (w : Words) (ls : List ℕ) (os : List Float) (q : push-number p (lent s w ls os) ≡ 0) where
   not-zero : {n : ℕ} → suc n ≡ push-number p (lent s w ls os) → ⊥
@@ -267,12 +267,12 @@ module _ (p : LayerProps) (s : Screen) (w : Words) (ls : List ℕ) (os : List Fl
   unfolding screen-after
   screen-is = rw (plan-deep p s ok-screen, plan-layers p s ok-screen, ← e, plan-next p s ok-screen, plan-counts .0, plan-counts .1, plan-counts .2)
 
-  rows-are : done Words word-ops 32 (plan-of p s) (screen-at (state-of s) w) .rows ≡ each (acted (s .layers + 1) touch) (range (own-run p s .a) (own-run p s .b)) (rows-at (frame-of s) w)
+  rows-are : done Words word-ops 32 (plan-of p s) (screen-at (state-of s) w) .rows ≡ each (acted 32 (s .layers + 1) touch) (range (own-run p s .a) (own-run p s .b)) (rows-at (frame-of s) w)
   unfolding done
   rows-are = rw (plan-deep p s ok-screen, plan-puts p s ok-screen, frame-is s) (puts-each (s .layers + 1) touch (range (own-run p s .a) (own-run p s .b)) (rows-at (frame-of s) w))
 
   pub after-is : (x : Screen) (ws : Words) (r : Run) → x ≡ on-layer s b → r ≡ touch-run (p .blend .compose) (box-of b)
-      → ws ≡ lay (each (acted (s .layers + 1) touch) (range (r .a) (r .b)) (rows-at (frame-of s) w))
+      → ws ≡ lay (each (acted 32 (s .layers + 1) touch) (range (r .a) (r .b)) (rows-at (frame-of s) w))
       → lent x ws (words-at ls (16 * s .layers) (layer-words (layer-of p b) (p .nan))) (set os (s .layers) (p .opacity)) ≡ after p (lent s w ls os)
   unfolding after
   after-is x ws r f g h =

@@ -49,10 +49,10 @@ module _ (f : Words → Words) where
       by false e more = let q : r ≡ x → ⊥ = eqb-false r x e in more q ∙ ap f (change-else f r x ws nowhere q)
 
 -- the rules' puts of one act on a run of rows
-pub puts-each : (n : ℕ) (a : Act) (rs : List ℕ) (ws : List Words) → do-puts Words word-ops 32 n (map (on a) rs) ws ≡ each (acted n a) rs ws
+pub puts-each : (n : ℕ) (a : Act) (rs : List ℕ) (ws : List Words) → do-puts Words word-ops 32 n (map (on a) rs) ws ≡ each (acted 32 n a) rs ws
 unfolding do-puts each
 puts-each n a [] ws = refl
-puts-each n a (r ∷ rs) ws = puts-each n a rs (change (acted n a) r ws)
+puts-each n a (r ∷ rs) ws = puts-each n a rs (change (acted 32 n a) r ws)
 
 -- a loop over the rows a to b, at row r
 pub record Banding (s : Screen) (n : ℕ) (f : Words → Words) (a b : ℕ) (w₀ : Words) (r : ℕ) (w : Words) : Type 0 where
@@ -96,8 +96,8 @@ module _ {s : Screen} {n : ℕ} {f : Words → Words} {a b : ℕ} {w₀ : Words}
       }
 
 -- an act grows a row that has room for it
-pub act-grows : (n : ℕ) (a : Act) (w : Words) → n ≤ 16 → Room w (acted n a w) → Grown w (acted n a w)
-act-grows n a w m r = acted-sound n w (r .state) (r .levels) m a .grown
+pub act-grows : (n : ℕ) (a : Act) (w : Words) → n ≤ 16 → Room w (acted 32 n a w) → Grown w (acted 32 n a w)
+act-grows n a w m r = acted-sound 32 n w (r .state) (r .levels) m a .grown
 
 -- the words that come back from a call are as many
 pub long-after : (s : Screen) (w : Words) (x y z : List ℕ) → Long (sizes (s .c) (s .d)) (rows-of (box-of (s .viewport))) w
@@ -107,8 +107,8 @@ long-after s w x y z l p q r = record { state = p ∙ l .state; render = q ∙ l
 
 -- an act on one row, by its cases
 module _ (n : ℕ) (w : Words) where
-  pub touch-room : Room w (acted n touch w) → Room w (ensured n w)
-  touch-room r = rw (touch-is n w) at r
+  pub touch-room : Room w (acted 32 n touch w) → Room w (ensured n w)
+  touch-room r = rw (touch-is 32 n w) at r
 
-  pub paint-room : (t : Span) (i : ℕ) → Room w (acted n (paint t none i) w) → Room w (drawn n false t none i 0 w)
-  paint-room t i r = rw (paint-is n w t i 0) at r
+  pub paint-room : (t : Span) (i : ℕ) → Room w (acted 32 n (paint t none i) w) → Room w (drawn 32 n false t none i 0 w)
+  paint-room t i r = rw (paint-is 32 n w t i 0) at r

@@ -173,7 +173,7 @@ module _ (s : Screen) (w : Words) (o : Whole (frame-of s) w) (a : Act) (x b : �
   abbrev pub run-number : ℕ
   run-number = band-number (s .c) (s .d) (s .layers) (w .state) (range x b)
 
-  module _ (p : Plan) (fine : p .refused ≡ 0) (puts : p .puts ≡ map (on a) (range x b)) (ad : length (p .layers) ≤ 16 → Adding (s .layers) (acted (length (p .layers)) a)) where
+  module _ (p : Plan) (fine : p .refused ≡ 0) (puts : p .puts ≡ map (on a) (range x b)) (ad : length (p .layers) ≤ 16 → Adding (s .layers) (acted 32 (length (p .layers)) a)) where
     refused : good-run ≡ true → (deep : Bool) → ltb 16 (length (p .layers)) ≡ deep
         → refusal Words word-ops 32 p (done Words word-ops 32 p (screen-at (state-of s) w))
         ≡ cond (eqb (told true full-run) 4) 4
@@ -187,8 +187,8 @@ module _ (s : Screen) (w : Words) (o : Whole (frame-of s) w) (a : Act) (x b : �
           e,
           puts,
           puts-each (length (p .layers)) a (range x b) (rows-at (frame-of s) w),
-          full-is s w o x b m (s .layers) (acted (length (p .layers)) a) (ad few) g a,
-          deep-is s w o x b m (s .layers) (acted (length (p .layers)) a) (ad few) g a,
+          full-is s w o x b m (s .layers) (acted 32 (length (p .layers)) a) (ad few) g a,
+          deep-is s w o x b m (s .layers) (acted 32 (length (p .layers)) a) (ad few) g a,
         )
         (then-full full-run (ltb 1048577 (p .next)) (attrs-full (p .attrs)))
 
@@ -206,8 +206,8 @@ module _ (s : Screen) (w : Words) (o : Whole (frame-of s) w) (a : Act) (x b : �
         ∙ numbered good-run refl
 
   -- where the number is 0, each row has room
-  module _ (n : ℕ) (few : n ≤ 16) (layers : s .layers ≤ 16) (ad : Adding (s .layers) (acted n a)) where
-    room-of : (g f : Bool) → good-run ≡ g → full-run ≡ f → told g f ≡ 0 → OnRows s n (acted n a) x b w
+  module _ (n : ℕ) (few : n ≤ 16) (layers : s .layers ≤ 16) (ad : Adding (s .layers) (acted 32 n a)) where
+    room-of : (g f : Bool) → good-run ≡ g → full-run ≡ f → told g f ≡ 0 → OnRows s n (acted 32 n a) x b w
     room-of true true p q z = absurd (omega arith)
     room-of false f p q z = absurd (omega arith)
     room-of true false p q z =
@@ -218,22 +218,22 @@ module _ (s : Screen) (w : Words) (o : Whole (frame-of s) w) (a : Act) (x b : �
           room = λ i g k.
               let h : i < rows-of (box-of (s .viewport)) = omega arith in
               let e = row-is s w o i h in
-              let t : word 0 (acted n a (getD (rows-at (frame-of s) w) i nowhere)) ≡ getD (record-at (w .state) i) 0 0 + (s .layers + 1 - getD (record-at (w .state) i) 5 0) =
-              rw e at (row-adds s w o x b m (s .layers) (acted n a) ad p i g k .renders) in
-              let v : word 1 (acted n a (getD (rows-at (frame-of s) w) i nowhere)) ≡ getD (record-at (w .state) i) 1 0 = rw e at (row-adds s w o x b m (s .layers) (acted n a) ad p i g k .depths) in
-              let c = facts s w o x b m (s .layers) (acted n a) ad p i g k in
+              let t : word 0 (acted 32 n a (getD (rows-at (frame-of s) w) i nowhere)) ≡ getD (record-at (w .state) i) 0 0 + (s .layers + 1 - getD (record-at (w .state) i) 5 0) =
+              rw e at (row-adds s w o x b m (s .layers) (acted 32 n a) ad p i g k .renders) in
+              let v : word 1 (acted 32 n a (getD (rows-at (frame-of s) w) i nowhere)) ≡ getD (record-at (w .state) i) 1 0 = rw e at (row-adds s w o x b m (s .layers) (acted 32 n a) ad p i g k .depths) in
+              let c = facts s w o x b m (s .layers) (acted 32 n a) ad p i g k in
               let u = ltb-false (s .c) (getD (record-at (w .state) i) 0 0 + (s .layers + 1 - getD (record-at (w .state) i) 5 0)) (all-run x (b - x) (none-of (λ (r : ℕ). is-full (s .c) (s .layers) (record-at (w .state) r)) (range x b) q) i g (omega arith)) in
               record {
                 state = row-state s w o i h;
                 render = omega (arith, row-render s w o i h, o .c);
                 fills = omega (arith, row-fills s w o i h, o .d);
-                levels = omega (arith, row-levels s w o x b m (s .layers) (acted n a) ad p i g k);
+                levels = omega (arith, row-levels s w o x b m (s .layers) (acted 32 n a) ad p i g k);
                 commands = omega (arith, row-render s w o i h, t, u);
                 depths = omega (arith, row-fills s w o i h, v, c .depths);
               };
         }
 
-    pub band-room : run-number ≡ 0 → OnRows s n (acted n a) x b w
+    pub band-room : run-number ≡ 0 → OnRows s n (acted 32 n a) x b w
     unfolding band-number rows-told
     band-room z = room-of good-run full-run refl refl z
 
@@ -245,16 +245,16 @@ layers-count (suc j) w l h =
     let r = layers-count j (put-buf w) (buf-grown w l g .state ∙ l) (omega (arith, buf-levels w l g)) in
     (r .0 ∙ omega (arith, buf-renders w l g), r .1 ∙ buf-depths w l g)
 
-pub touch-adds : (n : ℕ) → n + 1 ≤ 16 → Adding n (acted (n + 1) touch)
+pub touch-adds : (n : ℕ) → n + 1 ≤ 16 → Adding n (acted 32 (n + 1) touch)
 touch-adds n h w l k =
     let r = layers-count (n + 1 - word 5 w) w l (omega arith) in
-    record { renders = ap (word 0) (touch-is (n + 1) w) ∙ r .0; depths = ap (word 1) (touch-is (n + 1) w) ∙ r .1 }
+    record { renders = ap (word 0) (touch-is 32 (n + 1) w) ∙ r .0; depths = ap (word 1) (touch-is 32 (n + 1) w) ∙ r .1 }
 
 -- a fill, with the layers that were open
-pub paint-adds : (n : ℕ) (t : Span) (i : ℕ) → n ≤ 16 → Adding n (acted n (paint t none i))
+pub paint-adds : (n : ℕ) (t : Span) (i : ℕ) → n ≤ 16 → Adding n (acted 32 n (paint t none i))
 paint-adds n t i h w l k =
     let r = layers-count (n - word 5 w) w l (omega arith) in
-    let e = paint-is n w t i 0 ∙ drawn-plain n t i 0 w in
+    let e = paint-is 32 n w t i 0 ∙ drawn-plain 32 n t i 0 w in
     let q = ensured-sound n w h l (omega arith) in
     record {
       renders = ap (word 0) e ∙ cmd-renders (ensured n w) (q .grown .state ∙ l) (paint-fill t none i) ∙ omega (arith, r .0);

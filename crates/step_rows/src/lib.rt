@@ -4,7 +4,7 @@ ghost use mathlib.Core.Bool.{false};
 ghost use mathlib.Core.Option.{none};
 ghost use Prim.Native.Nat.{_≤_, _*_};
 ghost use lib.ListN.{length};
-ghost use Rattle.sizes.specs.Sizes.{most-layers, most-room, most-rows, row-size};
+ghost use Rattle.sizes.specs.Sizes.{bucket-tiles, most-layers, most-room, most-rows, row-size};
 ghost use Rattle.rules.specs.Lists.{range, change};
 ghost use Rattle.rules.specs.Plans.{touch, paint};
 ghost use Rattle.span.specs.Spans.{tiles};
@@ -69,8 +69,8 @@ fn push_plain(
     span: TileSpan,
     attrs_idx: u32,
 )
-    requires { ⌜ Short (tiles span) × (n ≤ most-layers) × Room (words (now state) (now render) (now fills)) (drawn n false (tiles span) none «attrs_idx» 0 (words (now state) (now render) (now fills))) ⌝ }
-    ensures { λ _. ⌜ words (now (state .exit)) (now (render .exit)) (now (fills .exit)) ≡ drawn n false (tiles span) none «attrs_idx» 0 (words (now (state .entry)) (now (render .entry)) (now (fills .entry))) ⌝ }
+    requires { ⌜ Short (tiles span) × (n ≤ most-layers) × Room (words (now state) (now render) (now fills)) (drawn bucket-tiles n false (tiles span) none «attrs_idx» 0 (words (now state) (now render) (now fills))) ⌝ }
+    ensures { λ _. ⌜ words (now (state .exit)) (now (render .exit)) (now (fills .exit)) ≡ drawn bucket-tiles n false (tiles span) none «attrs_idx» 0 (words (now (state .entry)) (now (render .entry)) (now (fills .entry))) ⌝ }
 {
     ensure_row_layers(state, render, fills, n);
     push_paint(state, render, fills, span, Alpha::Solid, attrs_idx);
@@ -78,8 +78,8 @@ fn push_plain(
 
 // An act on one row's words.
 fn do_act(state: &mut [u32], render: &mut [u32], fills: &mut [u32], n: u32, act: Act)
-    requires { ⌜ ShortAct act × (n ≤ most-layers) × Room (words (now state) (now render) (now fills)) (acted n (act-of act) (words (now state) (now render) (now fills))) ⌝ }
-    ensures { λ _. ⌜ words (now (state .exit)) (now (render .exit)) (now (fills .exit)) ≡ acted n (act-of act) (words (now (state .entry)) (now (render .entry)) (now (fills .entry))) ⌝ }
+    requires { ⌜ ShortAct act × (n ≤ most-layers) × Room (words (now state) (now render) (now fills)) (acted bucket-tiles n (act-of act) (words (now state) (now render) (now fills))) ⌝ }
+    ensures { λ _. ⌜ words (now (state .exit)) (now (render .exit)) (now (fills .exit)) ≡ acted bucket-tiles n (act-of act) (words (now (state .entry)) (now (render .entry)) (now (fills .entry))) ⌝ }
 {
     match act {
         Act::Touch => {
@@ -101,8 +101,8 @@ fn on_row(
     n: u32,
     act: Act,
 )
-    requires { ⌜ ShortAct act × OnRow screen n (acted n (act-of act)) r (words (now rows) (now render) (now fills)) ⌝ }
-    ensures { λ _. ⌜ rows-at (frame-of screen) (words (now (rows .exit)) (now (render .exit)) (now (fills .exit))) ≡ change (acted n (act-of act)) r (rows-at (frame-of screen) (words (now (rows .entry)) (now (render .entry)) (now (fills .entry)))) ⌝ }
+    requires { ⌜ ShortAct act × OnRow screen n (acted bucket-tiles n (act-of act)) r (words (now rows) (now render) (now fills)) ⌝ }
+    ensures { λ _. ⌜ rows-at (frame-of screen) (words (now (rows .exit)) (now (render .exit)) (now (fills .exit))) ≡ change (acted bucket-tiles n (act-of act)) r (rows-at (frame-of screen) (words (now (rows .entry)) (now (render .entry)) (now (fills .entry)))) ⌝ }
 {
     let p = place_of(screen.c, screen.d, r);
     let x0 = p.x0;
@@ -131,8 +131,8 @@ fn on_rows(
     n: u32,
     act: Act,
 )
-    requires { ⌜ ShortAct act × OnRows screen n (acted n (act-of act)) a b (words (now rows) (now render) (now fills)) ⌝ }
-    ensures { λ _. ⌜ words (now (rows .exit)) (now (render .exit)) (now (fills .exit)) ≡ lay (each (acted n (act-of act)) (range a b) (rows-at (frame-of screen) (words (now (rows .entry)) (now (render .entry)) (now (fills .entry))))) ⌝ }
+    requires { ⌜ ShortAct act × OnRows screen n (acted bucket-tiles n (act-of act)) a b (words (now rows) (now render) (now fills)) ⌝ }
+    ensures { λ _. ⌜ words (now (rows .exit)) (now (render .exit)) (now (fills .exit)) ≡ lay (each (acted bucket-tiles n (act-of act)) (range a b) (rows-at (frame-of screen) (words (now (rows .entry)) (now (render .entry)) (now (fills .entry))))) ⌝ }
 {
     let mut r = a;
     while r < b {
@@ -151,8 +151,8 @@ pub fn touch_rows(
     b: usize,
     n: u32,
 )
-    requires { ⌜ OnRows screen n (acted n touch) a b (words (now rows) (now render) (now fills)) ⌝ }
-    ensures { λ _. ⌜ words (now (rows .exit)) (now (render .exit)) (now (fills .exit)) ≡ lay (each (acted n touch) (range a b) (rows-at (frame-of screen) (words (now (rows .entry)) (now (render .entry)) (now (fills .entry))))) ⌝ }
+    requires { ⌜ OnRows screen n (acted bucket-tiles n touch) a b (words (now rows) (now render) (now fills)) ⌝ }
+    ensures { λ _. ⌜ words (now (rows .exit)) (now (render .exit)) (now (fills .exit)) ≡ lay (each (acted bucket-tiles n touch) (range a b) (rows-at (frame-of screen) (words (now (rows .entry)) (now (render .entry)) (now (fills .entry))))) ⌝ }
 {
     on_rows(screen, rows, render, fills, a, b, n, Act::Touch);
 }
@@ -169,8 +169,8 @@ pub fn paint_rows(
     span: TileSpan,
     attrs_idx: u32,
 )
-    requires { ⌜ Short (tiles span) × OnRows screen n (acted n (paint (tiles span) none «attrs_idx»)) a b (words (now rows) (now render) (now fills)) ⌝ }
-    ensures { λ _. ⌜ words (now (rows .exit)) (now (render .exit)) (now (fills .exit)) ≡ lay (each (acted n (paint (tiles span) none «attrs_idx»)) (range a b) (rows-at (frame-of screen) (words (now (rows .entry)) (now (render .entry)) (now (fills .entry))))) ⌝ }
+    requires { ⌜ Short (tiles span) × OnRows screen n (acted bucket-tiles n (paint (tiles span) none «attrs_idx»)) a b (words (now rows) (now render) (now fills)) ⌝ }
+    ensures { λ _. ⌜ words (now (rows .exit)) (now (render .exit)) (now (fills .exit)) ≡ lay (each (acted bucket-tiles n (paint (tiles span) none «attrs_idx»)) (range a b) (rows-at (frame-of screen) (words (now (rows .entry)) (now (render .entry)) (now (fills .entry))))) ⌝ }
 {
     let act = Act::Paint { span, attrs_idx };
     on_rows(screen, rows, render, fills, a, b, n, act);

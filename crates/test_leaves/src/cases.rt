@@ -17,6 +17,7 @@ use depth::state::Skip;
 use sizes::answers::DONE;
 use span::BucketRange;
 use span::TileSpan;
+use span::Width;
 ghost use mathlib.Core.Path.{_≡_};
 ghost use Prim.Native.Nat.{_+_, _^_, _≤_, _<_};
 ghost use lib.ListN.{length};
@@ -75,7 +76,7 @@ fn replay_split(s: &[u8], at: usize) -> Seen
     requires { ⌜ at ≤ 2 ^ 61 ⌝ }
 {
     let words = 1 + 3 * (word(s, at + 2) as usize);
-    let list = split_words(split_opaque_span(tiles_at(s, at)));
+    let list = split_words(split_opaque_span(tiles_at(s, at), Width::W128));
     Seen {
         next: at + 2 + words,
         agrees: holds(s, at + 2, words, &list),
@@ -89,8 +90,8 @@ fn ask(s: &[u8], kind: u32, at: usize, row: &mut [u32], list: &mut [u32]) -> Run
     let id = word(s, at - 1);
     let tiles = tiles_at(s, at);
     match kind {
-        2 => unset_runs(row, tiles, list),
-        3 => visible_runs(row, tiles, id, list),
+        2 => unset_runs(row, tiles, list, Width::W128),
+        3 => visible_runs(row, tiles, id, list, Width::W128),
         _ => unset_runs_and_write(
             row,
             BucketRange {

@@ -9,10 +9,9 @@ use rect::Rect;
 use rect::Viewport;
 use screen::Screen;
 use screen::Setup;
-use sizes::BUCKET;
-use sizes::BUCKET_ROUND;
 use sizes::MOST_ROOM;
 use sizes::ROW;
+use span::Width;
 ghost use mathlib.Core.Path.{_≡_};
 ghost use Prim.Native.Nat.{_≤_};
 ghost use lib.ListN.{length};
@@ -81,7 +80,8 @@ fn lens_for(
     ensures { λ r. ⌜ (r .rows ≤ rows) × (r .render ≤ render) × (r .fills ≤ fills) × (r .depth ≤ depth) × (r .painting ≤ painting) ⌝ }
 {
     let count = wide(viewport.height() / 4);
-    let buckets = wide((viewport.width() / 4 + BUCKET_ROUND) / BUCKET);
+    let width = Width::W128;
+    let buckets = wide(width.above(viewport.width() / 4));
     let row_render = 4 * room(c);
     let row_fills = 2 * room(d);
     Lens {

@@ -18,8 +18,10 @@ use denote.Triple.Clauses.{AtExit}
 use Rattle.rules.specs.Split.{split-answer}
 use Rattle.rules.specs.Depth.{no-depth, included, can-skip-answer, visible-answer, unset-answer}
 use Rattle.span.specs.Spans.{tiles, buckets}
+use Rattle.span.specs.Widths.{wide}
 use Rattle.span.specs.declared.TileSpan.{TileSpan}
 use Rattle.span.specs.declared.BucketRange.{BucketRange}
+use Rattle.span.specs.declared.Width.{Width}
 use Rattle.depth.specs.declared.split.Split.{Split}
 use Rattle.depth.specs.declared.state.DepthState.{DepthState}
 use Rattle.depth.specs.declared.state.Skip.{Skip}
@@ -43,9 +45,9 @@ use Rattle.depth_forms.proofs.spans.visible_spans as spans-call
 use Rattle.depth_forms.proofs.listed.list_visible_spans as list-call
 
 -- `split_opaque_span`
-module _ (span : TileSpan) where
+module _ (span : TileSpan) (width : Width) where
   abbrev pub Splits : Split → Type 0
-  Splits r = split-of r ≡ split-answer 32 (tiles span)
+  Splits r = split-of r ≡ split-answer (wide width) (tiles span)
 
   pub one-split : (r q : Split) → Splits r → Splits q → r ≡ q
   one-split r q e f = split-once r q (e ∙ sym f)
@@ -74,17 +76,17 @@ module _ (state : DepthState) (span : TileSpan) (id : ℕ) where
   one-skip r q e f = skip-once r q (e ∙ sym f)
 
 -- `visible_runs`
-module _ (depth : List ℕ) (span : TileSpan) (id : ℕ) (list : List ℕ) where
+module _ (depth : List ℕ) (span : TileSpan) (id : ℕ) (list : List ℕ) (width : Width) where
   abbrev pub ListsVisible : Runs → List ℕ → Type 0
-  ListsVisible r l = out r l ≡ listing (visible-answer 32 depth id (tiles span) (length list / 2)) list
+  ListsVisible r l = out r l ≡ listing (visible-answer (wide width) depth id (tiles span) (length list / 2)) list
 
   pub one-visible : (r q : Runs) (l m : List ℕ) → ListsVisible r l → ListsVisible q m → (r ≡ q) × (l ≡ m)
   one-visible r q l m e f = out-once r q l m (e ∙ sym f)
 
 -- `unset_runs`
-module _ (depth : List ℕ) (span : TileSpan) (list : List ℕ) where
+module _ (depth : List ℕ) (span : TileSpan) (list : List ℕ) (width : Width) where
   abbrev pub ListsUnset : Runs → List ℕ → Type 0
-  ListsUnset r l = out r l ≡ listing (unset-answer 32 depth (tiles span) (length list / 2)) list
+  ListsUnset r l = out r l ≡ listing (unset-answer (wide width) depth (tiles span) (length list / 2)) list
 
   pub one-unset : (r q : Runs) (l m : List ℕ) → ListsUnset r l → ListsUnset q m → (r ≡ q) × (l ≡ m)
   one-unset r q l m e f = out-once r q l m (e ∙ sym f)
@@ -110,9 +112,9 @@ spans-once : (r q : Runs) (l m : List TileSpan) → spans.out r l ≡ spans.out 
 spans-once r q l m h = (ap (λ (x : spans.SpansOut). record { number = x .number; count = x .count }) h, ap (λ (x : spans.SpansOut). x .spans) h)
 
 -- `forms::visible_spans`
-module _ (depth : List ℕ) (span : TileSpan) (id : ℕ) where
+module _ (depth : List ℕ) (span : TileSpan) (id : ℕ) (width : Width) where
   abbrev pub ListsSpans : Visible → Type 0
-  ListsSpans r = spans.out (r .runs) (r .spans) ≡ spans.listing (visible-answer 32 depth id (tiles span) 16) (replicate 16 no-span)
+  ListsSpans r = spans.out (r .runs) (r .spans) ≡ spans.listing (visible-answer (wide width) depth id (tiles span) 16) (replicate 16 no-span)
 
   pub one-spans : (r q : Visible) → ListsSpans r → ListsSpans q → r ≡ q
   one-spans r q e f = let o = spans-once (r .runs) (q .runs) (r .spans) (q .spans) (e ∙ sym f) in rw (o .0, o .1)
@@ -129,7 +131,7 @@ module _ (depth : List ℕ) (span : TileSpan) (id : ℕ) (list : List TileSpan) 
 module _ {M : Type 1} (𝓤 : URA M) (H : Heap 𝓤) (A : Atoms 𝓤) (mem : Memory → SProp 𝓤) (run : Routine → Fun 𝓤) where
   split-source : (a : Args split-call.signature tt) (r : Split) (e : AtExit split-call.ended tt)
       → (split-call.clauses 𝓤 H A mem run tt a .requires tt ≡ emp 𝓤)
-      × (split-call.clauses 𝓤 H A mem run tt a .ensures tt r e ≡ fact 𝓤 (Splits (a .0) r))
+      × (split-call.clauses 𝓤 H A mem run tt a .ensures tt r e ≡ fact 𝓤 (Splits (a .0) (a .1 .0) r))
   split-source a r e = (refl, refl)
 
   fresh-source : (a : Args fresh-call.signature tt) (r : DepthState) (e : AtExit fresh-call.ended tt)
@@ -149,12 +151,12 @@ module _ {M : Type 1} (𝓤 : URA M) (H : Heap 𝓤) (A : Atoms 𝓤) (mem : Mem
 
   visible-source : (κs : Lfts (visible-call.signature .lifetimes)) (a : Args visible-call.signature κs) (r : Runs) (e : AtExit visible-call.ended κs)
       → (visible-call.clauses 𝓤 H A mem run κs a .requires tt ≡ emp 𝓤)
-      × (visible-call.clauses 𝓤 H A mem run κs a .ensures tt r e ≡ fact 𝓤 (ListsVisible (now (a .0)) (a .1 .0) (a .1 .1 .0) (now (a .1 .1 .1 .0)) r (now (e .1 .1 .1 .0))))
+      × (visible-call.clauses 𝓤 H A mem run κs a .ensures tt r e ≡ fact 𝓤 (ListsVisible (now (a .0)) (a .1 .0) (a .1 .1 .0) (now (a .1 .1 .1 .0)) (a .1 .1 .1 .1 .0) r (now (e .1 .1 .1 .0))))
   visible-source κs a r e = (refl, refl)
 
   unset-source : (κs : Lfts (unset-call.signature .lifetimes)) (a : Args unset-call.signature κs) (r : Runs) (e : AtExit unset-call.ended κs)
       → (unset-call.clauses 𝓤 H A mem run κs a .requires tt ≡ emp 𝓤)
-      × (unset-call.clauses 𝓤 H A mem run κs a .ensures tt r e ≡ fact 𝓤 (ListsUnset (now (a .0)) (a .1 .0) (now (a .1 .1 .0)) r (now (e .1 .1 .0))))
+      × (unset-call.clauses 𝓤 H A mem run κs a .ensures tt r e ≡ fact 𝓤 (ListsUnset (now (a .0)) (a .1 .0) (now (a .1 .1 .0)) (a .1 .1 .1 .0) r (now (e .1 .1 .0))))
   unset-source κs a r e = (refl, refl)
 
   write-source : (κs : Lfts (write-call.signature .lifetimes)) (a : Args write-call.signature κs) (r : Runs) (e : AtExit write-call.ended κs)
@@ -174,7 +176,7 @@ module _ {M : Type 1} (𝓤 : URA M) (H : Heap 𝓤) (A : Atoms 𝓤) (mem : Mem
 
   spans-source : (κs : Lfts (spans-call.signature .lifetimes)) (a : Args spans-call.signature κs) (r : Visible) (e : AtExit spans-call.ended κs)
       → (spans-call.clauses 𝓤 H A mem run κs a .requires tt ≡ emp 𝓤)
-      × (spans-call.clauses 𝓤 H A mem run κs a .ensures tt r e ≡ fact 𝓤 (ListsSpans (now (a .0)) (a .1 .0) (a .1 .1 .0) r))
+      × (spans-call.clauses 𝓤 H A mem run κs a .ensures tt r e ≡ fact 𝓤 (ListsSpans (now (a .0)) (a .1 .0) (a .1 .1 .0) (a .1 .1 .1 .0) r))
   spans-source κs a r e = (refl, refl)
 
   list-source : (κs : Lfts (list-call.signature .lifetimes)) (a : Args list-call.signature κs) (r : Runs) (e : AtExit list-call.ended κs)

@@ -29,7 +29,6 @@ use rect::Viewport;
 use screen::Built;
 use screen::Screen;
 use screen::Setup;
-use sizes::BUCKET;
 use sizes::LINE_TABLE;
 use sizes::MOST_LAYERS;
 use sizes::answers::BAD_FORM;
@@ -37,6 +36,7 @@ use sizes::answers::BAD_RUN;
 use sizes::answers::BAD_VIEWPORT;
 use sizes::answers::DONE;
 use sizes::wide;
+use span::Width;
 use tile_reason::Asked;
 use tile_reason::Reason;
 use tile_reason::reason_of;
@@ -79,11 +79,12 @@ pub fn tell_tile(
     let at = root.at;
     let first = wide(w[at]);
     let end = wide(w[at + 1]);
+    let width = Width::W128;
     let spot = Spot {
         viewport,
         row,
         tile,
-        width: BUCKET,
+        width: width.tiles(),
     };
     let within = Within {
         clip: viewport.whole(),

@@ -3,7 +3,6 @@ use lib.ListN.{length-set}
 use native.Mathlib.Omega.{arith}
 use mathlib.Core.Logic.{⊎-elim}
 use borrow.Author.Tests.{eq-eqb, ne-eqb}
-use Rattle.cmd.specs.DepthFills.{depth-fill}
 use Rattle.row.specs.Words.{put-depth}
 use Rattle.row.proofs.Laws.{fill-room}
 use borrow.Author.Needs.{needs}
@@ -13,26 +12,23 @@ use Rattle.row.proofs.push_depth_fill.Tie as tie
 words-requires : tie.Need-words-requires
 words-requires c κs = search needs
 
+times-requires : tie.Need-times-requires
+times-requires c κs = search needs
+
+times-requires-2 : tie.Need-times-requires-2
+times-requires-2 c κs = search needs
+
 slice-read-n : tie.Need-slice-read-n
 slice-read-n c = search needs
 
-mul-first : tie.Need-mul-first
-mul-first c = search needs
-
 slice-read-smaller : tie.Need-slice-read-smaller
 slice-read-smaller c = search needs
-
-mul-smaller : tie.Need-mul-smaller
-mul-smaller c = search needs
 
 smaller-requires : tie.Need-smaller-requires
 smaller-requires c κs = search needs
 
 slice-read-larger : tie.Need-slice-read-larger
 slice-read-larger c = search needs
-
-mul-larger : tie.Need-mul-larger
-mul-larger c = search needs
 
 larger-requires : tie.Need-larger-requires
 larger-requires c κs = search needs
@@ -54,8 +50,8 @@ slice-write-state-3 c = search needs
 
 add-state : tie.Need-add-state
 add-state c =
-    let at-args = c .before .before .before .before .before .before .before .before .before .before .before .before in
-    record { fits = omega (arith, fill-room 32 (depth-fill (at-args .args .cmd)) _ (at-args .pre .1)) }
+    let at-args = c .before .before .before .before .before .before .before .before .before .before .before .before .before in
+    record { fits = omega (arith, fill-room _ _ _ (at-args .pre .1)) }
 
 slice-write-state-4 : tie.Need-slice-write-state-4
 slice-write-state-4 c = search needs
@@ -65,33 +61,33 @@ wide-requires c κs = search needs
 
 mul-at : tie.Need-mul-at
 mul-at c =
-    let at-args = c .before .before .before .before .before .before .before .before .before .before .before .before .before in
-    record { fits = omega (arith, fill-room 32 (depth-fill (at-args .args .cmd)) _ (at-args .pre .1)) }
+    let at-args = c .before .before .before .before .before .before .before .before .before .before .before .before .before .before in
+    record { fits = omega (arith, fill-room _ _ _ (at-args .pre .1)) }
 
 mul-fills : tie.Need-mul-fills
 mul-fills c =
-    let at-args = c .before .before .before .before .before .before .before .before .before .before .before .before .before in
-    record { fits = omega (arith, fill-room 32 (depth-fill (at-args .args .cmd)) _ (at-args .pre .1)) }
+    let at-args = c .before .before .before .before .before .before .before .before .before .before .before .before .before .before in
+    record { fits = omega (arith, fill-room _ _ _ (at-args .pre .1)) }
 
 slice-write-fills : tie.Need-slice-write-fills
 slice-write-fills c =
-    let at-args = c .before .before .before .before .before .before .before .before .before .before .before .before .before in
-    omega (arith, fill-room 32 (depth-fill (at-args .args .cmd)) _ (at-args .pre .1))
+    let at-args = c .before .before .before .before .before .before .before .before .before .before .before .before .before .before in
+    omega (arith, fill-room _ _ _ (at-args .pre .1))
 
 add-fills : tie.Need-add-fills
 add-fills c =
-    let at-args = c .before .before .before .before .before .before .before .before .before .before .before .before .before in
-    record { fits = omega (arith, fill-room 32 (depth-fill (at-args .args .cmd)) _ (at-args .pre .1)) }
+    let at-args = c .before .before .before .before .before .before .before .before .before .before .before .before .before .before in
+    record { fits = omega (arith, fill-room _ _ _ (at-args .pre .1)) }
 
 mul-fills-2 : tie.Need-mul-fills-2
 mul-fills-2 c =
-    let at-args = c .before .before .before .before .before .before .before .before .before .before .before .before .before in
-    record { fits = omega (arith, fill-room 32 (depth-fill (at-args .args .cmd)) _ (at-args .pre .1)) }
+    let at-args = c .before .before .before .before .before .before .before .before .before .before .before .before .before .before in
+    record { fits = omega (arith, fill-room _ _ _ (at-args .pre .1)) }
 
 slice-write-fills-2 : tie.Need-slice-write-fills-2
 slice-write-fills-2 c =
-    let at-args = c .before .before .before .before .before .before .before .before .before .before .before .before .before in
-    simp length-set (omega (arith, fill-room 32 (depth-fill (at-args .args .cmd)) _ (at-args .pre .1)))
+    let at-args = c .before .before .before .before .before .before .before .before .before .before .before .before .before .before in
+    simp length-set (omega (arith, fill-room _ _ _ (at-args .pre .1)))
 
 same-length : tie.Need-same-length
 same-length c = search needs
@@ -104,18 +100,24 @@ unfolding put-depth
 returns c =
     let at-larger2 = c .before in
     let at-larger = at-larger2 .before .before in
-    let at-if1 = at-larger .before .before .before in
-    let at-words = at-if1 .before .before .before in
+    let at-if1 = at-larger .before .before in
+    let at-times2 = at-if1 .before .before in
+    let at-times = at-times2 .before in
+    let at-words = at-times .before .before in
     ⊎-elim (λ w. rw (← at-words .words .ensures) (simp (
-      w .2,
+      w .1,
       eq-eqb _ _ (w .0 .taken),
+      at-times .times .ensures,
+      at-times2 .times2 .ensures,
       at-larger .larger .ensures,
       at-larger2 .larger2 .ensures,
       c .wide .ensures,
     ))) (λ w. rw (← at-words .words .ensures) (simp (
-      w .4,
-      w .3 .ensures,
+      w .3,
+      w .2 .ensures,
       ne-eqb _ _ (w .0 .left),
+      at-times .times .ensures,
+      at-times2 .times2 .ensures,
       at-larger .larger .ensures,
       at-larger2 .larger2 .ensures,
       c .wide .ensures,
@@ -126,13 +128,12 @@ push-depth-fill-spec =
     tie.close
     (tie.spec
     words-requires
+    times-requires
+    times-requires-2
     slice-read-n
-    mul-first
     slice-read-smaller
-    mul-smaller
     smaller-requires
     slice-read-larger
-    mul-larger
     larger-requires
     slice-read-larger-2
     larger-requires-2

@@ -10,7 +10,7 @@ ensure-row-layers-requires : tie.Need-ensure-row-layers-requires
 ensure-row-layers-requires c κs =
     let at-pre = c .before .before .before .before .before .before in (
       at-pre .pre .1,
-      first-room _ _ _ (tiles (at-pre .args .span)) _ (at-pre .pre .2 .state) (at-pre .pre .2 .levels) (at-pre .pre .1) (at-pre .args .eligible)
+      first-room _ _ _ _ (tiles (at-pre .args .span)) _ (at-pre .pre .2 .state) (at-pre .pre .2 .levels) (at-pre .pre .1) (at-pre .args .eligible)
           (alpha-of (at-pre .args .alpha)) (at-pre .pre .2),
     )
 

@@ -18,7 +18,7 @@ push-paint-requires c κs =
     let at-enum-told = c .before .before .before in
     let at-split-opaque-span = at-enum-told .before .before in
     let at-args = at-split-opaque-span .before .before .before .before in
-    refused-asks _ _ (tiles (at-args .args .span)) (at-args .pre .0) _ (at-args .pre .1) (at-split-opaque-span .split-opaque-span .ensures)
+    refused-asks (at-args .args .width) _ _ (tiles (at-args .args .span)) (at-args .pre .0) _ (at-args .pre .1) (at-split-opaque-span .split-opaque-span .ensures)
     (at-enum-told .enum-told .given .1)
 
 enum-known-split : tie.Need-enum-known-split
@@ -29,7 +29,7 @@ push-paint-requires-2 c κs =
     let at-split = c .before .before .before .before in
     let at-split-opaque-span = at-split .before .before in
     let at-args = at-split-opaque-span .before .before .before .before in
-    whole-asks _ _ (tiles (at-args .args .span)) (at-args .pre .0) _ (at-args .pre .1) (at-split-opaque-span .split-opaque-span .ensures) _
+    whole-asks (at-args .args .width) _ _ (tiles (at-args .args .span)) (at-args .pre .0) _ (at-args .pre .1) (at-split-opaque-span .split-opaque-span .ensures) _
     (at-split .split .given .1)
 
 enum-known-split-2 : tie.Need-enum-known-split-2
@@ -40,7 +40,7 @@ push-edge-requires c κs =
     let at-split2 = c .before .before .before .before in
     let at-split-opaque-span = at-split2 .before .before in
     let at-args = at-split-opaque-span .before .before .before .before in
-    before-asks _ _ (tiles (at-args .args .span)) (at-args .pre .0) _ (at-args .pre .1) (at-split-opaque-span .split-opaque-span .ensures) _ _ _
+    before-asks (at-args .args .width) _ _ (tiles (at-args .args .span)) (at-args .pre .0) _ (at-args .pre .1) (at-split-opaque-span .split-opaque-span .ensures) _ _ _
     (at-split2 .split2 .given .1)
 
 push-depth-fill-requires : tie.Need-push-depth-fill-requires
@@ -49,7 +49,7 @@ push-depth-fill-requires c κs =
     let at-split2 = at-push-edge .before .before .before .before .before in
     let at-split-opaque-span = at-split2 .before .before in
     let at-args = at-split-opaque-span .before .before .before .before in
-    buckets-ask _ _ (tiles (at-args .args .span)) (at-args .pre .0) _ (at-args .pre .1) (at-split-opaque-span .split-opaque-span .ensures) _ _ _
+    buckets-ask (at-args .args .width) _ _ (tiles (at-args .args .span)) (at-args .pre .0) _ (at-args .pre .1) (at-split-opaque-span .split-opaque-span .ensures) _ _ _
     (at-split2 .split2 .given .1) (at-push-edge .push-edge .ensures)
 
 push-edge-requires-2 : tie.Need-push-edge-requires-2
@@ -59,7 +59,7 @@ push-edge-requires-2 c κs =
     let at-split2 = at-push-edge .before .before .before .before .before in
     let at-split-opaque-span = at-split2 .before .before in
     let at-args = at-split-opaque-span .before .before .before .before in
-    after-asks _ _ (tiles (at-args .args .span)) (at-args .pre .0) _ (at-args .pre .1) (at-split-opaque-span .split-opaque-span .ensures) _ _ _
+    after-asks (at-args .args .width) _ _ (tiles (at-args .args .span)) (at-args .pre .0) _ (at-args .pre .1) (at-split-opaque-span .split-opaque-span .ensures) _ _ _
     (at-split2 .split2 .given .1) (at-push-edge .push-edge .ensures) (at-push-depth-fill .push-depth-fill .ensures)
 
 same-length : tie.Need-same-length
@@ -77,7 +77,7 @@ returns c =
     let at-enum-told = at-push-paint .before .before .before .before in
     let at-split-opaque-span = at-enum-told .before .before in
     let at-args = at-split-opaque-span .before .before .before .before in
-    at-push-paint .push-paint .ensures ∙ sym (refused-is _ _ (tiles (at-args .args .span)) (at-args .pre .0) _ (at-args .pre .1)
+    at-push-paint .push-paint .ensures ∙ sym (refused-is (at-args .args .width) _ _ (tiles (at-args .args .span)) (at-args .pre .0) _ (at-args .pre .1)
     (at-split-opaque-span .split-opaque-span .ensures) (at-enum-told .enum-told .given .1))
 
 same-length-4 : tie.Need-same-length-4
@@ -95,7 +95,7 @@ returns-2 c =
     let at-split = at-push-paint2 .before .before .before .before .before in
     let at-split-opaque-span = at-split .before .before in
     let at-args = at-split-opaque-span .before .before .before .before in
-    at-push-paint2 .push-paint2 .ensures ∙ sym (whole-is _ _ (tiles (at-args .args .span)) (at-args .pre .0) _ (at-args .pre .1)
+    at-push-paint2 .push-paint2 .ensures ∙ sym (whole-is (at-args .args .width) _ _ (tiles (at-args .args .span)) (at-args .pre .0) _ (at-args .pre .1)
     (at-split-opaque-span .split-opaque-span .ensures) _ (at-split .split .given .1))
 
 same-length-7 : tie.Need-same-length-7
@@ -115,7 +115,7 @@ returns-3 c =
     let at-split2 = at-push-edge .before .before .before .before .before in
     let at-split-opaque-span = at-split2 .before .before in
     let at-args = at-split-opaque-span .before .before .before .before in
-    pieces-done _ _ (tiles (at-args .args .span)) (at-args .pre .0) _ (at-args .pre .1) (at-split-opaque-span .split-opaque-span .ensures) _ _ _
+    pieces-done (at-args .args .width) _ _ (tiles (at-args .args .span)) (at-args .pre .0) _ (at-args .pre .1) (at-split-opaque-span .split-opaque-span .ensures) _ _ _
     (at-split2 .split2 .given .1) (at-push-edge .push-edge .ensures) (at-push-depth-fill .push-depth-fill .ensures) (at-push-edge2 .push-edge2 .ensures)
 
 pub push-opaque-spec : {M : Type 1} → statement M

@@ -1,7 +1,8 @@
 use Rattle.span.specs.Spans.{tiles}
+use Rattle.span.specs.Widths.{wide}
+use Rattle.span.proofs.Widths.{wide-some, above-small, below-small}
 use native.Mathlib.Omega.{arith}
-use Rattle.step_fill_judge.proofs.Laws.{added-alpha, added-plain, added-one, added-more, edge-small}
-use Prim.Native.Nat.{_+_, _*_, _/_}
+use Rattle.step_fill_judge.proofs.Laws.{added-alpha, added-plain, found-one, found-more, edge-small}
 use borrow.Author.Needs.{needs}
 use Rattle.step_fill_judge.proofs.added_by.Statement.{statement}
 use Rattle.step_fill_judge.proofs.added_by.Tie as tie
@@ -15,54 +16,77 @@ enum-told c = search needs
 enum-told-2 : tie.Need-enum-told-2
 enum-told-2 c = search needs
 
-add-a : tie.Need-add-a
-add-a c = search needs
+above-requires : tie.Need-above-requires
+above-requires c κs = search needs
 
-mul-a : tie.Need-mul-a
-mul-a c = search needs
-
-mul-b : tie.Need-mul-b
-mul-b c = search needs
+below-requires : tie.Need-below-requires
+below-requires c κs = search needs
 
 returns : tie.Need-returns
 returns c =
-    let at-if1 = c .before .before .before in
+    let at-above = c .before .before in
+    let at-if1 = at-above .before in
     let at-enum-told2 = at-if1 .before in
-    let at-args = at-enum-told2 .before .before .before in
-    rw (at-enum-told2 .enum-told2 .given .1, at-if1 .if1 .taken, added-one (tiles (at-args .args .stretch .tiles)) (c .if2 .taken))
+    let a = at-enum-told2 .before .before .before .args in
+    rw (
+      at-enum-told2 .enum-told2 .given .1,
+      at-if1 .if1 .taken,
+      found-one (wide (a .width)) (tiles (a .stretch .tiles)) _ _ (at-above .above .ensures) (c .before .below .ensures) (c .if2 .taken),
+    )
+
+times-requires : tie.Need-times-requires
+times-requires c κs =
+    let at-args = c .before .before .before .before .before .before .before in
+    let few = above-small (at-args .args .width) (at-args .args .stretch .tiles .first) in
+    omega (arith, few, at-args .pre .0, c .before .before .above .ensures)
 
 edge-requires : tie.Need-edge-requires
 edge-requires c κs = search needs
 
+times-requires-2 : tie.Need-times-requires-2
+times-requires-2 c κs =
+    let at-args = c .before .before .before .before .before .before .before .before .before in
+    let few = below-small (at-args .args .width) (at-args .args .stretch .tiles .end) in
+    omega (arith, few, at-args .pre .1, c .before .before .before .below .ensures)
+
 edge-requires-2 : tie.Need-edge-requires-2
 edge-requires-2 c κs = search needs
 
-add-t14 : tie.Need-add-t14
-add-t14 c =
-    let at-args = c .before .before .before .before .before .before .before .before .before in
+add-t15 : tie.Need-add-t15
+add-t15 c =
+    let at-edge = c .before .before in
+    let at-args = at-edge .before .before .before .before .before .before .before .before .before in
+    let t = at-args .args .stretch .tiles in
     record {
       fits = omega (
         arith,
-        c .before .edge .ensures,
+        at-edge .edge .ensures,
         c .edge2 .ensures,
-        edge-small (at-args .args .stretch .tiles .first)
-            ((at-args .args .stretch .tiles .first + 31) / 32 * 32),
-        edge-small (at-args .args .stretch .tiles .end / 32 * 32) (at-args .args .stretch .tiles .end),
+        edge-small (t .first) (at-edge .before .times .result),
+        edge-small (c .before .times2 .result) (t .end),
       );
     }
 
 returns-2 : tie.Need-returns-2
 returns-2 c =
-    let at-if2 = c .before .before in
-    let at-if1 = at-if2 .before .before .before in
+    let at-times2 = c .before in
+    let at-edge = at-times2 .before in
+    let at-times = at-edge .before in
+    let at-if2 = at-times .before in
+    let at-below = at-if2 .before in
+    let at-above = at-below .before in
+    let at-if1 = at-above .before in
     let at-enum-told2 = at-if1 .before in
-    let at-args = at-enum-told2 .before .before .before in
+    let a = at-enum-told2 .before .before .before .args in
     rw (
       at-enum-told2 .enum-told2 .given .1,
       at-if1 .if1 .taken,
-      added-more (tiles (at-args .args .stretch .tiles)) (at-if2 .if2 .left),
-      c .before .edge .ensures,
+      found-more (wide (a .width)) (tiles (a .stretch .tiles)) _ _ (at-above .above .ensures) (at-below .below .ensures) (wide-some (a .width))
+          (at-if2 .if2 .left),
+      at-edge .edge .ensures,
       c .edge2 .ensures,
+      at-times .times .ensures,
+      at-times2 .times2 .ensures,
     )
 
 returns-3 : tie.Need-returns-3
@@ -77,13 +101,14 @@ added-by-spec =
     (tie.spec
     enum-told
     enum-told-2
-    add-a
-    mul-a
-    mul-b
+    above-requires
+    below-requires
     returns
+    times-requires
     edge-requires
+    times-requires-2
     edge-requires-2
-    add-t14
+    add-t15
     returns-2
     returns-3
     returns-4)

@@ -35,7 +35,7 @@ add-requires : tie.Need-add-requires
 add-requires c κs =
     let at-added-by = c .before .before in
     let start = at-added-by .before .before .before .before .before .before .before .before in
-    let few = few-more _ _ _ (at-added-by .added-by .ensures) in
+    let few = few-more _ _ _ _ (at-added-by .added-by .ensures) in
     (start .pre .2, few .0, few .1)
 
 returns : tie.Need-returns
@@ -77,7 +77,7 @@ returns-2 c =
 add-requires-2 : tie.Need-add-requires-2
 add-requires-2 c κs =
     let at-turn-to = c .before .before in
-    let few = few-more _ _ _ (at-turn-to .before .before .before .added-by .ensures) in
+    let few = few-more _ _ _ _ (at-turn-to .before .before .before .added-by .ensures) in
     (at-turn-to .turn-to .ensures .1, few .0, few .1)
 
 returns-3 : tie.Need-returns-3

@@ -41,7 +41,7 @@ returns : tie.Need-returns
 returns c =
     let at-ensure-row-layers = c .before .before .before .before .before .before in
     let at-enum-told = at-ensure-row-layers .before .before .before .before in
-    rw (at-enum-told .enum-told .given .1) (at-ensure-row-layers .ensure-row-layers .ensures ∙ sym (touch-is _ _))
+    rw (at-enum-told .enum-told .given .1) (at-ensure-row-layers .ensure-row-layers .ensures ∙ sym (touch-is _ _ _))
 
 same-length-4 : tie.Need-same-length-4
 same-length-4 c = search needs
@@ -56,7 +56,7 @@ returns-2 : tie.Need-returns-2
 returns-2 c =
     let at-push-plain = c .before .before .before .before .before .before in
     let at-act = at-push-plain .before .before .before .before .before in
-    rw (at-act .act .given .1) (at-push-plain .push-plain .ensures ∙ sym (paint-is _ _ _ _ 0))
+    rw (at-act .act .given .1) (at-push-plain .push-plain .ensures ∙ sym (paint-is _ _ _ _ _ 0))
 
 pub do-act-spec : {M : Type 1} → statement M
 do-act-spec =

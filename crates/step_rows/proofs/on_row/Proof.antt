@@ -23,7 +23,7 @@ do-act-requires c κs =
     let back = at-place-of .before .before .before .before in
     let start = back in
     let o = start .pre .1 in
-    (start .pre .0, o .layers, roomy (o .whole) (o .within) (at-place-of .place-of .ensures) (acted (start .args .n) (act-of (start .args .act))) (o .room))
+    (start .pre .0, o .layers, roomy (o .whole) (o .within) (at-place-of .place-of .ensures) (acted 32 (start .args .n) (act-of (start .args .act))) (o .room))
 
 returns : tie.Need-returns
 returns c =
@@ -34,7 +34,7 @@ returns c =
     let o = start .pre .1 in
     let s = at-place-of .place-of .ensures in
     let a = act-of (start .args .act) in
-    let f = acted (start .args .n) a in
+    let f = acted 32 (start .args .n) a in
     back (o .whole) (o .within) s f _ _ _ (act-grows (start .args .n) a _ (o .layers) (roomy (o .whole) (o .within) s f (o .room))) (at-do-act .do-act .ensures)
 
 pub on-row-spec : {M : Type 1} → statement M

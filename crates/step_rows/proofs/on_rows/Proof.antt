@@ -11,7 +11,7 @@ use Rattle.step_rows.proofs.on_rows.Statement.{statement}
 use Rattle.step_rows.proofs.on_rows.Tie as tie
 
 abbrev Inv-loop : tie.InvT-loop
-Inv-loop screen rows₀ render₀ fills₀ a b n act r₀ rows render fills r = Banding screen n (acted n (act-of act)) a b (words rows₀ render₀ fills₀) r (words rows render fills)
+Inv-loop screen rows₀ render₀ fills₀ a b n act r₀ rows render fills r = Banding screen n (acted 32 n (act-of act)) a b (words rows₀ render₀ fills₀) r (words rows render fills)
 
 abbrev μ-loop : tie.MeasureT-loop
 μ-loop screen rows₀ render₀ fills₀ a b n act r₀ rows render fills r = b - r

@@ -15,7 +15,7 @@ ensure-row-layers-requires : tie.Need-ensure-row-layers-requires
 ensure-row-layers-requires c κs =
     let start = c .before .before .before .before .before .before in
     let room = start .pre .2 in
-    (start .pre .1, first-room _ _ 0 (tiles (start .args .span)) _ (room .state) (room .levels) (start .pre .1) false none room)
+    (start .pre .1, first-room _ _ _ 0 (tiles (start .args .span)) _ (room .state) (room .levels) (start .pre .1) false none room)
 
 push-paint-requires : tie.Need-push-paint-requires
 push-paint-requires c κs =

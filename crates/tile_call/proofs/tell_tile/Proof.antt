@@ -28,17 +28,22 @@ shared-slice-read-wide-2 c = search needs
 wide-requires-2 : tie.Need-wide-requires-2
 wide-requires-2 c κs = search needs
 
+tiles-requires : tie.Need-tiles-requires
+tiles-requires c κs = search needs
+
 whole-requires : tie.Need-whole-requires
 whole-requires c κs = search needs
 
 tell-nodes-requires : tie.Need-tell-nodes-requires
 tell-nodes-requires c κs =
     let at-whole = c .before in
-    let at-wide2 = at-whole .before in
+    let at-tiles = at-whole .before in
+    let at-wide2 = at-tiles .before in
     let at-wide = at-wide2 .before .before in
     let entry = at-wide .before .before .before .before .before in
     let args = entry .args in
-    let from = root (args .w .now) (args .l) (entry .pre .0) in (
+    let from = root (args .w .now) (args .l) (entry .pre .0) in
+    rw (at-tiles .tiles .ensures) (
       ready-at (args .viewport) (entry .pre .1) _ (at-whole .whole .ensures) (args .w .now) (args .l) (args .row) (args .tile) (args .lines .now) (entry .pre .0) (entry .pre .2) (entry .pre .3),
       omega arith,
       omega (arith, at-wide .wide .ensures, at-wide2 .wide2 .ensures, from .0),
@@ -52,12 +57,13 @@ returns : tie.Need-returns
 returns c =
     let at-nodes = c .before .before in
     let at-whole = at-nodes .before .before in
-    let at-wide2 = at-whole .before in
+    let at-tiles = at-whole .before in
+    let at-wide2 = at-tiles .before in
     let at-wide = at-wide2 .before .before in
     let entry = at-wide .before .before .before .before .before in
     let args = entry .args in (
       all-told (args .w .now) (args .l) (box-of (args .viewport)) (args .row) (args .tile) _ _ _ (at-wide .wide .ensures) (at-wide2 .wide2 .ensures) _ _
-          (at-nodes .tell-nodes .ensures .0 [] (holds-nothing (args .viewport) (entry .pre .1) _ (at-whole .whole .ensures))),
+          (rw (at-tiles .tiles .ensures) at (at-nodes .tell-nodes .ensures .0 [] (holds-nothing (args .viewport) (entry .pre .1) _ (at-whole .whole .ensures)))),
       at-nodes .tell-nodes .ensures .1,
     )
 
@@ -72,6 +78,7 @@ tell-tile-spec =
     mul-wide-2
     shared-slice-read-wide-2
     wide-requires-2
+    tiles-requires
     whole-requires
     tell-nodes-requires
     same-length

@@ -31,15 +31,20 @@ returns : tie.Need-returns
 returns c =
     let at-found = c .before .before .before .before .before .before in
     let at-args = at-found .before .before .before .before .before .before .before in
-    depth-refused _ _ (at-args .args .list .now) _ _ _ _ (at-args .args .fill .buckets) (at-args .pre .0 .0) (at-args .pre .0 .1) (at-args .pre .0 .3) _
+    depth-refused (at-args .args .width) _ _ (at-args .args .list .now) _ _ _ _ (at-args .args .fill .buckets) (at-args .pre .0 .0) (at-args .pre .0 .1) (at-args .pre .0 .3) _
     (at-found .unset-runs-and-write .ensures) _ (c .before .if1 .taken) (c .refused .ensures)
+
+tiles-requires : tie.Need-tiles-requires
+tiles-requires c κs = search needs
 
 spread-requires : tie.Need-spread-requires
 spread-requires c κs =
-    let at-found = c .before .before .before .before .before .before in
+    let at-if1 = c .before .before in
+    let at-found = at-if1 .before .before .before .before .before in
     let at-args = at-found .before .before .before .before .before .before .before in
-    depth-ready _ (at-args .args .painting .now) (at-args .args .list .now) _ _ _ (at-args .args .fill .«attrs_idx») (at-args .args .fill .buckets)
-    (at-args .pre .0 .0) (at-args .pre .0 .1) (at-args .pre .0 .3) _ (at-found .unset-runs-and-write .ensures) (c .before .if1 .left) (at-args .pre .0 .2)
+    rw (c .tiles .ensures) (depth-ready (at-args .args .width) _ (at-args .args .painting .now) (at-args .args .list .now) _ _ _
+    (at-args .args .fill .«attrs_idx») (at-args .args .fill .buckets) (at-args .pre .0 .0) (at-args .pre .0 .1) (at-args .pre .0 .3) _
+    (at-found .unset-runs-and-write .ensures) (at-if1 .if1 .left) (at-args .pre .0 .2))
 
 slice-read-nesting : tie.Need-slice-read-nesting
 slice-read-nesting c = search needs
@@ -60,11 +65,13 @@ returns-2 : tie.Need-returns-2
 returns-2 c =
     let at-advance = c .before .before in
     let at-spread = at-advance .before .before .before .before .before in
-    let at-if1 = at-spread .before .before in
+    let at-tiles = at-spread .before in
+    let at-if1 = at-tiles .before .before in
     let at-found = at-if1 .before .before .before .before .before in
     let at-args = at-found .before .before .before .before .before .before .before in
-    depth-done _ (at-args .args .painting .now) (at-args .args .list .now) _ _ _ _ (at-args .args .fill .buckets) (at-args .pre .0 .0) (at-args .pre .0 .1)
-    (at-args .pre .0 .3) _ (at-found .unset-runs-and-write .ensures) (at-if1 .if1 .left) _ _ _ (at-advance .advance .ensures) (at-spread .spread .ensures)
+    depth-done (at-args .args .width) _ (at-args .args .painting .now) (at-args .args .list .now) _ _ _ _ (at-args .args .fill .buckets)
+    (at-args .pre .0 .0) (at-args .pre .0 .1) (at-args .pre .0 .3) _ (at-found .unset-runs-and-write .ensures) (at-if1 .if1 .left) _ _ _
+    (at-advance .advance .ensures) (rw (at-tiles .tiles .ensures) at (at-spread .spread .ensures))
 
 pub paint-depth-spec : {M : Type 1} → statement M
 paint-depth-spec =
@@ -78,6 +85,7 @@ paint-depth-spec =
     same-length
     same-length-2
     returns
+    tiles-requires
     spread-requires
     slice-read-nesting
     advance-requires

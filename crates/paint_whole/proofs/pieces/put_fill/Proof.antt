@@ -5,6 +5,7 @@ use native.Mathlib.Omega.{arith}
 use lib.ListN.{length}
 use borrow.Author.Needs.{needs}
 use Rattle.rules.specs.Spans.{span}
+use Rattle.span.specs.Widths.{wide}
 use Rattle.cmd.proofs.Tables.{length-at}
 use Rattle.paint_whole.specs.Kinds.{run-words}
 use Rattle.paint_whole.proofs.Putting.{put-both}
@@ -16,27 +17,35 @@ use Rattle.paint_whole.proofs.pieces.put_run.Reads as put-run-reads
 use Rattle.paint_whole.proofs.pieces.put_runs.Reads as put-runs-reads
 use Rattle.sizes.proofs.wide.Reads as wide-reads
 
-add-wide : tie.Need-add-wide
-add-wide c = search needs
+above-requires : tie.Need-above-requires
+above-requires c κs = search needs
 
 wide-requires : tie.Need-wide-requires
 wide-requires c κs = search needs
+
+below-requires : tie.Need-below-requires
+below-requires c κs = search needs
 
 wide-requires-2 : tie.Need-wide-requires-2
 wide-requires-2 c κs = search needs
 
 put-run-requires : tie.Need-put-run-requires
 put-run-requires c κs =
-    let at-if1 = c .before .before in
-    let entry = at-if1 .before .before .before .before in
+    let at-wide2 = c .before in
+    let at-below = at-wide2 .before in
+    let at-if1 = at-below .before in
+    let at-wide = at-if1 .before in
+    let at-above = at-wide .before in
+    let entry = at-above .before .before .before in
     let look = entry .pre .0 in
     let found = rw (at-if1 .if1 .taken) at (look .found) in
-    (omega (arith, entry .pre .2, ap length found), entry .pre .1, omega (arith, c .before .wide2 .ensures, look .past, look .within), omega (arith, look .within))
+    let low = at-wide2 .wide2 .ensures ∙ at-below .below .ensures in
+    (omega (arith, entry .pre .2, ap length found), entry .pre .1, rw low (omega (arith, look .past, look .within)), omega (arith, look .within))
 
 add-put-runs : tie.Need-add-put-runs
 add-put-runs c =
-    let at-if1 = c .before .before .before .before .before .before in
-    let entry = at-if1 .before .before .before .before in
+    let at-if1 = c .before .before .before .before .before .before .before in
+    let entry = at-if1 .before .before .before .before .before in
     let found = rw (at-if1 .if1 .taken) at (entry .pre .0 .found) in
     omega (arith, entry .pre .2, ap length found)
 
@@ -44,13 +53,17 @@ put-runs-requires : tie.Need-put-runs-requires
 put-runs-requires c κs =
     let put = c .before .before .before in
     let at-wide2 = put .before .before in
-    let at-if1 = at-wide2 .before in
+    let at-if1 = at-wide2 .before .before in
     let at-wide = at-if1 .before in
-    let entry = at-wide .before .before .before in
+    let at-above = at-wide .before in
+    let entry = at-above .before .before .before in
+    let a = entry .args in
     let look = entry .pre .0 in
     let found = rw (at-if1 .if1 .taken) at (look .found) in
-    let long = length-at (entry .args .list .now) (6 * entry .args .k) (run-words (entry .args .tag) (entry .args .i) (entry .args .tiles) (entry .args .alpha) (entry .args .level) (span (at-wide2 .wide2 .result) (entry .args .stop))) (omega (arith, entry .pre .2, ap length found)) in
-    rw (at-wide .wide .ensures) (
+    let words = run-words (wide (a .width)) (a .tag) (a .i) (a .tiles) (a .alpha) (a .level) (span (at-wide2 .wide2 .result) (a .stop)) in
+    let long = length-at (a .list .now) (6 * a .k) words (omega (arith, entry .pre .2, ap length found)) in
+    let high = at-wide .wide .ensures ∙ at-above .above .ensures in
+    rw high (
       (look .within, look .fits, (rw (at-if1 .if1 .taken) at (look .other))),
       (entry .pre .1, refl, omega (arith, entry .pre .2, ap length found, ap length (put .put-run .ensures), long)),
     )
@@ -63,21 +76,27 @@ returns c =
     let put = c .before .before in
     let first = put .before .before .before .before in
     let at-wide2 = first .before .before in
-    let at-if1 = at-wide2 .before in
+    let at-below = at-wide2 .before in
+    let at-if1 = at-below .before in
     let at-wide = at-if1 .before in
-    let entry = at-wide .before .before .before in
+    let at-above = at-wide .before in
+    let entry = at-above .before .before .before in
     let found = rw (at-if1 .if1 .taken) at (entry .pre .0 .found) in
-    let rest = rw (at-wide .wide .ensures) at (put .put-runs .ensures) in
-    put-both _ _ _ _ _ _ _ _ _ _ _ _ found (entry .pre .2) _ _ _ (rw (at-wide2 .wide2 .ensures) at (first .put-run .ensures)) (rest .0) (rest .1)
+    let low = at-wide2 .wide2 .ensures ∙ at-below .below .ensures in
+    let high = at-wide .wide .ensures ∙ at-above .above .ensures in
+    let rest = rw high at (put .put-runs .ensures) in
+    put-both _ _ _ _ _ _ _ _ _ _ _ _ _ found (entry .pre .2) _ _ _ (rw low at (first .put-run .ensures)) (rest .0) (rest .1)
 
 put-runs-requires-2 : tie.Need-put-runs-requires-2
 put-runs-requires-2 c κs =
     let at-if1 = c .before in
     let at-wide = at-if1 .before in
-    let entry = at-wide .before .before .before in
+    let at-above = at-wide .before in
+    let entry = at-above .before .before .before in
     let look = entry .pre .0 in
     let found = rw (at-if1 .if1 .left) at (look .found) in
-    rw (at-wide .wide .ensures) ((look .within, look .fits, (rw (at-if1 .if1 .left) at (look .other))), (entry .pre .1, refl, omega (arith, entry .pre .2, ap length found)))
+    let high = at-wide .wide .ensures ∙ at-above .above .ensures in
+    rw high ((look .within, look .fits, (rw (at-if1 .if1 .left) at (look .other))), (entry .pre .1, refl, omega (arith, entry .pre .2, ap length found)))
 
 same-length-2 : tie.Need-same-length-2
 same-length-2 c = search needs
@@ -87,16 +106,19 @@ returns-2 c =
     let put = c .before .before in
     let at-if1 = put .before .before in
     let at-wide = at-if1 .before in
-    let entry = at-wide .before .before .before in
+    let at-above = at-wide .before in
+    let entry = at-above .before .before .before in
     let found = rw (at-if1 .if1 .left) at (entry .pre .0 .found) in
-    rw found (rw (at-wide .wide .ensures) at (put .put-runs2 .ensures))
+    let high = at-wide .wide .ensures ∙ at-above .above .ensures in
+    rw found (rw high at (put .put-runs2 .ensures))
 
 pub put-fill-spec : {M : Type 1} → statement M
 put-fill-spec =
     tie.close
     (tie.spec
-    add-wide
+    above-requires
     wide-requires
+    below-requires
     wide-requires-2
     put-run-requires
     add-put-runs

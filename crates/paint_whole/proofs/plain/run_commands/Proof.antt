@@ -225,7 +225,7 @@ put-fill-requires c κs =
     let part = ahead .1 .partly (omega (arith, at-if1 .if1 .left)) in
     let tiles = word (entry .args .render .now) (4 * at-sure .run-sure .result .at + 1) in
     let at-if2 = c .before .before .before .before .before in
-    let few = runs-few (is-visible (at-sure .run-sure .result .look .id)) (entry .args .depth .now) (low-met tiles) (high-met tiles) in
+    let few = runs-few (is-visible (at-sure .run-sure .result .look .id)) (entry .args .depth .now) (low-met 32 tiles) (high-met 32 tiles) in
     (part .looked, part .good, omega (arith, at-if2 .if2 .left, at-if2 .before .most-runs .ensures, few, sure .0 .few))
 
 add-at : tie.Need-add-at Inv-loop μ-loop
@@ -259,7 +259,7 @@ loop-again c =
     let at-put = c .before .before in
     let at-if2 = c .before .before .before .before .before .before .before .before in
     let tiles = word (entry .args .render .now) (4 * at-sure .run-sure .result .at + 1) in
-    let few = runs-few (is-visible (at-sure .run-sure .result .look .id)) (entry .args .depth .now) (low-met tiles) (high-met tiles) in
+    let few = runs-few (is-visible (at-sure .run-sure .result .look .id)) (entry .args .depth .now) (low-met 32 tiles) (high-met 32 tiles) in
     let all = reach-both _ _ _ _ _ _ (at-loop .loop .inv .0) (sure .0) in (
       rw (at-put .put-fill .ensures .0) (on-partly _ (entry .args .state .now) (entry .args .render .now) (entry .args .fills .now) (entry .args .depth .now) (entry .pre .1 .0 .1) _
           _ _ _ _ all (omega (arith, ahead .0, entry .pre .1 .1 .1)) _ _ _ (ahead .1) (omega (

@@ -78,7 +78,8 @@ state-of s =
       layers = replicate (s .layers) (layer-in (box-of (s .«clip_bbox»)));
     }
 
--- a screen of a frame: its clip box, its counts, how many layers are open, and whether painting has begun. The one place that lists its fields
+-- a screen of a frame: its clip box, its counts, how many layers are open, and whether painting has begun. Definitions change a screen by this
+-- alone: besides it only a host's words list the fields
 abbrev pub screen-in : Frame → Rect → ℕ → ℕ → ℕ → ℕ → ℕ → Bool → Screen
 screen-in f b next paints layers filters deep begun =
     record {

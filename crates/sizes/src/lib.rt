@@ -7,10 +7,8 @@ ghost use Rattle.sizes.specs.Sizes.{bucket-tiles, tile-end, bucket-end, 
 ghost use Rattle.sizes.specs.Sizes.{renders-at, depths-at, first-at, end-at, largest-at, levels-at, level-at, row-size, open-layer-size, open-layer-table, paint-attr-size, paint-attr-table, layer-attr-size, layer-attr-table, filter-paint-size, filter-paint-table, opacity-count, line-size, line-table, state-size};
 ghost use Rattle.sizes.specs.Sizes.{program-rows, program-buckets, program-room, program-render, program-fills, program-depth, program-records, program-painting};
 
-// Tiles in a depth bucket; what rounding up to whole buckets adds; the same as a length.
+// Tiles in a depth bucket of 128 pixels; the same as a length.
 pub const BUCKET: u32 = 32;
-
-pub const BUCKET_ROUND: u32 = BUCKET - 1;
 
 pub const BUCKET_TILES: usize = BUCKET as usize;
 

@@ -101,7 +101,13 @@ fn the_samples() {
         let number = name
             .strip_prefix("refused-")
             .map_or(0, |n| n.parse().unwrap());
-        let mut bucketer = CommandBucketer::from_wh(4, 4, Setup::new(64, 64)).unwrap();
+        // This one's viewport is no box of whole tiles.
+        let setup = if name == "flat" {
+            Setup::snapping(64, 64)
+        } else {
+            Setup::new(64, 64)
+        };
+        let mut bucketer = CommandBucketer::from_wh(4, 4, setup).unwrap();
         let done = bucketer.bucket_commands(&words(&std::fs::read(&path).unwrap()));
         assert_eq!(done.map_or_else(Answer::number, |()| 0), number, "{name}");
         if number == 0 {
@@ -113,7 +119,7 @@ fn the_samples() {
         }
         seen += 1;
     }
-    assert_eq!(seen, 10);
+    assert_eq!(seen, 11);
 }
 
 /// One draw of the worked example covers tiles 10 to 64 of row 0; row 1 has a layer.

@@ -30,7 +30,7 @@ static void tile(const coarse_bucketer *screen, const coarse_piece *pieces, size
 int main(void) {
     /* A screen of 512 x 4 pixels: one row of 128 tiles, in 4 depth buckets of 32. */
     coarse_bucketer screen;
-    must(coarse_bucketer_new(&screen, (coarse_rect){0, 0, 512, 4}, (coarse_setup){64, 64, COARSE_EXACT}));
+    must(coarse_bucketer_new(&screen, (coarse_rect){0, 0, 512, 4}, (coarse_setup){64, 64, COARSE_EXACT, COARSE_128}));
 
     /* Both are opaque. The banner has the whole row, the panel tiles 20 to 70: all of bucket 1, and a part of 0 and of 2. */
     const coarse_paint paints[] = {{1, 1, 0, 0}, {1, 2, 0, 0}};

@@ -20,7 +20,7 @@ extern "C" {
 enum coarse_answer {
     COARSE_DONE = 0,
     COARSE_BAD_ARENA = 1,    /* render, fills or depth of a wrong length, or C or D not from 1 to 1,024 */
-    COARSE_BAD_VIEWPORT = 2, /* as the mode reads it: a side no multiple of 4, an end before its start, past 32,768, wider than 4,096, higher than 2,048 */
+    COARSE_BAD_VIEWPORT = 2, /* as the mode reads it: a side no multiple of 4, an end before its start, past 32,768, wider than 4,096, higher than 2,048; or a bucket's width that is none */
     COARSE_BAD_FORM = 3,     /* a recording that is not exactly its sections */
     COARSE_BAD_RECORD = 4,   /* a field out of bounds, a table or result of a wrong length, words that are no screen */
     COARSE_BAD_ORDER = 5,    /* a segment list out of order */
@@ -40,7 +40,7 @@ static inline const char *coarse_answer_text(uint32_t answer) {
     switch (answer) {
     case COARSE_DONE: return "Done: the call was carried out";
     case COARSE_BAD_ARENA: return "BadArena: the render, depth fill or depth table has another length than the screen needs, or C or D is not from 1 to 1,024";
-    case COARSE_BAD_VIEWPORT: return "BadViewport: the viewport is not made of multiples of 4 in order up to 32,768, or is wider than 4,096 or higher than 2,048";
+    case COARSE_BAD_VIEWPORT: return "BadViewport: the viewport is not made of multiples of 4 in order up to 32,768, or is wider than 4,096 or higher than 2,048, or a bucket's width is not 64, 128 or 256";
     case COARSE_BAD_FORM: return "BadForm: the recording is not exactly its counted sections, or a count is out of range";
     case COARSE_BAD_RECORD: return "BadRecord: a field, a range or a table that the call reads is out of bounds";
     case COARSE_BAD_ORDER: return "BadOrder: a segment list is not in order, or its segments overlap";
@@ -58,10 +58,11 @@ static inline const char *coarse_answer_text(uint32_t answer) {
 }
 
 /* The screen's own numbers: viewport x0 y0 x1 y1, clip box x0 y0 x1 y1, C, D, next draw id, the numbers of paint attributes, layer
- * attributes, filter paints and open layers, and 1 if painting has begun, else 0. A host starts with zeros and lends them to every
- * call. Another length is answer 4, whatever else is wrong, save that with a mode above 1 a recording's 3 comes first; a last word above
- * 1 is answer 4 after 3, 2 and 1. */
-#define COARSE_STATE 16
+ * attributes, filter paints and open layers, 1 if painting has begun, else 0, and a bucket's width: 0 for 128 pixels, 1 for 64, 2 for
+ * 256. A host starts with zeros and lends them to every call. Another length is answer 4, whatever else is wrong, save that with a setup
+ * that is none its own answer, and before it a recording's 3, come first; a painting word above 1 or a width word above 2 is answer 4
+ * after 3, 2 and 1. */
+#define COARSE_STATE 17
 
 /* Lengths that no viewport changes. coarse_sizes gives the others. */
 #define COARSE_LAYERS 256
@@ -83,10 +84,14 @@ enum coarse_mode {
     COARSE_SNAPPING = 1 /* carried outward to tile edges, starts down and ends up to a multiple of 4; limits are judged on that box alone */
 };
 
-/* What a screen is asked to be, by value: room for c render commands and d depth fills in a row, and the mode. The screen holds the
- * viewport as the mode reads it, and no mode. A mode above 1 is answer 4, before 2 and 1: there is no viewport to judge. A recording's 3
- * comes before it. Nothing changes then. */
-typedef struct coarse_setup { uint32_t c, d, mode; } coarse_setup;
+/* How many pixels wide a depth bucket is. Narrow ones hide more on small panels, wide ones cost less on large screens. */
+enum coarse_width { COARSE_64 = 64, COARSE_128 = 128, COARSE_256 = 256 };
+
+/* What a screen is asked to be, by value: room for c render commands and d depth fills in a row, the mode, and the width of its buckets.
+ * The screen holds the viewport as the mode reads it, the width, and no mode. A width that is none of the three is answer 2; then a mode
+ * above 1 is answer 4, before the viewport's 2 and before 1: there is no viewport to judge. A recording's 3 comes before both. Nothing
+ * changes then. */
+typedef struct coarse_setup { uint32_t c, d, mode, width; } coarse_setup;
 
 /* Why an attribute is shown at a tile or not: the first that holds. */
 enum coarse_reason_case {
@@ -253,9 +258,9 @@ uint32_t coarse_can_skip(const uint32_t *state, size_t state_len, size_t row,
                          const uint32_t *rows, size_t rows_len, uint32_t first, uint32_t end, uint32_t id,
                          uint32_t *yes, size_t yes_len);
 
-/* The parts of an opaque span of tiles, left to right, three words each: 1 for a regular piece or 2 for a depth fill, first, end (tiles
- * of a piece, buckets of a depth fill). parts_len is 9; zeros follow. */
-uint32_t coarse_split_opaque_span(uint32_t first, uint32_t end, uint32_t *parts, size_t parts_len);
+/* The parts of an opaque span of tiles over buckets of so many pixels, left to right, three words each: 1 for a regular piece or 2 for
+ * a depth fill, first, end (tiles of a piece, buckets of a depth fill). parts_len is 9; zeros follow. A width that is none is answer 2. */
+uint32_t coarse_split_opaque_span(uint32_t first, uint32_t end, uint32_t pixels, uint32_t *parts, size_t parts_len);
 
 #ifdef __cplusplus
 }

@@ -110,8 +110,8 @@ static inline uint32_t coarse_bucketer_reset(coarse_bucketer *b, coarse_rect v) 
                         b->filter_paints, b->sizes[9]);
 }
 
-/* A screen in a setup, as (coarse_setup){64, 64, COARSE_EXACT}: its mode reads every viewport, of a reset and of a recording. Refused,
- * there is nothing to free. */
+/* A screen in a setup, as (coarse_setup){64, 64, COARSE_EXACT, COARSE_128}: its mode reads every viewport, of a reset and of a recording,
+ * and its width is that of every screen. Refused, there is nothing to free. */
 static inline uint32_t coarse_bucketer_new(coarse_bucketer *b, coarse_rect viewport, coarse_setup setup) {
     memset(b, 0, sizeof *b);
     b->setup = setup;
@@ -229,7 +229,15 @@ static inline coarse_rect coarse_bucketer_viewport(const coarse_bucketer *b) {
 
 /* Rows of tiles, and depth buckets in a row. */
 static inline size_t coarse_bucketer_rows(const coarse_bucketer *b) { return (b->state[3] - b->state[1]) / 4; }
-static inline size_t coarse_bucketer_buckets(const coarse_bucketer *b) { return (b->state[2] - b->state[0] + 127) / 128; }
+/* How many pixels wide a bucket of the screen is. */
+static inline uint32_t coarse_bucketer_bucket_width(const coarse_bucketer *b) {
+    return b->state[16] == 1 ? COARSE_64 : b->state[16] == 2 ? COARSE_256 : COARSE_128;
+}
+
+static inline size_t coarse_bucketer_buckets(const coarse_bucketer *b) {
+    uint32_t width = coarse_bucketer_bucket_width(b);
+    return (b->state[2] - b->state[0] + (width - 1)) / width;
+}
 
 /* Room for n pieces. */
 static inline uint32_t coarse_bucketer_piece_room(coarse_bucketer *b, size_t n) {

@@ -12,7 +12,7 @@ static void expect(const char *what, uint32_t want, uint32_t got) {
     }
 }
 
-static const coarse_setup small = {8, 8, COARSE_EXACT}, snapping = {8, 8, COARSE_SNAPPING};
+static const coarse_setup small = {8, 8, COARSE_EXACT, COARSE_128}, snapping = {8, 8, COARSE_SNAPPING, COARSE_128};
 static const coarse_paint paints[] = {{1, 1, 5, -5}, {0, 2, 0, 0}};
 static const coarse_segment segments[] = {{0, 0, 0, 64, 0}, {1, 0, 64, 70, 32}};
 static const coarse_draw both = {.start = 0, .end = 2, .paint = 0, .blend = COARSE_DEFAULT_BLEND};
@@ -25,7 +25,7 @@ static void null_pointers(void) {
     float *opacities = calloc(COARSE_OPACITIES, 4);
     int32_t *filter_paints = calloc(COARSE_FILTER_PAINTS, 4);
     size_t count[2] = {7, 7};
-    coarse_setup one = {1, 1, COARSE_EXACT};
+    coarse_setup one = {1, 1, COARSE_EXACT, COARSE_128};
     expect("reset to no rows", COARSE_DONE,
            coarse_reset(state, COARSE_STATE, 0, 0, 128, 0, one, NULL, 0, NULL, 0, NULL, 0, NULL, 0, NULL, 0, layers, COARSE_LAYERS,
                         opacities, COARSE_OPACITIES, paint_attrs, COARSE_PAINT_ATTRS, layer_attrs, COARSE_LAYER_ATTRS,
@@ -206,7 +206,7 @@ static void no_mode(void) {
     before = sum(&b);
     for (i = 0; i < 3; i++) {
         coarse_bucketer other;
-        coarse_setup setup = {8, 8, modes[i]}, empty = {0, 8, modes[i]};
+        coarse_setup setup = {8, 8, modes[i], COARSE_128}, empty = {0, 8, modes[i], COARSE_128};
         expect("no screen of it", COARSE_BAD_RECORD, coarse_bucketer_new(&other, narrow, setup));
         expect("no sizes", COARSE_BAD_RECORD, coarse_bucketer_sizes(narrow, setup, sizes));
         expect("no sizes of a bad viewport", COARSE_BAD_RECORD, coarse_bucketer_sizes(bad, empty, sizes));
@@ -220,23 +220,89 @@ static void no_mode(void) {
     expect("nothing has changed", before, sum(&b));
     for (i = 0; i < 10; i++)
         expect("the sizes stay", 7, (uint32_t)sizes[i]);
-    /* With a mode, the viewport and the arenas come before a last word that is no flag. */
+    /* With a mode, the viewport and the arenas come before a word that is no flag. */
     b.state[15] = 2;
     expect("a bad viewport before a bad state", COARSE_BAD_VIEWPORT, reset(&b, bad, small));
     expect("a bad state", COARSE_BAD_RECORD, reset(&b, narrow, small));
     expect("a bad state, snapping", COARSE_BAD_RECORD, reset(&b, narrow, snapping));
-    expect("no mode and a bad state", COARSE_BAD_RECORD, reset(&b, bad, (coarse_setup){8, 8, 2}));
-    expect("a cut recording before both", COARSE_BAD_FORM, record(&b, file, 31, (coarse_setup){8, 8, 2}));
+    expect("no mode and a bad state", COARSE_BAD_RECORD, reset(&b, bad, (coarse_setup){8, 8, 2, COARSE_128}));
+    expect("a cut recording before both", COARSE_BAD_FORM, record(&b, file, 31, (coarse_setup){8, 8, 2, COARSE_128}));
     expect("no state, a cut recording", COARSE_BAD_RECORD, stateless(&b, file, 31, small));
-    expect("no state, no mode, a cut recording", COARSE_BAD_FORM, stateless(&b, file, 31, (coarse_setup){8, 8, 2}));
-    expect("no state, no mode", COARSE_BAD_RECORD, stateless(&b, file, 32, (coarse_setup){8, 8, 2}));
+    expect("no state, no mode, a cut recording", COARSE_BAD_FORM, stateless(&b, file, 31, (coarse_setup){8, 8, 2, COARSE_128}));
+    expect("no state, no mode", COARSE_BAD_RECORD, stateless(&b, file, 32, (coarse_setup){8, 8, 2, COARSE_128}));
+    coarse_bucketer_free(&b);
+}
+
+/* One solid fill over tiles 16 to 80 of a row of 128: whole buckets of it are depth fills, at each width. */
+static void widths(void) {
+    static const struct { uint32_t width, buckets, fills, first, end; size_t pieces; } each[] = {
+        {COARSE_64, 8, 1, 16, 80, 1}, {COARSE_128, 4, 1, 32, 64, 3}, {COARSE_256, 2, 0, 16, 80, 1}};
+    static const coarse_segment over[] = {{0, 0, 16, 80, 0}};
+    static const coarse_draw draw = {.start = 0, .end = 1, .paint = 0, .blend = COARSE_DEFAULT_BLEND};
+    const coarse_piece *pieces = NULL;
+    size_t i, count = 0;
+    uint32_t parts[9];
+    for (i = 0; i < 3; i++) {
+        coarse_bucketer b;
+        coarse_setup setup = {8, 8, COARSE_EXACT, each[i].width};
+        expect("a screen", COARSE_DONE, coarse_bucketer_new(&b, (coarse_rect){0, 0, 512, 4}, setup));
+        expect("of that width", each[i].width, coarse_bucketer_bucket_width(&b));
+        expect("its buckets", each[i].buckets, (uint32_t)coarse_bucketer_buckets(&b));
+        expect("and its depth words", each[i].buckets, (uint32_t)b.sizes[2]);
+        expect("a fill", COARSE_DONE, coarse_bucketer_generate_fill(&b, paints, 2, over, 1, &draw));
+        expect("its depth fills", each[i].fills, b.rows[1]);
+        expect("painting", COARSE_DONE, coarse_bucketer_begin_painting(&b));
+        expect("the row", COARSE_DONE, coarse_bucketer_paint_row(&b, 0, &pieces, &count));
+        expect("its pieces", (uint32_t)each[i].pieces, (uint32_t)count);
+        expect("the first", each[i].first, count ? pieces[0].first : 0);
+        expect("to its end", each[i].end, count ? pieces[0].end : 0);
+        expect("the same split", COARSE_DONE, coarse_split_opaque_span(16, 80, each[i].width, parts, 9));
+        expect("in as many parts", (uint32_t)each[i].pieces, parts[6] ? 3u : parts[3] ? 2u : 1u);
+        coarse_bucketer_free(&b);
+    }
+}
+
+/* A width that is none is refused by 2 with nothing changed, before 1 and 4; of a recording after its 3. */
+static void no_width(void) {
+    coarse_bucketer b;
+    coarse_rect narrow = {0, 0, 256, 8};
+    const uint32_t file[] = {1, 0, 0, 256, 8, 1, 1, 1, 0, 0, 1, 0, 0, 0, 64, 0, 1, 0, 0, 1, 0, 0, 3, 0, 0, 1, 0, 1, 0, 1, 0, 1};
+    size_t sizes[10] = {7, 7, 7, 7, 7, 7, 7, 7, 7, 7};
+    uint32_t none[] = {0, 1, 16, 32, 63, 65, 96, 127, 129, 255, 257, 512, 0xffffffffu}, parts[9] = {7}, before;
+    size_t i;
+    expect("a screen", COARSE_DONE, coarse_bucketer_new(&b, narrow, (coarse_setup){8, 8, COARSE_EXACT, COARSE_64}));
+    expect("with a fill", COARSE_DONE, coarse_bucketer_generate_fill(&b, paints, 2, segments, 2, &both));
+    before = sum(&b);
+    for (i = 0; i < sizeof none / sizeof none[0]; i++) {
+        coarse_bucketer other;
+        coarse_setup setup = {8, 8, COARSE_EXACT, none[i]}, empty = {0, 8, 2, none[i]};
+        expect("no screen of it", COARSE_BAD_VIEWPORT, coarse_bucketer_new(&other, narrow, setup));
+        expect("no sizes", COARSE_BAD_VIEWPORT, coarse_bucketer_sizes(narrow, setup, sizes));
+        expect("no reset", COARSE_BAD_VIEWPORT, reset(&b, narrow, setup));
+        expect("nor without room and a mode", COARSE_BAD_VIEWPORT, reset(&b, narrow, empty));
+        expect("no recording", COARSE_BAD_VIEWPORT, record(&b, file, 32, setup));
+        expect("a cut recording's form first", COARSE_BAD_FORM, record(&b, file, 31, empty));
+        expect("no reason", COARSE_BAD_VIEWPORT, why(&b, file, 32, setup, 0, COARSE_REASON));
+        expect("a cut recording's form first, asked why", COARSE_BAD_FORM, why(&b, file, 31, setup, 0, COARSE_REASON));
+        expect("no split", COARSE_BAD_VIEWPORT, coarse_split_opaque_span(0, 64, none[i], parts, 9));
+        expect("nor of nine words less one", COARSE_BAD_VIEWPORT, coarse_split_opaque_span(64, 0, none[i], parts, 8));
+    }
+    expect("nothing has changed", before, sum(&b));
+    expect("the parts stay", 7, parts[0]);
+    for (i = 0; i < 10; i++)
+        expect("the sizes stay", 7, (uint32_t)sizes[i]);
+    /* The screen's own word: 2 and 1 come before its 4. */
+    b.state[16] = 3;
+    expect("a bad viewport before a bad word", COARSE_BAD_VIEWPORT, reset(&b, (coarse_rect){0, 0, 2, 4}, small));
+    expect("a bad word", COARSE_BAD_RECORD, coarse_bucketer_pop_layer(&b, NULL, 0));
+    expect("its depth arena first, read as 128", COARSE_BAD_ARENA, coarse_bucketer_begin_painting(&b));
     coarse_bucketer_free(&b);
 }
 
 static void owned_tables(void) {
     coarse_bucketer b;
     coarse_rect narrow = {0, 0, 256, 8}, wide = {0, 0, 4096, 2048}, bad = {0, 0, 2, 4};
-    coarse_setup none = {0, 8, COARSE_EXACT};
+    coarse_setup none = {0, 8, COARSE_EXACT, COARSE_128};
     const coarse_piece *pieces;
     const coarse_run *runs;
     size_t count = 0;
@@ -326,5 +392,7 @@ int main(void) {
     lent_spans();
     snapped_screen();
     no_mode();
+    widths();
+    no_width();
     return wrong;
 }

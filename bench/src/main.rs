@@ -4,6 +4,7 @@ mod port;
 mod reads;
 mod scenes;
 mod timing;
+mod widths;
 
 use oracle::original::Original;
 use oracle::painting::Piece;
@@ -17,6 +18,10 @@ fn main() {
     let wanted = |scene: &&scenes::Scene| scene.name.contains(&only);
     if std::env::args().nth(1).as_deref() == Some("reads") {
         scenes::all().iter().filter(wanted).for_each(reads::count);
+        return;
+    }
+    if std::env::args().nth(1).as_deref() == Some("widths") {
+        scenes::of_widths().iter().for_each(widths::table);
         return;
     }
     let rounds = std::env::args()
@@ -35,7 +40,7 @@ fn main() {
 fn race(it: &scenes::Scene, rounds: usize) {
     let mut original = Original::new(&it.draft);
     let steps = steps(&it.draft);
-    let mut port = Port::new(&it.draft, it.c, it.d);
+    let mut port = Port::new(&it.draft, it.setup());
     let [mut reset, mut build, mut paint, mut by_steps] = [(); 4].map(|()| Race::new());
     for _ in 0..rounds {
         reset.original(|| original.reset());

@@ -19,7 +19,7 @@ pub(crate) struct Port {
 }
 
 impl Port {
-    pub(crate) fn new(draft: &Draft, c: u32, d: u32) -> Self {
+    pub(crate) fn new(draft: &Draft, setup: Setup) -> Self {
         let viewport = rect(draft.viewport);
         Self {
             viewport,
@@ -31,7 +31,7 @@ impl Port {
             segments: draft.segments.iter().map(segment).collect(),
             draws: draft.draws.iter().map(draw).collect(),
             layers: draft.layers.iter().map(layer).collect(),
-            bucketer: CommandBucketer::new(viewport, Setup::new(c, d)).expect("a good viewport"),
+            bucketer: CommandBucketer::new(viewport, setup).expect("a good viewport"),
         }
     }
 
@@ -56,6 +56,12 @@ impl Port {
             }
             .expect("a step within the limits");
         }
+    }
+
+    /// The depth fills of all rows.
+    pub(crate) fn depth_fills(&self) -> usize {
+        let rows = 0..self.bucketer.rows();
+        rows.map(|row| self.bucketer.depth_fills(row)).sum()
     }
 
     pub(crate) fn depth_words(&self) -> &[u32] {

@@ -18,7 +18,7 @@ pub(crate) fn count(it: &Scene) {
     let mut original = Original::new(&it.draft);
     original.reset();
     original.build(&steps);
-    let mut port = Port::new(&it.draft, it.c, it.d);
+    let mut port = Port::new(&it.draft, it.setup());
     port.reset();
     port.build(&steps);
     watch(original.depth_words());

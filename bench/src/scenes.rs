@@ -1,5 +1,6 @@
 //! The scenes that are timed, each as the records of a recording.
 
+use coarse::Setup;
 use oracle::generate::draft::{clipped, layer, solid, Draft};
 
 pub(crate) struct Scene {
@@ -8,6 +9,13 @@ pub(crate) struct Scene {
     /// Room for commands and for depth fills in a row.
     pub(crate) c: u32,
     pub(crate) d: u32,
+}
+
+impl Scene {
+    /// At 128 pixels a bucket.
+    pub(crate) fn setup(&self) -> Setup {
+        Setup::new(self.c, self.d)
+    }
 }
 
 /// Numbers that look random and are the same in every run.
@@ -22,6 +30,42 @@ impl Numbers {
 
 pub(crate) fn all() -> Vec<Scene> {
     vec![banner(), wall(), text(), nested()]
+}
+
+/// The scenes that are timed at each width of a bucket.
+pub(crate) fn of_widths() -> Vec<Scene> {
+    vec![status(), wall()]
+}
+
+/// A status panel of 320 x 64: an opaque page, then 24 times a field of 18 to 41 tiles on four rows, and two lines of text in it.
+fn status() -> Scene {
+    let mut draft = Draft::new(320, 64);
+    let mut numbers = Numbers(5);
+    let page: Vec<_> = (0..16).map(|row| solid(row, 0, 80)).collect();
+    let range = draft.segments(&page);
+    draft.draw(range);
+    for _ in 0..24 {
+        let (row, first, width) = (
+            4 * numbers.below(4),
+            numbers.below(39),
+            18 + numbers.below(24),
+        );
+        let field: Vec<_> = (row..row + 4)
+            .map(|row| solid(row, first, first + width))
+            .collect();
+        let range = draft.segments(&field);
+        draft.draw(range);
+        let mut list = Vec::new();
+        for row in row + 1..row + 3 {
+            for letter in 0..width / 3 {
+                let x = first + 3 * letter;
+                list.push([1, row, x, x + 2, 16 * numbers.below(1_000_000)]);
+            }
+        }
+        let range = draft.segments(&list);
+        draft.draw(range);
+    }
+    finished("status panel", draft, 256, 64)
 }
 
 /// A page of 1,024 x 768 with 400 small opaque fills, four rows high.

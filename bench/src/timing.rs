@@ -8,13 +8,13 @@ pub(crate) struct Race {
     port: Vec<f64>,
 }
 
-fn micros(run: impl FnOnce()) -> f64 {
+pub(crate) fn micros(run: impl FnOnce()) -> f64 {
     let start = Instant::now();
     run();
     start.elapsed().as_secs_f64() * 1e6
 }
 
-fn median(times: &[f64]) -> f64 {
+pub(crate) fn median(times: &[f64]) -> f64 {
     let mut times = times.to_vec();
     times.sort_by(f64::total_cmp);
     times[times.len() / 2]

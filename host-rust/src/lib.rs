@@ -68,7 +68,7 @@ impl Answer {
     pub fn text(self) -> &'static str {
         match self {
             Answer::BadArena => "BadArena: the render, depth fill or depth table has another length than the screen needs, or C or D is not from 1 to 1,024",
-            Answer::BadViewport => "BadViewport: the viewport is not made of multiples of 4 in order up to 32,768, or is wider than 4,096 or higher than 2,048",
+            Answer::BadViewport => "BadViewport: the viewport is not made of multiples of 4 in order up to 32,768, or is wider than 4,096 or higher than 2,048, or a bucket's width is not 64, 128 or 256",
             Answer::BadForm => "BadForm: the recording is not exactly its counted sections, or a count is out of range",
             Answer::BadRecord => "BadRecord: a field, a range or a table that the call reads is out of bounds",
             Answer::BadOrder => "BadOrder: a segment list is not in order, or its segments overlap",
@@ -120,31 +120,50 @@ pub enum Mode {
     Snapping = 1,
 }
 
-/// What a screen is asked to be: room for c render commands and d depth fills in each row, and how viewports are read.
+/// How many pixels wide a depth bucket is: the words of `coarse_width`.
+#[derive(Debug, Clone, Copy, PartialEq, Eq, Default)]
+#[repr(u32)]
+pub enum Width {
+    /// For small panels.
+    W64 = 64,
+    /// The original's.
+    #[default]
+    W128 = 128,
+    /// For wall screens.
+    W256 = 256,
+}
+
+/// What a screen is asked to be: room for c render commands and d depth fills in each row, how viewports are read, and how wide its
+/// buckets are.
 #[derive(Debug, Clone, Copy, PartialEq, Eq, Default)]
 pub struct Setup {
     pub c: u32,
     pub d: u32,
     pub mode: Mode,
+    pub width: Width,
 }
 
 impl Setup {
-    /// In the exact mode.
+    /// In the exact mode, with buckets of 128 pixels.
     pub fn new(c: u32, d: u32) -> Self {
         Self {
             c,
             d,
-            mode: Mode::Exact,
+            ..Self::default()
         }
     }
 
-    /// In the snapping mode.
+    /// In the snapping mode, with buckets of 128 pixels.
     pub fn snapping(c: u32, d: u32) -> Self {
         Self {
-            c,
-            d,
             mode: Mode::Snapping,
+            ..Self::new(c, d)
         }
+    }
+
+    /// The same with buckets of another width.
+    pub fn with_width(self, width: Width) -> Self {
+        Self { width, ..self }
     }
 }
 
@@ -372,11 +391,11 @@ impl Reason {
     }
 }
 
-/// Rule 7: the parts of an opaque span, left to right.
-pub fn split_opaque_span(first: u32, end: u32) -> Result<Vec<DepthSegment>, Answer> {
+/// Rule 7: the parts of an opaque span over buckets of a width, left to right.
+pub fn split_opaque_span(first: u32, end: u32, width: Width) -> Result<Vec<DepthSegment>, Answer> {
     let mut parts = [0; 9];
     Answer::check(unsafe {
-        sys::coarse_split_opaque_span(first, end, parts.as_mut_ptr(), parts.len())
+        sys::coarse_split_opaque_span(first, end, width as u32, parts.as_mut_ptr(), parts.len())
     })?;
     Ok(parts
         .chunks_exact(3)
@@ -480,7 +499,10 @@ impl Tables {
 }
 
 /// Places in the state's words.
-const STATE: usize = 16;
+const STATE: usize = 17;
+
+/// The words of a row's record; the second is how many depth fills it has.
+const ROW: usize = 54;
 const NEXT_DRAW_ID: usize = 10;
 const PAINT_ATTRS: usize = 11;
 const LAYER_ATTRS: usize = 12;
@@ -822,8 +844,8 @@ impl CommandBucketer {
 
     /// All pieces of a row, from where it stands to its end.
     pub fn paint_row(&mut self, row: usize) -> Result<&[Piece], Answer> {
-        // Each call has room for one step at least, and a row has at most c + d.
-        let step = self.buckets() + 1;
+        // Each call has room for one step at least, a piece for each run that a row can have, and a row has at most c + d.
+        let step = self.runs.len();
         let mut count = 0;
         for _ in 0..=self.setup.c + self.setup.d {
             if self.pieces.len() < count + step {
@@ -990,12 +1012,30 @@ impl CommandBucketer {
 
     /// How many depth buckets a row has.
     pub fn buckets(&self) -> usize {
-        self.width().div_ceil(128) as usize
+        self.width().div_ceil(self.bucket_width() as u32) as usize
+    }
+
+    /// How wide a bucket of the screen is.
+    pub fn bucket_width(&self) -> Width {
+        match self.state[16] {
+            1 => Width::W64,
+            2 => Width::W256,
+            _ => Width::W128,
+        }
     }
 
     /// The depth words, row after row.
     pub fn depth_words(&self) -> &[u32] {
         &self.tables.depth
+    }
+
+    /// How many depth fills a row has; none where there is no such row.
+    pub fn depth_fills(&self, row: usize) -> usize {
+        self.tables
+            .rows
+            .chunks_exact(ROW)
+            .nth(row)
+            .map_or(0, |record| record[1] as usize)
     }
 
     pub fn next_draw_id(&self) -> u32 {

@@ -9,6 +9,7 @@ pub struct SetupWords {
     pub c: u32,
     pub d: u32,
     pub mode: u32,
+    pub width: u32,
 }
 
 impl From<Setup> for SetupWords {
@@ -17,6 +18,7 @@ impl From<Setup> for SetupWords {
             c: setup.c,
             d: setup.d,
             mode: setup.mode as u32,
+            width: setup.width as u32,
         }
     }
 }
@@ -372,6 +374,11 @@ extern "C" {
         yes_len: usize,
     ) -> u32;
 
-    pub fn coarse_split_opaque_span(first: u32, end: u32, parts: *mut u32, parts_len: usize)
-        -> u32;
+    pub fn coarse_split_opaque_span(
+        first: u32,
+        end: u32,
+        pixels: u32,
+        parts: *mut u32,
+        parts_len: usize,
+    ) -> u32;
 }

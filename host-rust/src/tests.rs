@@ -36,15 +36,27 @@ fn known_points_of_the_split() {
     let regular = |first, end| DepthSegment::Regular(Run { first, end });
     let opaque = |first, end| DepthSegment::Opaque(Run { first, end });
     assert_eq!(
-        split_opaque_span(10, 100),
+        split_opaque_span(10, 100, Width::W128),
         Ok(vec![regular(10, 32), opaque(1, 3), regular(96, 100)])
     );
-    assert_eq!(split_opaque_span(10, 40), Ok(vec![regular(10, 40)]));
-    assert_eq!(split_opaque_span(0, 64), Ok(vec![opaque(0, 2)]));
-    assert_eq!(split_opaque_span(32, 64), Ok(vec![opaque(1, 2)]));
-    assert_eq!(split_opaque_span(5, 5), Ok(vec![regular(5, 5)]));
-    assert_eq!(split_opaque_span(6, 5), Err(Answer::BadRun));
-    assert_eq!(split_opaque_span(0, 8193), Err(Answer::BadRun));
+    assert_eq!(
+        split_opaque_span(10, 40, Width::W128),
+        Ok(vec![regular(10, 40)])
+    );
+    assert_eq!(
+        split_opaque_span(0, 64, Width::W128),
+        Ok(vec![opaque(0, 2)])
+    );
+    assert_eq!(
+        split_opaque_span(32, 64, Width::W128),
+        Ok(vec![opaque(1, 2)])
+    );
+    assert_eq!(
+        split_opaque_span(5, 5, Width::W128),
+        Ok(vec![regular(5, 5)])
+    );
+    assert_eq!(split_opaque_span(6, 5, Width::W128), Err(Answer::BadRun));
+    assert_eq!(split_opaque_span(0, 8193, Width::W128), Err(Answer::BadRun));
 }
 
 /// Every number is its own answer, one past the last too.
@@ -555,6 +567,54 @@ fn words_that_are_no_screen() {
         Err(Answer::BadViewport)
     );
     assert_eq!(bucketer.begin_painting(), Err(Answer::BadViewport));
+}
+
+/// One solid fill over tiles 16 to 80: whole buckets of it are depth fills, at each width.
+#[test]
+fn widths() {
+    let run = |first, end| Run { first, end };
+    for (width, buckets, split, pieces) in [
+        (
+            Width::W64,
+            8,
+            vec![DepthSegment::Opaque(run(1, 5))],
+            vec![paint(0, 16, 80)],
+        ),
+        (
+            Width::W128,
+            4,
+            vec![
+                DepthSegment::Regular(run(16, 32)),
+                DepthSegment::Opaque(run(1, 2)),
+                DepthSegment::Regular(run(64, 80)),
+            ],
+            vec![paint(0, 32, 64), paint(0, 16, 32), paint(0, 64, 80)],
+        ),
+        (
+            Width::W256,
+            2,
+            vec![DepthSegment::Regular(run(16, 80))],
+            vec![paint(0, 16, 80)],
+        ),
+    ] {
+        let setup = Setup::new(8, 8).with_width(width);
+        let mut bucketer = CommandBucketer::from_wh(512, 4, setup).unwrap();
+        assert_eq!(
+            (bucketer.bucket_width(), bucketer.buckets()),
+            (width, buckets)
+        );
+        assert_eq!(bucketer.depth_words().len(), buckets);
+        assert_eq!(split_opaque_span(16, 80, width), Ok(split));
+        bucketer
+            .generate_fill(
+                &[Paint::new(true, 1)],
+                &[Segment::solid(0, 16, 80)],
+                &fill(0, 1, 0),
+            )
+            .unwrap();
+        bucketer.begin_painting().unwrap();
+        assert_eq!(painted(&mut bucketer, 0), pieces);
+    }
 }
 
 /// 1,366 x 768 pixels are 342 tiles in each of 192 rows.

@@ -1,23 +1,20 @@
 //! Sequences of calls on one screen, answered by the Rust: building steps, painting by turns, runs. README.md has their words.
 
-use crate::coarse::bucketer::RowState;
-use crate::coarse::cmd::{PaintFillAttrs, RenderCmd};
-use crate::coarse::depth::{BucketRange, DepthBuffer};
-use crate::coarse::{probe, CommandBucketer};
 use crate::file::{good_blend, good_box, good_dest, good_segment, in_order};
 use crate::limits::{
     self, BAD_ARENA, BAD_ORDER, BAD_RECORD, BAD_RUN, BAD_VIEWPORT, HANDLES, LAST_PIXEL, LAST_TILE,
     MOST_RECORDS, MOST_ROOM, NO_LAYER, NO_ROOM, OPEN, THREADS,
 };
-use crate::print::handle;
+use crate::rules::Ledger;
 use crate::scene::{blend, draw, mask, paint, rect, strip};
-use crate::span::TileAlignedSpan;
+use crate::screen::{Command, Range, Screen};
 use crate::viewport::{must_hold, Mode};
+use crate::width::{Depth, Width};
 use std::sync::Arc;
 use vello_common::encode::EncodedPaint;
 use vello_common::filter::FilterLayerPlacement;
 use vello_common::geometry::RectU16;
-use vello_common::paint::{ImageSource, Paint};
+use vello_common::paint::ImageSource;
 use vello_common::pixmap::Pixmap;
 use vello_common::record::{LayerClip, LayerProps};
 
@@ -32,7 +29,11 @@ pub enum Call {
         c: u32,
         d: u32,
         mode: Mode,
+        /// Pixels a bucket.
+        width: u32,
     },
+    /// A reset whose mode word is none, as its words.
+    NoMode([u32; 8]),
     Fill {
         draw: [u32; 7],
         paints: Vec<[u32; 4]>,
@@ -100,7 +101,9 @@ impl Call {
                 c,
                 d,
                 mode,
-            } => [&[0], &viewport[..], &[*c, *d, mode.word()]].concat(),
+                width,
+            } => [&[0], &viewport[..], &[*c, *d, mode.word(), *width]].concat(),
+            Self::NoMode(words) => [&[0], &words[..]].concat(),
             Self::Fill {
                 draw,
                 paints,
@@ -150,12 +153,16 @@ impl Call {
         let [kind] = take(rest)?;
         Some(match kind {
             0 => {
-                let [x0, y0, x1, y1, c, d, mode] = take(rest)?;
-                Self::Reset {
-                    viewport: [x0, y0, x1, y1],
-                    c,
-                    d,
-                    mode: Mode::of(mode)?,
+                let words @ [x0, y0, x1, y1, c, d, mode, width] = take(rest)?;
+                match Mode::of(mode) {
+                    None => Self::NoMode(words),
+                    Some(mode) => Self::Reset {
+                        viewport: [x0, y0, x1, y1],
+                        c,
+                        d,
+                        mode,
+                        width,
+                    },
                 }
             }
             1 => Self::Fill {
@@ -277,19 +284,22 @@ pub fn stream(lists: &[Vec<u32>]) -> Vec<u8> {
 
 /// What a sequence answers, on a screen without rows at first.
 pub fn answers(calls: &[Call]) -> Vec<u32> {
-    let mut screen = Screen::new();
-    calls.iter().flat_map(|call| screen.answer(call)).collect()
+    let mut sequence = Sequence::new();
+    let answer = |call| sequence.answer(call);
+    calls.iter().flat_map(answer).collect()
 }
 
 /// Where the painting of a row stands.
 struct Painter {
-    depth: DepthBuffer,
+    depth: Depth,
     steps: usize,
     nesting: u32,
 }
 
-struct Screen {
-    bucketer: CommandBucketer,
+/// Where a sequence of calls stands on its screen.
+struct Sequence {
+    screen: Box<dyn Screen>,
+    width: Width,
     /// The viewport as the last reset had it, and the box that the screen holds.
     given: RectU16,
     held: RectU16,
@@ -297,20 +307,23 @@ struct Screen {
     d: usize,
     /// What was done since the reset: a step that passes a limit is undone by doing these again.
     done: Vec<Call>,
+    ledger: Ledger,
     begun: bool,
     painters: Vec<Painter>,
 }
 
-impl Screen {
+impl Sequence {
     fn new() -> Self {
-        let bucketer = CommandBucketer::from_wh(0, 0);
+        let (width, empty) = (Width::Of128, rect([0; 4]));
         Self {
-            bucketer,
-            given: rect([0; 4]),
-            held: rect([0; 4]),
+            screen: width.screen(empty),
+            width,
+            given: empty,
+            held: empty,
             c: 1,
             d: 1,
             done: Vec::new(),
+            ledger: Ledger::new(empty, width.tiles()),
             begun: false,
             painters: Vec::new(),
         }
@@ -323,33 +336,33 @@ impl Screen {
                 c,
                 d,
                 mode,
-            } => vec![self.reset(*viewport, *c, *d, *mode)],
+                width,
+            } => vec![self.reset(*viewport, *c, *d, *mode, *width)],
+            // Without a mode there is no viewport to judge, but there is a width.
+            Call::NoMode([.., width]) => {
+                let good = Width::of(*width).is_some();
+                vec![if good { BAD_RECORD } else { BAD_VIEWPORT }]
+            }
             Call::Fill { .. } | Call::Push { .. } | Call::Pop { .. } | Call::Filter { .. } => {
                 vec![self.build(call)]
             }
             Call::NextId(id) => {
-                probe::set_next_id(&mut self.bucketer, *id);
+                self.screen.set_next_id(*id);
                 self.done.push(call.clone());
                 vec![0]
             }
             Call::Begin => vec![self.begin()],
             Call::Step { row, words } => self.step(*row, *words),
             Call::Unset { row, tiles, words } => {
-                self.runs(*row, *tiles, *words, |depth, span, runs| {
-                    depth.for_each_unset_run(span, |run| {
-                        runs.push([run.tile_x().into(), run.tile_end().into()])
-                    });
-                })
+                self.runs(*row, *tiles, *words, |depth, tiles| depth.unset(tiles))
             }
             Call::Visible {
                 row,
                 id,
                 tiles,
                 words,
-            } => self.runs(*row, *tiles, *words, |depth, span, runs| {
-                depth.for_each_visible_run(span, *id, |run| {
-                    runs.push([run.tile_x().into(), run.tile_end().into()])
-                });
+            } => self.runs(*row, *tiles, *words, |depth, tiles| {
+                depth.visible(tiles, *id)
             }),
             Call::Write {
                 row,
@@ -362,8 +375,8 @@ impl Screen {
         }
     }
 
-    fn reset(&mut self, viewport: [u32; 4], c: u32, d: u32, mode: Mode) -> u32 {
-        let Some(held) = mode.held(viewport) else {
+    fn reset(&mut self, viewport: [u32; 4], c: u32, d: u32, mode: Mode, width: u32) -> u32 {
+        let (Some(held), Some(width)) = (mode.held(viewport), Width::of(width)) else {
             return BAD_VIEWPORT;
         };
         if ![c, d].iter().all(|room| (1..=MOST_ROOM).contains(room)) {
@@ -371,9 +384,15 @@ impl Screen {
         }
         (self.given, self.held) = (rect(viewport), rect(held));
         (self.c, self.d) = (c as usize, d as usize);
-        self.bucketer.reset(self.given);
-        must_hold(&self.bucketer, self.held);
+        if width == self.width {
+            self.screen.reset(self.given);
+        } else {
+            self.screen = width.screen(self.given);
+            self.width = width;
+        }
+        must_hold(&*self.screen, self.held);
         self.done.clear();
+        self.ledger = Ledger::new(self.held, width.tiles());
         self.begun = false;
         self.blank();
         0
@@ -381,32 +400,39 @@ impl Screen {
 
     /// Every row at its first step, its depth words 0.
     fn blank(&mut self) {
-        let width = self.bucketer.width();
-        let blank = |_: &RowState| Painter {
-            depth: DepthBuffer::new(width),
+        let blank = |_| Painter {
+            depth: Depth::new(self.width, self.screen.width()),
             steps: 0,
             nesting: 0,
         };
-        self.painters = self.bucketer.rows().iter().map(blank).collect();
+        self.painters = (0..self.screen.rows()).map(blank).collect();
     }
 
-    /// A building step: judged by document 01, done by the Rust, undone if a limit is passed.
+    /// A building step: judged by document 01, done by the Rust, undone if a limit is passed. The own account of the rows must agree.
     fn build(&mut self, call: &Call) -> u32 {
         let inputs = self.judge(call);
         if inputs != 0 {
             return inputs;
         }
+        let ledger = self.ledger.clone();
         self.perform(call);
-        let Err(limit) = limits::within(&self.bucketer, self.c, self.d) else {
-            self.done.push(call.clone());
-            self.begun = false;
-            return 0;
+        let answer = match limits::within(&*self.screen, self.c, self.d) {
+            Ok(()) => {
+                self.done.push(call.clone());
+                self.begun = false;
+                0
+            }
+            Err(limit) => {
+                self.screen.reset(self.given);
+                for call in self.done.clone() {
+                    self.perform(&call);
+                }
+                self.ledger = ledger;
+                limit
+            }
         };
-        self.bucketer.reset(self.given);
-        for call in self.done.clone() {
-            self.perform(&call);
-        }
-        limit
+        self.ledger.must_agree(&*self.screen);
+        answer
     }
 
     /// 4, 5 or 7 for what a step is given.
@@ -447,7 +473,7 @@ impl Screen {
                     BAD_RECORD
                 }
             }
-            Call::Pop { segments } => match probe::innermost_clip(&self.bucketer) {
+            Call::Pop { segments } => match self.screen.innermost_clip() {
                 None => NO_LAYER,
                 Some(None) => 0,
                 Some(Some(range)) => judge_list(
@@ -484,20 +510,14 @@ impl Screen {
                 segments,
             } => {
                 let fill = draw(words);
-                let attrs = PaintFillAttrs {
-                    paint: fill.paint.clone(),
-                    blend_mode: fill.blend_mode,
-                    mask: fill.mask.clone(),
-                    draw_id: probe::take_id(&mut self.bucketer),
-                    thread_idx: fill.thread_idx,
-                    origin: (self.held.x0, self.held.y0),
-                };
                 let paints: Vec<EncodedPaint> = paints.iter().map(paint).collect();
                 let strips: Vec<_> = segments[fill.strip_range.clone()]
                     .iter()
                     .map(strip)
                     .collect();
-                self.bucketer.generate_fill(&strips, &attrs, &paints);
+                self.ledger.fill(&*self.screen, &fill, &strips, &paints);
+                let origin = (self.held.x0, self.held.y0);
+                self.screen.fill(&fill, origin, &strips, &paints);
             }
             Call::Push {
                 mix,
@@ -512,7 +532,7 @@ impl Screen {
                     strip_range: *start as usize..*end as usize,
                     thread_idx: u8::try_from(*thread).expect("judged"),
                 };
-                self.bucketer.push_layer(&LayerProps {
+                self.screen.push(&LayerProps {
                     blend_mode: blend(*mix, *compose),
                     opacity: f32::from_bits(*opacity),
                     mask: mask(*handle),
@@ -521,9 +541,7 @@ impl Screen {
             }
             Call::Pop { segments } => {
                 // What no clip reads is not judged, and need not be a segment.
-                let range = probe::innermost_clip(&self.bucketer)
-                    .flatten()
-                    .unwrap_or(0..0);
+                let range = self.screen.innermost_clip().flatten().unwrap_or(0..0);
                 let read = |(i, segment): (usize, &[u32; 5])| {
                     if range.contains(&i) {
                         strip(segment)
@@ -532,7 +550,7 @@ impl Screen {
                     }
                 };
                 let strips: Vec<_> = segments.iter().enumerate().map(read).collect();
-                self.bucketer.pop_layer(&strips);
+                self.screen.pop(&strips);
             }
             // Without a pixmap the original's walk makes no such call: nothing is drawn.
             Call::Filter {
@@ -549,19 +567,16 @@ impl Screen {
                     dest: rect(*dest),
                     source,
                 };
-                self.bucketer.generate_filter_layer_fill(
-                    Arc::new(Pixmap::of(*handle)),
-                    placement,
-                    *count as usize,
-                );
+                self.screen
+                    .filter(Arc::new(Pixmap::of(*handle)), placement, *count as usize);
             }
-            Call::NextId(id) => probe::set_next_id(&mut self.bucketer, *id),
+            Call::NextId(id) => self.screen.set_next_id(*id),
             _ => {}
         }
     }
 
     fn begin(&mut self) -> u32 {
-        if probe::open_layers(&self.bucketer) > 0 {
+        if self.screen.open_layers() > 0 {
             return OPEN;
         }
         self.blank();
@@ -570,59 +585,42 @@ impl Screen {
     }
 
     fn step(&mut self, row: u32, words: u32) -> Vec<u32> {
-        let Some(state) = self.bucketer.rows().get(row as usize) else {
+        let Some(painter) = self.painters.get(row as usize) else {
             return refused(BAD_RUN, 2, words);
         };
         if !self.begun {
             return refused(OPEN, 2, words);
         }
-        let painter = &self.painters[row as usize];
-        let (fills, commands) = (state.depth_cmds.len(), state.render_cmds.len());
-        let mut depth = same(&painter.depth);
+        let state = self.screen.row(row as usize);
+        let fills = state.fills.len();
+        let mut depth = painter.depth.clone();
         let mut nesting = painter.nesting;
         let mut pieces: Vec<[u32; 6]> = Vec::new();
         if painter.steps < fills {
-            let fill = state.depth_cmds[fills - 1 - painter.steps];
-            let id = self.bucketer.paint_fill_attrs[fill.attrs_idx as usize].draw_id;
-            depth.for_each_unset_run_and_write(fill.bucket_range(), id, |run| {
-                pieces.push([
-                    1,
-                    fill.attrs_idx,
-                    run.span().tile_x().into(),
-                    run.span().tile_end().into(),
-                    0,
-                    0,
-                ]);
-            });
-        } else if painter.steps < fills + commands {
-            let mut fill =
-                |layer: u32, attribute: u32, span: TileAlignedSpan, alpha: Option<u32>, id: u32| {
-                    depth.for_each_visible_run(span, id, |run| {
-                        let (first, end) = (run.tile_x(), run.tile_end());
-                        let moved =
-                            alpha.map(|alpha| alpha + 16 * u32::from(first - span.tile_x()));
-                        let tag = 1 + 2 * layer + u32::from(alpha.is_some());
-                        pieces.push([
-                            tag,
-                            attribute,
-                            first.into(),
-                            end.into(),
-                            moved.unwrap_or(0),
-                            nesting,
-                        ]);
-                    });
-                };
-            match state.render_cmds[painter.steps - fills] {
-                RenderCmd::PaintFill(of) => {
-                    let id = self.bucketer.paint_fill_attrs[of.attrs_idx as usize].draw_id;
-                    fill(0, of.attrs_idx, of.span, of.alpha_idx(), id);
+            let fill = state.fills[fills - 1 - painter.steps];
+            let id = self.screen.paint_attrs()[fill.attribute as usize].id;
+            for run in depth.write(fill.buckets, id) {
+                let (first, end) = self.width.tiles_of(run);
+                pieces.push([1, fill.attribute, first, end, 0, 0]);
+            }
+        } else if let Some(command) = state.commands.get(painter.steps - fills) {
+            match *command {
+                Command::Fill(fill) => {
+                    let at = fill.attribute as usize;
+                    let id = if fill.layer {
+                        self.screen.layer_attrs()[at].id
+                    } else {
+                        self.screen.paint_attrs()[at].id
+                    };
+                    let tag = 1 + 2 * u32::from(fill.layer) + u32::from(fill.alpha.is_some());
+                    for (first, end) in depth.visible(fill.tiles, id) {
+                        let moved = fill.alpha.map(|alpha| alpha + 16 * (first - fill.tiles.0));
+                        let alpha = moved.unwrap_or(0);
+                        pieces.push([tag, fill.attribute, first, end, alpha, nesting]);
+                    }
                 }
-                RenderCmd::LayerFill(of) => {
-                    let id = self.bucketer.layer_fill_attrs[of.attrs_idx as usize].draw_id;
-                    fill(1, of.attrs_idx, of.span, of.alpha_idx(), id);
-                }
-                RenderCmd::PushBuf(_) => nesting += 1,
-                RenderCmd::PopBuf => nesting -= 1,
+                Command::Push(_) => nesting += 1,
+                Command::Pop => nesting -= 1,
             }
         } else {
             return [vec![0, 1, 0], listed::<6>(&[], words)].concat();
@@ -648,7 +646,7 @@ impl Screen {
         row: u32,
         [first, end]: [u32; 2],
         words: u32,
-        of: impl Fn(&DepthBuffer, TileAlignedSpan, &mut Vec<[u32; 2]>),
+        of: impl Fn(&Depth, Range) -> Vec<Range>,
     ) -> Vec<u32> {
         let Some(painter) = self.painters.get(row as usize) else {
             return refused(BAD_RUN, 1, words);
@@ -656,106 +654,72 @@ impl Screen {
         if first > end || end > LAST_TILE {
             return refused(BAD_RUN, 1, words);
         }
-        let mut runs = Vec::new();
-        of(&painter.depth, tiles([first, end]), &mut runs);
+        let runs = of(&painter.depth, (first, end));
         if runs.len() > words as usize / 2 {
             return refused(NO_ROOM, 1, words);
         }
-        [
-            vec![0, u32::try_from(runs.len()).expect("few")],
-            listed(&runs, words),
-        ]
-        .concat()
+        ranges(&runs, words)
     }
 
     fn write(&mut self, row: u32, id: u32, [first, end]: [u32; 2], words: u32) -> Vec<u32> {
         let Some(painter) = self.painters.get_mut(row as usize) else {
             return refused(BAD_RUN, 1, words);
         };
-        if first > end || end as usize > probe::depth_words(&painter.depth).len() || id == 0 {
+        if first > end || end as usize > painter.depth.words().len() || id == 0 {
             return refused(BAD_RUN, 1, words);
         }
-        let short = |n: u32| u16::try_from(n).expect("few buckets");
-        let mut depth = same(&painter.depth);
-        let mut runs = Vec::new();
-        depth.for_each_unset_run_and_write(BucketRange::new(short(first), short(end)), id, |run| {
-            runs.push([run.start.into(), run.end.into()]);
-        });
+        let mut depth = painter.depth.clone();
+        let runs = depth.write((first, end), id);
         if runs.len() > words as usize / 2 {
             return refused(NO_ROOM, 1, words);
         }
         painter.depth = depth;
         self.begun = false;
-        [
-            vec![0, u32::try_from(runs.len()).expect("few")],
-            listed(&runs, words),
-        ]
-        .concat()
+        ranges(&runs, words)
     }
 
     fn can_skip(&self, row: u32, [first, end]: [u32; 2], id: u32) -> Vec<u32> {
-        match self.bucketer.rows().get(row as usize) {
-            Some(state) if first <= end && end <= LAST_TILE => {
-                vec![0, state.can_skip_depth(tiles([first, end]), id).into()]
-            }
-            _ => vec![BAD_RUN, 0],
+        let row = row as usize;
+        if row >= self.screen.rows() || first > end || end > LAST_TILE {
+            return vec![BAD_RUN, 0];
         }
+        let says = self.screen.can_skip(row, (first, end), id);
+        let own = self.ledger.can_skip(row, (first, end), id);
+        assert_eq!(says, own, "can_skip {first} {end} {id} of row {row}");
+        vec![0, says.into()]
     }
 
     /// The screen's numbers, each row's words, the attributes.
     fn show(&self) -> Vec<u32> {
-        let screen = &self.bucketer;
+        let screen = &self.screen;
         let count = |n: usize| u32::try_from(n).expect("few");
-        let mut out = vec![
-            probe::next_id(screen),
-            count(screen.paint_fill_attrs.len()),
-            count(screen.layer_fill_attrs.len()),
-            count(screen.filter_paints.len()),
-            count(probe::open_layers(screen)),
-            self.begun.into(),
-        ];
-        let clip = probe::clip_box(screen);
+        let mut out = vec![screen.next_id()];
+        out.extend(screen.counts().map(count));
+        out.extend([count(screen.open_layers()), self.begun.into()]);
+        let clip = screen.clip_box();
         out.extend([clip.x0, clip.y0, clip.x1, clip.y1].map(u32::from));
-        for (row, painter) in screen.rows().iter().zip(&self.painters) {
-            out.extend([count(row.render_cmds.len()), count(row.depth_cmds.len())]);
-            out.extend(probe::summary(row));
-            out.push(count(probe::levels(row)));
-            out.extend(row.render_cmds.iter().flat_map(command_words));
-            for fill in &row.depth_cmds {
-                let range = fill.bucket_range();
-                out.extend([
-                    u32::from(range.start) << 16 | u32::from(range.end),
-                    fill.attrs_idx,
-                ]);
+        for (i, painter) in self.painters.iter().enumerate() {
+            let row = screen.row(i);
+            out.extend([count(row.commands.len()), count(row.fills.len())]);
+            out.extend(row.summary);
+            out.push(count(row.levels));
+            out.extend(row.commands.iter().flat_map(command_words));
+            for fill in &row.fills {
+                out.extend([packed(fill.buckets), fill.attribute]);
             }
-            out.extend(probe::depth_words(&painter.depth));
+            out.extend(painter.depth.words());
             out.extend([count(painter.steps), painter.nesting]);
         }
-        for attrs in &screen.paint_fill_attrs {
-            let Paint::Indexed(paint) = &attrs.paint;
-            let (x, y) = attrs.origin;
-            let (mix, compose) = (attrs.blend_mode.mix, attrs.blend_mode.compose);
-            out.extend([
-                count(paint.index()),
-                mix.into(),
-                compose.into(),
-                handle(&attrs.mask),
-                attrs.draw_id,
-            ]);
-            out.extend([u32::from(attrs.thread_idx), x.into(), y.into()]);
+        for attr in screen.paint_attrs() {
+            let ([mix, compose], [x, y]) = (attr.blend, attr.origin);
+            out.extend([attr.paint, mix, compose, attr.mask, attr.id]);
+            out.extend([attr.thread, x, y]);
         }
-        for attrs in &screen.layer_fill_attrs {
-            let (mix, compose) = (attrs.blend_mode.mix, attrs.blend_mode.compose);
-            out.extend([
-                mix.into(),
-                compose.into(),
-                handle(&attrs.mask),
-                attrs.draw_id,
-                attrs.thread_idx.into(),
-                attrs.opacity.to_bits(),
-            ]);
+        for attr in screen.layer_attrs() {
+            let [mix, compose] = attr.blend;
+            out.extend([mix, compose, attr.mask, attr.id, attr.thread, attr.opacity]);
         }
-        for EncodedPaint::Image(image) in &screen.filter_paints {
+        for EncodedPaint::Image(image) in screen.filter_paints() {
             let ImageSource::Pixmap(pixmap) = &image.source;
             let shift = image.transform.shift;
             let signed = |by: f64| [u32::from(by < 0.0), by.abs() as u32];
@@ -781,16 +745,6 @@ fn judge_list(segments: &[[u32; 5]], start: u32, end: u32) -> u32 {
     }
 }
 
-fn tiles([first, end]: [u32; 2]) -> TileAlignedSpan {
-    let short = |n: u32| u16::try_from(n).expect("up to tile 8,192");
-    TileAlignedSpan::from_tiles(short(first), short(end - first))
-}
-
-/// A buffer with the same words.
-fn same(depth: &DepthBuffer) -> DepthBuffer {
-    crate::leaves::buffer(&probe::depth_words(depth))
-}
-
 /// The records, and marks after them.
 fn listed<const N: usize>(records: &[[u32; N]], words: u32) -> Vec<u32> {
     let mut list = records.concat();
@@ -803,24 +757,29 @@ fn refused(number: u32, zeros: usize, words: u32) -> Vec<u32> {
     [vec![number], vec![0; zeros], listed::<1>(&[], words)].concat()
 }
 
+/// How many runs, and the list of them.
+fn ranges(runs: &[Range], words: u32) -> Vec<u32> {
+    let pairs: Vec<[u32; 2]> = runs.iter().map(|&(first, end)| [first, end]).collect();
+    let count = u32::try_from(pairs.len()).expect("few");
+    [vec![0, count], listed(&pairs, words)].concat()
+}
+
+/// First and end in one word.
+fn packed((first, end): Range) -> u32 {
+    first << 16 | end
+}
+
 /// A command's four words.
-fn command_words(cmd: &RenderCmd) -> [u32; 4] {
-    let span = |span: TileAlignedSpan| u32::from(span.tile_x()) << 16 | u32::from(span.tile_end());
-    match *cmd {
-        RenderCmd::PaintFill(fill) => [
-            1 + u32::from(fill.alpha_idx().is_some()),
-            span(fill.span),
-            fill.alpha_idx().unwrap_or(0),
-            fill.attrs_idx,
+fn command_words(command: &Command) -> [u32; 4] {
+    match *command {
+        Command::Fill(fill) => [
+            1 + 2 * u32::from(fill.layer) + u32::from(fill.alpha.is_some()),
+            packed(fill.tiles),
+            fill.alpha.unwrap_or(0),
+            fill.attribute,
         ],
-        RenderCmd::LayerFill(fill) => [
-            3 + u32::from(fill.alpha_idx().is_some()),
-            span(fill.span),
-            fill.alpha_idx().unwrap_or(0),
-            fill.attrs_idx,
-        ],
-        RenderCmd::PushBuf(None) => [5, 0, 0, 0],
-        RenderCmd::PushBuf(Some(union)) => [6, span(union), 0, 0],
-        RenderCmd::PopBuf => [7, 0, 0, 0],
+        Command::Push(None) => [5, 0, 0, 0],
+        Command::Push(Some(union)) => [6, packed(union), 0, 0],
+        Command::Pop => [7, 0, 0, 0],
     }
 }

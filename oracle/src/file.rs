@@ -5,6 +5,7 @@ use crate::limits::{
     MOST_RECORDS, MOST_ROWS, THREADS,
 };
 use crate::viewport::Mode;
+use crate::width::Width;
 
 /// A file's sections, each record as its words.
 #[derive(Clone, Default)]
@@ -35,10 +36,10 @@ pub(crate) fn split(length: u32, bytes: &[u8]) -> (&[u8], &[u8]) {
     bytes.split_at(length.min(bytes.len()))
 }
 
-/// A file that is good up to the order of its segment lists, or the number that refuses it.
-pub(crate) fn judged(bytes: &[u8], mode: Mode) -> Result<Recording, u32> {
+/// A file that is good up to the order of its segment lists, or the number that refuses it. A bucket of no good width is refused as a viewport is.
+pub(crate) fn judged(bytes: &[u8], mode: Mode, width: Option<Width>) -> Result<Recording, u32> {
     let recording = sections(bytes).ok_or(BAD_FORM)?;
-    if !few_rows(recording.viewport, mode) {
+    if width.is_none() || !few_rows(recording.viewport, mode) {
         Err(BAD_VIEWPORT)
     } else if !good_records(&recording) {
         Err(BAD_RECORD)

@@ -10,6 +10,7 @@ pub mod questions;
 mod reasons;
 mod scenes;
 mod snapped;
+mod wide;
 
 use crate::random::Random;
 use crate::viewport::Mode;
@@ -21,7 +22,7 @@ pub struct Made {
     pub bytes: Vec<u8>,
 }
 
-/// So many recordings: of the kinds `all` and `snapped` the edges first, then a mixture.
+/// So many recordings: of the kinds `all`, `snapped` and `wide` the edges first, then a mixture.
 pub fn recordings(seed: u32, count: u32, kind: &str) -> Option<Vec<Made>> {
     let mut random = Random::new(seed);
     let mut all = fixed(kind)?;
@@ -41,6 +42,7 @@ fn fixed(kind: &str) -> Option<Vec<Made>> {
         "heavy" => edges::heavy(),
         "ids" => edges::ids(),
         "snapped" => snapped::edges(),
+        "wide" => return Some(wide::edges().into_iter().map(|(made, _)| made).collect()),
         "scenes" | "damaged" => Vec::new(),
         _ => return None,
     };
@@ -49,7 +51,7 @@ fn fixed(kind: &str) -> Option<Vec<Made>> {
 
 /// Whether a kind goes on after its list.
 fn is_endless(kind: &str) -> bool {
-    ["all", "scenes", "damaged", "snapped"].contains(&kind)
+    ["all", "scenes", "damaged", "snapped", "wide"].contains(&kind)
 }
 
 /// The mode that a kind's viewports are made for.
@@ -63,6 +65,7 @@ fn mode(kind: &str) -> Mode {
 fn another(random: &mut Random, kind: &str) -> Made {
     let scene = match kind {
         "snapped" => return snapped::another(random),
+        "wide" => return wide::another(random),
         "scenes" => true,
         "damaged" => false,
         _ => random.chance(60),

@@ -1,19 +1,20 @@
 //! Questions to the leaves of the Rust (splitting, runs, the depth summary) with its own answers.
 
-use crate::coarse::depth::{split_opaque_span, BucketRange, DepthBuffer, DepthSegment, DepthState};
-use crate::coarse::probe::depth_words;
-use crate::limits::{LAST_ID, LAST_TILE, MOST_BUCKETS};
+use crate::limits::{LAST_ID, LAST_TILE};
 use crate::random::Random;
-use crate::span::TileAlignedSpan;
+use crate::screen::{Part, Range};
+use crate::width::{Depth, Width, NO_WIDTHS};
 use std::fmt::Write;
 
-/// First and end, of tiles or buckets.
-type Range = (u32, u32);
+/// The most buckets that a question has, at every width.
+const MOST_BUCKETS: u32 = 32;
 
+/// What doesn't depend on a bucket's width is asked without one.
 enum Question {
-    Split(Range),
-    Unset(Vec<u32>, Range),
-    Visible(Vec<u32>, u32, Range),
+    /// With pixels a bucket, which may be no width.
+    Split(u32, Range),
+    Unset(Width, Vec<u32>, Range),
+    Visible(Width, Vec<u32>, u32, Range),
     Writing(Vec<u32>, u32, Range),
     CanSkip(Vec<(Range, u32)>, Range, u32),
 }
@@ -47,72 +48,37 @@ fn questions(seed: u32, count: u32) -> Vec<Question> {
 
 // Answers.
 
-fn short(n: u32) -> u16 {
-    u16::try_from(n).expect("at most tile 8,192")
+/// None where a split is refused.
+fn split(pixels: u32, range: Range) -> Option<Vec<Part>> {
+    Width::of(pixels).map(|width| width.split(range))
 }
 
-fn span((first, end): Range) -> TileAlignedSpan {
-    TileAlignedSpan::from_tiles(short(first), short(end - first))
+fn unset(width: Width, words: &[u32], range: Range) -> Vec<Range> {
+    Depth::of(width, words).unset(range)
 }
 
-fn tiles(span: TileAlignedSpan) -> Range {
-    (span.tile_x().into(), span.tile_end().into())
+fn visible(width: Width, words: &[u32], id: u32, range: Range) -> Vec<Range> {
+    Depth::of(width, words).visible(range, id)
 }
 
-fn buckets(range: BucketRange) -> Range {
-    (range.start.into(), range.end.into())
-}
-
-/// A buffer that holds these words, written bucket by bucket.
-pub(crate) fn buffer(words: &[u32]) -> DepthBuffer {
-    let mut depth = DepthBuffer::new(128 * short(u32::try_from(words.len()).expect("few buckets")));
-    for (i, &word) in (0..).zip(words).filter(|(_, word)| **word != 0) {
-        depth.for_each_unset_run_and_write(BucketRange::new(i, i + 1), word, |_| {});
-    }
-    assert_eq!(depth_words(&depth), words);
-    depth
-}
-
-/// The pieces of a split: whether it is a range of buckets, and the range.
-fn split(range: Range) -> Vec<(bool, Range)> {
-    let mut pieces = Vec::new();
-    split_opaque_span(span(range), |piece| {
-        pieces.push(match piece {
-            DepthSegment::Regular(span) => (false, tiles(span)),
-            DepthSegment::Opaque(range) => (true, buckets(range)),
-        });
-    });
-    pieces
-}
-
-fn unset(words: &[u32], range: Range) -> Vec<Range> {
-    let mut runs = Vec::new();
-    buffer(words).for_each_unset_run(span(range), |run| runs.push(tiles(run)));
-    runs
-}
-
-fn visible(words: &[u32], id: u32, range: Range) -> Vec<Range> {
-    let mut runs = Vec::new();
-    buffer(words).for_each_visible_run(span(range), id, |run| runs.push(tiles(run)));
-    runs
+/// An answer that must be the same at each width.
+fn at_each<T: PartialEq + std::fmt::Debug>(of: impl Fn(Width) -> T) -> T {
+    let [first, second, third] = Width::ALL.map(of);
+    assert_eq!(first, second);
+    assert_eq!(first, third);
+    first
 }
 
 /// The runs as buckets, and the words afterwards.
-fn writing(words: &[u32], id: u32, (first, end): Range) -> (Vec<Range>, Vec<u32>) {
-    let mut runs = Vec::new();
-    let mut depth = buffer(words);
-    depth.for_each_unset_run_and_write(BucketRange::new(short(first), short(end)), id, |run| {
-        runs.push(buckets(run))
-    });
-    (runs, depth_words(&depth))
+fn writing(words: &[u32], id: u32, range: Range) -> (Vec<Range>, Vec<u32>) {
+    at_each(|width| {
+        let mut depth = Depth::of(width, words);
+        (depth.write(range, id), depth.words().to_vec())
+    })
 }
 
 fn can_skip(included: &[(Range, u32)], range: Range, id: u32) -> bool {
-    let mut state = DepthState::default();
-    for &(of, id) in included {
-        state.include_span(span(of), id);
-    }
-    state.can_skip(span(range), id)
+    at_each(|width| width.can_skip(included, range, id))
 }
 
 // Writing them out.
@@ -129,25 +95,25 @@ fn case_words(question: &Question) -> Vec<u32> {
     let pair = |&(first, end): &Range| vec![first, end];
     let word = |&word: &u32| vec![word];
     match question {
-        &Question::Split(range) => {
-            let pieces = counted(&split(range), |&(kind, (first, end))| {
-                vec![kind.into(), first, end]
-            });
-            [vec![1, range.0, range.1], pieces].concat()
+        &Question::Split(pixels, range) => {
+            let part = |&(kind, (first, end)): &Part| vec![kind.into(), first, end];
+            let parts = split(pixels, range);
+            let parts = parts.map_or(vec![u32::MAX], |parts| counted(&parts, part));
+            [vec![1, pixels, range.0, range.1], parts].concat()
         }
-        Question::Unset(words, range) => [
-            vec![2],
+        Question::Unset(width, words, range) => [
+            vec![2, width.pixels()],
             counted(words, word),
             pair(range),
-            counted(&unset(words, *range), pair),
+            counted(&unset(*width, words, *range), pair),
         ]
         .concat(),
-        Question::Visible(words, id, range) => [
-            vec![3],
+        Question::Visible(width, words, id, range) => [
+            vec![3, width.pixels()],
             counted(words, word),
             vec![*id],
             pair(range),
-            counted(&visible(words, *id, *range), pair),
+            counted(&visible(*width, words, *id, *range), pair),
         ]
         .concat(),
         Question::Writing(words, id, range) => {
@@ -183,33 +149,36 @@ fn case_text(question: &Question) -> String {
     };
     let mut out = String::new();
     match question {
-        Question::Split((first, end)) => {
-            write!(out, "split {first}-{end}:").expect("text");
-            for (kind, (first, end)) in split((*first, *end)) {
-                write!(
-                    out,
-                    " {} {first}-{end}",
-                    if kind { "buckets" } else { "regular" }
-                )
-                .expect("text");
+        &Question::Split(pixels, (first, end)) => {
+            write!(out, "split at {pixels} {first}-{end}:").expect("text");
+            match split(pixels, (first, end)) {
+                None => write!(out, " refused").expect("text"),
+                Some(parts) => {
+                    for (kind, (first, end)) in parts {
+                        let kind = if kind { "buckets" } else { "regular" };
+                        write!(out, " {kind} {first}-{end}").expect("text");
+                    }
+                }
             }
         }
-        Question::Unset(words, range) => {
-            let runs = unset(words, *range);
+        Question::Unset(width, words, range) => {
+            let runs = unset(*width, words, *range);
             write!(
                 out,
-                "unset {words:?} {}-{}:{}",
+                "unset at {} {words:?} {}-{}:{}",
+                width.pixels(),
                 range.0,
                 range.1,
                 ranges(&runs)
             )
             .expect("text");
         }
-        Question::Visible(words, id, range) => {
-            let runs = visible(words, *id, *range);
+        Question::Visible(width, words, id, range) => {
+            let runs = visible(*width, words, *id, *range);
             write!(
                 out,
-                "visible {words:?} id {id} {}-{}:{}",
+                "visible at {} {words:?} id {id} {}-{}:{}",
+                width.pixels(),
                 range.0,
                 range.1,
                 ranges(&runs)
@@ -246,20 +215,46 @@ fn case_text(question: &Question) -> String {
 
 fn edges() -> Vec<Question> {
     let mut all = Vec::new();
-    split_edges(&mut all);
-    run_edges(&mut all);
+    for width in Width::ALL {
+        split_edges(width, &mut all);
+        run_edges(width, &mut all);
+    }
+    let known = [(0, 0), (10, 100), (0, 64), (0, LAST_TILE)];
+    for pixels in NO_WIDTHS {
+        all.extend(known.map(|range| Question::Split(pixels, range)));
+    }
     writing_edges(&mut all);
     skip_edges(&mut all);
     all
 }
 
 /// Each pair of places around buckets' edges, empty spans too.
-fn split_edges(all: &mut Vec<Question>) {
-    let places = [
-        0, 1, 5, 10, 31, 32, 33, 40, 63, 64, 65, 96, 100, 8_159, 8_160, 8_161, 8_191, 8_192,
+fn split_edges(width: Width, all: &mut Vec<Question>) {
+    let (w, last) = (width.tiles(), LAST_TILE - width.tiles());
+    let mut places = vec![
+        0,
+        1,
+        5,
+        10,
+        w - 1,
+        w,
+        w + 1,
+        w + 8,
+        2 * w - 1,
+        2 * w,
+        2 * w + 1,
+        3 * w,
+        100,
+        last - 1,
+        last,
+        last + 1,
+        LAST_TILE - 1,
+        LAST_TILE,
     ];
+    places.sort_unstable();
     for (i, &first) in places.iter().enumerate() {
-        all.extend(places[i..].iter().map(|&end| Question::Split((first, end))));
+        let ends = places[i..].iter();
+        all.extend(ends.map(|&end| Question::Split(width.pixels(), (first, end))));
     }
 }
 
@@ -285,15 +280,15 @@ fn patterns(b: u32) -> Vec<Vec<u32>> {
     all
 }
 
-/// Spans around the edges of b buckets and past them, none of width 0.
-fn spans(b: u32) -> Vec<Range> {
-    let last = 32 * b;
+/// Spans around the edges of b buckets of w tiles and past them, none of width 0.
+fn spans(w: u32, b: u32) -> Vec<Range> {
+    let last = w * b;
     let mut all = vec![
         (0, 1),
-        (0, 31),
-        (0, 32),
-        (0, 33),
-        (31, 33),
+        (0, w - 1),
+        (0, w),
+        (0, w + 1),
+        (w - 1, w + 1),
         (10, 100),
         (0, last),
         (0, last + 1),
@@ -305,8 +300,8 @@ fn spans(b: u32) -> Vec<Range> {
         all.extend([
             (last - 1, last),
             (last - 1, last + 1),
-            (last - 32, last),
-            (last.saturating_sub(33), last + 31),
+            (last - w, last),
+            (last.saturating_sub(w + 1), last + w - 1),
         ]);
     }
     all.retain(|(first, end)| first < end);
@@ -315,38 +310,29 @@ fn spans(b: u32) -> Vec<Range> {
     all
 }
 
-fn run_edges(all: &mut Vec<Question>) {
-    // Document 01's known points.
-    let known = vec![0, 7, 0, 0];
-    all.push(Question::Unset(known.clone(), (10, 100)));
-    all.extend([6, 7].map(|id| Question::Visible(known.clone(), id, (10, 100))));
+fn run_edges(width: Width, all: &mut Vec<Question>) {
+    let unset = |words: &[u32], range| Question::Unset(width, words.to_vec(), range);
+    let visible = |words: &[u32], id, range| Question::Visible(width, words.to_vec(), id, range);
+    // Document 01's known points, at 128.
+    let known = [0, 7, 0, 0];
+    all.push(unset(&known, (10, 100)));
+    all.extend([6, 7].map(|id| visible(&known, id, (10, 100))));
     for b in [0, 1, 2, 4, MOST_BUCKETS] {
+        let spans = spans(width.tiles(), b);
         for words in patterns(b) {
-            all.extend(
-                spans(b)
-                    .into_iter()
-                    .map(|range| Question::Unset(words.clone(), range)),
-            );
+            all.extend(spans.iter().map(|&range| unset(&words, range)));
         }
         // Words one below, equal to and one above the id, and none.
         let mixed: Vec<u32> = (0..b).map(|i| [7, 8, 6, 0][i as usize % 4]).collect();
         let rising: Vec<u32> = (1..=b).collect();
         for words in [mixed, rising, vec![7; b as usize]] {
             for id in [6, 7, 8] {
-                all.extend(
-                    spans(b)
-                        .into_iter()
-                        .map(|range| Question::Visible(words.clone(), id, range)),
-                );
+                all.extend(spans.iter().map(|&range| visible(&words, id, range)));
             }
         }
         for id in [0, 1, LAST_ID, u32::MAX] {
-            all.push(Question::Visible(vec![1; b as usize], id, (0, LAST_TILE)));
-            all.push(Question::Visible(
-                vec![LAST_ID; b as usize],
-                id,
-                (0, LAST_TILE),
-            ));
+            let (ones, lasts) = (vec![1; b as usize], vec![LAST_ID; b as usize]);
+            all.extend([ones, lasts].map(|words| visible(&words, id, (0, LAST_TILE))));
         }
     }
 }
@@ -418,16 +404,23 @@ fn skip_edges(all: &mut Vec<Question>) {
 // Random questions.
 
 fn any_question(random: &mut Random) -> Question {
+    let width = random.pick(&Width::ALL);
+    let w = width.tiles();
     match random.below(5) {
         0 => {
-            let (a, b) = (place(random), place(random));
-            Question::Split((a.min(b), a.max(b)))
+            let (a, b) = (place(random, w), place(random, w));
+            let pixels = if random.chance(2) {
+                random.pick(&NO_WIDTHS)
+            } else {
+                width.pixels()
+            };
+            Question::Split(pixels, (a.min(b), a.max(b)))
         }
-        1 => Question::Unset(any_words(random, 50), any_span(random)),
+        1 => Question::Unset(width, any_words(random, 50), any_span(random, w)),
         2 => {
             let words = any_words(random, 20);
             let id = near(random, &words);
-            Question::Visible(words, id, any_span(random))
+            Question::Visible(width, words, id, any_span(random, w))
         }
         3 => {
             let words = any_words(random, 50);
@@ -441,35 +434,40 @@ fn any_question(random: &mut Random) -> Question {
         }
         _ => {
             let included: Vec<(Range, u32)> = (0..random.below(5))
-                .map(|_| (bucket_span(random), random.from(1, 9)))
+                .map(|_| (bucket_span(random, w), random.from(1, 9)))
                 .collect();
-            Question::CanSkip(included, any_span(random), random.below(11))
+            Question::CanSkip(included, any_span(random, w), random.below(11))
         }
     }
 }
 
-/// A tile, often near a bucket's edge.
-fn place(random: &mut Random) -> u32 {
-    let most = if random.chance(80) { 34 } else { 257 };
-    let near = 32 * random.below(most);
-    match random.below(4) {
+/// A tile, often near the edge of a bucket of w tiles.
+fn place(random: &mut Random, w: u32) -> u32 {
+    let most = if random.chance(80) {
+        34
+    } else {
+        LAST_TILE / w + 1
+    };
+    let near = w * random.below(most);
+    let tile = match random.below(4) {
         0 => near,
         1 => near.saturating_sub(1),
-        2 => (near + 1).min(LAST_TILE),
-        _ => (near + random.below(32)).min(LAST_TILE),
-    }
+        2 => near + 1,
+        _ => near + random.below(w),
+    };
+    tile.min(LAST_TILE)
 }
 
 /// A span of one tile or more.
-fn any_span(random: &mut Random) -> Range {
-    let (a, b) = (place(random).min(LAST_TILE - 1), place(random));
+fn any_span(random: &mut Random, w: u32) -> Range {
+    let (a, b) = (place(random, w).min(LAST_TILE - 1), place(random, w));
     (a.min(b), (a + 1).max(b))
 }
 
 /// What a depth fill covers.
-fn bucket_span(random: &mut Random) -> Range {
+fn bucket_span(random: &mut Random, w: u32) -> Range {
     let first = random.below(MOST_BUCKETS);
-    (32 * first, 32 * random.from(first + 1, MOST_BUCKETS))
+    (w * first, w * random.from(first + 1, MOST_BUCKETS))
 }
 
 /// Words of some buckets, so many of a hundred 0.
@@ -497,7 +495,8 @@ fn near(random: &mut Random, words: &[u32]) -> u32 {
 
 #[cfg(test)]
 mod tests {
-    use super::{can_skip, split, unset, visible, writing};
+    use super::{can_skip, questions, split, unset, visible, writing, Question};
+    use crate::width::Width;
 
     /// A span of width 0 gives no run anywhere, on the buffer and past it; an empty range of buckets neither.
     #[test]
@@ -510,9 +509,12 @@ mod tests {
             vec![7, 0, 0, 7],
         ] {
             for tile in 0..=8_192 {
-                assert!(unset(&words, (tile, tile)).is_empty());
-                assert!(visible(&words, 7, (tile, tile)).is_empty());
-                assert_eq!(split((tile, tile)), [(false, (tile, tile))]);
+                for width in Width::ALL {
+                    assert!(unset(width, &words, (tile, tile)).is_empty());
+                    assert!(visible(width, &words, 7, (tile, tile)).is_empty());
+                    let parts = split(width.pixels(), (tile, tile));
+                    assert_eq!(parts, Some(vec![(false, (tile, tile))]));
+                }
             }
             for bucket in 0..=u32::try_from(words.len()).expect("few") {
                 assert_eq!(
@@ -533,5 +535,82 @@ mod tests {
                 tile <= 32 || tile >= 96
             );
         }
+    }
+
+    /// Document 01's known points, and the same at the other widths.
+    #[test]
+    fn known_points() {
+        let (regular, buckets) = (
+            |first, end| (false, (first, end)),
+            |first, end| (true, (first, end)),
+        );
+        for (pixels, range, parts) in [
+            (
+                128,
+                (10, 100),
+                vec![regular(10, 32), buckets(1, 3), regular(96, 100)],
+            ),
+            (128, (10, 40), vec![regular(10, 40)]),
+            (128, (0, 64), vec![buckets(0, 2)]),
+            (128, (32, 64), vec![buckets(1, 2)]),
+            (128, (5, 5), vec![regular(5, 5)]),
+            (
+                64,
+                (10, 100),
+                vec![regular(10, 16), buckets(1, 6), regular(96, 100)],
+            ),
+            (
+                64,
+                (10, 40),
+                vec![regular(10, 16), buckets(1, 2), regular(32, 40)],
+            ),
+            (64, (0, 64), vec![buckets(0, 4)]),
+            (64, (1, 31), vec![regular(1, 31)]),
+            (64, (16, 32), vec![buckets(1, 2)]),
+            (256, (10, 100), vec![regular(10, 100)]),
+            (256, (0, 64), vec![buckets(0, 1)]),
+            (256, (1, 127), vec![regular(1, 127)]),
+            (
+                256,
+                (63, 129),
+                vec![regular(63, 64), buckets(1, 2), regular(128, 129)],
+            ),
+        ] {
+            assert_eq!(split(pixels, range), Some(parts), "{pixels} {range:?}");
+        }
+        let words = [0, 7, 0, 0];
+        for (width, at_6) in [
+            (Width::Of64, vec![(10, 16), (32, 64)]),
+            (Width::Of128, vec![(10, 32), (64, 100)]),
+            (Width::Of256, vec![(10, 64)]),
+        ] {
+            let past = 100.min(4 * width.tiles());
+            assert_eq!(unset(width, &words, (10, 100)), at_6);
+            assert_eq!(visible(width, &words, 6, (10, 100)), at_6);
+            assert_eq!(visible(width, &words, 7, (10, 100)), [(10, past)]);
+        }
+    }
+
+    /// Each width is asked, and numbers that are none are.
+    #[test]
+    fn every_width_is_met() {
+        let all = questions(1, 20_000);
+        let splits = |pixels| {
+            let at = |q: &&Question| matches!(q, Question::Split(of, _) if *of == pixels);
+            all.iter().filter(at).count()
+        };
+        let lists: Vec<usize> = Width::ALL.map(|width| splits(width.pixels())).into();
+        assert!(lists.iter().all(|&count| count > 800), "{lists:?}");
+        for pixels in super::NO_WIDTHS {
+            assert!(splits(pixels) > 3);
+            assert_eq!(split(pixels, (0, 64)), None);
+        }
+    }
+
+    /// Both accounts agree in every case that is made.
+    #[test]
+    fn the_accounts_agree() {
+        let words = super::binary(2, 12_000);
+        assert!(words.len().is_multiple_of(4));
     }
 }

@@ -1,9 +1,11 @@
-//! The original Rust, compiled unchanged, what it answers, and the recordings and calls that it is asked about.
+//! The original Rust, compiled unchanged and at other widths of a depth bucket, what it answers, and the recordings and calls that it is asked about.
 
 extern crate alloc;
 
 pub mod calls;
 mod coarse;
+mod coarse_256;
+mod coarse_64;
 pub mod file;
 mod filter;
 pub mod generate;
@@ -20,10 +22,13 @@ mod peniko {
 pub mod print;
 pub mod questions;
 mod random;
+mod rules;
 mod scene;
+mod screen;
 pub mod steps;
 pub mod viewport;
 pub mod walk;
 pub mod why;
+pub mod width;
 
 include!(concat!(env!("OUT_DIR"), "/root.rs"));

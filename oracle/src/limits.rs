@@ -1,6 +1,6 @@
 //! Answer numbers and limits of document 01, and which limit a screen passes.
 
-use crate::coarse::{probe, CommandBucketer};
+use crate::screen::Screen;
 
 pub(crate) const BAD_ARENA: u32 = 1;
 pub(crate) const BAD_VIEWPORT: u32 = 2;
@@ -20,10 +20,9 @@ pub(crate) const NO_ROOM: u32 = 14;
 /// The last pixel edge and the last tile edge.
 pub(crate) const LAST_PIXEL: u32 = 32_768;
 pub(crate) const LAST_TILE: u32 = 8_192;
-/// A viewport's largest width and height, and the buckets of the widest.
+/// A viewport's largest width and height.
 pub(crate) const WIDEST: u32 = 4_096;
 pub(crate) const HIGHEST: u32 = 2_048;
-pub(crate) const MOST_BUCKETS: u32 = 32;
 /// Masks and pixmaps are handles below this; a mask of 0 says none.
 pub(crate) const HANDLES: u32 = 1 << 31;
 /// Thread numbers are below this.
@@ -44,20 +43,18 @@ pub(crate) const ROOM: usize = 64;
 
 /// The smallest number that refuses the step just done on a screen with room for c commands and d depth fills a row; a count that equals its
 /// limit is fine.
-pub(crate) fn within(screen: &CommandBucketer, c: usize, d: usize) -> Result<(), u32> {
-    let rows = screen.rows();
-    let attrs = [screen.paint_fill_attrs.len(), screen.layer_fill_attrs.len()]
-        .iter()
-        .any(|count| *count > MOST_ATTRS);
+pub(crate) fn within(screen: &dyn Screen, c: usize, d: usize) -> Result<(), u32> {
+    let [paints, layers, filters] = screen.counts();
+    let [commands, fills] = screen.fullest();
     let passed = [
-        (DEEP, probe::open_layers(screen) > MOST_LAYERS),
-        (IDS, probe::next_id(screen) > LAST_ID + 1),
+        (DEEP, screen.open_layers() > MOST_LAYERS),
+        (IDS, screen.next_id() > LAST_ID + 1),
         (
             FULL_ATTRS,
-            attrs || screen.filter_paints.len() > MOST_FILTERS,
+            paints > MOST_ATTRS || layers > MOST_ATTRS || filters > MOST_FILTERS,
         ),
-        (FULL_ROW, rows.iter().any(|row| row.render_cmds.len() > c)),
-        (FULL_DEPTH, rows.iter().any(|row| row.depth_cmds.len() > d)),
+        (FULL_ROW, commands > c),
+        (FULL_DEPTH, fills > d),
     ];
     passed
         .iter()

@@ -3,17 +3,18 @@
 use oracle::questions::{self, Answerer, Question};
 use oracle::viewport::Mode;
 use oracle::why::Kind;
+use oracle::width::Width;
 use oracle::{calls, file, generate, leaves, print, walk};
 use std::io::{Read, Write};
 
-const USAGE: &str = "usage: oracle rowlist [--snap] [--first-id N] < FILE
-       oracle rowdump [--snap] [--first-id N] < STREAM
-       oracle lines [--snap] [--first-id N] < STREAM
-       oracle generate SEED COUNT [all|edges|scenes|damaged|snapped|heavy|ids] > STREAM
+const USAGE: &str = "usage: oracle rowlist [--snap] [--width N] [--first-id N] < FILE
+       oracle rowdump [--snap] [--width N] [--first-id N] < STREAM
+       oracle lines [--snap] [--width N] [--first-id N] < STREAM
+       oracle generate SEED COUNT [all|edges|scenes|damaged|snapped|wide|heavy|ids] > STREAM
        oracle names SEED COUNT [KIND]
-       oracle why [--snap] [--first-id N] [--tally] ROW TILE [draw|layer N] < FILE
-       oracle why [--snap] [--first-id N] [--tally] --stream < QUESTIONS
-       oracle questions SEED COUNT [KIND] > QUESTIONS
+       oracle why [--snap] [--width N] [--first-id N] [--tally] ROW TILE [draw|layer N] < FILE
+       oracle why [--snap] [--width N] [--first-id N] [--tally] --stream < QUESTIONS
+       oracle questions [--width N] SEED COUNT [KIND] > QUESTIONS
        oracle leaves [--text] [SEED [COUNT]]
        oracle calls SEED COUNT [MOST] > CALLS
        oracle answers < CALLS
@@ -23,7 +24,8 @@ fn main() {
     let mut words: Vec<String> = std::env::args().skip(1).collect();
     let first_id = option(&mut words, "--first-id").unwrap_or(1);
     let mode = mode(&mut words);
-    let mut player = walk::Player::new(mode, first_id);
+    let width = width(&mut words);
+    let mut player = walk::Player::new(mode, first_id).at(width);
     let words: Vec<&str> = words.iter().map(String::as_str).collect();
     let mut agreed = true;
     let out = match words[..] {
@@ -32,8 +34,8 @@ fn main() {
             agreed = answerer.disagreements.is_empty();
             out
         }
-        ["questions", seed, count] => asked(seed, count, "all"),
-        ["questions", seed, count, kind] => asked(seed, count, kind),
+        ["questions", seed, count] => asked(seed, count, "all", width),
+        ["questions", seed, count, kind] => asked(seed, count, kind, width),
         ["rowlist"] => print::rowlist(&mut player, &input()).into_bytes(),
         ["rowdump"] => dump(|bytes| print::rowdump(&mut player, bytes)),
         ["generate", seed, count] => generate::stream(&made(seed, count, "all")),
@@ -74,6 +76,18 @@ fn mode(words: &mut Vec<String>) -> Mode {
     } else {
         Mode::Exact
     }
+}
+
+/// Takes `--width N` out of the arguments of a command that reads recordings or asks about them: pixels a bucket. Of several the last counts.
+fn width(words: &mut Vec<String>) -> u32 {
+    let takes = ["rowlist", "rowdump", "lines", "why", "questions"];
+    let mut width = 128;
+    if words.first().is_some_and(|word| takes.contains(&&word[..])) {
+        while let Some(given) = option(words, "--width") {
+            width = given;
+        }
+    }
+    width
 }
 
 fn usage() -> ! {
@@ -124,9 +138,10 @@ fn why(player: walk::Player, words: &[&str]) -> (Vec<u8>, Answerer) {
     (out.into_bytes(), answerer)
 }
 
-fn asked(seed: &str, count: &str, kind: &str) -> Vec<u8> {
+fn asked(seed: &str, count: &str, kind: &str, width: u32) -> Vec<u8> {
     let (seed, count) = (number(seed), number(count));
-    generate::questions::stream(seed, count, kind).unwrap_or_else(|| no_kind(kind))
+    let width = Width::of(width).unwrap_or_else(|| usage());
+    generate::questions::stream(seed, count, kind, width).unwrap_or_else(|| no_kind(kind))
 }
 
 fn made(seed: &str, count: &str, kind: &str) -> Vec<generate::Made> {
@@ -138,7 +153,7 @@ fn no_kind(kind: &str) -> ! {
     std::process::exit(2);
 }
 
-/// Binary or readable, with seed 1 and 2,400 cases unless told otherwise.
+/// Binary or readable, with seed 1 and 6,000 cases unless told otherwise.
 fn leaves_of(words: &[&str]) -> Vec<u8> {
     let plain = words.first() == Some(&"--text");
     let numbers: Vec<u32> = words[usize::from(plain)..]
@@ -147,7 +162,7 @@ fn leaves_of(words: &[&str]) -> Vec<u8> {
         .collect();
     let (seed, count) = (
         numbers.first().copied().unwrap_or(1),
-        numbers.get(1).copied().unwrap_or(2_400),
+        numbers.get(1).copied().unwrap_or(6_000),
     );
     if plain {
         leaves::text(seed, count)

@@ -1,9 +1,9 @@
-//! The original as one who links it uses it: a scene built by its calls, and painted by its depth buffer.
+//! The original as one who links it uses it, at 128 pixels a bucket: a scene built by its calls, and painted by its depth buffer.
 
 use crate::coarse::depth::DepthBuffer;
-use crate::coarse::{probe, CommandBucketer};
+use crate::coarse::{stage, CommandBucketer};
 use crate::file::Recording;
-use crate::painting::{self, Piece};
+use crate::painting::Piece;
 use crate::scene::{scene, Scene};
 use crate::steps::Step;
 use crate::viewport::Mode;
@@ -41,12 +41,8 @@ impl Original {
             match *step {
                 Step::Fill(i) => {
                     let draw = &scene.draws[i];
-                    let attrs = scene.attrs(draw, probe::take_id(bucketer));
-                    bucketer.generate_fill(
-                        &scene.strips[draw.strip_range.clone()],
-                        &attrs,
-                        &scene.paints,
-                    );
+                    let strips = scene.strips_of(draw);
+                    stage::fill(bucketer, draw, scene.origin(), strips, &scene.paints);
                 }
                 Step::Push(i) => bucketer.push_layer(&scene.layers[i].props),
                 Step::Pop => bucketer.pop_layer(&scene.strips),
@@ -57,7 +53,7 @@ impl Original {
     /// The walk of the whole recording.
     pub fn walk(&mut self) {
         self.bucketer.reset(self.scene.viewport);
-        self.scene.walk(&mut self.bucketer);
+        stage::walk(&mut self.bucketer, &self.scene);
     }
 
     /// Every row painted into a list, which is handed to `give`; the search is left out where it can be.
@@ -65,7 +61,7 @@ impl Original {
         for row in self.bucketer.rows() {
             self.depth.clear();
             self.pieces.clear();
-            painting::paint(&self.bucketer, row, true, &mut self.depth, &mut self.pieces);
+            stage::paint(&self.bucketer, row, true, &mut self.depth, &mut self.pieces);
             give(&self.pieces);
         }
     }

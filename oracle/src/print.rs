@@ -1,15 +1,12 @@
 //! What `rowlist` prints of document 01, and the detail that `rowdump` adds.
 
-use crate::coarse::bucketer::RowState;
-use crate::coarse::cmd::RenderCmd;
-use crate::coarse::probe;
-use crate::coarse::CommandBucketer;
 use crate::painting::{pieces, Piece};
+use crate::screen::{Command, Screen};
 use crate::walk::Player;
+use crate::width::{Depth, Width};
 use std::fmt::Write;
 use vello_common::encode::EncodedPaint;
-use vello_common::mask::Mask;
-use vello_common::paint::{ImageSource, Paint};
+use vello_common::paint::ImageSource;
 
 /// A line of text, ended by a line feed.
 macro_rules! line {
@@ -23,18 +20,19 @@ pub fn rowlist(player: &mut Player, bytes: &[u8]) -> String {
 
 /// The lines of `rowlist`, then attributes and pieces of an accepted recording.
 pub fn rowdump(player: &mut Player, bytes: &[u8]) -> String {
-    both(player, bytes, |bucketer| {
-        screen_lines(bucketer) + &detail(bucketer)
+    both(player, bytes, |screen, width| {
+        screen_lines(screen, width) + &detail(screen, width)
     })
 }
 
 /// The text of the stepwise walk, which the Rust's own walk must give too.
-fn both(player: &mut Player, bytes: &[u8], text: impl Fn(&CommandBucketer) -> String) -> String {
-    let steps = match player.play(bytes) {
-        Err(number) => return format!("refused {number}\n"),
-        Ok(bucketer) => text(bucketer),
-    };
-    let whole = text(&player.play_whole(bytes));
+fn both(player: &mut Player, bytes: &[u8], text: impl Fn(&dyn Screen, Width) -> String) -> String {
+    if let Err(number) = player.play(bytes) {
+        return format!("refused {number}\n");
+    }
+    let width = player.width();
+    let steps = text(player.screen(), width);
+    let whole = text(&*player.play_whole(bytes), width);
     assert!(
         steps == whole,
         "the walk by steps and bucket_commands differ:\n{steps}\nand\n{whole}"
@@ -42,61 +40,43 @@ fn both(player: &mut Player, bytes: &[u8], text: impl Fn(&CommandBucketer) -> St
     steps
 }
 
-fn screen_lines(bucketer: &CommandBucketer) -> String {
+fn screen_lines(screen: &dyn Screen, width: Width) -> String {
     let mut out = String::new();
-    let buckets = bucketer.width().div_ceil(128);
+    let buckets = Depth::new(width, screen.width()).words().len();
     line!(
         out,
         "rows {} buckets {buckets} ids {}",
-        bucketer.rows().len(),
-        probe::next_id(bucketer) - 1
+        screen.rows(),
+        screen.next_id() - 1
     );
-    for (i, row) in bucketer.rows().iter().enumerate() {
-        row_lines(&mut out, i, row);
+    for i in 0..screen.rows() {
+        row_lines(&mut out, i, screen);
     }
     out
 }
 
-fn row_lines(out: &mut String, i: usize, row: &RowState) {
+fn row_lines(out: &mut String, i: usize, screen: &dyn Screen) {
+    let row = screen.row(i);
     line!(
         out,
         "row {i} depth {} render {}",
-        row.depth_cmds.len(),
-        row.render_cmds.len()
+        row.fills.len(),
+        row.commands.len()
     );
-    for fill in &row.depth_cmds {
-        let buckets = fill.bucket_range();
-        line!(
-            out,
-            "D {} {} {}",
-            buckets.start,
-            buckets.end,
-            fill.attrs_idx
-        );
+    for fill in &row.fills {
+        let (first, end) = fill.buckets;
+        line!(out, "D {first} {end} {}", fill.attribute);
     }
-    for cmd in &row.render_cmds {
-        match *cmd {
-            RenderCmd::PaintFill(fill) => {
-                let (first, end) = (fill.span.tile_x(), fill.span.tile_end());
-                line!(
-                    out,
-                    "P {first} {end} {} {}",
-                    or_dash(fill.alpha_idx()),
-                    fill.attrs_idx
-                );
+    for command in &row.commands {
+        match *command {
+            Command::Fill(fill) => {
+                let tag = if fill.layer { 'L' } else { 'P' };
+                let ((first, end), alpha) = (fill.tiles, or_dash(fill.alpha));
+                line!(out, "{tag} {first} {end} {alpha} {}", fill.attribute);
             }
-            RenderCmd::LayerFill(fill) => {
-                let (first, end) = (fill.span.tile_x(), fill.span.tile_end());
-                line!(
-                    out,
-                    "L {first} {end} {} {}",
-                    or_dash(fill.alpha_idx()),
-                    fill.attrs_idx
-                );
-            }
-            RenderCmd::PushBuf(Some(span)) => line!(out, "B {} {}", span.tile_x(), span.tile_end()),
-            RenderCmd::PushBuf(None) => line!(out, "B - -"),
-            RenderCmd::PopBuf => line!(out, "E"),
+            Command::Push(Some((first, end))) => line!(out, "B {first} {end}"),
+            Command::Push(None) => line!(out, "B - -"),
+            Command::Pop => line!(out, "E"),
         }
     }
 }
@@ -105,20 +85,13 @@ fn or_dash(alpha: Option<u32>) -> String {
     alpha.map_or("-".into(), |alpha| alpha.to_string())
 }
 
-fn detail(bucketer: &CommandBucketer) -> String {
+fn detail(screen: &dyn Screen, width: Width) -> String {
     let mut out = String::new();
-    paint_attributes(&mut out, bucketer);
-    layer_attributes(&mut out, bucketer);
-    filter_paints(&mut out, bucketer);
-    for (i, row) in bucketer.rows().iter().enumerate() {
-        let searched = pieces(bucketer, row, false);
-        // A command that may skip the search must show the same pieces.
-        assert_eq!(
-            searched,
-            pieces(bucketer, row, true),
-            "can_skip_depth changes row {i}"
-        );
-        line!(out, "painted {i} pieces {}", searched.len());
+    paint_attributes(&mut out, screen);
+    layer_attributes(&mut out, screen);
+    filter_paints(&mut out, screen);
+    for (i, pieces) in pieces(screen, width).into_iter().enumerate() {
+        line!(out, "painted {i} pieces {}", pieces.len());
         for Piece {
             layer,
             attribute,
@@ -126,7 +99,7 @@ fn detail(bucketer: &CommandBucketer) -> String {
             end,
             alpha,
             nesting,
-        } in searched
+        } in pieces
         {
             let tag = if layer { 'l' } else { 'p' };
             line!(
@@ -139,42 +112,41 @@ fn detail(bucketer: &CommandBucketer) -> String {
     out
 }
 
-pub(crate) fn handle(mask: &Option<Mask>) -> u32 {
-    mask.as_ref().map_or(0, |mask| mask.0)
-}
-
-fn paint_attributes(out: &mut String, bucketer: &CommandBucketer) {
-    line!(out, "paint attributes {}", bucketer.paint_fill_attrs.len());
-    for attrs in &bucketer.paint_fill_attrs {
-        let Paint::Indexed(paint) = &attrs.paint;
-        let (paint, mask, (x, y)) = (paint.index(), handle(&attrs.mask), attrs.origin);
-        let (mix, compose) = (attrs.blend_mode.mix, attrs.blend_mode.compose);
+fn paint_attributes(out: &mut String, screen: &dyn Screen) {
+    let attrs = screen.paint_attrs();
+    line!(out, "paint attributes {}", attrs.len());
+    for attr in attrs {
+        let ([mix, compose], [x, y]) = (attr.blend, attr.origin);
         line!(
             out,
-            "A {paint} {mix} {compose} {mask} {} {} {x} {y}",
-            attrs.draw_id,
-            attrs.thread_idx
+            "A {} {mix} {compose} {} {} {} {x} {y}",
+            attr.paint,
+            attr.mask,
+            attr.id,
+            attr.thread
         );
     }
 }
 
-fn layer_attributes(out: &mut String, bucketer: &CommandBucketer) {
-    line!(out, "layer attributes {}", bucketer.layer_fill_attrs.len());
-    for attrs in &bucketer.layer_fill_attrs {
-        let (mix, compose) = (attrs.blend_mode.mix, attrs.blend_mode.compose);
-        let (opacity, mask) = (attrs.opacity.to_bits(), handle(&attrs.mask));
+fn layer_attributes(out: &mut String, screen: &dyn Screen) {
+    let attrs = screen.layer_attrs();
+    line!(out, "layer attributes {}", attrs.len());
+    for attr in attrs {
+        let [mix, compose] = attr.blend;
         line!(
             out,
-            "Y {mix} {compose} {opacity} {mask} {} {}",
-            attrs.draw_id,
-            attrs.thread_idx
+            "Y {mix} {compose} {} {} {} {}",
+            attr.opacity,
+            attr.mask,
+            attr.id,
+            attr.thread
         );
     }
 }
 
-fn filter_paints(out: &mut String, bucketer: &CommandBucketer) {
-    line!(out, "filter paints {}", bucketer.filter_paints.len());
-    for EncodedPaint::Image(image) in &bucketer.filter_paints {
+fn filter_paints(out: &mut String, screen: &dyn Screen) {
+    line!(out, "filter paints {}", screen.filter_paints().len());
+    for EncodedPaint::Image(image) in screen.filter_paints() {
         let ImageSource::Pixmap(pixmap) = &image.source;
         let (flag, shift) = (
             u8::from(!image.may_have_transparency),

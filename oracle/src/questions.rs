@@ -1,10 +1,11 @@
 //! Questions why a tile shows what it shows: their stream, the text of their answers, and the Rust's own painting beside them.
 
-use crate::coarse::CommandBucketer;
 use crate::file;
-use crate::painting::pieces;
+use crate::painting::row_pieces;
+use crate::screen::Screen;
 use crate::walk::Player;
 use crate::why::{reasons, Kind, Reason, Reasons};
+use crate::width::Width;
 use std::collections::BTreeMap;
 use std::fmt::{Display, Formatter, Write};
 
@@ -110,8 +111,8 @@ fn judged(player: &mut Player, question: Question) -> Result<(Reasons, Option<St
     let Question { row, tile, bytes } = question;
     player.play(bytes)?;
     let scene = player.judged(bytes).expect("an accepted recording");
-    let reasons = reasons(&scene, row, tile)?;
-    let how = contradiction(&reasons, player.screen(), row, tile);
+    let reasons = reasons(&scene, player.width(), row, tile)?;
+    let how = contradiction(&reasons, player.screen(), player.width(), row, tile);
     Ok((reasons, how))
 }
 
@@ -121,16 +122,18 @@ type Placed = (usize, Kind, usize);
 /// The tile's list as the Rust paints it must be what is shown, in the order of places, and there are no other attributes.
 fn contradiction(
     reasons: &Reasons,
-    screen: &CommandBucketer,
+    screen: &dyn Screen,
+    width: Width,
     row: u32,
     tile: u32,
 ) -> Option<String> {
     let counts = (reasons.draws.len(), reasons.layers.len());
-    let made = (screen.paint_fill_attrs.len(), screen.layer_fill_attrs.len());
+    let [paints, layers, _] = screen.counts();
+    let made = (paints, layers);
     if counts != made {
         return Some(format!("attributes {counts:?}, made {made:?}"));
     }
-    let painted: Vec<Placed> = pieces(screen, &screen.rows()[row as usize], false)
+    let painted: Vec<Placed> = row_pieces(screen, width, row as usize)
         .iter()
         .filter(|piece| u32::from(piece.first) <= tile && tile < u32::from(piece.end))
         .enumerate()
@@ -220,6 +223,7 @@ mod tests {
     use crate::viewport::Mode;
     use crate::walk::Player;
     use crate::why::{Kind, Reason, Reasons};
+    use crate::width::{Width, NO_WIDTHS};
 
     /// A draw over tiles 10 to 64 of row 0, hidden on tiles 32 to 64 by the next; a layer over row 1, a clip on tiles 0 to 8 that cuts its draw to
     /// 0 to 4. Before them an empty draw and a filter fill.
@@ -305,6 +309,85 @@ mod tests {
         }
     }
 
+    /// Three draws over one another: where the newest covers a whole bucket of the width the others are hidden.
+    #[test]
+    fn a_bucket_is_as_wide_as_chosen() {
+        let mut draft = Draft::new(520, 4);
+        let lists = [solid(0, 0, 130), solid(0, 10, 100), solid(0, 15, 128)];
+        for segment in lists {
+            let range = draft.segments(&[segment]);
+            draft.draw(range);
+        }
+        let root = draft.node((0, 3), 0);
+        let bytes = draft.rooted(root).bytes();
+        let hidden = "hidden by a newer depth fill, attribute";
+        for (pixels, tile, lines) in [
+            (64, 9, ["shown, place 0", "-", "-"]),
+            (64, 10, ["shown, place 0", "shown, place 1", "-"]),
+            (
+                64,
+                15,
+                ["shown, place 0", "shown, place 1", "shown, place 2"],
+            ),
+            (64, 16, ["by 2", "by 2", "shown, place 0"]),
+            (64, 127, ["by 2", "-", "shown, place 0"]),
+            (64, 128, ["shown, place 0", "-", "-"]),
+            (
+                128,
+                31,
+                ["shown, place 0", "shown, place 1", "shown, place 2"],
+            ),
+            (128, 32, ["by 2", "by 2", "shown, place 0"]),
+            (128, 127, ["by 2", "-", "shown, place 0"]),
+            (
+                256,
+                63,
+                ["shown, place 0", "shown, place 1", "shown, place 2"],
+            ),
+            (256, 64, ["by 2", "by 2", "shown, place 0"]),
+            (256, 127, ["by 2", "-", "shown, place 0"]),
+            (256, 129, ["shown, place 0", "-", "-"]),
+        ] {
+            let mut answerer = Answerer::new(Player::new(Mode::Exact, 1).at(pixels));
+            let said = |line: &str| match line {
+                "-" => "no segment covers the tile".to_string(),
+                "by 2" => format!("{hidden} 2"),
+                other => other.to_string(),
+            };
+            let own: String = (0..)
+                .zip(lines)
+                .map(|(n, line): (u32, &str)| format!("draw {n}: {}\n", said(line)))
+                .collect();
+            let bytes = &bytes[..];
+            let all = answerer.all(Question {
+                row: 0,
+                tile,
+                bytes,
+            });
+            assert_eq!(all, own, "tile {tile} at {pixels}");
+            assert!(answerer.disagreements.is_empty());
+        }
+    }
+
+    /// A number that is no width is refused by 2, after 3 and before 12.
+    #[test]
+    fn refused_at_no_width() {
+        let bytes = recording().bytes();
+        for pixels in NO_WIDTHS {
+            let mut answerer = Answerer::new(Player::new(Mode::Exact, 1).at(pixels));
+            for (bytes, number) in [(&bytes[..], 2), (&bytes[4..], 3)] {
+                for row in [0, 99] {
+                    let question = Question {
+                        row,
+                        tile: 0,
+                        bytes,
+                    };
+                    assert_eq!(answerer.all(question), format!("refused {number}\n"));
+                }
+            }
+        }
+    }
+
     #[test]
     fn refused_by_its_own_number_then_by_12() {
         let good = recording();
@@ -365,7 +448,7 @@ mod tests {
         let layers = vec![untouched, no];
         let agrees = |draws: &[Reason]| {
             let (draws, layers) = (draws.to_vec(), layers.clone());
-            contradiction(&Reasons { draws, layers }, screen, 0, 32).is_none()
+            contradiction(&Reasons { draws, layers }, screen, Width::Of128, 0, 32).is_none()
         };
         assert!(agrees(&[no, by(2), shown(0), no, no]));
         assert!(!agrees(&[no, by(1), shown(0), no, no]));

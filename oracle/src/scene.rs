@@ -1,7 +1,5 @@
 //! A good recording as the values that the Rust takes.
 
-use crate::coarse::cmd::PaintFillAttrs;
-use crate::coarse::CommandBucketer;
 use crate::file::{pixmap, Recording};
 use crate::filter::context::FilterContext;
 use crate::kurbo::{Affine, Vec2};
@@ -33,28 +31,14 @@ pub(crate) struct Scene {
 }
 
 impl Scene {
-    /// The Rust's own walk of the whole recording, on a screen of its viewport.
-    pub(crate) fn walk(&self, bucketer: &mut CommandBucketer) {
-        bucketer.bucket_commands(
-            &self.root,
-            &self.draws,
-            &self.layers,
-            &self.strips,
-            &self.paints,
-            &self.filters,
-        );
+    /// The corner of the box that the screen holds.
+    pub(crate) fn origin(&self) -> (u16, u16) {
+        (self.viewport.x0, self.viewport.y0)
     }
 
-    /// A draw's attributes, as the walk of a node makes them.
-    pub(crate) fn attrs(&self, draw: &RecordedFill, draw_id: u32) -> PaintFillAttrs {
-        PaintFillAttrs {
-            paint: draw.paint.clone(),
-            blend_mode: draw.blend_mode,
-            mask: draw.mask.clone(),
-            draw_id,
-            thread_idx: draw.thread_idx,
-            origin: (self.viewport.x0, self.viewport.y0),
-        }
+    /// A draw's own strips.
+    pub(crate) fn strips_of(&self, draw: &RecordedFill) -> &[Strip] {
+        &self.strips[draw.strip_range.clone()]
     }
 }
 

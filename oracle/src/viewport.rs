@@ -1,7 +1,7 @@
 //! How a viewport is read: exactly, as document 01 has it, or carried outward to tile edges first (request T-02). Written from the text.
 
-use crate::coarse::{probe, CommandBucketer};
 use crate::limits::{HIGHEST, LAST_PIXEL, WIDEST};
+use crate::screen::Screen;
 use vello_common::geometry::RectU16;
 
 #[derive(Debug, Clone, Copy, PartialEq, Eq)]
@@ -13,7 +13,7 @@ pub enum Mode {
 }
 
 impl Mode {
-    /// The mode of a reset's last word.
+    /// The mode of a reset's word.
     pub(crate) fn of(word: u32) -> Option<Self> {
         match word {
             0 => Some(Self::Exact),
@@ -57,23 +57,22 @@ pub(crate) fn snapped(viewport: [u32; 4]) -> [u64; 4] {
 }
 
 /// A screen of the Rust that is new or reset must hold this box: as its viewport, as its clip box moved to (0, 0), and in rows.
-pub(crate) fn must_hold(screen: &CommandBucketer, held: RectU16) {
+pub(crate) fn must_hold(screen: &dyn Screen, held: RectU16) {
     let RectU16 { x0, y0, x1, y1 } = held;
     let own = (
         held,
         RectU16::new(0, 0, x1 - x0, y1 - y0),
         usize::from((y1 - y0) / 4),
     );
-    let (viewport, clip) = (probe::viewport(screen), probe::clip_box(screen));
-    let rusts = (viewport, clip, screen.rows().len());
+    let rusts = (screen.viewport(), screen.clip_box(), screen.rows());
     assert_eq!(rusts, own, "viewport, clip box and rows, the Rust's first");
 }
 
 #[cfg(test)]
 mod tests {
     use super::{must_hold, snapped, Mode};
-    use crate::coarse::CommandBucketer;
     use crate::scene::rect;
+    use crate::width::Width;
 
     #[test]
     fn a_box_is_carried_outward() {
@@ -126,7 +125,7 @@ mod tests {
     /// Every remainder of every side, in the scene's corners and where sides are reversed.
     #[test]
     fn the_rust_holds_the_snapped_box() {
-        let mut screen = CommandBucketer::from_wh(0, 0);
+        let mut screen = Width::Of128.screen(rect([0; 4]));
         for [x0, y0, x1, y1] in [
             [0, 0, 4, 4],
             [4, 8, 4, 8],
@@ -142,9 +141,9 @@ mod tests {
                 let held = Mode::Snapping.held(viewport);
                 assert_eq!(held, Some([x0, y0, x1, y1]), "{viewport:?}");
                 screen.reset(rect(viewport));
-                must_hold(&screen, rect([x0, y0, x1, y1]));
+                must_hold(&*screen, rect([x0, y0, x1, y1]));
                 must_hold(
-                    &CommandBucketer::new(rect(viewport)),
+                    &*Width::Of128.screen(rect(viewport)),
                     rect([x0, y0, x1, y1]),
                 );
             }

@@ -1,12 +1,14 @@
 //! A recording's steps in draw order, and a screen on which the Rust's own calls take them, with document 01's limits looked at after each step.
 
-use crate::coarse::{probe, CommandBucketer};
 use crate::file;
 use crate::limits::{within, ROOM};
 use crate::peniko::BlendMode;
 use crate::record::RecordedFill;
-use crate::scene::{scene, Scene};
+use crate::rules::Ledger;
+use crate::scene::{rect, scene, Scene};
+use crate::screen::Screen;
 use crate::viewport::{must_hold, Mode};
+use crate::width::Width;
 use std::sync::Arc;
 use vello_common::filter::FilterLayerPlacement;
 use vello_common::pixmap::Pixmap;
@@ -14,53 +16,77 @@ use vello_common::record::{Node, RecordedLayer, RecordedLayerKind};
 
 /// Plays recordings one after another on one screen, reset before each, as the dispatcher does.
 pub struct Player {
-    bucketer: CommandBucketer,
+    screen: Box<dyn Screen>,
     mode: Mode,
+    /// None for a number of pixels that no bucket has: then every recording is refused.
+    width: Option<Width>,
     first_id: u32,
 }
 
 impl Player {
+    /// With 128 pixels a bucket.
     pub fn new(mode: Mode, first_id: u32) -> Self {
         Self {
-            bucketer: CommandBucketer::from_wh(0, 0),
+            screen: Width::Of128.screen(rect([0; 4])),
             mode,
+            width: Some(Width::Of128),
             first_id,
         }
     }
 
+    /// With so many pixels a bucket.
+    pub fn at(self, pixels: u32) -> Self {
+        let width = Width::of(pixels);
+        Self {
+            screen: width.unwrap_or(Width::Of128).screen(rect([0; 4])),
+            width,
+            ..self
+        }
+    }
+
+    /// A bucket's width, where a recording was not refused.
+    pub(crate) fn width(&self) -> Width {
+        self.width.expect("judged")
+    }
+
     /// A recording that is good up to the order of its segment lists, or the number that refuses it.
     pub(crate) fn judged(&self, bytes: &[u8]) -> Result<Scene, u32> {
-        let recording = file::judged(bytes, self.mode)?;
+        let recording = file::judged(bytes, self.mode, self.width)?;
         Ok(scene(&recording, self.mode))
     }
 
-    /// The screen that a recording ends as, or the number that refuses it.
-    pub(crate) fn play(&mut self, bytes: &[u8]) -> Result<&CommandBucketer, u32> {
+    /// The screen that a recording ends as, or the number that refuses it. What its fills left in the rows must be what the own account has.
+    pub(crate) fn play(&mut self, bytes: &[u8]) -> Result<&dyn Screen, u32> {
         let scene = self.judged(bytes)?;
-        self.bucketer.reset(scene.given);
-        must_hold(&self.bucketer, scene.viewport);
-        probe::set_next_id(&mut self.bucketer, self.first_id);
-        let bucketer = &mut self.bucketer;
+        let mut ledger = Ledger::new(scene.viewport, self.width().tiles());
+        let screen = &mut *self.screen;
+        screen.reset(scene.given);
+        must_hold(screen, scene.viewport);
+        screen.set_next_id(self.first_id);
         walk(&scene, &mut |step| {
-            take(bucketer, &scene, step);
-            limits(bucketer)
+            if let Step::Fill(draw) = step {
+                ledger.fill(screen, draw, scene.strips_of(draw), &scene.paints);
+            }
+            take(screen, &scene, step);
+            limits(screen)
         })?;
-        Ok(&self.bucketer)
+        ledger.must_agree(screen);
+        Ok(&*self.screen)
     }
 
     /// The screen as the last recording left it.
-    pub(crate) fn screen(&self) -> &CommandBucketer {
-        &self.bucketer
+    pub(crate) fn screen(&self) -> &dyn Screen {
+        &*self.screen
     }
 
     /// The same by the Rust's own walk on a new screen, for a recording that is not refused.
-    pub(crate) fn play_whole(&self, bytes: &[u8]) -> CommandBucketer {
+    pub(crate) fn play_whole(&self, bytes: &[u8]) -> Box<dyn Screen> {
         let scene = self.judged(bytes).expect("an accepted recording");
-        let mut bucketer = CommandBucketer::new(scene.given);
-        must_hold(&bucketer, scene.viewport);
-        probe::set_next_id(&mut bucketer, self.first_id);
-        scene.walk(&mut bucketer);
-        bucketer
+        let mut screen = self.width().screen(scene.given);
+        must_hold(&*screen, scene.viewport);
+        screen.set_next_id(self.first_id);
+        screen.walk(&scene);
+        screen
     }
 }
 
@@ -135,25 +161,20 @@ fn needs_buffer(layer: &RecordedLayer) -> bool {
 }
 
 /// A step by the Rust's own calls.
-fn take(bucketer: &mut CommandBucketer, scene: &Scene, step: Step) {
+fn take(screen: &mut dyn Screen, scene: &Scene, step: Step) {
     match step {
         Step::Fill(draw) => {
-            let attrs = scene.attrs(draw, probe::take_id(bucketer));
-            bucketer.generate_fill(
-                &scene.strips[draw.strip_range.clone()],
-                &attrs,
-                &scene.paints,
-            );
+            screen.fill(draw, scene.origin(), scene.strips_of(draw), &scene.paints);
         }
-        Step::Push(layer) => bucketer.push_layer(&layer.props),
+        Step::Push(layer) => screen.push(&layer.props),
         Step::Filter(pixmap, placement) => {
-            bucketer.generate_filter_layer_fill(pixmap.clone(), placement, scene.paints.len());
+            screen.filter(pixmap.clone(), placement, scene.paints.len());
         }
-        Step::Pop(_) => bucketer.pop_layer(&scene.strips),
+        Step::Pop(_) => screen.pop(&scene.strips),
     }
 }
 
 /// The limits of `rowlist`, after a step.
-fn limits(bucketer: &CommandBucketer) -> Result<(), u32> {
-    within(bucketer, ROOM, ROOM)
+fn limits(screen: &dyn Screen) -> Result<(), u32> {
+    within(screen, ROOM, ROOM)
 }

@@ -6,6 +6,7 @@ use crate::peniko::BlendMode;
 use crate::record::RecordedFill;
 use crate::scene::Scene;
 use crate::walk::{walk, Step};
+use crate::width::Width;
 use std::ops::Range;
 use vello_common::filter::FilterLayerPlacement;
 use vello_common::geometry::RectU16;
@@ -68,13 +69,14 @@ impl Reasons {
 }
 
 /// The reasons at a tile of an accepted recording, or 12 for a row or tile off the screen.
-pub(crate) fn reasons(scene: &Scene, row: u32, tile: u32) -> Result<Reasons, u32> {
+pub(crate) fn reasons(scene: &Scene, width: Width, row: u32, tile: u32) -> Result<Reasons, u32> {
     let (rows, tiles) = (scene.viewport.height() / 4, scene.viewport.width() / 4);
     if row >= rows.into() || tile >= tiles.into() {
         return Err(BAD_RUN);
     }
     let mut look = Look {
         scene,
+        width: u16::try_from(width.tiles()).expect("at most 64"),
         row: u16::try_from(row).expect("on the screen"),
         tile: u16::try_from(tile).expect("on the screen"),
         open: Vec::new(),
@@ -91,6 +93,8 @@ pub(crate) fn reasons(scene: &Scene, row: u32, tile: u32) -> Result<Reasons, u32
 /// The asked tile, the layers that are open, and what each step with an attribute gave so far.
 struct Look<'a> {
     scene: &'a Scene,
+    /// Tiles of a bucket.
+    width: u16,
     row: u16,
     tile: u16,
     open: Vec<Open>,
@@ -134,12 +138,12 @@ impl Look<'_> {
             && draw.blend_mode == BlendMode::default()
             && draw.mask.is_none()
             && !draw.paint.may_have_transparency(&self.scene.paints);
-        // A bucket is 32 tiles, also where part of it lies off the screen.
-        let bucket = self.tile / 32 * 32;
+        // A bucket has all its tiles, also where part of it lies off the screen.
+        let bucket = self.tile / self.width * self.width;
         let hides = eligible
             && list.iter().any(|segment| {
                 let left = self.cut(segment);
-                !segment.alpha && left.start <= bucket && bucket + 32 <= left.end
+                !segment.alpha && left.start <= bucket && bucket + self.width <= left.end
             });
         if list.iter().any(|segment| !self.cut(segment).is_empty()) {
             self.touch();

@@ -3,9 +3,9 @@ use sizes::TILE_END;
 use sizes::answers::BAD_RUN;
 use sizes::answers::DONE;
 use sizes::answers::NO_ROOM;
+use sizes::width::Width;
 use span::BucketRange;
 use span::TileSpan;
-use span::Width;
 use span::larger;
 use span::smaller;
 ghost use mathlib.Core.Path.{_≡_};
@@ -16,7 +16,7 @@ ghost use Rattle.sizes.specs.Sizes.{tile-end};
 ghost use Rattle.rules.specs.Spans.{span};
 ghost use Rattle.rules.specs.Depth.{is-visible, runs-in, unset-answer, visible-answer, written};
 ghost use Rattle.span.specs.Spans.{tiles, buckets};
-ghost use Rattle.span.specs.Widths.{wide};
+ghost use Rattle.sizes.specs.Widths.{bucket-tiles};
 ghost use Rattle.depth.specs.Listing.{out, out-write, done, cut-runs, open-runs, listing, writing, met-end};
 
 // What a call over runs gives: its number, and how many runs are listed.
@@ -132,7 +132,7 @@ fn is_short(depth: &[u32], lo: usize, hi: usize, ceiling: u32, words: usize) -> 
 // Where the search over a span's buckets ends: at the buffer's end at the latest. An empty span has no bucket to search.
 fn met_end(span: TileSpan, buckets: usize, width: Width) -> usize
     requires { ⌜ span .«end» ≤ tile-end ⌝ }
-    ensures { λ r. ⌜ r ≡ met-end (wide width) (tiles span) buckets ⌝ }
+    ensures { λ r. ⌜ r ≡ met-end (bucket-tiles width) (tiles span) buckets ⌝ }
 {
     if span.end <= span.first {
         return 0;
@@ -149,7 +149,7 @@ pub fn visible_runs(
     list: &mut [u32],
     width: Width,
 ) -> Runs
-    ensures { λ r. ⌜ out r (now (list .exit)) ≡ listing (visible-answer (wide width) (now (depth .entry)) «draw_id» (tiles span) (length (now (list .entry)) / 2)) (now (list .entry)) ⌝ }
+    ensures { λ r. ⌜ out r (now (list .exit)) ≡ listing (visible-answer (bucket-tiles width) (now (depth .entry)) «draw_id» (tiles span) (length (now (list .entry)) / 2)) (now (list .entry)) ⌝ }
 {
     if span.end < span.first {
         return Runs {
@@ -189,7 +189,7 @@ pub fn visible_runs(
 
 // The runs of a span's tiles whose buckets hold 0: what is visible at id 0.
 pub fn unset_runs(depth: &[u32], span: TileSpan, list: &mut [u32], width: Width) -> Runs
-    ensures { λ r. ⌜ out r (now (list .exit)) ≡ listing (unset-answer (wide width) (now (depth .entry)) (tiles span) (length (now (list .entry)) / 2)) (now (list .entry)) ⌝ }
+    ensures { λ r. ⌜ out r (now (list .exit)) ≡ listing (unset-answer (bucket-tiles width) (now (depth .entry)) (tiles span) (length (now (list .entry)) / 2)) (now (list .entry)) ⌝ }
 {
     visible_runs(depth, span, 0, list, width)
 }

@@ -1,12 +1,12 @@
 // Rule 7: an opaque span is split into a depth fill of whole buckets and regular pieces beside it.
 use sizes::TILE_END;
+use sizes::width::Width;
 use span::BucketRange;
 use span::TileSpan;
-use span::Width;
 ghost use mathlib.Core.Path.{_≡_};
 ghost use Rattle.rules.specs.Split.{split-answer};
 ghost use Rattle.span.specs.Spans.{tiles};
-ghost use Rattle.span.specs.Widths.{wide};
+ghost use Rattle.sizes.specs.Widths.{bucket-tiles};
 ghost use Rattle.depth.specs.Answers.{piece-of, split-of};
 
 // A regular piece beside a depth fill, where there is one.
@@ -28,7 +28,7 @@ pub enum Split {
 
 // Rule 7: the whole buckets of a span, and what is left of it on each side.
 pub fn split_opaque_span(span: TileSpan, width: Width) -> Split
-    ensures { λ r. ⌜ split-of r ≡ split-answer (wide width) (tiles span) ⌝ }
+    ensures { λ r. ⌜ split-of r ≡ split-answer (bucket-tiles width) (tiles span) ⌝ }
 {
     let first = span.first;
     let end = span.end;

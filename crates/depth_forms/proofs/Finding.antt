@@ -2,14 +2,17 @@
 use mathlib.Core.Path.{_≡_, refl, ap}
 use mathlib.Core.Bool.{Bool, true, false, cond}
 use mathlib.Core.List.{List, [], _∷_, map}
-use Prim.Native.Nat.{ℕ, _+_, _*_, _/_, _<_, _≤_, min}
+use Prim.Native.Nat.{ℕ, _+_, _-_, _*_, _/_, _<_, _≤_, min}
 use native.Mathlib.Omega.{arith}
 use lib.ListN.{length, length-map}
 use lib.Dec.{leb, ltb}
 use borrow.Author.Tests.{leb-true, lt-ltb, le-ltb, ltb-true, ltb-false, not-false}
+use Rattle.sizes.specs.declared.width.Width.{Width}
+use Rattle.sizes.specs.Widths.{bucket-tiles}
 use Rattle.rules.specs.Answers as rules
 use Rattle.rules.specs.Spans.{Span, span, common, bad-range}
 use Rattle.rules.proofs.All.{both}
+use Rattle.rules.proofs.laws.Widths.{each}
 use Rattle.rules.specs.Depth.{runs-in, runs, tiles-of, is-visible, listed, visible-runs, visible-answer}
 use Rattle.span.specs.declared.TileSpan.{TileSpan}
 use Rattle.depth.specs.declared.runs.Runs.{Runs}
@@ -19,37 +22,41 @@ use Rattle.depth_forms.specs.Spans.{with-spans}
 use Rattle.depth_forms.specs.Listing.{out, listing, counted}
 use Rattle.depth_forms.proofs.Laws.{seen, listed-fits}
 
--- tiles end at 8,192, in 256 buckets, and two runs have a bucket between them
-pub few : (bs : List ℕ) (id : ℕ) (s : Span) → bad-range 8192 s ≡ false → length (visible-runs 32 bs id s) ≤ 128
+-- tiles end at 8,192, in at most 512 buckets, and two runs have a bucket between them
+few : (width : Width) (bs : List ℕ) (id : ℕ) (s : Span) → bad-range 8192 s ≡ false → length (visible-runs (bucket-tiles width) bs id s) ≤ 256
 unfolding visible-runs runs
-few bs id s e = go (ltb (s .first) (s .end))
+few width bs id s e = go (ltb (s .first) (s .end))
   where
-    go : (t : Bool) → length (cond t (map (λ (r : Span). common s (tiles-of 32 r)) (runs-in (is-visible id) bs (span (s .first / 32) ((s .end + 31) / 32)))) []) ≤ 128
+    w : ℕ
+    w = bucket-tiles width
+
+    go : (t : Bool) → length (cond t (map (λ (r : Span). common s (tiles-of w r)) (runs-in (is-visible id) bs (span (s .first / w) ((s .end + (w - 1)) / w)))) []) ≤ 256
     go true =
         let last : s .end ≤ 8192 = leb-true (s .end) 8192 (both (leb (s .first) (s .end)) (leb (s .end) 8192) (not-false _ e) .1) in
-        rw length-map (omega (arith, last, runs-few (is-visible id) bs (s .first / 32) ((s .end + 31) / 32)))
+        let met : (s .end + (w - 1)) / w ≤ 512 = each (λ w. (s .end + (w - 1)) / w ≤ 512) (omega (arith, last)) (omega (arith, last)) (omega (arith, last)) width in
+        rw length-map (omega (arith, met, runs-few (is-visible id) bs (s .first / w) ((s .end + (w - 1)) / w)))
     go false = omega arith
 
-same-test : (n m : ℕ) → m ≤ 128 → ltb (min n 128) m ≡ ltb n m
+same-test : (n m : ℕ) → m ≤ 256 → ltb (min n 256) m ≡ ltb n m
 same-test n m h = go (ltb n m) refl
   where
-    go : (t : Bool) → ltb n m ≡ t → ltb (min n 128) m ≡ t
-    go true e = let l : n < m = ltb-true n m e in lt-ltb (min n 128) m (omega arith)
-    go false e = let l : m ≤ n = ltb-false n m e in le-ltb (min n 128) m (omega arith)
+    go : (t : Bool) → ltb n m ≡ t → ltb (min n 256) m ≡ t
+    go true e = let l : n < m = ltb-true n m e in lt-ltb (min n 256) m (omega arith)
+    go false e = let l : m ≤ n = ltb-false n m e in le-ltb (min n 256) m (omega arith)
 
--- so that more room than for 128 runs changes no answer
-pub roomy : (bs : List ℕ) (id : ℕ) (s : Span) (n : ℕ) → visible-answer 32 bs id s (min n 128) ≡ visible-answer 32 bs id s n
+-- so that more room than for 256 runs changes no answer
+pub roomy : (width : Width) (bs : List ℕ) (id : ℕ) (s : Span) (n : ℕ) → visible-answer (bucket-tiles width) bs id s (min n 256) ≡ visible-answer (bucket-tiles width) bs id s n
 unfolding visible-answer
-roomy bs id s n = go (bad-range 8192 s) refl
+roomy width bs id s n = go (bad-range 8192 s) refl
   where
     rs : List Span
-    rs = visible-runs 32 bs id s
+    rs = visible-runs (bucket-tiles width) bs id s
 
-    go : (bad : Bool) → bad-range 8192 s ≡ bad → listed bad (min n 128) rs ≡ listed bad n rs
+    go : (bad : Bool) → bad-range 8192 s ≡ bad → listed bad (min n 256) rs ≡ listed bad n rs
     go true e = refl
     go false e =
         ap (λ (short : Bool). rules.settle (rules.first-of ((false, rules.BadRun) ∷ (short, rules.NoRoom) ∷ [])) [] rs)
-        (same-test n (length rs) (few bs id s e))
+        (same-test n (length rs) (few width bs id s e))
 
 -- an answer lists no more than there is room for
 pub in-room : (w : ℕ) (bs : List ℕ) (id : ℕ) (s : Span) (n : ℕ) → length (visible-answer w bs id s n .value) ≤ n
@@ -64,20 +71,20 @@ in-room w bs id s n = go (bad-range 8192 s) (ltb n (length (visible-runs w bs id
     go false true e = omega arith
     go false false e = ltb-false n (length rs) e
 
--- from words with room for 128 runs to a list with room for n
-module _ (bs : List ℕ) (id : ℕ) (s : Span) (n : ℕ) (ws m : List ℕ) (r : Runs) (h : words.out r m ≡ words.listing (visible-answer 32 bs id s 128) ws) where
+-- from words with room for 256 runs to a list with room for n
+module _ (width : Width) (bs : List ℕ) (id : ℕ) (s : Span) (n : ℕ) (ws m : List ℕ) (r : Runs) (h : words.out r m ≡ words.listing (visible-answer (bucket-tiles width) bs id s 256) ws) where
   abbrev rs : List Span
-  rs = visible-runs 32 bs id s
+  rs = visible-runs (bucket-tiles width) bs id s
 
   all : bad-range 8192 s ≡ false → words.out r m ≡ words.listing (rules.answer 0 rs) ws
   unfolding visible-answer
-  all e = rw (e, le-ltb 128 (length rs) (few bs id s e)) at h
+  all e = rw (e, le-ltb 256 (length rs) (few width bs id s e)) at h
 
   many : bad-range 8192 s ≡ false → r .count ≡ length rs
   unfolding words.listing
   many e = ap (λ (o : words.RunsOut). o .count) (all e)
 
-  pub found-short : n < r .count → words.out (record { number = 14; count = 0 }) ws ≡ words.listing (visible-answer 32 bs id s n) ws
+  pub found-short : n < r .count → words.out (record { number = 14; count = 0 }) ws ≡ words.listing (visible-answer (bucket-tiles width) bs id s n) ws
   unfolding visible-answer words.listing words.numbers
   found-short g = go (bad-range 8192 s) refl
     where
@@ -85,7 +92,7 @@ module _ (bs : List ℕ) (id : ℕ) (s : Span) (n : ℕ) (ws m : List ℕ) (r : 
       go true e = absurd (omega (arith, ap (λ (o : words.RunsOut). o .count) (rw e at h)))
       go false e = rw (lt-ltb n (length rs) (omega (arith, many e)))
 
-  pub found-kept : r .count ≤ n → words.out r m ≡ words.listing (visible-answer 32 bs id s n) ws
+  pub found-kept : r .count ≤ n → words.out r m ≡ words.listing (visible-answer (bucket-tiles width) bs id s n) ws
   unfolding visible-answer
   found-kept g = go (bad-range 8192 s) refl
     where

@@ -1,4 +1,4 @@
--- 256 words of a call's own, as the walks of such a call have them: by value, and lent as a slice and taken back. Assumes nothing.
+-- Words of a call's own, one for each bucket, as the walks of such a call have them: by value, and lent as a slice and taken back. Assumes nothing.
 use mathlib.Core.Path.{_≡_, refl, ap}
 use mathlib.Core.List.{List, [], _∷_, map}
 use Prim.Native.Nat.{ℕ}
@@ -22,13 +22,14 @@ use denote.Plain.{uint-vals, uint-makes}
 use denote.Slice.{sliceTy}
 use denote.Builtin.{u32}
 use denote.Steps.{only, owned}
+use Rattle.sizes.specs.Sizes.{bucket-end}
 
 -- the words by value
 abbrev pub words-row : RattleType
-words-row = Array u32 256
+words-row = Array u32 bucket-end
 
 abbrev pub words-ty : Ty
-words-ty = tyArray (tyInt w32) 256
+words-ty = tyArray (tyInt w32) bucket-end
 
 abbrev pub words-val : List ℕ → Val
 words-val ws = only (array-vals (uint-vals w32) ws)
@@ -48,12 +49,12 @@ module _ {M : Type 1} (𝓤 : URA M) (H : Heap 𝓤) (A : Atoms 𝓤) (W : Given
   apart is =
       qed W (‵ (fat fullShare words-ty b o (words-val ws)) ∷ []) ∵
       use1 W (‵ (cellAt fullShare (words-row .mir) (words-val ws ∷ []) b o)) (W .laws .at-raw fullShare words-ty b o (words-val ws)) $
-      owned ! words-row (Is words-row) (array-makes 𝓤 H A W u32 (uint-makes 𝓤 H A W w32) 256) ws _ is $ move ! (1 ∷ 0 ∷ []) $ fjoin ! $
+      owned ! words-row (Is words-row) (array-makes 𝓤 H A W u32 (uint-makes 𝓤 H A W w32) bucket-end) ws _ is $ move ! (1 ∷ 0 ∷ []) $ fjoin ! $
       fpack ! (List Val) (λ us. fsep (cellAt fullShare (words-row .mir) us b o) (words-row .own ws us)) (words-val ws ∷ []) $
-      use1 W (‵ (arr-parts (shares u32) 256 .part fullShare ws b o)) (array-apart 𝓤 H A W u32 fullShare tt 256 ws b o) $
+      use1 W (‵ (arr-parts (shares u32) bucket-end .part fullShare ws b o)) (array-apart 𝓤 H A W u32 fullShare tt bucket-end ws b o) $
       fsplit ! $ drop ! $ feqI ! ℕ (length ws) (length ws) refl $ fjoin ! $ done !
 
-  pub together : length ws ≡ 256 → ent 𝓤 (sem 𝓤 H A (arr-parts (shares u32) (length ws) .part fullShare ws b o)) (sem 𝓤 H A (partAt words-row fullShare ws b o))
+  pub together : length ws ≡ bucket-end → ent 𝓤 (sem 𝓤 H A (arr-parts (shares u32) (length ws) .part fullShare ws b o)) (sem 𝓤 H A (partAt words-row fullShare ws b o))
   together l =
-      qed W (‵ (arr-parts (shares u32) (length ws) .part fullShare ws b o) ∷ []) ∵ fsplit ! $ drop ! $ feqI ! ℕ (length ws) 256 l $ fjoin ! $
-      by ! (array-whole 𝓤 H A W u32 fullShare 256 ws b o)
+      qed W (‵ (arr-parts (shares u32) (length ws) .part fullShare ws b o) ∷ []) ∵ fsplit ! $ drop ! $ feqI ! ℕ (length ws) bucket-end l $ fjoin ! $
+      by ! (array-whole 𝓤 H A W u32 fullShare bucket-end ws b o)

@@ -4,11 +4,12 @@ use depth::Runs;
 use depth::visible_runs;
 use sizes::BUCKET_END;
 use sizes::answers::NO_ROOM;
+use sizes::width::Width;
 use span::TileSpan;
-use span::Width;
 ghost use mathlib.Core.Path.{_≡_};
 ghost use lib.ListN.{length, replicate};
-ghost use Rattle.sizes.specs.Sizes.{bucket-tiles, bucket-end};
+ghost use Rattle.sizes.specs.Sizes.{bucket-end};
+ghost use Rattle.sizes.specs.Widths.{bucket-tiles};
 ghost use Rattle.rules.specs.Depth.{visible-answer};
 ghost use Rattle.span.specs.Spans.{tiles};
 ghost use Rattle.depth.specs.Listing as words;
@@ -21,13 +22,12 @@ struct Found {
     words: [u32; BUCKET_END],
 }
 
-// The runs that a list of so many spans has room for. Tiles end at 8,192, in 256 buckets of 128 pixels, which have at most 128 runs: the
-// words hold them all.
-fn found_runs(depth: &[u32], span: TileSpan, draw_id: u32, room: usize) -> Found
-    ensures { λ r. ⌜ (words.out (r .runs) (r .words) ≡ words.listing (visible-answer bucket-tiles (now (depth .entry)) «draw_id» (tiles span) room) (replicate bucket-end 0)) × (r .count ≡ counted (r .runs)) ⌝ }
+// The runs that a list of so many spans has room for. Tiles end at 8,192, in at most BUCKET_END buckets, and two runs have a bucket between
+// them: the words hold them all.
+fn found_runs(depth: &[u32], span: TileSpan, draw_id: u32, room: usize, width: Width) -> Found
+    ensures { λ r. ⌜ (words.out (r .runs) (r .words) ≡ words.listing (visible-answer (bucket-tiles width) (now (depth .entry)) «draw_id» (tiles span) room) (replicate bucket-end 0)) × (r .count ≡ counted (r .runs)) ⌝ }
 {
     let mut words = [0u32; BUCKET_END];
-    let width = Width::W128;
     let runs = visible_runs(depth, span, draw_id, &mut words, width);
     let count = runs.count;
     if room < count {
@@ -51,10 +51,11 @@ pub fn list_visible_spans(
     span: TileSpan,
     draw_id: u32,
     list: &mut [TileSpan],
+    width: Width,
 ) -> Runs
-    ensures { λ r. ⌜ out r (now (list .exit)) ≡ listing (visible-answer bucket-tiles (now (depth .entry)) «draw_id» (tiles span) (length (now (list .entry)))) (now (list .entry)) ⌝ }
+    ensures { λ r. ⌜ out r (now (list .exit)) ≡ listing (visible-answer (bucket-tiles width) (now (depth .entry)) «draw_id» (tiles span) (length (now (list .entry)))) (now (list .entry)) ⌝ }
 {
-    let found = found_runs(depth, span, draw_id, list.len());
+    let found = found_runs(depth, span, draw_id, list.len(), width);
     let words = found.words;
     write_runs(list, &words, found.count);
     found.runs

@@ -31,7 +31,7 @@ pub fn write_runs(list: &mut [TileSpan], words: &[u32], count: usize)
     }
 }
 
-// The same by value: a list of 16 spans is made, and lent. A row of 32 buckets has no more runs.
+// The same by value: a list of MOST_RUNS spans is made, and lent. No row of a screen has more runs.
 pub fn runs_of(words: &[u32], count: usize) -> [TileSpan; MOST_RUNS]
     requires { ⌜ (count ≤ most-runs) × (count * 2 ≤ length (now words)) ⌝ }
     ensures { λ r. ⌜ r ≡ with-spans (now (words .entry)) count (replicate most-runs no-span) ⌝ }

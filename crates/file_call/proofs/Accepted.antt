@@ -1,21 +1,19 @@
 -- What is known of a recording that the recording call accepted: its frame is good, and so is every record; its walk is done to the end.
 use Prim.Native.Nat.{ℕ}
-use native.Mathlib.Omega.{arith}
 use mathlib.Core.Path.{_≡_, refl}
-use mathlib.Core.Bool.{Bool, true, false, not, cond}
-use mathlib.Core.List.{[], _∷_}
+use mathlib.Core.Bool.{Bool, true, false, cond}
 use lib.Dec.{eqb}
 use borrow.Author.Tests.{eqb-true, eqb-false}
-use Rattle.sizes.specs.Sizes.{bucket-tiles}
-use Rattle.rules.specs.Answers.{Answer, answer, settle, first-of, Done, BadArena, BadViewport, BadRecord}
-use Rattle.rules.specs.Boxes.{good-viewport, rows-of}
+use Rattle.rules.specs.Answers.{Answer, answer, settle, Done}
+use Rattle.rules.specs.Boxes.{good-viewport}
 use Rattle.rules.specs.Plans.{Frame}
 use Rattle.rules.specs.Setups.{Setup, frame}
 use Rattle.rules.specs.Recording.{Recording}
-use Rattle.rules.specs.Walk.{_then_, go-on, walk-all, good-arenas}
+use Rattle.rules.specs.Walk.{_then_, go-on, walk-all}
 use Rattle.screen.specs.Screens.{fresh-screen}
-use Rattle.screen.specs.Judging.{judged-reset, good-tables, arenas}
+use Rattle.screen.specs.Judging.{judged-reset}
 use Rattle.screen.specs.Tables.{ScreenLent, lent, lengths, zeroed, reset-to}
+use Rattle.screen.proofs.Passed.{reset-says}
 use Rattle.file_judge.specs.Judging.{judged}
 use Rattle.file_steps.specs.Steps.{call-at}
 use Rattle.file_call.specs.Recorded.{judging, played, recorded-in}
@@ -41,10 +39,6 @@ settled {S} n s t = go (eqb n Done) refl
     go true q z = eqb-true n Done q
     go false q z = z
 
-says : (a b c : Bool) → first-of ((not a, BadViewport) ∷ (not b, BadArena) ∷ (not c, BadRecord) ∷ []) ≡ Done → a ≡ true
-says false b c h = absurd (omega arith)
-says true b c h = refl
-
 module _ (r : Recording) (q : Setup) (l : ScreenLent) (z : recorded-in r q l .number ≡ Done) where
   abbrev f : Frame
   f = frame q (r .viewport)
@@ -61,10 +55,7 @@ module _ (r : Recording) (q : Setup) (l : ScreenLent) (z : recorded-in r q l .nu
   reset-judged = settled (judged-reset f (lengths (l .tables))) l (lent (fresh-screen f) (zeroed (l .tables))) (halves .0)
 
   pub good-frame : good-viewport (f .viewport) ≡ true
-  unfolding judged-reset
-  good-frame =
-      says (good-viewport (f .viewport)) (good-arenas bucket-tiles f (arenas (lengths (l .tables)))) (good-tables (rows-of (f .viewport)) (lengths (l .tables)))
-      reset-judged
+  good-frame = reset-says f (lengths (l .tables)) reset-judged .0
 
   judged-walked : (judging r (start .value) .number ≡ Done) × (walk-all ScreenLent call-at r (start .value) .number ≡ Done)
   unfolding played

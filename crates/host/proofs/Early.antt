@@ -10,6 +10,7 @@ use lib.Dec.{leb, ltb, eqb}
 use lib.Ieee.{Float}
 use lib.IntN.{ℤ}
 use borrow.Author.Tests.{eqb-true, eqb-false, lt-ltb, le-ltb}
+use Rattle.sizes.specs.Widths.{bucket-tiles}
 use Rattle.rules.specs.Answers.{Answer, answer, first-of, Done, BadRecord, BadOrder, BadRun, Open, NoRoom}
 use Rattle.rules.specs.Spans.{Span, bad-range}
 use Rattle.rules.specs.Depth.{listed, unset-runs, visible-runs, write-runs, unset-answer, visible-answer, write-answer, can-skip-answer}
@@ -89,7 +90,7 @@ late-or false m h = λ e. omega arith
 -- Building steps. k: what the screen and the lengths say
 step-early : (k : ℕ) (good : Bool) (p : Plan) (s : rule.Screen Words) → Late (p .refused) → before-4 k ≡ before-4 (step-number k good p s)
 unfolding step-number
-step-early k good p s h = after k _ (late-or good _ (refusal-late word-ops 32 p (done Words word-ops 32 p s) h))
+step-early k good p s h = after k _ (late-or good _ (refusal-late word-ops p (done Words word-ops p s) h))
 
 lists-early : (k : ℕ) (b : Bool) → before-4 k ≡ before-4 (cond (eqb k Done) (cond b Done BadRecord) k)
 lists-early k b = after k _ (late-or b Done late-done)
@@ -161,7 +162,7 @@ out-number false n o p e = sym e
 pub step-is-early : (s : Screen) (r : ℕ) (a : Attributes) (l : paint.RowLent) → before-4 (number s r a l) ≡ before-4 (stepped s r a l .answer .number)
 unfolding stepped row-step paint.painted-row
 step-is-early s r a l =
-    after (number s r a l) (row-step s r a l .answer .number) (row-late (paint.next-step (paint.attrs-at (a .paints) (s .«paint_attrs») (a .layers) (s .«layer_attrs»)) (own s r l)) _ _ (l .list))
+    after (number s r a l) (row-step s r a l .answer .number) (row-late (paint.next-step (bucket-tiles (s .width)) (paint.attrs-at (a .paints) (s .«paint_attrs») (a .layers) (s .«layer_attrs»)) (own s r l)) _ _ (l .list))
     ∙ ap before-4 (out-number (eqb (number s r a l) Done) (number s r a l) (row-step s r a l) (paint.out (paint.refused (number s r a l)) (l .depth) (l .painting) (l .list)) refl)
 
 -- a row's call has its first step's number
@@ -207,12 +208,12 @@ module _ (s : Screen) (r : ℕ) (d : List ℕ) (t : Span) where
   pub unset-early : (l : List ℕ) → before-4 (runs-number s r (length d)) ≡ before-4 (unset-of s r d t l .number)
   unfolding unset-of unset-answer listing
   unset-early l =
-      runs-early (runs-number s r (length d)) (unset-answer 32 mine t (length l / 2)) (listed-late (bad-range 8192 t) (length l / 2) (unset-runs 32 mine t))
+      runs-early (runs-number s r (length d)) (unset-answer (bucket-tiles (s .width)) mine t (length l / 2)) (listed-late (bad-range 8192 t) (length l / 2) (unset-runs (bucket-tiles (s .width)) mine t))
 
   pub visible-early : (id : ℕ) (l : List ℕ) → before-4 (runs-number s r (length d)) ≡ before-4 (visible-of s r d t id l .number)
   unfolding visible-of visible-answer listing
   visible-early id l =
-      runs-early (runs-number s r (length d)) (visible-answer 32 mine id t (length l / 2)) (listed-late (bad-range 8192 t) (length l / 2) (visible-runs 32 mine id t))
+      runs-early (runs-number s r (length d)) (visible-answer (bucket-tiles (s .width)) mine id t (length l / 2)) (listed-late (bad-range 8192 t) (length l / 2) (visible-runs (bucket-tiles (s .width)) mine id t))
 
   wrote-number : (b : Bool) (n : ℕ) (x y : Wrote) → y .listed .number ≡ n → cond b (x .listed .number) n ≡ cond b x y .listed .number
   wrote-number true n x y e = refl
@@ -242,7 +243,7 @@ skip-early s r rows t id =
 -- Reset, and a recording, whose walk is the rules'. After the arenas only a table's length is left to refuse a reset.
 arenas-early : (f : Frame) (l : Lengths) → before-4 (arenas-number f (judging.arenas l)) ≡ before-4 (judged-reset f l)
 unfolding arenas-number judged-reset before-4
-arenas-early f l = go (good-viewport (f .viewport)) (good-arenas 32 f (judging.arenas l)) (good-tables (rows-of (f .viewport)) l)
+arenas-early f l = go (good-viewport (f .viewport)) (good-arenas f (judging.arenas l)) (good-tables (rows-of (f .viewport)) l)
   where
     go : (x y z : Bool) → before-4 (first-of ((not x, 2) ∷ (not y, 1) ∷ [])) ≡ before-4 (first-of ((not x, 2) ∷ (not y, 1) ∷ (not z, 4) ∷ []))
     go false y z = refl
@@ -268,7 +269,7 @@ module _ (r : Recording) (q : Setup) (l : ScreenLent) where
   unfolding reset
   walk-late e =
       let start = reset fresh-row f in
-      let a = all-walks 32 r .at (record { screen = start; log = [] }) refl in
+      let a = all-walks r .at (record { screen = start; log = [] }) refl in
       rw (walk-refines r start (reset-to f l .value) (reset-refines f l e .value) .number, ← a .number) (a .late)
 
   played-late : early ≡ Done → Late (played r (reset-to f l .value) .number)

@@ -9,6 +9,8 @@ use lib.ListN.{length}
 use lib.Dec.{eqb, ltb}
 use borrow.Author.Tests.{ne-eqb, eqb-true}
 use borrow.Rule.Slice.PartMut.{put-same}
+use Rattle.sizes.specs.declared.width.Width.{Width}
+use Rattle.sizes.specs.Widths.{bucket-tiles, width-of}
 use Rattle.rules.specs.Answers.{Answer, answer, first-of, settle, Done, BadRun, NoRoom}
 use Rattle.rules.specs.Spans.{Span, bad-range}
 use Rattle.rules.specs.Split.{split-answer}
@@ -27,7 +29,7 @@ use Rattle.host_screen.specs.declared.Held.the-variants as held
 use Rattle.host_screen.specs.State.{screen-words, screen-of, at-held, on}
 use Rattle.host_screen.proofs.Words.{written-back}
 use Rattle.host_results.specs.Results.{skip-left, split-left}
-use Rattle.host.specs.Painting.{with-room, step-left, step-call, row-call, runs-left, unset-call, visible-call, write-left, write-call, skip-call, split-call}
+use Rattle.host.specs.Painting.{with-room, step-left, step-call, row-call, runs-left, unset-call, visible-call, write-left, write-call, skip-call, split-at, split-call}
 use Rattle.host.proofs.Refused.{Refused, settled}
 
 -- result words of another length, or a call that keeps t where it is refused
@@ -70,16 +72,16 @@ unfolding unset-call unset-of unset-answer
 unset-refused r t st d l n =
     at-screen (eqb (length n) 1) st (l, n) (λ (s : Screen). runs-left n (unset-of s r d t l))
     (λ (s : Screen) (e : held.Good s ≡ screen-of (eqb (length n) 1) st).
-    (runs-kept (or-runs (runs-number s r (length d)) (unset-answer 32 (part (wide s) r d) t (length l / 2))) l n
-    (bare-or (runs-number s r (length d)) (unset-answer 32 (part (wide s) r d) t (length l / 2)) (bare-listed (bad-range 8192 t) (length l / 2) (unset-runs 32 (part (wide s) r d) t)))))
+    (runs-kept (or-runs (runs-number s r (length d)) (unset-answer (bucket-tiles (s .width)) (part (wide s) r d) t (length l / 2))) l n
+    (bare-or (runs-number s r (length d)) (unset-answer (bucket-tiles (s .width)) (part (wide s) r d) t (length l / 2)) (bare-listed (bad-range 8192 t) (length l / 2) (unset-runs (bucket-tiles (s .width)) (part (wide s) r d) t)))))
 
 pub visible-refused : (r : ℕ) (t : Span) (id : ℕ) (st d l n : List ℕ) → Refused (visible-call r t id st d l n) → visible-call r t id st d l n .value ≡ (l, n)
 unfolding visible-call visible-of visible-answer
 visible-refused r t id st d l n =
     at-screen (eqb (length n) 1) st (l, n) (λ (s : Screen). runs-left n (visible-of s r d t id l))
     (λ (s : Screen) (e : held.Good s ≡ screen-of (eqb (length n) 1) st).
-    (runs-kept (or-runs (runs-number s r (length d)) (visible-answer 32 (part (wide s) r d) id t (length l / 2))) l n
-    (bare-or (runs-number s r (length d)) (visible-answer 32 (part (wide s) r d) id t (length l / 2)) (bare-listed (bad-range 8192 t) (length l / 2) (visible-runs 32 (part (wide s) r d) id t)))))
+    (runs-kept (or-runs (runs-number s r (length d)) (visible-answer (bucket-tiles (s .width)) (part (wide s) r d) id t (length l / 2))) l n
+    (bare-or (runs-number s r (length d)) (visible-answer (bucket-tiles (s .width)) (part (wide s) r d) id t (length l / 2)) (bare-listed (bad-range 8192 t) (length l / 2) (visible-runs (bucket-tiles (s .width)) (part (wide s) r d) id t)))))
 
 pub skip-refused : (r : ℕ) (t : Span) (id : ℕ) (st rows old : List ℕ) → Refused (skip-call r t id st rows old) → skip-call r t id st rows old .value ≡ old
 unfolding skip-call
@@ -87,9 +89,13 @@ skip-refused r t id st rows old =
     at-screen (eqb (length old) 1) st old (λ (s : Screen). skip-left old (skip-of-row s r rows t id))
     (λ (s : Screen) (e : held.Good s ≡ screen-of (eqb (length old) 1) st). λ q. rw (ne-eqb _ _ q))
 
-pub split-refused : (s : Span) (parts : List ℕ) → Refused (split-call s parts) → split-call s parts .value ≡ parts
+pub split-refused : (pixels : ℕ) (s : Span) (parts : List ℕ) → Refused (split-call pixels s parts) → split-call pixels s parts .value ≡ parts
 unfolding split-call
-split-refused s parts = roomed 9 parts parts (split-left parts (split-answer 32 s)) (λ q. rw (ne-eqb _ _ q))
+split-refused pixels s parts = go (width-of pixels)
+  where
+    go : (o : Option Width) → Refused (split-at o s parts) → split-at o s parts .value ≡ parts
+    go none q = refl
+    go (some w) q = roomed 9 parts parts (split-left parts (split-answer (bucket-tiles w) s)) (λ q. rw (ne-eqb _ _ q)) q
 
 -- Writing. A refusal puts the row's own part back, and leaves the screen.
 abbrev after-write : Screen → ℕ → List ℕ → List ℕ → Answer (List Span) → List ℕ → Wrote
@@ -146,8 +152,8 @@ module _ (s : Screen) (r : ℕ) (a : Attributes) (l : paint.RowLent) (res : List
       by : (b : Bool) → eqb (number s r a l) Done ≡ b → Refused (step-left res (cond b (row-step s r a l) (paint.out (paint.refused (number s r a l)) (l .depth) (l .painting) (l .list))))
           → step-left res (cond b (row-step s r a l) (paint.out (paint.refused (number s r a l)) (l .depth) (l .painting) (l .list))) .value ≡ same-step
       by true f q =
-          placed-kept (paint.painted-row (paint.attrs-at (a .paints) (s .«paint_attrs») (a .layers) (s .«layer_attrs»)) (own s r l))
-          (row-kept (paint.next-step (paint.attrs-at (a .paints) (s .«paint_attrs») (a .layers) (s .«layer_attrs»)) (own s r l)) (part (wide s) r (l .depth)) (part 2 r (l .painting)) (l .list) q) q
+          placed-kept (paint.painted-row (bucket-tiles (s .width)) (paint.attrs-at (a .paints) (s .«paint_attrs») (a .layers) (s .«layer_attrs»)) (own s r l))
+          (row-kept (paint.next-step (bucket-tiles (s .width)) (paint.attrs-at (a .paints) (s .«paint_attrs») (a .layers) (s .«layer_attrs»)) (own s r l)) (part (wide s) r (l .depth)) (part 2 r (l .painting)) (l .list) q) q
       by false f q = rw f
 
 pub step-refused : (r : ℕ) (a : Attributes) (st : List ℕ) (l : paint.RowLent) (res : List ℕ) → Refused (step-call r a st l res) → step-call r a st l res .value ≡ (l .depth, l .painting, l .list, res)

@@ -1,5 +1,5 @@
--- Runs that `coarse_visible_runs` lists in words of a call's own, and the same runs written as spans. The words have room for 128 runs, which
--- is as much as any row has, so that they are listed as in a list of spans. Assumes nothing.
+-- Runs that `coarse_visible_runs` lists in words of a call's own, and the same runs written as spans. The words have room for as many runs
+-- as any row has, so that they are listed as in a list of spans. Assumes nothing.
 use mathlib.Core.Path.{_≡_, refl, sym, ap, _∙_}
 use mathlib.Core.Bool.{Bool, true, false, _&&_, cond}
 use mathlib.Core.List.{List, [], _∷_, _++_, append-assoc}
@@ -10,6 +10,8 @@ use lib.ListN.{length, getD, take, drop, length-append, take-append-drop}
 use lib.Seq.{length-take-le}
 use lib.Dec.{ltb, eqb}
 use borrow.Author.Tests.{eq-eqb, eqb-true, ltb-true}
+use Rattle.sizes.specs.Sizes.{bucket-end, state-size}
+use Rattle.sizes.specs.Widths.{bucket-tiles}
 use Rattle.rules.proofs.All.{both}
 use Rattle.rules.specs.Answers.{Answer, answer, settle, first-of, BadRecord, BadRun, NoRoom}
 use Rattle.rules.specs.Spans.{Span, bad-range}
@@ -47,7 +49,7 @@ over-part ns m z h = append-assoc ns (drop (length ns) (take m z)) (drop m z) �
 -- the border refuses by a number that is not 0
 refuses : (st : List ℕ) (f : Screen → ℕ) → refused-at st f ≡ 0 → ⊥
 unfolding refused-at before-4
-refuses st f = go (eqb (length st) 16) (ltb 0 n && ltb n BadRecord) refl
+refuses st f = go (eqb (length st) state-size) (ltb 0 n && ltb n BadRecord) refl
   where
     n : ℕ
     n = f (screen-at st)
@@ -74,28 +76,31 @@ module _ (s : Screen) (r : ℕ) (d : List ℕ) (t : Span) (id : ℕ) where
   abbrev bs : List ℕ
   bs = part (wide s) r d
 
+  abbrev tiles-each : ℕ
+  tiles-each = bucket-tiles (s .width)
+
   no-more : (n : ℕ) → length (runs-of s r d t id n .value) ≤ n
   no-more n = go (eqb (runs-number s r (length d)) 0)
     where
-      go : (b : Bool) → length ((cond b (visible-answer 32 bs id t n) (answer (runs-number s r (length d)) [])) .value) ≤ n
-      go true = in-room 32 bs id t n
+      go : (b : Bool) → length ((cond b (visible-answer tiles-each bs id t n) (answer (runs-number s r (length d)) [])) .value) ≤ n
+      go true = in-room tiles-each bs id t n
       go false = omega arith
 
   none-refused : (n : ℕ) → (runs-of s r d t id n .number ≡ 0 → ⊥) → runs-of s r d t id n .value ≡ []
   none-refused n = go (eqb (runs-number s r (length d)) 0)
     where
-      go : (b : Bool) → let a = cond b (visible-answer 32 bs id t n) (answer (runs-number s r (length d)) []) in (a .number ≡ 0 → ⊥) → a .value ≡ []
-      go true h = refused-none 32 bs id t n h
+      go : (b : Bool) → let a = cond b (visible-answer tiles-each bs id t n) (answer (runs-number s r (length d)) []) in (a .number ≡ 0 → ⊥) → a .value ≡ []
+      go true h = refused-none tiles-each bs id t n h
       go false h = refl
 
   -- in the first m words, as in a list of `room` spans
-  same-runs : (room m : ℕ) (ws : List ℕ) → m ≡ 2 * min room 128 → length ws ≡ m → runs-of s r d t id (length ws / 2) ≡ runs-of s r d t id room
+  same-runs : (room m : ℕ) (ws : List ℕ) → m ≡ 2 * min room (bucket-end / 2) → length ws ≡ m → runs-of s r d t id (length ws / 2) ≡ runs-of s r d t id room
   same-runs room m ws k l =
-      let half : length ws / 2 ≡ min room 128 = omega (arith, k, l) in
-      ap (runs-of s r d t id) half ∙ ap (or-runs (runs-number s r (length d))) (roomy bs id t room)
+      let half : length ws / 2 ≡ min room (bucket-end / 2) = omega (arith, k, l) in
+      ap (runs-of s r d t id) half ∙ ap (or-runs (runs-number s r (length d))) (roomy (s .width) bs id t room)
 
 -- what is found: the words' answer n, the m words that are lent and as they are left, and the results
-module _ (r : ℕ) (t : Span) (id : ℕ) (st d : List ℕ) (room : ℕ) (c : List ℕ) (n m : ℕ) (ws c' : List ℕ) (k : m ≡ 2 * min room 128)
+module _ (r : ℕ) (t : Span) (id : ℕ) (st d : List ℕ) (room : ℕ) (c : List ℕ) (n m : ℕ) (ws c' : List ℕ) (k : m ≡ 2 * min room (bucket-end / 2))
     (e : answer n (ws, c') ≡ visible-call r t id st d (take m own-words) c) where
   abbrev lent : List ℕ
   lent = take m own-words

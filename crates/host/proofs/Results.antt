@@ -1,11 +1,14 @@
 -- Results in lent words of a fixed length.
 use mathlib.Core.Path.{_≡_, refl, ap, _∙_}
 use mathlib.Core.List.{List, [], _∷_}
+use mathlib.Core.Option.{none, some}
 use Prim.Native.Nat.{ℕ}
 use lib.ListN.{length, set}
 use lib.Dec.{eqb}
 use borrow.Author.Tests.{eq-eqb, ne-eqb}
-use Rattle.rules.specs.Answers.{Answer, answer, BadRecord}
+use Rattle.sizes.specs.declared.width.Width.{Width}
+use Rattle.sizes.specs.Widths.{bucket-tiles, width-of}
+use Rattle.rules.specs.Answers.{Answer, answer, BadViewport, BadRecord}
 use Rattle.rules.specs.Spans.{Span}
 use Rattle.rules.specs.Split.{split-answer}
 use Rattle.screen.specs.declared.Screen.{Screen}
@@ -76,11 +79,18 @@ module _ (st : List ℕ) (s : Screen) where
   unfolding skip-call
   skip-roomed r k t id o rows old new q e f = rw (← q) (f ∙ ap (skip-left old) e)
 
-pub split-unroomed : (s : Span) (parts : List ℕ) → (length parts ≡ 9 → ⊥) → answer BadRecord parts ≡ split-call s parts
-unfolding split-call
-split-unroomed s parts q = rw (ne-eqb _ _ q)
+-- a split at a number of pixels that is no width, and at the width w
+module _ (pixels : ℕ) (s : Span) (parts : List ℕ) where
+  pub split-widthless : none ≡ width-of pixels → answer BadViewport parts ≡ split-call pixels s parts
+  unfolding split-call
+  split-widthless e = rw (← e)
 
-pub split-roomed : (s : Span) (k : ℕ) (o : Split) (parts new : List ℕ) → length parts ≡ 9 → split-of o ≡ split-answer 32 s
-    → answer k new ≡ split-left parts (split-of o) → answer k new ≡ split-call s parts
-unfolding split-call
-split-roomed s k o parts new q e f = rw (eq-eqb _ _ q) (f ∙ ap (split-left parts) e)
+  module _ (w : Width) (e : some w ≡ width-of pixels) where
+    pub split-unroomed : (length parts ≡ 9 → ⊥) → answer BadRecord parts ≡ split-call pixels s parts
+    unfolding split-call
+    split-unroomed q = rw (← e, ne-eqb _ _ q)
+
+    pub split-roomed : (k : ℕ) (o : Split) (new : List ℕ) → length parts ≡ 9 → split-of o ≡ split-answer (bucket-tiles w) s
+        → answer k new ≡ split-left parts (split-of o) → answer k new ≡ split-call pixels s parts
+    unfolding split-call
+    split-roomed k o new q h f = rw (← e, eq-eqb _ _ q) (f ∙ ap (split-left parts) h)

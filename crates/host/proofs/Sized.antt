@@ -7,8 +7,8 @@ use lib.ListN.{length, getD}
 use native.Mathlib.Omega.{arith}
 use borrow.Author.Tests.{eq-eqb, ne-eqb}
 use Rattle.rules.specs.Answers.{answer, first-of, Done, BadArena, BadViewport, BadRecord}
-use Rattle.rules.specs.Boxes.{good-viewport, rows-of, buckets-of}
-use Rattle.rules.specs.Plans.{Frame}
+use Rattle.rules.specs.Boxes.{good-viewport, rows-of}
+use Rattle.rules.specs.Plans.{Frame, buckets-across}
 use Rattle.rules.specs.Setups.{Setup, frame}
 use Rattle.rules.specs.Walk.{good-room}
 use Rattle.rect.specs.declared.Rect.{Rect}
@@ -74,6 +74,6 @@ module _ (f : Frame) (ss : List ℕ) where
         pub not-ten : (length ss ≡ 10 → ⊥) → answer BadRecord ss ≡ sizes-of f ss
         not-ten l = rw (v, c, d, ne-eqb _ _ l)
 
-        pub all-ten : length ss ≡ 10 → (n b : ℕ) → n ≡ rows-of (f .viewport) → b ≡ buckets-of 32 (f .viewport) → (xs : List ℕ)
+        pub all-ten : length ss ≡ 10 → (n b : ℕ) → n ≡ rows-of (f .viewport) → b ≡ buckets-across f → (xs : List ℕ)
             → xs ≡ n * (4 * f .c) ∷ n * (2 * f .d) ∷ n * b ∷ n * 54 ∷ n * 2 ∷ fixed → answer Done xs ≡ sizes-of f ss
         all-ten l n b p q xs e = rw (v, c, d, eq-eqb _ _ l, e, p, q)

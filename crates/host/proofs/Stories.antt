@@ -7,14 +7,14 @@ use mathlib.Core.Bool.{Bool, true, false, cond, _||_, _&&_, not}
 use mathlib.Core.List.{List, [], _∷_}
 use mathlib.Core.Option.{Option, none, some}
 use lib.Dec.{eqb, leb, ltb}
-use Rattle.sizes.specs.Sizes.{bucket-tiles, most-layers, most-attrs, most-filters, last-id}
+use Rattle.sizes.specs.Sizes.{most-layers, most-attrs, most-filters, last-id}
 use Rattle.rules.specs.Lists.{slice, is-empty}
 use Rattle.rules.specs.Answers.{Answer, settle, Done, NoLayer, first-of, Deep, Ids, FullAttrs}
 use Rattle.rules.specs.Boxes.{Box}
 use Rattle.rules.specs.Segments.{Segment}
 use Rattle.rules.specs.Setups.{Setup, frame}
 use Rattle.rules.specs.Inputs.{Draw, Props, Filter}
-use Rattle.rules.specs.Plans.{Layer, Step, a-fill, a-push, a-pop, a-filter, filter-box, draws-nothing, clip-box}
+use Rattle.rules.specs.Plans.{Frame, bucket, Layer, Step, a-fill, a-push, a-pop, a-filter, filter-box, draws-nothing, clip-box}
 use Rattle.rules.specs.Recording.{Recording, LayerRec, Node, shape, sections, recording}
 use Rattle.rules.specs.Walk.{_then_, go-on, when, each, walk-filter, walk-node, walk-nodes, walk-layer, walk-all}
 use Rattle.rules.proofs.All.{nil, cons}
@@ -109,24 +109,24 @@ module _ (w : ℕ) (v : Box) (row tile : ℕ) where
   step-late (a-pop ss) t = pop-late (t .opened) ss t
   step-late (a-filter n f) t = picture-late f t
 
--- the call after an accepted recording, on the screen of the viewport v
+-- the call after an accepted recording, on a screen of the frame f
 module _ (row tile : ℕ) (a : Asked) (l : ScreenLent) where
-  module _ (v : Box) (r : Recording) where
-    told-late : Late (told-of bucket-tiles v r row tile .number)
+  module _ (f : Frame) (r : Recording) where
+    told-late : Late (told-of (bucket f) (f .viewport) r row tile .number)
     unfolding told-of
-    told-late = walk-late Telling (tell-at bucket-tiles v row tile) (step-late bucket-tiles v row tile) r _
+    told-late = walk-late Telling (tell-at (bucket f) (f .viewport) row tile) (step-late (bucket f) (f .viewport) row tile) r _
 
-    explained-late : Late (explained-of v r row tile a l .number)
+    explained-late : Late (explained-of f r row tile a l .number)
     unfolding explained-of
-    explained-late = by (off-screen v row tile)
+    explained-late = by (off-screen (f .viewport) row tile)
         (λ y. rw y (λ e. omega arith))
-        (λ n. rw n (by (eqb (told-of bucket-tiles v r row tile .number) Done) (λ y. rw y late-done) (λ z. rw z told-late)))
+        (λ n. rw n (by (eqb (told-of (bucket f) (f .viewport) r row tile .number) Done) (λ y. rw y late-done) (λ z. rw z told-late)))
 
   then-early : (q : Setup) (old : ScreenLent) (ss : List (List (List ℕ)))
       → let b = recorded-in (recording ss) q old in
       before-4 (b .number) ≡ before-4 (cond (eqb (b .number) Done) (explained-in q (some ss) row tile a l) (no-reason (b .number) (b .value)) .number)
   then-early q old ss = by (eqb (recorded-in (recording ss) q old .number) Done)
-      (λ y. rw y (rw y at (after (recorded-in (recording ss) q old .number) _ (explained-late (frame q (recording ss .viewport) .viewport) (recording ss)))))
+      (λ y. rw y (rw y at (after (recorded-in (recording ss) q old .number) _ (explained-late (frame q (recording ss .viewport)) (recording ss)))))
       (λ n. rw n)
 
 pub explained-is-early : (ws : List ℕ) (q : Setup) (row tile : ℕ) (a : Asked) (l : ScreenLent)

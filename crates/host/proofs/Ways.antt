@@ -7,9 +7,10 @@ use Prim.Native.Nat.{ℕ, _*_}
 use lib.ListN.{length}
 use lib.Dec.{eqb}
 use borrow.Author.Tests.{eq-eqb, ne-eqb}
+use Rattle.sizes.specs.Sizes.{state-size}
 use Rattle.rules.specs.Answers.{BadForm, BadRecord}
-use Rattle.rules.specs.Boxes.{Box, good-viewport, rows-of, buckets-of}
-use Rattle.rules.specs.Plans.{Frame}
+use Rattle.rules.specs.Boxes.{Box, good-viewport, rows-of}
+use Rattle.rules.specs.Plans.{Frame, buckets-across}
 use Rattle.rules.specs.Setups.{Setup, frame}
 use Rattle.rules.specs.Recording.{shape, sections, recording}
 use Rattle.rules.specs.Walk.{Arenas, good-room, good-arenas}
@@ -36,14 +37,14 @@ module _ (f : Frame) (a : Arenas) where
 
   -- n rows of a good viewport
   module _ (view : good-viewport (f .viewport) ≡ true) (n : ℕ) (rows : n ≡ rows-of (f .viewport)) where
-    all-arenas : good-arenas 32 f a ≡ (good-rooms n (f .c) (f .d) (a .render) (a .fills) && eqb (a .depth) (n * buckets-of 32 (f .viewport)))
+    all-arenas : good-arenas f a ≡ (good-rooms n (f .c) (f .d) (a .render) (a .fills) && eqb (a .depth) (n * buckets-across f))
     all-arenas = rw rows (depth-last (good-room (f .c) && good-room (f .d)) _ _ _)
 
     pub bad-rooms : good-rooms n (f .c) (f .d) (a .render) (a .fills) ≡ false → 1 ≡ arenas-number f a
     unfolding arenas-number
     bad-rooms h = rw (view, all-arenas, h)
 
-    module _ (r : good-rooms n (f .c) (f .d) (a .render) (a .fills) ≡ true) (b : ℕ) (e : b ≡ buckets-of 32 (f .viewport)) where
+    module _ (r : good-rooms n (f .c) (f .d) (a .render) (a .fills) ≡ true) (b : ℕ) (e : b ≡ buckets-across f) where
       pub bad-depth : (a .depth ≡ n * b → ⊥) → 1 ≡ arenas-number f a
       unfolding arenas-number
       bad-depth h = rw (view, all-arenas, r, ne-eqb _ _ (rw e at h))
@@ -64,21 +65,21 @@ a-file l ws g v b q a n e =
     let view : box-of v ≡ file.recorded l ws .viewport = unfold file.recorded box-from in b in
     rw (g .same, reads l ws (g .fits)) (e ∙ ap (λ (x : Box). arenas-number (frame q x) a) view)
 
--- .. whose words ask for no setup
-pub unasked-form : (ws : List ℕ) → sections shape ws ≡ none → BadForm ≡ unasked-number ws
+-- .. whose words' setup is refused by n
+pub unasked-form : (n : ℕ) (ws : List ℕ) → sections shape ws ≡ none → BadForm ≡ unasked-number ws n
 unfolding unasked-number
-unasked-form ws e = rw e
+unasked-form n ws e = rw e
 
-pub unasked-file : (l : Layout) (ws : List ℕ) → GoodForm ws l → BadRecord ≡ unasked-number ws
+pub unasked-file : (n : ℕ) (l : Layout) (ws : List ℕ) → GoodForm ws l → n ≡ unasked-number ws n
 unfolding unasked-number
-unasked-file l ws g = rw (g .same)
+unasked-file n l ws g = rw (g .same)
 
 -- a refusal at the border, by the state's length
 module _ (ws : List ℕ) (f : Screen → ℕ) where
-  pub no-screen : (length ws ≡ 16 → ⊥) → BadRecord ≡ refused-at ws f
+  pub no-screen : (length ws ≡ state-size → ⊥) → BadRecord ≡ refused-at ws f
   unfolding refused-at
-  no-screen h = rw (ne-eqb (length ws) 16 h)
+  no-screen h = rw (ne-eqb (length ws) state-size h)
 
-  pub a-screen : length ws ≡ 16 → (s : Screen) → s ≡ screen-at ws → (k : ℕ) → k ≡ f s → (n : ℕ) → n ≡ before-4 k → n ≡ refused-at ws f
+  pub a-screen : length ws ≡ state-size → (s : Screen) → s ≡ screen-at ws → (k : ℕ) → k ≡ f s → (n : ℕ) → n ≡ before-4 k → n ≡ refused-at ws f
   unfolding refused-at
-  a-screen e s g k h n i = rw (eq-eqb (length ws) 16 e) (i ∙ ap before-4 (h ∙ ap f g))
+  a-screen e s g k h n i = rw (eq-eqb (length ws) state-size e) (i ∙ ap before-4 (h ∙ ap f g))

@@ -7,7 +7,7 @@ use mathlib.Core.Option.{Option, none, some}
 use lib.Dec.{leb, eqb}
 use lib.Ieee.{Float}
 use lib.IntN.{ℤ}
-use Rattle.rules.specs.Answers.{Answer, answer, BadRecord}
+use Rattle.rules.specs.Answers.{Answer, answer}
 use Rattle.rules.specs.Boxes.{box}
 use Rattle.rules.specs.Setups.{Setup, frame}
 use Rattle.rules.specs.Inputs as rule
@@ -31,7 +31,7 @@ use Rattle.step_filter.specs.Filter.{given, filtered}
 use Rattle.file_read.specs.Reading.{props-in}
 use Rattle.host_screen.specs.declared.SetupWords.{SetupWords}
 use Rattle.host_screen.specs.State.{screen-words, on}
-use Rattle.host_screen.specs.Asked.{asked-setup, in-setup}
+use Rattle.host_screen.specs.Asked.{asked-setup, no-setup, in-setup}
 use Rattle.host.specs.Border.{unasked-number}
 
 -- all tables
@@ -43,14 +43,14 @@ unfoldable pub reset-in : Rect → Setup → List ℕ → Tables → Answer (Lis
 reset-in v q st t = on true st (st, t) (λ s. tables-left (reset-to (frame q (box-of v)) (lent s t)))
 
 unfoldable pub reset-call : Rect → SetupWords → List ℕ → Tables → Answer (List ℕ × Tables)
-reset-call v w st t = in-setup (asked-setup w) BadRecord (st, t) (λ q. reset-in v q st t)
+reset-call v w st t = in-setup (asked-setup w) (no-setup w) (st, t) (λ q. reset-in v q st t)
 
 -- a recording, likewise; 3 for the file's form before all
 unfoldable pub recording-in : List ℕ → Setup → List ℕ → Tables → Answer (List ℕ × Tables)
 recording-in file q st t = on true st (st, t) (λ s. tables-left (recorded file q (lent s t)))
 
 unfoldable pub recording-call : List ℕ → SetupWords → List ℕ → Tables → Answer (List ℕ × Tables)
-recording-call file w st t = in-setup (asked-setup w) (unasked-number file) (st, t) (λ q. recording-in file q st t)
+recording-call file w st t = in-setup (asked-setup w) (unasked-number file (no-setup w)) (st, t) (λ q. recording-in file q st t)
 
 -- the rows and the paint attributes
 abbrev pub draw : ℕ → ℕ → ℕ → ℕ → ℕ → ℕ → ℕ → Draw

@@ -3,10 +3,12 @@
 use Prim.Native.Nat.{ℕ}
 use mathlib.Core.Bool.{true, cond}
 use mathlib.Core.List.{List}
+use mathlib.Core.Option.{Option, none, some}
 use lib.ListN.{length}
 use lib.Dec.{eqb}
-use Rattle.sizes.specs.Sizes.{bucket-tiles}
-use Rattle.rules.specs.Answers.{Answer, answer, BadRecord}
+use Rattle.sizes.specs.declared.width.Width.{Width}
+use Rattle.sizes.specs.Widths.{bucket-tiles, width-of}
+use Rattle.rules.specs.Answers.{Answer, answer, BadViewport, BadRecord}
 use Rattle.rules.specs.Spans.{Span}
 use Rattle.rules.specs.Split.{split-answer}
 use Rattle.screen.specs.declared.Screen.{Screen}
@@ -68,5 +70,11 @@ write-call r t id st d l n =
 unfoldable pub skip-call : ℕ → Span → ℕ → List ℕ → List ℕ → List ℕ → Answer (List ℕ)
 skip-call r t id st rows old = on (eqb (length old) 1) st old (λ s. skip-left old (skip-of-row s r rows t id))
 
-unfoldable pub split-call : Span → List ℕ → Answer (List ℕ)
-split-call s parts = with-room 9 parts parts (split-left parts (split-answer bucket-tiles s))
+-- at a width; 2 where that is none
+abbrev pub split-at : Option Width → Span → List ℕ → Answer (List ℕ)
+split-at none s parts = answer BadViewport parts
+split-at (some w) s parts = with-room 9 parts parts (split-left parts (split-answer (bucket-tiles w) s))
+
+-- at so many pixels a bucket
+unfoldable pub split-call : ℕ → Span → List ℕ → Answer (List ℕ)
+split-call pixels = split-at (width-of pixels)

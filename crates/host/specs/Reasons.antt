@@ -12,7 +12,7 @@ use Rattle.screen.specs.Tables.{Tables, lent}
 use Rattle.tile_call.specs.Explained.{Explained, explained}
 use Rattle.host_screen.specs.declared.SetupWords.{SetupWords}
 use Rattle.host_screen.specs.State.{screen-words, on}
-use Rattle.host_screen.specs.Asked.{asked-setup, in-setup}
+use Rattle.host_screen.specs.Asked.{asked-setup, no-setup, in-setup}
 use Rattle.host.specs.Border.{unasked-number}
 
 -- the case, and the attribute that hides or the place in the tile's list
@@ -46,4 +46,4 @@ why-in file q row tile layer attribute st t result =
 -- as a host's words ask
 unfoldable pub why-call : List ℕ → SetupWords → ℕ → ℕ → ℕ → ℕ → List ℕ → Tables → List ℕ → Answer (List ℕ × Tables × List ℕ)
 why-call file w row tile layer attribute st t result =
-    in-setup (asked-setup w) (unasked-number file) (st, t, result) (λ q. why-in file q row tile layer attribute st t result)
+    in-setup (asked-setup w) (unasked-number file (no-setup w)) (st, t, result) (λ q. why-in file q row tile layer attribute st t result)

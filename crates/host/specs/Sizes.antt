@@ -4,16 +4,16 @@ use mathlib.Core.Bool.{_&&_, not}
 use mathlib.Core.List.{List, [], _∷_}
 use lib.ListN.{length}
 use lib.Dec.{eqb}
-use Rattle.sizes.specs.Sizes.{bucket-tiles, row-size, open-layer-table, opacity-count, paint-attr-table, layer-attr-table, filter-paint-table}
+use Rattle.sizes.specs.Sizes.{row-size, open-layer-table, opacity-count, paint-attr-table, layer-attr-table, filter-paint-table}
 use Rattle.rules.specs.Answers.{Answer, settle, first-of, BadArena, BadViewport, BadRecord}
-use Rattle.rules.specs.Boxes.{good-viewport, rows-of, buckets-of}
-use Rattle.rules.specs.Plans.{Frame}
+use Rattle.rules.specs.Boxes.{good-viewport, rows-of}
+use Rattle.rules.specs.Plans.{Frame, buckets-across}
 use Rattle.rules.specs.Setups.{frame}
 use Rattle.rules.specs.Walk.{good-room}
 use Rattle.rect.specs.declared.Rect.{Rect}
 use Rattle.rect.specs.Rects.{box-of}
 use Rattle.host_screen.specs.declared.SetupWords.{SetupWords}
-use Rattle.host_screen.specs.Asked.{asked-setup, in-setup}
+use Rattle.host_screen.specs.Asked.{asked-setup, no-setup, in-setup}
 
 -- layers, opacities, paint attributes, layer attributes, filter paints
 abbrev pub fixed : List ℕ
@@ -24,7 +24,7 @@ abbrev pub size-words : Frame → List ℕ
 size-words f =
     rows-of (f .viewport) * (4 * f .c)
     ∷ rows-of (f .viewport) * (2 * f .d)
-    ∷ rows-of (f .viewport) * buckets-of bucket-tiles (f .viewport)
+    ∷ rows-of (f .viewport) * buckets-across f
     ∷ rows-of (f .viewport) * row-size
     ∷ rows-of (f .viewport) * 2
     ∷ fixed
@@ -43,4 +43,4 @@ sizes-of f ss = settle (size-number f (length ss)) ss (size-words f)
 
 -- as a host's words ask
 unfoldable pub size-call : Rect → SetupWords → List ℕ → Answer (List ℕ)
-size-call v w ss = in-setup (asked-setup w) BadRecord ss (λ q. sizes-of (frame q (box-of v)) ss)
+size-call v w ss = in-setup (asked-setup w) (no-setup w) ss (λ q. sizes-of (frame q (box-of v)) ss)

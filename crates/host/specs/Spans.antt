@@ -3,7 +3,8 @@ use Prim.Native.Nat.{ℕ}
 use mathlib.Core.List.{List, [], _∷_}
 use lib.ListN.{length, replicate}
 use lib.Dec.{eqb}
-use Rattle.sizes.specs.Sizes.{bucket-tiles, open-layer-table}
+use Rattle.sizes.specs.Sizes.{bucket-end}
+use Rattle.sizes.specs.Widths.{bucket-tiles}
 use Rattle.rules.specs.Answers.{Answer, answer}
 use Rattle.rules.specs.Spans.{Span}
 use Rattle.rules.specs.Depth.{visible-answer}
@@ -19,7 +20,7 @@ use Rattle.host_results.specs.Results.{result, count-left}
 
 -- the row's runs that n runs' room lists, or the number of the refusal: `visible-of` lists these in words
 abbrev pub runs-of : Screen → ℕ → List ℕ → Span → ℕ → ℕ → Answer (List Span)
-runs-of s r d t id n = or-runs (runs-number s r (length d)) (visible-answer bucket-tiles (part (wide s) r d) id t n)
+runs-of s r d t id n = or-runs (runs-number s r (length d)) (visible-answer (bucket-tiles (s .width)) (part (wide s) r d) id t n)
 
 -- the list of spans, and how many of them are runs
 abbrev pub spans-left : List ℕ → spans.SpansOut → Answer (List TileSpan × List ℕ)
@@ -29,9 +30,9 @@ unfoldable pub spans-call : ℕ → Span → ℕ → List ℕ → List ℕ → L
 spans-call r t id st d l n =
     on (eqb (length n) 1) st (l, n) (λ s. spans-left n (spans.listing (runs-of s r d t id (length l)) l))
 
--- Before they are written, in words of the call's own: 256, which hold every run of a row.
+-- Before they are written, in words of the call's own: two for each second bucket, which hold every run of a row.
 abbrev pub own-words : List ℕ
-own-words = replicate open-layer-table 0
+own-words = replicate bucket-end 0
 
 -- how many there are, and their tile numbers
 abbrev pub found-left : List ℕ → words.RunsOut → Answer (ℕ × List ℕ × List ℕ)

@@ -38,7 +38,8 @@ fn judge_arenas(viewport: Rect, setup: Setup, render: usize, fills: usize, depth
     let Viewport::Good(seen) = viewport.viewport_in(mode) else {
         return BAD_VIEWPORT;
     };
-    let screen = fresh(seen, setup.c, setup.d);
+    let width = setup.width;
+    let screen = fresh(seen, setup.c, setup.d, width);
     let n = screen.rows();
     if !is_good_rooms(n, setup.c, setup.d, render, fills) {
         return BAD_ARENA;
@@ -91,14 +92,14 @@ pub fn refuse_recording(
     before_4(judge_file(file, setup, render, fills, depth))
 }
 
-// A recording where the words ask for no setup: the file's form comes first, and there is no viewport to judge.
-pub fn refuse_setup(file: &[u32]) -> u32
-    ensures { λ r. ⌜ r ≡ unasked-number (now (file .entry)) ⌝ }
+// A recording where the words' setup is refused by a number: the file's form comes first, and there is no viewport to judge.
+pub fn refuse_setup(file: &[u32], number: u32) -> u32
+    ensures { λ r. ⌜ r ≡ unasked-number (now (file .entry)) number ⌝ }
 {
     let Form::Good(l) = read_form(file) else {
         return BAD_FORM;
     };
-    BAD_RECORD
+    number
 }
 
 // A building step.

@@ -10,12 +10,12 @@ use host_screen::AskedSetup;
 use host_screen::Held;
 use host_screen::SetupWords;
 use host_screen::leave;
+use host_screen::no_setup;
 use host_screen::read_setup;
 use host_screen::screen_of;
 use rect::Rect;
 use screen::reset;
 use screen_layers::LayerProps;
-use sizes::answers::BAD_RECORD;
 use step_fill::Draw;
 use step_fill::fill;
 use step_filter::Pixmap;
@@ -32,7 +32,7 @@ ghost use Rattle.step_filter.specs.Filter.{picture-of};
 ghost use Rattle.host_screen.specs.State.{rect};
 ghost use Rattle.host.specs.Building.{reset-call, recording-call, draw, fill-call, clip, props, push-call, pop-call, placement, picture, filter-call};
 
-// Rule 1: a fresh screen of a viewport in a setup. Words that ask for no setup are refused by 4 at once.
+// Rule 1: a fresh screen of a viewport in a setup. Words that ask for no setup are refused at once, by 2 or 4.
 #[no_mangle]
 pub extern "C" fn coarse_reset(
     state: &mut [u32],
@@ -56,7 +56,7 @@ pub extern "C" fn coarse_reset(
         ≡ reset-call (rect x0 y0 x1 y1) setup (now (state .entry)) (tables (now (render .entry)) (now (fills .entry)) (now (depth .entry)) (now (rows .entry)) (now (painting .entry)) (now (layers .entry)) (now (opacities .entry)) (now («paint_attrs» .entry)) (now («layer_attrs» .entry)) (now («filter_paints» .entry))) ⌝ }
 {
     let AskedSetup::Good(asked) = read_setup(setup) else {
-        return BAD_RECORD;
+        return no_setup(setup);
     };
     let viewport = Rect { x0, y0, x1, y1 };
     let Held::Good(screen) = screen_of(state, true) else {
@@ -87,7 +87,7 @@ pub extern "C" fn coarse_reset(
     leave(state, built)
 }
 
-// Rule 2: the words of a recording file, in a setup. Words that ask for no setup are refused by 4, after 3 for the file's form.
+// Rule 2: the words of a recording file, in a setup. Words that ask for no setup are refused by 2 or 4, after 3 for the file's form.
 #[no_mangle]
 pub extern "C" fn coarse_bucket_recording(
     state: &mut [u32],
@@ -108,7 +108,7 @@ pub extern "C" fn coarse_bucket_recording(
         ≡ recording-call (now (file .entry)) setup (now (state .entry)) (tables (now (render .entry)) (now (fills .entry)) (now (depth .entry)) (now (rows .entry)) (now (painting .entry)) (now (layers .entry)) (now (opacities .entry)) (now («paint_attrs» .entry)) (now («layer_attrs» .entry)) (now («filter_paints» .entry))) ⌝ }
 {
     let AskedSetup::Good(asked) = read_setup(setup) else {
-        return refuse_setup(file);
+        return refuse_setup(file, no_setup(setup));
     };
     let Held::Good(screen) = screen_of(state, true) else {
         return refuse_recording(state, file, asked, render.len(), fills.len(), depth.len());

@@ -1,6 +1,7 @@
 // How many words a host lends.
 use host_screen::AskedSetup;
 use host_screen::SetupWords;
+use host_screen::no_setup;
 use host_screen::read_setup;
 use rect::Rect;
 use rect::Viewport;
@@ -66,7 +67,8 @@ fn put_lengths(viewport: Rect, setup: Setup, sizes: &mut [usize]) -> u32
     if sizes.len() != 10 {
         return BAD_RECORD;
     }
-    let screen = fresh(seen, setup.c, setup.d);
+    let width = setup.width;
+    let screen = fresh(seen, setup.c, setup.d, width);
     let n = screen.rows();
     let b = screen.buckets();
     let render = n * (4 * (setup.c as usize));
@@ -76,7 +78,7 @@ fn put_lengths(viewport: Rect, setup: Setup, sizes: &mut [usize]) -> u32
 }
 
 // The lengths for a viewport in a setup. sizes: render, fills, depth, rows, painting, layers, opacities, paint_attrs, layer_attrs, filter_paints.
-// Words that ask for no setup are refused by 4 at once.
+// Words that ask for no setup are refused at once, by 2 or 4.
 #[no_mangle]
 pub extern "C" fn coarse_sizes(
     x0: u32,
@@ -90,7 +92,7 @@ pub extern "C" fn coarse_sizes(
         ≡ size-call (rect x0 y0 x1 y1) setup (now (sizes .entry)) ⌝ }
 {
     let AskedSetup::Good(asked) = read_setup(setup) else {
-        return BAD_RECORD;
+        return no_setup(setup);
     };
     let viewport = Rect { x0, y0, x1, y1 };
     put_lengths(viewport, asked, sizes)

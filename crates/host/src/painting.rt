@@ -20,9 +20,11 @@ use paint_screen::visible_runs;
 use paint_whole::paint_row;
 use paint_whole::paint_step;
 use sizes::answers::BAD_RECORD;
+use sizes::answers::BAD_VIEWPORT;
+use sizes::width::ReadWidth;
+use sizes::width::read_width;
 use span::BucketRange;
 use span::TileSpan;
-use span::Width;
 ghost use mathlib.Core.Path.{_≡_};
 ghost use Rattle.rules.specs.Answers.{answer};
 ghost use Rattle.rules.specs.Spans.{span};
@@ -233,14 +235,22 @@ pub extern "C" fn coarse_can_skip(
     put_skip(skip, yes)
 }
 
-// Rule 7: the parts of an opaque span. parts: three words a part, left to right, then zeros.
+// Rule 7: the parts of an opaque span, at so many pixels a bucket. parts: three words a part, left to right, then zeros.
 #[no_mangle]
-pub extern "C" fn coarse_split_opaque_span(first: u32, end: u32, parts: &mut [u32]) -> u32
-    ensures { λ r. ⌜ answer r (now (parts .exit)) ≡ split-call (span first «end») (now (parts .entry)) ⌝ }
+pub extern "C" fn coarse_split_opaque_span(
+    first: u32,
+    end: u32,
+    pixels: u32,
+    parts: &mut [u32],
+) -> u32
+    ensures { λ r. ⌜ answer r (now (parts .exit)) ≡ split-call pixels (span first «end») (now (parts .entry)) ⌝ }
 {
+    let ReadWidth::Good(width) = read_width(pixels) else {
+        return BAD_VIEWPORT;
+    };
     if parts.len() != 9 {
         return BAD_RECORD;
     }
     let span = TileSpan { first, end };
-    put_split(parts, split_opaque_span(span, Width::W128))
+    put_split(parts, split_opaque_span(span, width))
 }

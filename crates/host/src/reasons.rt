@@ -4,6 +4,7 @@ use crate::border::refuse_setup;
 use host_screen::AskedSetup;
 use host_screen::Held;
 use host_screen::SetupWords;
+use host_screen::no_setup;
 use host_screen::put_screen;
 use host_screen::read_setup;
 use host_screen::screen_of;
@@ -103,7 +104,7 @@ pub extern "C" fn coarse_why(
         ≡ why-call (now (file .entry)) setup row tile layer attribute (now (state .entry)) (tables (now (render .entry)) (now (fills .entry)) (now (depth .entry)) (now (rows .entry)) (now (painting .entry)) (now (layers .entry)) (now (opacities .entry)) (now («paint_attrs» .entry)) (now («layer_attrs» .entry)) (now («filter_paints» .entry))) (now (result .entry)) ⌝ }
 {
     let AskedSetup::Good(wanted) = read_setup(setup) else {
-        return refuse_setup(file);
+        return refuse_setup(file, no_setup(setup));
     };
     let good = is_good_question(layer, result.len());
     let Held::Good(screen) = screen_of(state, good) else {

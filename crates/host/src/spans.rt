@@ -6,7 +6,8 @@ use sizes::BUCKET_END;
 use sizes::answers::DONE;
 use span::TileSpan;
 ghost use mathlib.Core.Path.{_≡_};
-ghost use Prim.Native.Nat.{_*_, min};
+ghost use Prim.Native.Nat.{_*_, _/_, min};
+ghost use Rattle.sizes.specs.Sizes.{bucket-end};
 ghost use Rattle.rules.specs.Answers.{answer};
 ghost use Rattle.rules.specs.Spans.{span};
 ghost use Rattle.host.specs.Spans.{found-call, spans-call};
@@ -18,11 +19,15 @@ struct Found {
     words: [u32; BUCKET_END],
 }
 
-// The words of so many runs. Tiles end at 8,192, in 256 buckets, which have at most 128 runs.
+// The words of so many runs. Each second bucket begins one at most.
 fn words_for(room: usize) -> usize
-    ensures { λ r. ⌜ r ≡ 2 * min room 128 ⌝ }
+    ensures { λ r. ⌜ r ≡ 2 * min room (bucket-end / 2) ⌝ }
 {
-    if room < 128 { 2 * room } else { BUCKET_END }
+    if room < BUCKET_END / 2 {
+        2 * room
+    } else {
+        BUCKET_END
+    }
 }
 
 // The runs that a list of so many spans has room for, as `coarse_visible_runs` answers and lists them.

@@ -7,19 +7,28 @@ use native.Mathlib.Omega.{arith}
 use lib.ListN.{length, getD, set}
 use lib.Dec.{leb, ltb, eqb}
 use borrow.Author.Tests.{eq-eqb, ne-eqb, eqb-true, le-leb, lt-leb, leb-true, lt-ltb, le-ltb}
+use Rattle.sizes.specs.Sizes.{state-size}
+use Rattle.sizes.specs.declared.width.Width.{Width}
+use Rattle.sizes.specs.declared.width.Width.the-variants.{W64, W128, W256}
 use Rattle.rules.proofs.All.{both}
 use Rattle.rules.specs.Answers.{Answer, answer, BadRecord}
 use Rattle.rect.specs.declared.Rect.{Rect}
 use Rattle.screen.specs.declared.Screen.{Screen}
 use Rattle.host_screen.specs.declared.Held.{Held}
 use Rattle.host_screen.specs.declared.Held.the-variants as held
-use Rattle.host_screen.specs.State.{bit, screen-words, screen-at, good-words, screen-of, before-4, refused-at, at-held}
+use Rattle.host_screen.specs.State.{bit, width-word, width-at, screen-words, screen-at, good-words, screen-of, before-4, refused-at, at-held}
 use Rattle.host_screen.proofs.Lists.{by-length}
 
 bit-back : (n : ℕ) → n ≤ 1 → bit (eqb n 1) ≡ n
 bit-back zero h = refl
 bit-back (suc zero) h = refl
 bit-back (suc (suc n)) h = absurd (omega arith)
+
+width-back : (n : ℕ) → n ≤ 2 → width-word (width-at n) ≡ n
+width-back zero h = refl
+width-back (suc zero) h = refl
+width-back (suc (suc zero)) h = refl
+width-back (suc (suc (suc n))) h = absurd (omega arith)
 
 -- the ways through `screen_of`
 module _ (st : List ℕ) where
@@ -28,28 +37,34 @@ module _ (st : List ℕ) where
   not-good good e = rw e
 
   module _ (good : Bool) (g : good ≡ true) where
-    pub not-long : (length st ≡ 16 → ⊥) → held.Nothing ≡ screen-of good st
+    pub not-long : (length st ≡ state-size → ⊥) → held.Nothing ≡ screen-of good st
     unfolding screen-of
-    not-long h = rw (g, ne-eqb (length st) 16 h)
+    not-long h = rw (g, ne-eqb (length st) state-size h)
 
-    pub no-flag : length st ≡ 16 → 1 < getD st 15 0 → held.Nothing ≡ screen-of good st
-    unfolding screen-of
-    no-flag e h = rw (g, eq-eqb (length st) 16 e, lt-leb (getD st 15 0) 1 h)
+    module _ (e : length st ≡ state-size) where
+      pub no-flag : 1 < getD st 15 0 → held.Nothing ≡ screen-of good st
+      unfolding screen-of
+      no-flag h = rw (g, eq-eqb (length st) state-size e, lt-leb (getD st 15 0) 1 h)
 
-    pub all-good : length st ≡ 16 → getD st 15 0 ≤ 1 → (s : Screen) → s ≡ screen-at st → held.Good s ≡ screen-of good st
-    unfolding screen-of
-    all-good e h s f = rw (g, eq-eqb (length st) 16 e, le-leb (getD st 15 0) 1 h, f)
+      module _ (h : getD st 15 0 ≤ 1) where
+        pub no-width : 2 < getD st 16 0 → held.Nothing ≡ screen-of good st
+        unfolding screen-of
+        no-width k = rw (g, eq-eqb (length st) state-size e, le-leb (getD st 15 0) 1 h, lt-leb (getD st 16 0) 2 k)
 
--- sixteen words, the last of them 0 or 1, are those of the screen that is read from them
-spelled : (st : List ℕ) → length st ≡ 16 → getD st 15 0 ≤ 1 → screen-words (screen-at st) ≡ st
+        pub all-good : getD st 16 0 ≤ 2 → (s : Screen) → s ≡ screen-at st → held.Good s ≡ screen-of good st
+        unfolding screen-of
+        all-good k s f = rw (g, eq-eqb (length st) state-size e, le-leb (getD st 15 0) 1 h, le-leb (getD st 16 0) 2 k, f)
+
+-- words whose last two are good are those of the screen that is read from them
+spelled : (st : List ℕ) → length st ≡ state-size → getD st 15 0 ≤ 1 → getD st 16 0 ≤ 2 → screen-words (screen-at st) ≡ st
 spelled =
-    by-length 16 (λ (st : List ℕ). getD st 15 0 ≤ 1 → screen-words (screen-at st) ≡ st)
-    (λ a b c d e f g h i j k l m n o p q. rw (bit-back p q))
+    by-length state-size (λ (st : List ℕ). getD st 15 0 ≤ 1 → getD st 16 0 ≤ 2 → screen-words (screen-at st) ≡ st)
+    (λ a b c d e f g h i j k l m n o p q u v. rw (bit-back p u, width-back q v))
 
 module _ (good : Bool) (st : List ℕ) (s : Screen) where
   -- what is known of words that stand for the screen s
   abbrev Known : Type 0
-  Known = (length st ≡ 16) × (screen-words s ≡ st)
+  Known = (length st ≡ state-size) × (screen-words s ≡ st)
 
   -- words that stand for a screen come with what is good
   pub was-good : held.Good s ≡ screen-of good st → good ≡ true
@@ -63,12 +78,15 @@ module _ (good : Bool) (st : List ℕ) (s : Screen) where
   known : (b : Bool) → good && good-words st ≡ b → held.Good s ≡ cond b (held.Good (screen-at st)) held.Nothing → Known
   known true q e =
       let h : s ≡ screen-at st = cc in
-      let g = both (eqb (length st) 16) (leb (getD st 15 0) 1) (both good (good-words st) q .1) in
-      let long = eqb-true (length st) 16 (g .0) in
-      (long, rw h (spelled st long (leb-true (getD st 15 0) 1 (g .1))))
+      let first = eqb (length st) state-size in
+      let flag = leb (getD st 15 0) 1 in
+      let k = both (first && flag) (leb (getD st 16 0) 2) (both good (good-words st) q .1) in
+      let g = both first flag (k .0) in
+      let long = eqb-true (length st) state-size (g .0) in
+      (long, rw h (spelled st long (leb-true (getD st 15 0) 1 (g .1)) (leb-true (getD st 16 0) 2 (k .1))))
   known false q e = let z : _≡_ {A = ℕ} 0 1 = cc in absurd (omega arith)
 
-  pub long : held.Good s ≡ screen-of good st → length st ≡ 16
+  pub long : held.Good s ≡ screen-of good st → length st ≡ state-size
   unfolding screen-of
   long e = known (good && good-words st) refl e .0
 
@@ -80,11 +98,15 @@ module _ (good : Bool) (st : List ℕ) (s : Screen) where
 -- the words of a screen stand for it
 pub read-back : (s : Screen) → screen-of true (screen-words s) ≡ held.Good s
 unfolding screen-of
-read-back s = by (s .painting) refl
+read-back s = by (s .painting) (s .width) refl refl
   where
-    by : (b : Bool) → s .painting ≡ b → screen-of true (screen-words s) ≡ held.Good s
-    by true e = rw e
-    by false e = rw e
+    by : (b : Bool) (w : Width) → s .painting ≡ b → s .width ≡ w → screen-of true (screen-words s) ≡ held.Good s
+    by true W64 e f = rw (e, f)
+    by true W128 e f = rw (e, f)
+    by true W256 e f = rw (e, f)
+    by false W64 e f = rw (e, f)
+    by false W128 e f = rw (e, f)
+    by false W256 e f = rw (e, f)
 
 -- what is past 3 gives way to the border's 4
 pub past-3 : (n : ℕ) → 4 ≤ n → 4 ≡ before-4 n
@@ -105,11 +127,14 @@ pub refused-on : {T : Type 0} (h : Held) (st : List ℕ) (t : T) (f : Screen →
 unfolding refused-at
 refused-on h st t f g r e q k = rw (← e, q, k (screen-at st))
 
--- sixteen words stored over sixteen
-pub screen-stored : (s : Screen) (st : List ℕ) → length st ≡ 16
-    → set (set (set (set (set (set (set (set (set (set (set (set (set (set (set (set st 0 (s .viewport .x0)) 1 (s .viewport .y0)) 2 (s .viewport .x1)) 3 (s .viewport .y1)) 4 (s .«clip_bbox» .x0)) 5 (s .«clip_bbox» .y0)) 6 (s .«clip_bbox» .x1)) 7 (s .«clip_bbox» .y1)) 8 (s .c)) 9 (s .d)) 10 (s .«next_draw_id»)) 11 (s .«paint_attrs»)) 12 (s .«layer_attrs»)) 13 (s .«filter_paints»)) 14 (s .layers)) 15 (bit (s .painting))
-    ≡ screen-words s
-screen-stored s =
-    by-length 16
-    (λ (st : List ℕ). set (set (set (set (set (set (set (set (set (set (set (set (set (set (set (set st 0 (s .viewport .x0)) 1 (s .viewport .y0)) 2 (s .viewport .x1)) 3 (s .viewport .y1)) 4 (s .«clip_bbox» .x0)) 5 (s .«clip_bbox» .y0)) 6 (s .«clip_bbox» .x1)) 7 (s .«clip_bbox» .y1)) 8 (s .c)) 9 (s .d)) 10 (s .«next_draw_id»)) 11 (s .«paint_attrs»)) 12 (s .«layer_attrs»)) 13 (s .«filter_paints»)) 14 (s .layers)) 15 (bit (s .painting)) ≡ screen-words s)
-    (λ a b c d e f g h i j k l m n o p. refl)
+-- a screen's words stored over as many
+abbrev stored : Screen → List ℕ → List ℕ
+stored s st =
+    let viewport = set (set (set (set st 0 (s .viewport .x0)) 1 (s .viewport .y0)) 2 (s .viewport .x1)) 3 (s .viewport .y1) in
+    let box = set (set (set (set viewport 4 (s .«clip_bbox» .x0)) 5 (s .«clip_bbox» .y0)) 6 (s .«clip_bbox» .x1)) 7 (s .«clip_bbox» .y1) in
+    let room = set (set box 8 (s .c)) 9 (s .d) in
+    let counts = set (set (set (set (set room 10 (s .«next_draw_id»)) 11 (s .«paint_attrs»)) 12 (s .«layer_attrs»)) 13 (s .«filter_paints»)) 14 (s .layers) in
+    set (set counts 15 (bit (s .painting))) 16 (width-word (s .width))
+
+pub screen-stored : (s : Screen) (st : List ℕ) → length st ≡ state-size → stored s st ≡ screen-words s
+screen-stored s = by-length state-size (λ (st : List ℕ). stored s st ≡ screen-words s) (λ a b c d e f g h i j k l m n o p q. refl)

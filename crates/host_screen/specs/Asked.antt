@@ -3,7 +3,10 @@ use Prim.Native.Nat.{ℕ}
 use mathlib.Core.Bool.{cond}
 use mathlib.Core.Option.{Option, none, some}
 use lib.Dec.{leb, eqb}
-use Rattle.rules.specs.Answers.{Answer, answer}
+use Rattle.sizes.specs.declared.width.Width.{Width}
+use Rattle.sizes.specs.Widths.{width-of}
+use Rattle.rules.specs.Lists.{is-none}
+use Rattle.rules.specs.Answers.{Answer, answer, BadViewport, BadRecord}
 use Rattle.rules.specs.Setups.{Mode, exact, snapping, Setup}
 use Rattle.screen.specs.Screens.{setup-of}
 use Rattle.host_screen.specs.declared.SetupWords.{SetupWords}
@@ -13,9 +16,17 @@ use Rattle.host_screen.specs.declared.AskedSetup.the-variants as asked
 abbrev pub mode-at : ℕ → Mode
 mode-at n = cond (eqb n 1) snapping exact
 
--- nothing where the mode's word is above 1
+abbrev pub asked-at : Option Width → SetupWords → Option Setup
+asked-at none w = none
+asked-at (some v) w = cond (leb (w .mode) 1) (some (record { c = w .c; d = w .d; mode = mode-at (w .mode); width = v })) none
+
+-- nothing where the width's number is none, or the mode's word is above 1
 unfoldable pub asked-setup : SetupWords → Option Setup
-asked-setup w = cond (leb (w .mode) 1) (some (record { c = w .c; d = w .d; mode = mode-at (w .mode) })) none
+asked-setup w = asked-at (width-of (w .width)) w
+
+-- the number that then refuses: 2 for the width, else 4
+unfoldable pub no-setup : SetupWords → ℕ
+no-setup w = cond (is-none (width-of (w .width))) BadViewport BadRecord
 
 -- what the code reads
 abbrev pub asked-for : AskedSetup → Option Setup

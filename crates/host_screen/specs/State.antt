@@ -5,6 +5,8 @@ use mathlib.Core.List.{List, [], _∷_}
 use lib.ListN.{length, getD}
 use lib.Dec.{leb, ltb, eqb}
 use Rattle.sizes.specs.Sizes.{state-size}
+use Rattle.sizes.specs.declared.width.Width.{Width}
+use Rattle.sizes.specs.declared.width.Width.the-variants.{W64, W128, W256}
 use Rattle.rules.specs.Answers.{Answer, answer, BadRecord}
 use Rattle.rect.specs.declared.Rect.{Rect}
 use Rattle.screen.specs.declared.Screen.{Screen}
@@ -18,7 +20,16 @@ bit false = 0
 abbrev pub rect : ℕ → ℕ → ℕ → ℕ → Rect
 rect x0 y0 x1 y1 = record { x0 = x0; y0 = y0; x1 = x1; y1 = y1 }
 
--- viewport, clip box, C, D, next id, paint attributes, layer attributes, filter paints, open layers, whether painting has begun
+-- a bucket's width: 0 stands for 128 pixels, so that words that are all 0 are a screen's
+abbrev pub width-word : Width → ℕ
+width-word W64 = 1
+width-word W128 = 0
+width-word W256 = 2
+
+abbrev pub width-at : ℕ → Width
+width-at n = cond (eqb n 1) W64 (cond (eqb n 2) W256 W128)
+
+-- viewport, clip box, C, D, next id, paint attributes, layer attributes, filter paints, open layers, whether painting has begun, the width
 abbrev pub screen-words : Screen → List ℕ
 screen-words s =
     s .viewport .x0
@@ -37,6 +48,7 @@ screen-words s =
     ∷ s .«filter_paints»
     ∷ s .layers
     ∷ bit (s .painting)
+    ∷ width-word (s .width)
     ∷ []
 
 abbrev pub screen-at : List ℕ → Screen
@@ -52,11 +64,12 @@ screen-at ws =
       «filter_paints» = getD ws 13 0;
       layers = getD ws 14 0;
       painting = eqb (getD ws 15 0) 1;
+      width = width-at (getD ws 16 0);
     }
 
--- 16 words, the last of them 0 or 1
+-- 17 words, the last two of them 0 or 1, and 0 to 2
 abbrev pub good-words : List ℕ → Bool
-good-words ws = eqb (length ws) state-size && leb (getD ws 15 0) 1
+good-words ws = eqb (length ws) state-size && leb (getD ws 15 0) 1 && leb (getD ws 16 0) 2
 
 -- the screen that the words stand for, if what else the host gives is good
 unfoldable pub screen-of : Bool → List ℕ → Held
@@ -66,7 +79,7 @@ screen-of good ws = cond (good && good-words ws) (held.Good (screen-at ws)) held
 unfoldable pub before-4 : ℕ → ℕ
 before-4 n = cond (ltb 0 n && ltb n BadRecord) n BadRecord
 
--- .. of the screen at 16 words; words of another length are no screen at all
+-- .. of the screen at 17 words; words of another length are no screen at all
 unfoldable pub refused-at : List ℕ → (Screen → ℕ) → ℕ
 refused-at ws f = cond (eqb (length ws) state-size) (before-4 (f (screen-at ws))) BadRecord
 

@@ -1,5 +1,6 @@
-// A screen's numbers as 16 lent words: the viewport's four, the clip box's four, C, D, next id, the counts of paint attributes, layer
-// attributes, filter paints and open layers, and 1 if painting has begun, else 0. And what a host asks a screen to be, as words.
+// A screen's numbers as 17 lent words: the viewport's four, the clip box's four, C, D, next id, the counts of paint attributes, layer
+// attributes, filter paints and open layers, 1 if painting has begun, else 0, and a bucket's width: 0 for 128 pixels, 1 for 64, 2 for 256.
+// So words that are all 0 are a screen's. And what a host asks a screen to be, as words.
 use rect::Mode;
 use rect::Rect;
 use screen::Built;
@@ -7,13 +8,17 @@ use screen::Screen;
 use screen::Setup;
 use sizes::STATE;
 use sizes::answers::BAD_RECORD;
+use sizes::answers::BAD_VIEWPORT;
 use sizes::answers::DONE;
+use sizes::width::ReadWidth;
+use sizes::width::Width;
+use sizes::width::read_width;
 ghost use mathlib.Core.Path.{_≡_};
 ghost use lib.ListN.{length};
 ghost use Rattle.sizes.specs.Sizes.{state-size};
 ghost use Rattle.rect.specs.Rects.{mode-of};
-ghost use Rattle.host_screen.specs.State.{bit, screen-words, screen-at, screen-of, before-4};
-ghost use Rattle.host_screen.specs.Asked.{mode-at, asked-setup, asked-for};
+ghost use Rattle.host_screen.specs.State.{bit, width-at, width-word, screen-words, screen-at, screen-of, before-4};
+ghost use Rattle.host_screen.specs.Asked.{mode-at, asked-setup, asked-for, no-setup};
 
 // What a host's words stand for.
 pub enum Held {
@@ -21,12 +26,14 @@ pub enum Held {
     Good(Screen),
 }
 
-// What a screen is asked to be, as a host gives it: room for C render commands and D depth fills in each row; the mode is 0 exact, 1 snapping.
+// What a screen is asked to be, as a host gives it: room for C render commands and D depth fills in each row; the mode is 0 exact, 1 snapping;
+// the width of a bucket is 64, 128 or 256 pixels.
 #[repr(C)]
 pub struct SetupWords {
     pub c: u32,
     pub d: u32,
     pub mode: u32,
+    pub width: u32,
 }
 
 // What such words ask for.
@@ -45,10 +52,13 @@ fn mode_at(word: u32) -> Mode
     Mode::Exact
 }
 
-// No other word is a mode.
+// No other words are a width or a mode.
 pub fn read_setup(words: SetupWords) -> AskedSetup
     ensures { λ r. ⌜ asked-for r ≡ asked-setup words ⌝ }
 {
+    let ReadWidth::Good(width) = read_width(words.width) else {
+        return AskedSetup::Bad;
+    };
     if 1 < words.mode {
         return AskedSetup::Bad;
     }
@@ -57,10 +67,43 @@ pub fn read_setup(words: SetupWords) -> AskedSetup
         c: words.c,
         d: words.d,
         mode,
+        width,
     })
 }
 
-// The screen of 16 words, whatever the last.
+// The number that refuses words which ask for no setup: 2 for the width, else 4.
+pub fn no_setup(words: SetupWords) -> u32
+    ensures { λ r. ⌜ r ≡ no-setup words ⌝ }
+{
+    match read_width(words.width) {
+        ReadWidth::Bad => BAD_VIEWPORT,
+        ReadWidth::Good(_) => BAD_RECORD,
+    }
+}
+
+// The width of a screen's word that is 0, 1 or 2.
+fn width_at(word: u32) -> Width
+    ensures { λ r. ⌜ r ≡ width-at word ⌝ }
+{
+    match word {
+        1 => Width::W64,
+        2 => Width::W256,
+        _ => Width::W128,
+    }
+}
+
+// The word of a width.
+fn width_word(width: Width) -> u32
+    ensures { λ r. ⌜ r ≡ width-word width ⌝ }
+{
+    match width {
+        Width::W64 => 1,
+        Width::W128 => 0,
+        Width::W256 => 2,
+    }
+}
+
+// The screen of 17 words, whatever the last two.
 pub fn screen_at(state: &[u32]) -> Screen
     requires { ⌜ length (now state) ≡ state-size ⌝ }
     ensures { λ r. ⌜ r ≡ screen-at (now (state .entry)) ⌝ }
@@ -88,10 +131,11 @@ pub fn screen_at(state: &[u32]) -> Screen
         filter_paints: state[13],
         layers: state[14],
         painting: state[15] == 1,
+        width: width_at(state[16]),
     }
 }
 
-// The screen of 16 words whose last is 0 or 1, if what else the host gives is good.
+// The screen of 17 words, if the last two are good and what else the host gives is.
 pub fn screen_of(state: &[u32], good: bool) -> Held
     ensures { λ r. ⌜ r ≡ screen-of good (now (state .entry)) ⌝ }
 {
@@ -102,6 +146,9 @@ pub fn screen_of(state: &[u32], good: bool) -> Held
         return Held::Nothing;
     }
     if 1 < state[15] {
+        return Held::Nothing;
+    }
+    if 2 < state[16] {
         return Held::Nothing;
     }
     Held::Good(screen_at(state))
@@ -149,6 +196,8 @@ pub fn put_screen(state: &mut [u32], screen: Screen)
     state[13] = screen.filter_paints;
     state[14] = screen.layers;
     state[15] = flag(screen.painting);
+    let width = screen.width;
+    state[16] = width_word(width);
 }
 
 // What a call gave: its screen's words, and its number.

@@ -6,6 +6,8 @@ use mathlib.Core.Option.{none, some}
 use Prim.Native.Nat.{ℕ, zero, suc, _<_}
 use native.Mathlib.Omega.{arith}
 use lib.ListN.{getD}
+use Rattle.sizes.specs.declared.width.Width.the-variants.{W128}
+use Rattle.sizes.specs.Widths.{bucket-tiles}
 use Rattle.rules.specs.Blends.{default-blend}
 use Rattle.rules.specs.Spans.{span}
 use Rattle.rules.specs.Rows.{Row}
@@ -28,7 +30,7 @@ told n = record { number = 0; finished = false; pieces = n }
 
 -- document 01's worked example, row 0: a depth fill of bucket 1, and tiles 10 to 32 beside it
 row : List ℕ → List ℕ → List ℕ → StepOut
-row d p l = painted-row attrs (lent (1 ∷ 1 ∷ []) (1 ∷ 655392 ∷ 0 ∷ 0 ∷ []) (65538 ∷ 0 ∷ []) d p l)
+row d p l = painted-row (bucket-tiles W128) attrs (lent (1 ∷ 1 ∷ []) (1 ∷ 655392 ∷ 0 ∷ 0 ∷ []) (65538 ∷ 0 ∷ []) d p l)
 
 first : row (0 ∷ 0 ∷ []) (0 ∷ 0 ∷ []) (9 ∷ 9 ∷ 9 ∷ 9 ∷ 9 ∷ 9 ∷ 9 ∷ [])
     ≡ out (told 1) (0 ∷ 1 ∷ []) (1 ∷ 0 ∷ []) (1 ∷ 0 ∷ 32 ∷ 64 ∷ 0 ∷ 0 ∷ 9 ∷ [])
@@ -59,7 +61,7 @@ unfolding attrs row told attrs-at painted-row next-step depth-step command-step 
 past = refl
 
 -- an alpha fill of the layer over tiles 10 to 100, at nesting 2, where bucket 1 holds the larger id 7: its index moves by 16 a tile
-alpha : painted-row attrs (lent (1 ∷ 0 ∷ 32 ∷ 64 ∷ 7 ∷ []) (4 ∷ 655460 ∷ 5 ∷ 0 ∷ []) [] (0 ∷ 7 ∷ 0 ∷ 0 ∷ []) (0 ∷ 2 ∷ []) (9 ∷ 9 ∷ 9 ∷ 9 ∷ 9 ∷ 9 ∷ 9 ∷ 9 ∷ 9 ∷ 9 ∷ 9 ∷ 9 ∷ []))
+alpha : painted-row (bucket-tiles W128) attrs (lent (1 ∷ 0 ∷ 32 ∷ 64 ∷ 7 ∷ []) (4 ∷ 655460 ∷ 5 ∷ 0 ∷ []) [] (0 ∷ 7 ∷ 0 ∷ 0 ∷ []) (0 ∷ 2 ∷ []) (9 ∷ 9 ∷ 9 ∷ 9 ∷ 9 ∷ 9 ∷ 9 ∷ 9 ∷ 9 ∷ 9 ∷ 9 ∷ 9 ∷ []))
     ≡ out (told 2) (0 ∷ 7 ∷ 0 ∷ 0 ∷ []) (1 ∷ 2 ∷ []) (4 ∷ 0 ∷ 10 ∷ 32 ∷ 5 ∷ 2 ∷ 4 ∷ 0 ∷ 64 ∷ 100 ∷ 869 ∷ 2 ∷ [])
 unfolding attrs row told attrs-at painted-row next-step depth-step command-step settled paint-depth paint-command command-shown fill-shown shown-runs can-skip depth-fill-of command-of written write-runs visible-runs runs runs-in bucket-runs
 alpha = refl

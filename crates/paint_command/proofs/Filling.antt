@@ -17,13 +17,13 @@ use Rattle.rules.specs.Depth.{Summary, write-runs, write-answer, write-after, w
 use Rattle.rules.specs.Painting as rules
 use Rattle.rules.specs.Painting.{Piece, fill-piece, depth-piece, gives}
 use Rattle.span.specs.declared.TileSpan.{TileSpan}
-use Rattle.span.specs.declared.Width.{Width}
+use Rattle.sizes.specs.declared.width.Width.{Width}
 use Rattle.span.specs.declared.BucketRange.{BucketRange}
 use Rattle.span.specs.declared.Alpha.{Alpha}
 use Rattle.span.specs.declared.Alpha.the-variants.{Solid}
 use Rattle.span.specs.Spans.{tiles, buckets, alpha, Moves}
-use Rattle.span.specs.Widths.{wide}
-use Rattle.span.proofs.Widths.{wide-most}
+use Rattle.sizes.specs.Widths.{bucket-tiles}
+use Rattle.rules.proofs.laws.Widths.{bucket-most}
 use Rattle.depth.specs.declared.runs.Runs.{Runs}
 use Rattle.depth.specs.Listing as depth
 use Rattle.paint_pieces.specs.declared.Painted.{Painted}
@@ -55,16 +55,16 @@ module _ (D P l : List ℕ) (o : rules.Painted) where
 
 -- a fill's call over its span, on the part of the list that is lent for runs
 module _ (width : Width) (D P l ys : List ℕ) (u : Summary) (layer : Bool) (id i : ℕ) (t : TileSpan) (a : Alpha) (h : t .first ≤ t .end) (g : t .end ≤ 8192)
-    (r : Runs) (e : listing-out r ys ≡ depth.listing (rule.listed false (length (lent l) / 2) (shown-runs (wide width) u D id (tiles t))) (lent l)) where
+    (r : Runs) (e : listing-out r ys ≡ depth.listing (rule.listed false (length (lent l) / 2) (shown-runs (bucket-tiles width) u D id (tiles t))) (lent l)) where
   runs : List Span
-  runs = shown-runs (wide width) u D id (tiles t)
+  runs = shown-runs (bucket-tiles width) u D id (tiles t)
 
   told : depth.out r ys ≡ depth.listing (rule.listed false (length l / 6) runs) (lent l)
   unfolding runs
   told = e ∙ rw (lent-room l)
 
   pub fill-refused : (p : Painted) → (r .number ≡ 0 → ⊥) → p ≡ refused (r .number)
-      → out p D P (back l ys) ≡ settled (some (fill-shown no-attrs (wide width) u layer id i (tiles t) (alpha a) (painter-at D P))) D P l
+      → out p D P (back l ys) ≡ settled (some (fill-shown (bucket-tiles width) no-attrs u layer id i (tiles t) (alpha a) (painter-at D P))) D P l
   unfolding fill-shown runs
   fill-refused p q o =
       let w = when-refused runs l ys r told q in
@@ -88,10 +88,10 @@ module _ (width : Width) (D P l ys : List ℕ) (u : Summary) (layer : Bool) (id 
     pub fill-done : (p : Painted) (P′ l′ : List ℕ) → advanced p P′ ≡ advanced (listed (r .count)) ((word P 0 + 1) ∷ word P 1 ∷ [])
         → l′ ≡ laid (map (piece 1 brush) (runs-at (r .count) (back l ys))) (back l ys)
         → out p D P′ l′
-        ≡ settled (some (fill-shown no-attrs (wide width) u layer id i (tiles t) (alpha a) (painter-at D P))) D P l
+        ≡ settled (some (fill-shown (bucket-tiles width) no-attrs u layer id i (tiles t) (alpha a) (painter-at D P))) D P l
     unfolding fill-shown runs
     fill-done p P′ l′ o v =
-        let f : Span → Piece = fill-piece (wide width) no-attrs layer i (tiles t) (alpha a) (word P 1) in
+        let f : Span → Piece = fill-piece (bucket-tiles width) no-attrs layer i (tiles t) (alpha a) (word P 1) in
         let same : map (piece 1 brush) runs ≡ map f runs = same-map (piece 1 brush) f (λ x. simp mul-one) runs in
         ap (λ (x : Advanced). out (x .answer) D (x .painting) l′) o
         ∙ room D P l _ D ((word P 0 + 1) ∷ word P 1 ∷ []) l′ (r .count)
@@ -127,7 +127,7 @@ module _ (width : Width) (D P l ys D′ : List ℕ) (id i : ℕ) (b : BucketRang
 
   -- the depth fill's step
   abbrev pub marked : rules.Painted
-  marked = gives (map (depth-piece (wide width) no-attrs i) (write-runs D (buckets b))) (written D id (buckets b)) (word P 0 + 1) (word P 1)
+  marked = gives (map (depth-piece (bucket-tiles width) no-attrs i) (write-runs D (buckets b))) (written D id (buckets b)) (word P 0 + 1) (word P 1)
 
   pub depth-refused : (p : Painted) → (r .number ≡ 0 → ⊥) → p ≡ refused (r .number)
       → out p D′ P (back l ys) ≡ settled (some marked) D P l
@@ -144,15 +144,15 @@ module _ (width : Width) (D P l ys D′ : List ℕ) (id i : ℕ) (b : BucketRang
     depth-brush = record { layer = false; «attrs_idx» = i; first = 0; alpha = Solid; nesting = 0 }
 
     pub depth-ready : b .end ≤ 65535
-        → (6 * r .count ≤ length (back l ys)) × ((k : ℕ) → k < r .count → Fits (wide width) depth-brush (run-at (back l ys) k))
+        → (6 * r .count ≤ length (back l ys)) × ((k : ℕ) → k < r .count → Fits (bucket-tiles width) depth-brush (run-at (back l ys) k))
     unfolding unset
     depth-ready m = (
       listed-room unset l (r .count) (back l ys) found-unset,
-      listed-at unset l (r .count) (back l ys) found-unset (Fits (wide width) depth-brush) (depth-fits (wide width) (wide-most width) D (buckets b) depth-brush h m refl refl),
+      listed-at unset l (r .count) (back l ys) found-unset (Fits (bucket-tiles width) depth-brush) (depth-fits (bucket-tiles width) (bucket-most width) D (buckets b) depth-brush h m refl refl),
     )
 
     pub depth-done : (p : Painted) (P′ l′ : List ℕ) → advanced p P′ ≡ advanced (listed (r .count)) ((word P 0 + 1) ∷ word P 1 ∷ [])
-        → l′ ≡ laid (map (piece (wide width) depth-brush) (runs-at (r .count) (back l ys))) (back l ys)
+        → l′ ≡ laid (map (piece (bucket-tiles width) depth-brush) (runs-at (r .count) (back l ys))) (back l ys)
         → out p D′ P′ l′ ≡ settled (some marked) D P l
     unfolding unset
     depth-done p P′ l′ u v =
@@ -163,4 +163,4 @@ module _ (width : Width) (D P l ys D′ : List ℕ) (id i : ℕ) (b : BucketRang
         (found-unset .many ∙ rw length-map)
         (after false (found-unset .roomy))
         refl
-        (listed-spread unset l (r .count) (back l ys) found-unset (wide width) depth-brush l′ v)
+        (listed-spread unset l (r .count) (back l ys) found-unset (bucket-tiles width) depth-brush l′ v)

@@ -59,22 +59,23 @@ below i n id h = go (ltb i n) refl h
     go true e q = ltb-true i n e
     go false e q = let z : _≡_ {A = ℕ} 0 1 = cc in absurd (omega arith)
 
-module _ (ps : List ℕ) (paints : ℕ) (ls : List ℕ) (layers : ℕ) (D P l : List ℕ) where
+-- at `wide` tiles a bucket
+module _ (wide : ℕ) (ps : List ℕ) (paints : ℕ) (ls : List ℕ) (layers : ℕ) (D P l : List ℕ) where
   abbrev attrs : Attrs
   attrs = attrs-at ps paints ls layers
 
   -- a depth fill's two words, read
   module _ (o : Option rule.DepthFill) (r : ReadDepth) (n : ℕ) (h : read-depth-of r ≡ o) where
-    pub depth-unread : (p : Painted) → r ≡ read-depth.Bad → p ≡ refused 4 → out p D P l ≡ settled (depth-step attrs (painter-at D P) o) D P l
+    pub depth-unread : (p : Painted) → r ≡ read-depth.Bad → p ≡ refused 4 → out p D P l ≡ settled (depth-step wide attrs (painter-at D P) o) D P l
     unfolding depth-step
-    depth-unread p e q = forged D P l _ p (ap (depth-step attrs (painter-at D P)) (sym h ∙ ap read-depth-of e)) q
+    depth-unread p e q = forged D P l _ p (ap (depth-step wide attrs (painter-at D P)) (sym h ∙ ap read-depth-of e)) q
 
     module _ (f : DepthFill) (e : r ≡ read-depth.Fill f) (id : ℕ)
         (g : id ≡ given (ltb (f .«attrs_idx») paints) (word ps (8 * f .«attrs_idx» + 4))) where
       is-fill : o ≡ some (depth-fill f)
       is-fill = sym h ∙ ap read-depth-of e
 
-      pub depth-forged : (p : Painted) → id ≡ 0 → p ≡ refused 4 → out p D P l ≡ settled (depth-step attrs (painter-at D P) o) D P l
+      pub depth-forged : (p : Painted) → id ≡ 0 → p ≡ refused 4 → out p D P l ≡ settled (depth-step wide attrs (painter-at D P) o) D P l
       unfolding depth-step
       depth-forged p z q =
           let bad = given-none (ltb (f .«attrs_idx») paints) (word ps (8 * f .«attrs_idx» + 4)) (sym g ∙ z) in
@@ -84,9 +85,9 @@ module _ (ps : List ℕ) (paints : ℕ) (ls : List ℕ) (layers : ℕ) (D P l : 
           → x
           ≡ settled
           (some
-          (gives (map (depth-piece 32 no-attrs (f .«attrs_idx»)) (write-runs D (buckets (f .buckets)))) (written D id (buckets (f .buckets))) (word P 0 + 1) (word P 1)))
+          (gives (map (depth-piece wide no-attrs (f .«attrs_idx»)) (write-runs D (buckets (f .buckets)))) (written D id (buckets (f .buckets))) (word P 0 + 1) (word P 1)))
           D P l
-          → x ≡ settled (depth-step attrs (painter-at D P) o) D P l
+          → x ≡ settled (depth-step wide attrs (painter-at D P) o) D P l
       unfolding depth-step paint-depth
       depth-taken x nz q =
           let i = f .«attrs_idx» in
@@ -100,15 +101,15 @@ module _ (ps : List ℕ) (paints : ℕ) (ls : List ℕ) (layers : ℕ) (D P l : 
   module _ (v : Summary) (c : RenderCmd) (f : Fill) (e : c ≡ PaintFill f) (id : ℕ)
       (g : id ≡ given (ltb (f .«attrs_idx») paints) (word ps (8 * f .«attrs_idx» + 4))) where
     pub paint-forged : (p : Painted) → id ≡ 0 → p ≡ refused 4
-        → out p D P l ≡ settled (command-step attrs v (painter-at D P) (some (command c))) D P l
+        → out p D P l ≡ settled (command-step wide attrs v (painter-at D P) (some (command c))) D P l
     unfolding command-step
     paint-forged p z q =
         let bad = given-none (ltb (f .«attrs_idx») paints) (word ps (8 * f .«attrs_idx» + 4)) (sym g ∙ z) in
         forged D P l _ p (rw (e, good-paint-is ps paints ls layers (f .«attrs_idx») ∙ bad)) q
 
     pub paint-taken : (x : StepOut) → (id ≡ 0 → ⊥)
-        → x ≡ settled (some (fill-shown no-attrs 32 v false id (f .«attrs_idx») (tiles (f .span)) (alpha (f .alpha)) (painter-at D P))) D P l
-        → x ≡ settled (command-step attrs v (painter-at D P) (some (command c))) D P l
+        → x ≡ settled (some (fill-shown wide no-attrs v false id (f .«attrs_idx») (tiles (f .span)) (alpha (f .alpha)) (painter-at D P))) D P l
+        → x ≡ settled (command-step wide attrs v (painter-at D P) (some (command c))) D P l
     unfolding command-step command-shown fill-shown
     paint-taken x nz q =
         let i = f .«attrs_idx» in
@@ -122,15 +123,15 @@ module _ (ps : List ℕ) (paints : ℕ) (ls : List ℕ) (layers : ℕ) (D P l : 
   module _ (v : Summary) (c : RenderCmd) (f : Fill) (e : c ≡ LayerFill f) (id : ℕ)
       (g : id ≡ given (ltb (f .«attrs_idx») layers) (word ls (6 * f .«attrs_idx» + 3))) where
     pub layer-forged : (p : Painted) → id ≡ 0 → p ≡ refused 4
-        → out p D P l ≡ settled (command-step attrs v (painter-at D P) (some (command c))) D P l
+        → out p D P l ≡ settled (command-step wide attrs v (painter-at D P) (some (command c))) D P l
     unfolding command-step
     layer-forged p z q =
         let bad = given-none (ltb (f .«attrs_idx») layers) (word ls (6 * f .«attrs_idx» + 3)) (sym g ∙ z) in
         forged D P l _ p (rw (e, good-layer-is ps paints ls layers (f .«attrs_idx») ∙ bad)) q
 
     pub layer-taken : (x : StepOut) → (id ≡ 0 → ⊥)
-        → x ≡ settled (some (fill-shown no-attrs 32 v true id (f .«attrs_idx») (tiles (f .span)) (alpha (f .alpha)) (painter-at D P))) D P l
-        → x ≡ settled (command-step attrs v (painter-at D P) (some (command c))) D P l
+        → x ≡ settled (some (fill-shown wide no-attrs v true id (f .«attrs_idx») (tiles (f .span)) (alpha (f .alpha)) (painter-at D P))) D P l
+        → x ≡ settled (command-step wide attrs v (painter-at D P) (some (command c))) D P l
     unfolding command-step command-shown fill-shown
     layer-taken x nz q =
         let i = f .«attrs_idx» in
@@ -143,12 +144,12 @@ module _ (ps : List ℕ) (paints : ℕ) (ls : List ℕ) (layers : ℕ) (D P l : 
   -- buffers
   module _ (v : Summary) (c : RenderCmd) (b : Recorded) (e : c ≡ PushBuf b) where
     pub push-forged : (p : Painted) → 16 ≤ word P 1 → p ≡ refused 4
-        → out p D P l ≡ settled (command-step attrs v (painter-at D P) (some (command c))) D P l
+        → out p D P l ≡ settled (command-step wide attrs v (painter-at D P) (some (command c))) D P l
     unfolding command-step
     push-forged p h q = forged D P l _ p (rw (e, le-ltb (word P 1) 16 h)) q
 
     pub pushed : (p : Painted) (P′ : List ℕ) → word P 1 < 16 → advanced p P′ ≡ advanced (listed 0) ((word P 0 + 1) ∷ (word P 1 + 1) ∷ [])
-        → out p D P′ l ≡ settled (command-step attrs v (painter-at D P) (some (command c))) D P l
+        → out p D P′ l ≡ settled (command-step wide attrs v (painter-at D P) (some (command c))) D P l
     unfolding command-step command-shown paint-command
     pushed p P′ h q =
         ap (λ (x : Advanced). out (x .answer) D (x .painting) l) q
@@ -157,12 +158,12 @@ module _ (ps : List ℕ) (paints : ℕ) (ls : List ℕ) (layers : ℕ) (D P l : 
 
   module _ (v : Summary) (c : RenderCmd) (e : c ≡ PopBuf) where
     pub pop-forged : (p : Painted) → word P 1 ≤ 0 → p ≡ refused 4
-        → out p D P l ≡ settled (command-step attrs v (painter-at D P) (some (command c))) D P l
+        → out p D P l ≡ settled (command-step wide attrs v (painter-at D P) (some (command c))) D P l
     unfolding command-step
     pop-forged p h q = forged D P l _ p (rw (e, le-ltb 0 (word P 1) h)) q
 
     pub popped : (p : Painted) (P′ : List ℕ) → 0 < word P 1 → advanced p P′ ≡ advanced (listed 0) ((word P 0 + 1) ∷ (word P 1 - 1) ∷ [])
-        → out p D P′ l ≡ settled (command-step attrs v (painter-at D P) (some (command c))) D P l
+        → out p D P′ l ≡ settled (command-step wide attrs v (painter-at D P) (some (command c))) D P l
     unfolding command-step command-shown paint-command
     popped p P′ h q =
         ap (λ (x : Advanced). out (x .answer) D (x .painting) l) q
@@ -170,7 +171,7 @@ module _ (ps : List ℕ) (paints : ℕ) (ls : List ℕ) (layers : ℕ) (D P l : 
         ∙ rw (e, lt-ltb 0 (word P 1) h)
 
   -- a depth fill reads no layer attribute
-  no-layers : (p : rules.Painter) (o : Option rule.DepthFill) → depth-step (attrs-at ps paints [] 0) p o ≡ depth-step attrs p o
+  no-layers : (p : rules.Painter) (o : Option rule.DepthFill) → depth-step wide (attrs-at ps paints [] 0) p o ≡ depth-step wide attrs p o
   unfolding depth-step paint-depth attrs-at
   no-layers p none = refl
   no-layers p (some f) = refl
@@ -180,27 +181,27 @@ module _ (ps : List ℕ) (paints : ℕ) (ls : List ℕ) (layers : ℕ) (D P l : 
     abbrev w : RowLent
     w = lent s r f D P l
 
-    no-step : (p : Painted) → bad-row w ≡ true → p ≡ refused 4 → out p D P l ≡ painted-row attrs w
+    no-step : (p : Painted) → bad-row w ≡ true → p ≡ refused 4 → out p D P l ≡ painted-row wide attrs w
     unfolding painted-row next-step
     no-step p h q = forged D P l _ p (rw h) q
 
-    pub many-renders : (p : Painted) → length r < 4 * word s 0 → p ≡ refused 4 → out p D P l ≡ painted-row attrs w
+    pub many-renders : (p : Painted) → length r < 4 * word s 0 → p ≡ refused 4 → out p D P l ≡ painted-row wide attrs w
     many-renders p h q = no-step p (rw (lt-ltb _ _ h)) q
 
     module _ (h1 : 4 * word s 0 ≤ length r) where
-      pub many-depths : (p : Painted) → length f < 2 * word s 1 → p ≡ refused 4 → out p D P l ≡ painted-row attrs w
+      pub many-depths : (p : Painted) → length f < 2 * word s 1 → p ≡ refused 4 → out p D P l ≡ painted-row wide attrs w
       many-depths p h q = no-step p (rw (le-ltb _ _ h1, lt-ltb _ _ h)) q
 
       module _ (h2 : 2 * word s 1 ≤ length f) where
-        pub deep : (p : Painted) → 16 < word P 1 → p ≡ refused 4 → out p D P l ≡ painted-row attrs w
+        pub deep : (p : Painted) → 16 < word P 1 → p ≡ refused 4 → out p D P l ≡ painted-row wide attrs w
         deep p h q = no-step p (rw (le-ltb _ _ h1, le-ltb _ _ h2, lt-ltb _ _ h)) q
 
         module _ (h3 : word P 1 ≤ 16) where
-          pub past : (p : Painted) → word s 1 + word s 0 < word P 0 → p ≡ refused 4 → out p D P l ≡ painted-row attrs w
+          pub past : (p : Painted) → word s 1 + word s 0 < word P 0 → p ≡ refused 4 → out p D P l ≡ painted-row wide attrs w
           past p h q = no-step p (rw (le-ltb _ _ h1, le-ltb _ _ h2, le-ltb _ _ h3, lt-ltb _ _ h)) q
 
           module _ (h4 : word P 0 ≤ word s 1 + word s 0) where
-            pub unsummed : (p : Painted) → good-summary s ≡ false → p ≡ refused 4 → out p D P l ≡ painted-row attrs w
+            pub unsummed : (p : Painted) → good-summary s ≡ false → p ≡ refused 4 → out p D P l ≡ painted-row wide attrs w
             unsummed p h q = no-step p (rw (le-ltb _ _ h1, le-ltb _ _ h2, le-ltb _ _ h3, le-ltb _ _ h4, h)) q
 
             module _ (h0 : good-summary s ≡ true) where
@@ -209,8 +210,8 @@ module _ (ps : List ℕ) (paints : ℕ) (ls : List ℕ) (layers : ℕ) (D P l : 
 
               -- then the depth fill at its place, ..
               pub then-depth : (x : StepOut) (k : ℕ) → word P 0 < word s 1 → k ≡ word s 1 - (word P 0 + 1)
-                  → x ≡ settled (depth-step (attrs-at ps paints [] 0) (painter-at D P) (depth-fill-at (length D) f k)) D P l
-                  → x ≡ painted-row attrs w
+                  → x ≡ settled (depth-step wide (attrs-at ps paints [] 0) (painter-at D P) (depth-fill-at (length D) f k)) D P l
+                  → x ≡ painted-row wide attrs w
               unfolding painted-row next-step
               then-depth x k h e q =
                   q ∙ ap (λ (o : Option rules.Painted). settled o D P l) (no-layers (painter-at D P) _ ∙ rw (good-counts, lt-ltb _ _ h, e))
@@ -218,14 +219,14 @@ module _ (ps : List ℕ) (paints : ℕ) (ls : List ℕ) (layers : ℕ) (D P l : 
               module _ (h5 : word s 1 ≤ word P 0) (k : ℕ) (e : k ≡ word P 0 - word s 1) where
                 -- .. the command at its place, ..
                 module _ (h6 : word P 0 - word s 1 < word s 0) (o : ReadCmd) (q : read-of o ≡ command-at r k) where
-                  pub then-unread : (p : Painted) → o ≡ read.Bad → p ≡ refused 4 → out p D P l ≡ painted-row attrs w
+                  pub then-unread : (p : Painted) → o ≡ read.Bad → p ≡ refused 4 → out p D P l ≡ painted-row wide attrs w
                   unfolding painted-row next-step command-step
                   then-unread p b u =
                       let none-there : command-at r k ≡ none = sym q ∙ ap read-of b in
                       forged D P l _ p (rw (good-counts, le-ltb _ _ h5, lt-ltb _ _ h6, ← e, none-there)) u
 
                   pub then-command : (x : StepOut) (c : RenderCmd) (v : Summary) → o ≡ read.Cmd c → v ≡ summary-at s
-                      → x ≡ settled (command-step attrs v (painter-at D P) (some (command c))) D P l → x ≡ painted-row attrs w
+                      → x ≡ settled (command-step wide attrs v (painter-at D P) (some (command c))) D P l → x ≡ painted-row wide attrs w
                   unfolding painted-row next-step
                   then-command x c v b y u =
                       let there : command-at r k ≡ some (command c) = sym q ∙ ap read-of b in
@@ -233,7 +234,7 @@ module _ (ps : List ℕ) (paints : ℕ) (ls : List ℕ) (layers : ℕ) (D P l : 
 
                 -- .. or finished
                 pub then-finished : word s 0 ≤ word P 0 - word s 1 → length P ≡ 2
-                    → out (record { number = 0; finished = true; pieces = 0 }) D P l ≡ painted-row attrs w
+                    → out (record { number = 0; finished = true; pieces = 0 }) D P l ≡ painted-row wide attrs w
                 unfolding painted-row next-step
                 then-finished h two =
                     ap (λ (x : List ℕ). out (record { number = 0; finished = true; pieces = 0 }) D x l) (two-same P two)

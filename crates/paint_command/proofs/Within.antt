@@ -13,10 +13,10 @@ use Rattle.rules.specs.Spans.{Span, span, common}
 use Rattle.rules.specs.Depth.{Summary, join-run, bucket-runs, runs-in, runs, tiles-of, is-unset, is-visible, visible-runs, write-runs}
 use Rattle.span.specs.declared.Alpha.{Alpha}
 use Rattle.span.specs.declared.Alpha.the-variants.{Solid, At}
-use Rattle.span.specs.declared.Width.{Width}
+use Rattle.sizes.specs.declared.width.Width.{Width}
 use Rattle.span.specs.Spans.{Moves}
-use Rattle.span.specs.Widths.{wide}
-use Rattle.span.proofs.Widths.{meets, starts-before}
+use Rattle.sizes.specs.Widths.{bucket-tiles}
+use Rattle.rules.proofs.laws.Widths.{meets, starts-before}
 use Rattle.paint_pieces.specs.declared.Brush.{Brush}
 use Rattle.paint_pieces.specs.Pieces.{Fits}
 use Rattle.paint_runs.specs.Summaries.{whole-run, is-clear, shown-runs}
@@ -102,7 +102,7 @@ moved-less (At a) m n h g = omega arith
 module _ (width : Width) (bs : List ℕ) (id : ℕ) (s : Span) (b : Brush) (h : s .first ≤ s .end) (g : s .end ≤ 8192)
     (e : b .first ≡ s .first) (m : Moves (b .alpha) (s .end - s .first)) where
   abbrev v : ℕ
-  v = wide width
+  v = bucket-tiles width
 
   cut-fits : s .first < s .end → (t : Span) → In (s .first / v) ((s .end + (v - 1)) / v) t → Fits 1 b (common s (tiles-of v t))
   cut-fits l t i =

@@ -5,7 +5,7 @@ use mathlib.Core.List.{List, [], _∷_, map}
 use mathlib.Core.Option.{Option, none, some}
 use lib.ListN.{length, getD}
 use lib.Dec.{leb, ltb}
-use Rattle.sizes.specs.Sizes.{bucket-tiles, most-layers, last-id}
+use Rattle.sizes.specs.Sizes.{most-layers, last-id}
 use Rattle.rules.specs.Lists.{count-from}
 use Rattle.rules.specs.Blends.{default-blend}
 use Rattle.rules.specs.Answers.{Done, BadRecord, NoRoom}
@@ -82,9 +82,11 @@ module _ (attrs : Attrs) where
   good-command n (push-buf s) = ltb n most-layers
   good-command n pop-buf = ltb 0 n
 
-  -- a fill gives the runs that are shown, for its attribute's id; v tiles a bucket
-  unfoldable pub fill-shown : ℕ → Summary → Bool → ℕ → ℕ → Span → Option ℕ → Painter → rules.Painted
-  fill-shown v u l id i s a p =
+-- at v tiles a bucket
+module _ (v : ℕ) (attrs : Attrs) where
+  -- a fill gives the runs that are shown, for its attribute's id
+  unfoldable pub fill-shown : Summary → Bool → ℕ → ℕ → Span → Option ℕ → Painter → rules.Painted
+  fill-shown u l id i s a p =
       gives (map (fill-piece v attrs l i s a (p .nesting)) (shown-runs v u (p .buckets) id s))
       (p .buckets)
       (p .steps + 1)
@@ -92,20 +94,20 @@ module _ (attrs : Attrs) where
 
   -- a command by the rules, its fill's runs by the row's summary
   unfoldable pub command-shown : Summary → Command → Painter → rules.Painted
-  command-shown u (paint-fill s a i) p = fill-shown bucket-tiles u false (paint-id attrs i) i s a p
-  command-shown u (layer-fill s a i) p = fill-shown bucket-tiles u true (layer-id attrs i) i s a p
-  command-shown u (push-buf s) p = paint-command bucket-tiles attrs (push-buf s) p
-  command-shown u pop-buf p = paint-command bucket-tiles attrs pop-buf p
+  command-shown u (paint-fill s a i) p = fill-shown u false (paint-id attrs i) i s a p
+  command-shown u (layer-fill s a i) p = fill-shown u true (layer-id attrs i) i s a p
+  command-shown u (push-buf s) p = paint-command v attrs (push-buf s) p
+  command-shown u pop-buf p = paint-command v attrs pop-buf p
 
   -- The step, by the rules, unless something that it reads is forged: of a depth fill ..
   unfoldable pub depth-step : Painter → Option DepthFill → Option rules.Painted
   depth-step p none = none
-  depth-step p (some f) = only-if (good-paint (f .attribute)) (paint-depth bucket-tiles attrs f p)
+  depth-step p (some f) = only-if (good-paint attrs (f .attribute)) (paint-depth v attrs f p)
 
   -- .. and of a command
   unfoldable pub command-step : Summary → Painter → Option Command → Option rules.Painted
   command-step u p none = none
-  command-step u p (some c) = only-if (good-command (p .nesting) c) (command-shown u c p)
+  command-step u p (some c) = only-if (good-command attrs (p .nesting) c) (command-shown u c p)
 
 -- the depth fill at place k, in a row of n buckets, and the command at place k, if words stand for them
 abbrev pub depth-fill-at : ℕ → List ℕ → ℕ → Option DepthFill
@@ -124,14 +126,14 @@ bad-row w =
     || not (good-summary (w .state))
 
 -- depth fills last to first, then commands in order, then finished
-unfoldable pub next-step : Attrs → RowLent → Option rules.Painted
-next-step attrs w =
+unfoldable pub next-step : ℕ → Attrs → RowLent → Option rules.Painted
+next-step v attrs w =
     let renders = word (w .state) 0 in
     let depths = word (w .state) 1 in
     let p = painter-at (w .depth) (w .painting) in
     cond (bad-row w) none
-    (cond (ltb (p .steps) depths) (depth-step attrs p (depth-fill-at (length (w .depth)) (w .fills) (depths - (p .steps + 1))))
-    (cond (ltb (p .steps - depths) renders) (command-step attrs (summary-at (w .state)) p (command-at (w .render) (p .steps - depths)))
+    (cond (ltb (p .steps) depths) (depth-step v attrs p (depth-fill-at (length (w .depth)) (w .fills) (depths - (p .steps + 1))))
+    (cond (ltb (p .steps - depths) renders) (command-step v attrs (summary-at (w .state)) p (command-at (w .render) (p .steps - depths)))
     (some (record { finished = true; pieces = []; painter = p }))))
 
 -- What the step leaves in the words: 4 if there is none, 14 if the list has no room for its pieces. A refusal changes nothing.
@@ -146,5 +148,5 @@ unfoldable pub settled : Option rules.Painted → List ℕ → List ℕ → List
 settled none d p l = out (refused BadRecord) d p l
 settled (some o) d p l = cond (ltb (length l / 6) (length (o .pieces))) (out (refused NoRoom) d p l) (left o l)
 
-unfoldable pub painted-row : Attrs → RowLent → StepOut
-painted-row attrs w = settled (next-step attrs w) (w .depth) (w .painting) (w .list)
+unfoldable pub painted-row : ℕ → Attrs → RowLent → StepOut
+painted-row v attrs w = settled (next-step v attrs w) (w .depth) (w .painting) (w .list)

@@ -10,8 +10,8 @@ use paint_pieces::refused;
 use paint_pieces::spread;
 use paint_runs::shown_runs;
 use sizes::answers::DONE;
+use sizes::width::Width;
 use span::Alpha;
-use span::Width;
 ghost use mathlib.Core.Path.{_≡_};
 ghost use mathlib.Core.List.{map};
 ghost use mathlib.Core.Option.{some};
@@ -22,7 +22,7 @@ ghost use Rattle.rules.specs.Attributes.{no-attrs};
 ghost use Rattle.rules.specs.Depth.{write-runs, written};
 ghost use Rattle.rules.specs.Painting.{gives, depth-piece};
 ghost use Rattle.span.specs.Spans.{tiles, buckets, alpha, Moves};
-ghost use Rattle.span.specs.Widths.{wide};
+ghost use Rattle.sizes.specs.Widths.{bucket-tiles};
 ghost use Rattle.depth.specs.Answers.{summary};
 ghost use Rattle.paint_command.specs.Painting.{word, out, painter-at, settled, fill-shown};
 
@@ -37,7 +37,7 @@ pub fn paint_depth(
 ) -> Painted
     requires { ⌜ (fill .buckets .first ≤ fill .buckets .«end») × (fill .buckets .«end» ≤ length (now depth)) × (fill .buckets .«end» ≤ 65535) × (0 < id) ⌝ }
     requires { ⌜ (length (now painting) ≡ 2) × (word (now painting) 0 < 4294967295) ⌝ }
-    ensures { λ r. ⌜ out r (now (depth .exit)) (now (painting .exit)) (now (list .exit)) ≡ settled (some (gives (map (depth-piece (wide width) no-attrs (fill .«attrs_idx»)) (write-runs (now (depth .entry)) (buckets (fill .buckets)))) (written (now (depth .entry)) id (buckets (fill .buckets))) (word (now (painting .entry)) 0 + 1) (word (now (painting .entry)) 1))) (now (depth .entry)) (now (painting .entry)) (now (list .entry)) ⌝ }
+    ensures { λ r. ⌜ out r (now (depth .exit)) (now (painting .exit)) (now (list .exit)) ≡ settled (some (gives (map (depth-piece (bucket-tiles width) no-attrs (fill .«attrs_idx»)) (write-runs (now (depth .entry)) (buckets (fill .buckets)))) (written (now (depth .entry)) id (buckets (fill .buckets))) (word (now (painting .entry)) 0 + 1) (word (now (painting .entry)) 1))) (now (depth .entry)) (now (painting .entry)) (now (list .entry)) ⌝ }
 {
     let room = list.len() / 6;
     let range = fill.buckets;
@@ -72,7 +72,7 @@ pub fn paint_fill(
 ) -> Painted
     requires { ⌜ (fill .span .first ≤ fill .span .«end») × (fill .span .«end» ≤ tile-end) × Moves (fill .alpha) (fill .span .«end» - fill .span .first) × (length (now depth) ≤ 65535) ⌝ }
     requires { ⌜ (length (now painting) ≡ 2) × (word (now painting) 0 < 4294967295) ⌝ }
-    ensures { λ r. ⌜ out r (now (depth .entry)) (now (painting .exit)) (now (list .exit)) ≡ settled (some (fill-shown no-attrs (wide width) (summary sum) layer id (fill .«attrs_idx») (tiles (fill .span)) (alpha (fill .alpha)) (painter-at (now (depth .entry)) (now (painting .entry))))) (now (depth .entry)) (now (painting .entry)) (now (list .entry)) ⌝ }
+    ensures { λ r. ⌜ out r (now (depth .entry)) (now (painting .exit)) (now (list .exit)) ≡ settled (some (fill-shown (bucket-tiles width) no-attrs (summary sum) layer id (fill .«attrs_idx») (tiles (fill .span)) (alpha (fill .alpha)) (painter-at (now (depth .entry)) (now (painting .entry))))) (now (depth .entry)) (now (painting .entry)) (now (list .entry)) ⌝ }
 {
     let room = list.len() / 6;
     let span = fill.span;

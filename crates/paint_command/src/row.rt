@@ -21,7 +21,7 @@ use sizes::RENDERS;
 use sizes::answers::BAD_RECORD;
 use sizes::answers::DONE;
 use sizes::wide;
-use span::Width;
+use sizes::width::Width;
 ghost use mathlib.Core.Path.{_≡_};
 ghost use mathlib.Core.Bool.{true};
 ghost use mathlib.Core.List.{[]};
@@ -30,6 +30,7 @@ ghost use Prim.Native.Nat.{_+_, _*_, _≤_, _<_};
 ghost use lib.ListN.{length};
 ghost use lib.Dec.{ltb};
 ghost use Rattle.sizes.specs.Sizes.{most-room, most-attrs, row-size, paint-attr-table, layer-attr-table};
+ghost use Rattle.sizes.specs.Widths.{bucket-tiles};
 ghost use Rattle.cmd.specs.Commands.{command, read-of};
 ghost use Rattle.cmd.specs.Good.{GoodCommand};
 ghost use Rattle.depth.specs.Answers.{summary};
@@ -73,10 +74,11 @@ fn step_depth(
     paint_attrs: &[u32],
     paints: u32,
     list: &mut [u32],
+    width: Width,
 ) -> Painted
     requires { ⌜ (length (now «paint_attrs») ≡ paint-attr-table) × (paints ≤ most-attrs) × (length (now depth) ≤ 65535) ⌝ }
     requires { ⌜ (2 * k + 2 ≤ length (now fills)) × (length (now painting) ≡ 2) × (word (now painting) 0 < 4294967295) ⌝ }
-    ensures { λ r. ⌜ out r (now (depth .exit)) (now (painting .exit)) (now (list .exit)) ≡ settled (depth-step (attrs-at (now («paint_attrs» .entry)) paints [] 0) (painter-at (now (depth .entry)) (now (painting .entry))) (depth-fill-at (length (now (depth .entry))) (now (fills .entry)) k)) (now (depth .entry)) (now (painting .entry)) (now (list .entry)) ⌝ }
+    ensures { λ r. ⌜ out r (now (depth .exit)) (now (painting .exit)) (now (list .exit)) ≡ settled (depth-step (bucket-tiles width) (attrs-at (now («paint_attrs» .entry)) paints [] 0) (painter-at (now (depth .entry)) (now (painting .entry))) (depth-fill-at (length (now (depth .entry))) (now (fills .entry)) k)) (now (depth .entry)) (now (painting .entry)) (now (list .entry)) ⌝ }
 {
     let at = 2 * k;
     let words = DepthWords {
@@ -90,7 +92,7 @@ fn step_depth(
             if id == 0 {
                 return refused(BAD_RECORD);
             }
-            paint_depth(depth, painting, fill, id, list, Width::W128)
+            paint_depth(depth, painting, fill, id, list, width)
         }
     }
 }
@@ -106,10 +108,11 @@ fn step_command(
     layer_attrs: &[u32],
     layers: u32,
     list: &mut [u32],
+    width: Width,
 ) -> Painted
     requires { ⌜ (length (now «paint_attrs») ≡ paint-attr-table) × (paints ≤ most-attrs) × (length (now «layer_attrs») ≡ layer-attr-table) × (layers ≤ most-attrs) ⌝ }
     requires { ⌜ GoodCommand (command cmd) × (length (now depth) ≤ 65535) × (length (now painting) ≡ 2) × (word (now painting) 0 < 4294967295) ⌝ }
-    ensures { λ r. ⌜ out r (now (depth .entry)) (now (painting .exit)) (now (list .exit)) ≡ settled (command-step (attrs-at (now («paint_attrs» .entry)) paints (now («layer_attrs» .entry)) layers) (summary sum) (painter-at (now (depth .entry)) (now (painting .entry))) (some (command cmd))) (now (depth .entry)) (now (painting .entry)) (now (list .entry)) ⌝ }
+    ensures { λ r. ⌜ out r (now (depth .entry)) (now (painting .exit)) (now (list .exit)) ≡ settled (command-step (bucket-tiles width) (attrs-at (now («paint_attrs» .entry)) paints (now («layer_attrs» .entry)) layers) (summary sum) (painter-at (now (depth .entry)) (now (painting .entry))) (some (command cmd))) (now (depth .entry)) (now (painting .entry)) (now (list .entry)) ⌝ }
 {
     match cmd {
         RenderCmd::PaintFill(fill) => {
@@ -117,14 +120,14 @@ fn step_command(
             if id == 0 {
                 return refused(BAD_RECORD);
             }
-            paint_fill(depth, painting, sum, false, fill, id, list, Width::W128)
+            paint_fill(depth, painting, sum, false, fill, id, list, width)
         }
         RenderCmd::LayerFill(fill) => {
             let id = layer_taken(layer_attrs, layers, fill.attrs_idx);
             if id == 0 {
                 return refused(BAD_RECORD);
             }
-            paint_fill(depth, painting, sum, true, fill, id, list, Width::W128)
+            paint_fill(depth, painting, sum, true, fill, id, list, width)
         }
         RenderCmd::PushBuf(_) => {
             let nesting = painting[1];
@@ -170,10 +173,11 @@ pub fn step_row(
     layer_attrs: &[u32],
     layers: u32,
     list: &mut [u32],
+    width: Width,
 ) -> Painted
     requires { ⌜ (length (now state) ≡ row-size) × (length (now render) ≤ 4 * most-room) × (length (now fills) ≤ 2 * most-room) × (length (now depth) ≤ 65535) × (length (now painting) ≡ 2) ⌝ }
     requires { ⌜ (length (now «paint_attrs») ≡ paint-attr-table) × (paints ≤ most-attrs) × (length (now «layer_attrs») ≡ layer-attr-table) × (layers ≤ most-attrs) ⌝ }
-    ensures { λ r. ⌜ out r (now (depth .exit)) (now (painting .exit)) (now (list .exit)) ≡ painted-row (attrs-at (now («paint_attrs» .entry)) paints (now («layer_attrs» .entry)) layers) (lent (now (state .entry)) (now (render .entry)) (now (fills .entry)) (now (depth .entry)) (now (painting .entry)) (now (list .entry))) ⌝ }
+    ensures { λ r. ⌜ out r (now (depth .exit)) (now (painting .exit)) (now (list .exit)) ≡ painted-row (bucket-tiles width) (attrs-at (now («paint_attrs» .entry)) paints (now («layer_attrs» .entry)) layers) (lent (now (state .entry)) (now (render .entry)) (now (fills .entry)) (now (depth .entry)) (now (painting .entry)) (now (list .entry))) ⌝ }
 {
     let renders = state[RENDERS];
     let depths = state[DEPTHS];
@@ -195,7 +199,7 @@ pub fn step_row(
     }
     if steps < depths {
         let k = wide(depths - (steps + 1));
-        return step_depth(fills, k, depth, painting, paint_attrs, paints, list);
+        return step_depth(fills, k, depth, painting, paint_attrs, paints, list, width);
     }
     let k = steps - depths;
     if k < renders {
@@ -211,6 +215,7 @@ pub fn step_row(
                 layer_attrs,
                 layers,
                 list,
+                width,
             ),
         };
     }

@@ -5,7 +5,7 @@ use mathlib.Core.List.{List, [], _∷_}
 use mathlib.Core.Option.{Option, none, some}
 use lib.ListN.{length, getD}
 use lib.Dec.{leb, ltb, eqb}
-use Rattle.sizes.specs.Sizes.{bucket-tiles, tile-end, last-id, first-at, end-at, largest-at}
+use Rattle.sizes.specs.Sizes.{tile-end, last-id, first-at, end-at, largest-at}
 use Rattle.rules.specs.Spans.{Span, span}
 use Rattle.rules.specs.Depth.{Summary, can-skip, visible-runs}
 use Rattle.depth.specs.declared.runs.Runs.{Runs}
@@ -36,17 +36,17 @@ shown-runs v u bs id s = cond (is-clear v u (length bs) id s) (whole-run s) (vis
 abbrev pub listing-out : Runs → List ℕ → depth.RunsOut
 listing-out r l = depth.out r l
 
--- bucket k lies in the union
-abbrev pub Inside : Option Span → ℕ → Type 0
-Inside none k = ⊥
-Inside (some v) k = (v .first ≤ bucket-tiles * k) × (bucket-tiles * k + bucket-tiles ≤ v .end)
+-- bucket k, of w tiles, lies in the union
+abbrev pub Inside : ℕ → Option Span → ℕ → Type 0
+Inside w none k = ⊥
+Inside w (some v) k = (v .first ≤ w * k) × (w * k + w ≤ v .end)
 
 -- a summary is sound for depth words: what is not 0 lies in the union and is at most the largest id
-pub record Sound (u : Summary) (bs : List ℕ) : Type 0 where
+pub record Sound (w : ℕ) (u : Summary) (bs : List ℕ) : Type 0 where
   pub low : (k : ℕ) → getD bs k 0 ≤ u .largest
-  pub inside : (k : ℕ) → 0 < getD bs k 0 → Inside (u .union) k
+  pub inside : (k : ℕ) → 0 < getD bs k 0 → Inside w (u .union) k
 
 -- a summary includes a depth fill of these buckets
-pub record Included (u : Summary) (r : Span) (id : ℕ) : Type 0 where
+pub record Included (w : ℕ) (u : Summary) (r : Span) (id : ℕ) : Type 0 where
   pub below : id ≤ u .largest
-  pub inside : (k : ℕ) → r .first ≤ k → k < r .end → Inside (u .union) k
+  pub inside : (k : ℕ) → r .first ≤ k → k < r .end → Inside w (u .union) k

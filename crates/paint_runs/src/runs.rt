@@ -4,8 +4,8 @@ use depth::Runs;
 use depth::visible_runs;
 use sizes::answers::DONE;
 use sizes::answers::NO_ROOM;
+use sizes::width::Width;
 use span::TileSpan;
-use span::Width;
 ghost use mathlib.Core.Path.{_≡_};
 ghost use mathlib.Core.Bool.{false};
 ghost use Prim.Native.Nat.{_/_, _≤_};
@@ -13,7 +13,7 @@ ghost use lib.ListN.{length};
 ghost use Rattle.sizes.specs.Sizes.{tile-end};
 ghost use Rattle.rules.specs.Depth.{listed};
 ghost use Rattle.span.specs.Spans.{tiles};
-ghost use Rattle.span.specs.Widths.{wide};
+ghost use Rattle.sizes.specs.Widths.{bucket-tiles};
 ghost use Rattle.depth.specs.Answers.{summary};
 ghost use Rattle.depth.specs.Listing.{listing};
 ghost use Rattle.paint_runs.specs.Summaries.{listing-out, whole-run, is-clear, shown-runs};
@@ -21,7 +21,7 @@ ghost use Rattle.paint_runs.specs.Summaries.{listing-out, whole-run, is-
 // Whether the summary of a row of so many buckets says that nothing hides the span.
 fn is_clear(sum: DepthState, span: TileSpan, id: u32, buckets: usize, width: Width) -> bool
     requires { ⌜ (span .first ≤ span .«end») × (span .«end» ≤ tile-end) × (buckets ≤ 65535) ⌝ }
-    ensures { λ r. ⌜ r ≡ is-clear (wide width) (summary sum) buckets id (tiles span) ⌝ }
+    ensures { λ r. ⌜ r ≡ is-clear (bucket-tiles width) (summary sum) buckets id (tiles span) ⌝ }
 {
     let skip = sum.can_skip(span, id);
     if skip.yes {
@@ -64,7 +64,7 @@ pub fn shown_runs(
     width: Width,
 ) -> Runs
     requires { ⌜ (span .first ≤ span .«end») × (span .«end» ≤ tile-end) × (length (now depth) ≤ 65535) ⌝ }
-    ensures { λ r. ⌜ listing-out r (now (list .exit)) ≡ listing (listed false (length (now (list .entry)) / 2) (shown-runs (wide width) (summary sum) (now (depth .entry)) id (tiles span))) (now (list .entry)) ⌝ }
+    ensures { λ r. ⌜ listing-out r (now (list .exit)) ≡ listing (listed false (length (now (list .entry)) / 2) (shown-runs (bucket-tiles width) (summary sum) (now (depth .entry)) id (tiles span))) (now (list .entry)) ⌝ }
 {
     if is_clear(sum, span, id, depth.len(), width) {
         return list_whole(span, list);

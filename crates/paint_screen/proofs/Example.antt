@@ -4,6 +4,7 @@ use mathlib.Core.Bool.{Bool, true, false}
 use mathlib.Core.List.{List, [], _∷_, _++_}
 use Prim.Native.Nat.{ℕ, _*_}
 use lib.ListN.{replicate, take}
+use Rattle.sizes.specs.declared.width.Width.the-variants.{W128}
 use Rattle.rules.specs.Boxes.{good-viewport}
 use Rattle.cmd.specs.Reading.{command-of, depth-fill-of}
 use Rattle.rules.specs.Depth.{can-skip, bucket-runs, runs-in, runs, visible-runs, write-runs, written}
@@ -18,12 +19,12 @@ use Rattle.paint_command.specs.Painting.{attrs-at, lent, StepOut, out, settled,
 use Rattle.paint_screen.specs.Judging.{judged, step-number}
 use Rattle.paint_screen.specs.Stepping.{Attributes, attributes, row-step, stepped}
 
--- a viewport of 256 x 8 pixels: two rows of two buckets, with room for four commands and one depth fill
+-- a viewport of 256 x 8 pixels: two rows of two buckets of 128 pixels, with room for four commands and one depth fill
 whole : Rect
 whole = record { x0 = 0; y0 = 0; x1 = 256; y1 = 8 }
 
 screen : Bool → Screen
-screen b = screen-in (record { viewport = box-of whole; c = 4; d = 1 }) whole 4 2 1 0 0 b
+screen b = screen-in (record { viewport = box-of whole; c = 4; d = 1; width = W128 }) whole 4 2 1 0 0 b
 
 -- two draws with the ids 1 and 2, and a layer with the id 3
 tables : Attributes

@@ -1,13 +1,13 @@
 -- What the judges' numbers say. Assumes nothing.
 use mathlib.Core.Path.{_≡_, refl, _∙_}
 use mathlib.Core.Bool.{Bool, true, false, _&&_, not, cond}
-use mathlib.Core.List.{List, [], _∷_}
+use mathlib.Core.List.{List}
 use Prim.Native.Nat.{ℕ, _≤_, _<_, _*_}
 use native.Mathlib.Omega.{arith}
 use lib.ListN.{length}
 use lib.Dec.{leb, eqb}
 use borrow.Author.Tests.{eq-eqb, ne-eqb, eqb-true, eqb-false, leb-false, not-false}
-use Rattle.rules.specs.Answers.{first-of, answer}
+use Rattle.rules.specs.Answers.{answer}
 use Rattle.rules.specs.Boxes.{good-viewport}
 use Rattle.rules.specs.Walk.{good-room}
 use Rattle.rect.specs.Rects.{box-of}
@@ -16,6 +16,7 @@ use Rattle.screen.specs.Screens.{good-screen}
 use Rattle.screen.specs.Tables.{zeros}
 use Rattle.rules.proofs.All.{and-left, and-right}
 use Rattle.screen.proofs.Laws.{Room, room, few-rows, few-buckets}
+use Rattle.screen.proofs.Passed.{none-said}
 use Rattle.paint_screen.specs.Judging.{count, wide, depth-long, rows-long, painting-long, judged, of-row, begin-number, paints-on, step-number, runs-number, skip-number}
 use Rattle.paint_screen.specs.Beginning.{Canvas, canvas, begun, beginning}
 
@@ -66,15 +67,9 @@ module _ (s : Screen) (r k n : ℕ) (h : n ≡ of-row k s r) where
   skip-are rows m e g = h ∙ rw (g, e)
 
 -- What it says that a number is 0.
-none-said : (x y z : Bool) → first-of ((x, 2) ∷ (y, 1) ∷ (z, 4) ∷ []) ≡ 0 → (x ≡ false) × (y ≡ false) × (z ≡ false)
-none-said true y z h = absurd (omega arith)
-none-said false true z h = absurd (omega arith)
-none-said false false true h = absurd (omega arith)
-none-said false false false h = (refl, refl, refl)
-
 pub record Passed (s : Screen) (a t : Bool) : Type 0 where
   pub few : count s ≤ 512
-  pub narrow : wide s ≤ 32
+  pub narrow : wide s ≤ 64
   pub c-room : Room (s .c)
   pub d-room : Room (s .d)
   pub arenas : a ≡ true
@@ -93,7 +88,7 @@ passed s a t h =
     let l : (t && good-screen s) ≡ true = not-false _ (all .2) in
     record {
       few = few-rows _ v;
-      narrow = few-buckets _ v;
+      narrow = few-buckets _ v (s .width);
       c-room = room _ (and-left c d r2);
       d-room = room _ (and-right c d r2);
       arenas = and-right (c && d) a r;

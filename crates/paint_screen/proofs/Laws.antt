@@ -8,6 +8,7 @@ use native.Mathlib.Omega.{arith}
 use lib.ListN.{length, drop}
 use lib.Dec.{eqb}
 use borrow.Author.Tests.{eq-eqb, eqb-true}
+use Rattle.sizes.specs.Widths.{bucket-tiles}
 use Rattle.rules.specs.Answers as rules
 use Rattle.rules.specs.Answers.{answer}
 use Rattle.rules.specs.Attributes.{Attrs}
@@ -102,10 +103,10 @@ module _ (s : Screen) (r : ℕ) (a : Attributes) (l : RowLent) where
     done-alone h =
         let n = lengths h in
         let b = attrs-at (a .paints) (s .«paint_attrs») (a .layers) (s .«layer_attrs») in
-        let o = same-lengths b (own s r l) (part-long (count s) r 2 (l .painting) (n .0) (n .2)) in (
-          part-other (wide s) (count s) r q (l .depth) (painted-row b (own s r l) .depth) (n .0) g d (n .1)
+        let o = same-lengths (bucket-tiles (s .width)) b (own s r l) (part-long (count s) r 2 (l .painting) (n .0) (n .2)) in (
+          part-other (wide s) (count s) r q (l .depth) (painted-row (bucket-tiles (s .width)) b (own s r l) .depth) (n .0) g d (n .1)
               (o .0 ∙ part-long (count s) r (wide s) (l .depth) (n .0) (n .1)),
-          part-other 2 (count s) r q (l .painting) (painted-row b (own s r l) .painting) (n .0) g d (n .2) (o .1),
+          part-other 2 (count s) r q (l .painting) (painted-row (bucket-tiles (s .width)) b (own s r l) .painting) (n .0) g d (n .2) (o .1),
         )
 
     pub step-alone : Alone (stepped s r a l)
@@ -121,12 +122,12 @@ module _ (s : Screen) (r : ℕ) (a : Attributes) (l : RowLent) where
 module _ (s : Screen) (r : ℕ) (t : Attributes) (l : RowLent) (k : number s r t l ≡ 0) (a : Attrs)
     (h : Holds a (t .paints) (s .«paint_attrs») (t .layers) (s .«layer_attrs»)) (w : Row)
     (g : Stands a (length (own s r l .depth)) w (own s r l .state) (own s r l .render) (own s r l .fills))
-    (q : PainterReady a w (painter-at (own s r l .depth) (own s r l .painting))) (o : Sound (summary-at (own s r l .state)) (own s r l .depth)) where
+    (q : PainterReady a w (painter-at (own s r l .depth) (own s r l .painting))) (o : Sound (bucket-tiles (s .width)) (summary-at (own s r l .state)) (own s r l .depth)) where
   pub step-by-rules : stepped s r t l
       ≡ in-place s r l
-      (settled (some (paint-step 32 a w (painter-at (own s r l .depth) (own s r l .painting)))) (own s r l .depth) (own s r l .painting) (l .list))
+      (settled (some (paint-step (bucket-tiles (s .width)) a w (painter-at (own s r l .depth) (own s r l .painting)))) (own s r l .depth) (own s r l .painting) (l .list))
   unfolding stepped row-step
   step-by-rules =
       rw (eq-eqb _ _ k)
       (ap (in-place s r l)
-      (by-rules a (t .paints) (s .«paint_attrs») (t .layers) (s .«layer_attrs») h w (own s r l .state) (own s r l .render) (own s r l .fills) (own s r l .depth) (own s r l .painting) (l .list) g q o))
+      (by-rules (s .width) a (t .paints) (s .«paint_attrs») (t .layers) (s .«layer_attrs») h w (own s r l .state) (own s r l .render) (own s r l .fills) (own s r l .depth) (own s r l .painting) (l .list) g q o))

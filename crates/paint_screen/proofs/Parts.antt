@@ -61,7 +61,7 @@ few-attrs s h =
     let g3 : (a && p && l) ≡ true = and-left (a && p && l) f (and-left (a && p && l && f) o g) in
     (leb-true _ _ (and-right a p (and-left (a && p) l g3)), leb-true _ _ (and-right (a && p) l g3))
 
-pub ready : (s : Screen) (r : ℕ) (a : Attributes) (l : RowLent) → number s r a l ≡ 0 → StepReady s r a l
+pub ready : (s : Screen) (r : ℕ) (a : Attributes) (l : RowLent) → number s r a l ≡ 0 → StepReady (wide s) (s .c) (s .d) (s .«paint_attrs») (s .«layer_attrs») r a l
 ready s r a l h =
     let n = count s in
     let re = eqb (length (l .render)) (n * (4 * s .c)) in
@@ -83,8 +83,8 @@ ready s r a l h =
       fills = lies n r (2 * s .d) (l .fills) (t .there) (o .few) (omega (arith, o .d-room .few)) (and-right re fi g);
       depth = lies n r (wide s) (l .depth) (t .there) (o .few) (omega (arith, o .narrow)) (and-right (re && fi) de (o .arenas));
       painting = lies n r 2 (l .painting) (t .there) (o .few) (omega arith) (and-right ro pa m);
-      c = o .c-room .few;
-      d = o .d-room .few;
+      few-commands = o .c-room .few;
+      few-fills = o .d-room .few;
       paint-table = eqb-true _ _ (and-right (ro && pa) ps k);
       layer-table = eqb-true _ _ (and-right (ro && pa && ps) ls (o .tables));
       paints = few .0;

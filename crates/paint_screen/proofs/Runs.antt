@@ -7,6 +7,7 @@ use lib.ListN.{length, take, drop}
 use lib.Dec.{eqb}
 use borrow.Author.Tests.{eq-eqb, ne-eqb}
 use borrow.Rule.Slice.PartMut.{putMid}
+use Rattle.sizes.specs.Widths.{bucket-tiles}
 use Rattle.rules.specs.Answers.{Answer}
 use Rattle.rules.specs.Spans.{Span}
 use Rattle.rules.specs.Depth.{unset-answer, visible-answer}
@@ -41,16 +42,16 @@ module _ (s : Screen) (r : ℕ) (depth : List ℕ) (t : Span) where
           → x ≡ listing (or-runs (runs-number s r (length depth)) (g (part (wide s) r depth))) l
       same-runs x g l k = rw (← e, eq-eqb n 0 h) (rw (part-is b r depth, f) at k)
 
-      pub unset-done : (x : RunsOut) (l : List ℕ) → x ≡ listing (unset-answer 32 (take (r * b + b - r * b) (drop (r * b) depth)) t (length l / 2)) l
+      pub unset-done : (x : RunsOut) (l : List ℕ) → x ≡ listing (unset-answer (bucket-tiles (s .width)) (take (r * b + b - r * b) (drop (r * b) depth)) t (length l / 2)) l
           → x ≡ unset-of s r depth t l
       unfolding unset-of
-      unset-done x l k = same-runs x (λ (bs : List ℕ). unset-answer 32 bs t (length l / 2)) l k
+      unset-done x l k = same-runs x (λ (bs : List ℕ). unset-answer (bucket-tiles (s .width)) bs t (length l / 2)) l k
 
       pub visible-done : (x : RunsOut) (id : ℕ) (l : List ℕ)
-          → x ≡ listing (visible-answer 32 (take (r * b + b - r * b) (drop (r * b) depth)) id t (length l / 2)) l
+          → x ≡ listing (visible-answer (bucket-tiles (s .width)) (take (r * b + b - r * b) (drop (r * b) depth)) id t (length l / 2)) l
           → x ≡ visible-of s r depth t id l
       unfolding visible-of
-      visible-done x id l k = same-runs x (λ (bs : List ℕ). visible-answer 32 bs id t (length l / 2)) l k
+      visible-done x id l k = same-runs x (λ (bs : List ℕ). visible-answer (bucket-tiles (s .width)) bs id t (length l / 2)) l k
 
 module _ (s : Screen) (r : ℕ) (rows : List ℕ) (t : Span) (n : ℕ) (e : n ≡ skip-number s r (length rows)) where
   pub skip-refused : (n ≡ 0 → ⊥) → (id : ℕ) → skip-of (record { number = n; yes = false }) ≡ skip-of-row s r rows t id

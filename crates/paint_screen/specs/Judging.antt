@@ -3,7 +3,8 @@ use Prim.Native.Nat.{ℕ, _*_}
 use mathlib.Core.Bool.{Bool, true, _&&_, not, cond}
 use mathlib.Core.List.{[], _∷_}
 use lib.Dec.{leb, eqb}
-use Rattle.sizes.specs.Sizes.{bucket-tiles, row-size, paint-attr-table, layer-attr-table}
+use Rattle.sizes.specs.Sizes.{row-size, paint-attr-table, layer-attr-table}
+use Rattle.sizes.specs.Widths.{bucket-tiles}
 use Rattle.rules.specs.Answers.{first-of, Done, BadArena, BadViewport, BadRecord, BadRun, Open}
 use Rattle.rules.specs.Boxes.{good-viewport, rows-of, buckets-of}
 use Rattle.rules.specs.Walk.{good-room}
@@ -16,7 +17,7 @@ abbrev pub count : Screen → ℕ
 count s = rows-of (box-of (s .viewport))
 
 abbrev pub wide : Screen → ℕ
-wide s = buckets-of bucket-tiles (box-of (s .viewport))
+wide s = buckets-of (bucket-tiles (s .width)) (box-of (s .viewport))
 
 -- the arenas' lengths, rows x the words of a row
 abbrev pub depth-long : Screen → ℕ → Bool

@@ -4,7 +4,8 @@ use mathlib.Core.Bool.{Bool, false, not, cond}
 use mathlib.Core.List.{List, []}
 use lib.ListN.{length}
 use lib.Dec.{eqb}
-use Rattle.sizes.specs.Sizes.{bucket-tiles, row-size}
+use Rattle.sizes.specs.Sizes.{row-size}
+use Rattle.sizes.specs.Widths.{bucket-tiles}
 use Rattle.rules.specs.Answers.{Answer, answer, Done, BadRecord}
 use Rattle.rules.specs.Spans.{Span}
 use Rattle.rules.specs.Depth.{unset-answer, visible-answer, can-skip-answer}
@@ -22,11 +23,11 @@ or-runs n a = cond (eqb n Done) a (answer n [])
 
 unfoldable pub unset-of : Screen → ℕ → List ℕ → Span → List ℕ → RunsOut
 unset-of s r depth t l =
-    listing (or-runs (runs-number s r (length depth)) (unset-answer bucket-tiles (part (wide s) r depth) t (length l / 2))) l
+    listing (or-runs (runs-number s r (length depth)) (unset-answer (bucket-tiles (s .width)) (part (wide s) r depth) t (length l / 2))) l
 
 unfoldable pub visible-of : Screen → ℕ → List ℕ → Span → ℕ → List ℕ → RunsOut
 visible-of s r depth t id l =
-    listing (or-runs (runs-number s r (length depth)) (visible-answer bucket-tiles (part (wide s) r depth) id t (length l / 2))) l
+    listing (or-runs (runs-number s r (length depth)) (visible-answer (bucket-tiles (s .width)) (part (wide s) r depth) id t (length l / 2))) l
 
 -- a run with write: what is listed, the screen, the depth words
 pub record Wrote : Type 0 where

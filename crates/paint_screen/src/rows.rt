@@ -12,7 +12,6 @@ use sizes::answers::BAD_RECORD;
 use sizes::answers::DONE;
 use span::BucketRange;
 use span::TileSpan;
-use span::Width;
 ghost use mathlib.Core.Path.{_≡_};
 ghost use lib.ListN.{length};
 ghost use Rattle.sizes.specs.Sizes.{row-size};
@@ -46,7 +45,8 @@ pub fn unset_runs(
     }
     let b = screen.buckets();
     let at = row * b;
-    depth::unset_runs(&depth[at..at + b], span, list, Width::W128)
+    let width = screen.width;
+    depth::unset_runs(&depth[at..at + b], span, list, width)
 }
 
 // The runs of a span's tiles whose buckets hold at most the id.
@@ -69,7 +69,8 @@ pub fn visible_runs(
     }
     let b = screen.buckets();
     let at = row * b;
-    depth::visible_runs(&depth[at..at + b], span, draw_id, list, Width::W128)
+    let width = screen.width;
+    depth::visible_runs(&depth[at..at + b], span, draw_id, list, width)
 }
 
 // Lists the unset runs of a bucket range as buckets, and stores the id there. Done, it ends painting.

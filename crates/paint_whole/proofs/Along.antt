@@ -56,19 +56,19 @@ module _ (step : List ℕ → List ℕ → List ℕ → StepOut) (D : List ℕ) 
           ∙ rw (n, m)
 
 -- the steps of a row's commands
-module _ (a : Attrs) (s re fi D : List ℕ) (c : Calm s re fi) where
+module _ (v : ℕ) (a : Attrs) (s re fi D : List ℕ) (c : Calm s re fi) where
   abbrev d : ℕ
   d = word s 1
 
   abbrev steps : List ℕ → List ℕ → List ℕ → StepOut
-  steps = own-step a s re fi
+  steps = own-step v a s re fi
 
   module _ (at m : ℕ) (h : at < word s 0) (g : m ≤ 16) where
     one-back : d + at - d ≡ at
     one-back = omega arith
 
     taken : (l : List ℕ) → steps D ((d + at) ∷ m ∷ []) l
-        ≡ step-to a (summary-at s) D m (word re (4 * at)) (word re (4 * at + 1)) (word re (4 * at + 2)) (word re (4 * at + 3)) (d + at) ((d + at) ∷ m ∷ []) l
+        ≡ step-to v a (summary-at s) D m (word re (4 * at)) (word re (4 * at + 1)) (word re (4 * at + 2)) (word re (4 * at + 3)) (d + at) ((d + at) ∷ m ∷ []) l
     unfolding painted-row next-step
     taken l =
         rw (
@@ -83,7 +83,7 @@ module _ (a : Attrs) (s re fi D : List ℕ) (c : Calm s re fi) where
         )
 
   module _ (start : Place) (at n m : ℕ) (l : List ℕ) (z : Reaches steps D d start (place at n m l)) (h : at < word s 0) (r stop id : ℕ)
-      (q : Said a (summary-at s) D m (word re (4 * at)) (word re (4 * at + 1)) (word re (4 * at + 2)) (word re (4 * at + 3)) r stop id) where
+      (q : Said v a (summary-at s) D m (word re (4 * at)) (word re (4 * at + 1)) (word re (4 * at + 2)) (word re (4 * at + 3)) r stop id) where
     abbrev six : List ℕ
     six = word re (4 * at) ∷ word re (4 * at + 3) ∷ (word re (4 * at + 1) / 65536) ∷ (word re (4 * at + 1) % 65536) ∷ word re (4 * at + 2) ∷ m ∷ []
 
@@ -134,14 +134,14 @@ module _ (a : Attrs) (s re fi D : List ℕ) (c : Calm s re fi) where
 
     -- the pieces of a fill that is shown in part
     abbrev found : List Span
-    found = runs-met 32 D id (word re (4 * at + 1))
+    found = runs-met v D id (word re (4 * at + 1))
 
     abbrev words : List ℕ
-    words = join (run-words 32 (word re (4 * at)) (word re (4 * at + 3)) (word re (4 * at + 1)) (word re (4 * at + 2)) m) found
+    words = join (run-words v (word re (4 * at)) (word re (4 * at + 3)) (word re (4 * at + 1)) (word re (4 * at + 2)) m) found
 
     module _ (room : 6 * (n + length found) ≤ length l) where
       words-long : length words ≡ 6 * length found
-      words-long = length-runs 32 (word re (4 * at)) (word re (4 * at + 3)) (word re (4 * at + 1)) (word re (4 * at + 2)) m found
+      words-long = length-runs v (word re (4 * at)) (word re (4 * at + 3)) (word re (4 * at + 1)) (word re (4 * at + 2)) m found
 
       runs-step : 4 < r → one-more steps (stands D d (place at n m l)) ≡ stands D d (place (at + 1) (n + length found) m (words-at l (6 * n) words))
       unfolding one-more

@@ -10,9 +10,9 @@ use lib.Dec.{leb, ltb, eqb}
 use borrow.Author.Tests.{lt-ltb, le-leb, lt-leb, eq-eqb, ne-eqb, eqb-true, ltb-true}
 use Rattle.rules.specs.Spans.{Span, span, common}
 use Rattle.rules.specs.Depth.{Summary, can-skip, is-visible, runs-in, tiles-of, runs, visible-runs}
-use Rattle.span.specs.declared.Width.{Width}
-use Rattle.span.specs.Widths.{wide}
-use Rattle.span.proofs.Widths.{each, raised-least, lowered-most}
+use Rattle.sizes.specs.declared.width.Width.{Width}
+use Rattle.sizes.specs.Widths.{bucket-tiles}
+use Rattle.rules.proofs.laws.Widths.{each, raised-least, lowered-most}
 use Rattle.cmd.specs.Reading.{word-span}
 use Rattle.cmd.proofs.Tests.{sum-test}
 use Rattle.depth.proofs.Searching.{runs-end, runs-closed, Reached, reach-first, reach-closed, reach-end}
@@ -109,7 +109,7 @@ module _ (D : List ℕ) (id a e : ℕ) (f : e ≤ length D) where
 -- the buckets that a fill meets, all open or all shut
 module _ (width : Width) (D : List ℕ) (id f g : ℕ) (h : f < g) where
   abbrev v : ℕ
-  v = wide width
+  v = bucket-tiles width
 
   low : max f (f / v * v) ≡ f
   low = omega (arith, lowered-most width f)
@@ -143,7 +143,7 @@ module _ (v : ℕ) (u : Summary) (D : List ℕ) (id : ℕ) (s : Span) (h : s .fi
     searched = rw (e, q)
 
 -- the tiles are there if the buckets that they meet are
-tiles-there : (w : Width) (g n : ℕ) → (g + (wide w - 1)) / wide w ≤ n → g ≤ wide w * n
+tiles-there : (w : Width) (g n : ℕ) → (g + (bucket-tiles w - 1)) / bucket-tiles w ≤ n → g ≤ bucket-tiles w * n
 tiles-there w g n h = each (λ w. (g + (w - 1)) / w ≤ n → g ≤ w * n) (λ h. omega arith) (λ h. omega arith) (λ h. omega arith) w h
 
 -- what is said
@@ -160,14 +160,14 @@ none-said v u D id t w x =
 
 -- .. of a fill in order, whose buckets end at e and are there
 module _ (width : Width) (u : Summary) (D : List ℕ) (id t w x : ℕ) (h : w / 65536 < w % 65536) (g : w % 65536 ≤ 8192)
-    (i : good-index t x (w % 65536 - w / 65536) ≡ true) (e : ℕ) (q : e ≡ high-met (wide width) w) (f : e ≤ length D) where
+    (i : good-index t x (w % 65536 - w / 65536) ≡ true) (e : ℕ) (q : e ≡ high-met (bucket-tiles width) w) (f : e ≤ length D) where
   fills : Fills t w x
   fills = record { low = omega arith; high = g; index = i }
 
-  there : w % 65536 ≤ wide width * length D
+  there : w % 65536 ≤ bucket-tiles width * length D
   there = tiles-there width (w % 65536) (length D) (rw q at f)
 
-  whole-said : shown-runs (wide width) u D id (word-span w) ≡ word-span w ∷ [] → FillSaid (wide width) u D id t w x 1 0 0
+  whole-said : shown-runs (bucket-tiles width) u D id (word-span w) ≡ word-span w ∷ [] → FillSaid (bucket-tiles width) u D id t w x 1 0 0
   whole-said z =
       record {
         no-push = λ z. omega arith;
@@ -178,21 +178,21 @@ module _ (width : Width) (u : Summary) (D : List ℕ) (id t w x : ℕ) (h : w / 
         partly = λ z. absurd (omega arith);
       }
 
-  pub clear-said : true ≡ can-skip u (word-span w) id → FillSaid (wide width) u D id t w x 1 0 0
-  clear-said z = whole-said (clear-whole (wide width) u D id (word-span w) h there z)
+  pub clear-said : true ≡ can-skip u (word-span w) id → FillSaid (bucket-tiles width) u D id t w x 1 0 0
+  clear-said z = whole-said (clear-whole (bucket-tiles width) u D id (word-span w) h there z)
 
   -- .. and start at a
-  module _ (a : ℕ) (p : a ≡ low-met (wide width) w) where
+  module _ (a : ℕ) (p : a ≡ low-met (bucket-tiles width) w) where
     module _ (n : can-skip u (word-span w) id ≡ false) where
       abbrev met : List Span
       met = runs-in (is-visible id) D (span a e)
 
-      pub all-seen : met ≡ span a e ∷ [] → FillSaid (wide width) u D id t w x 1 0 0
-      all-seen z = whole-said (searched (wide width) u D id (word-span w) h there n _ (met-seen width D id (w / 65536) (w % 65536) h (rw (p, q) at z)))
+      pub all-seen : met ≡ span a e ∷ [] → FillSaid (bucket-tiles width) u D id t w x 1 0 0
+      all-seen z = whole-said (searched (bucket-tiles width) u D id (word-span w) h there n _ (met-seen width D id (w / 65536) (w % 65536) h (rw (p, q) at z)))
 
-      pub all-hidden : met ≡ [] → FillSaid (wide width) u D id t w x 2 0 0
+      pub all-hidden : met ≡ [] → FillSaid (bucket-tiles width) u D id t w x 2 0 0
       all-hidden z =
-          let none = searched (wide width) u D id (word-span w) h there n _ (met-hidden width D id (w / 65536) (w % 65536) h (rw (p, q) at z)) in
+          let none = searched (bucket-tiles width) u D id (word-span w) h there n _ (met-hidden width D id (w / 65536) (w % 65536) h (rw (p, q) at z)) in
           record {
             no-push = λ z. omega arith;
             no-pop = λ z. omega arith;
@@ -204,10 +204,10 @@ module _ (width : Width) (u : Summary) (D : List ℕ) (id t w x : ℕ) (h : w / 
 
       -- .. of one that is shown in part, where the look stopped
       module _ (stop : ℕ) (m : stop < e) where
-        cut-runs : shown-runs (wide width) u D id (word-span w) ≡ map (λ (r : Span). common (word-span w) (tiles-of (wide width) r)) (runs-met (wide width) D id w)
-        cut-runs = searched (wide width) u D id (word-span w) h there n _ (met-runs width D id (w / 65536) (w % 65536) h)
+        cut-runs : shown-runs (bucket-tiles width) u D id (word-span w) ≡ map (λ (r : Span). common (word-span w) (tiles-of (bucket-tiles width) r)) (runs-met (bucket-tiles width) D id w)
+        cut-runs = searched (bucket-tiles width) u D id (word-span w) h there n _ (met-runs width D id (w / 65536) (w % 65536) h)
 
-        part-said : (kind : ℕ) → 4 < kind → Looked (wide width) D id w (eqb kind 5) stop → FillSaid (wide width) u D id t w x kind stop id
+        part-said : (kind : ℕ) → 4 < kind → Looked (bucket-tiles width) D id w (eqb kind 5) stop → FillSaid (bucket-tiles width) u D id t w x kind stop id
         part-said kind l r =
             record {
               no-push = λ z. omega arith;
@@ -218,12 +218,12 @@ module _ (width : Width) (u : Summary) (D : List ℕ) (id t w x : ℕ) (h : w / 
               partly = λ z. (cut-runs, r, refl);
             }
 
-        pub some-seen : SeenTo D id a e stop → FillSaid (wide width) u D id t w x 5 stop id
+        pub some-seen : SeenTo D id a e stop → FillSaid (bucket-tiles width) u D id t w x 5 stop id
         some-seen r =
             let o = rw (p, q) at r in
             part-said 5 (omega arith) (record { past = o .past; within = rw q at m; fits = rw q at f; found = o .found; other = r .other m })
 
-        pub some-hidden : HiddenTo D id a e stop → FillSaid (wide width) u D id t w x 6 stop id
+        pub some-hidden : HiddenTo D id a e stop → FillSaid (bucket-tiles width) u D id t w x 6 stop id
         some-hidden r =
             let o = rw (p, q) at r in
             part-said 6 (omega arith) (record { past = o .past; within = rw q at m; fits = rw q at f; found = o .found; other = r .other m })

@@ -11,6 +11,7 @@ use lib.Seq.{length-take-le, take-at, drop-at}
 use lib.Dec.{ltb}
 use borrow.Author.Tests.{eq-eqb, ne-eqb}
 use borrow.Rule.Slice.PartMut.{putMid, put-same, take-put}
+use Rattle.sizes.specs.Widths.{bucket-tiles}
 use Rattle.rules.specs.Attributes.{Attrs}
 use Rattle.rules.specs.Painting as rules
 use Rattle.row_screen.proofs.Laws.{put-length}
@@ -19,26 +20,25 @@ use Rattle.paint_pieces.specs.declared.Painted.{Painted}
 use Rattle.paint_command.specs.Painting.{attrs-at, RowLent, lent, StepOut, out, refused, left, settled, painted-row}
 use Rattle.paint_command.proofs.Laws.{same-lengths}
 use Rattle.paint_screen.specs.Judging.{wide}
-use Rattle.paint_screen.specs.Stepping.{part, with-part, Within, Attributes, own, in-place, number, row-step, stepped}
+use Rattle.paint_screen.specs.Stepping.{part, with-part, Within, Attributes, own-parts, put-parts, own, in-place, number, row-step, stepped}
 use Rattle.paint_screen.proofs.Parts.{part-is, put-is, ready}
 use Rattle.paint_whole.specs.Running.{goes-on, ended, one-more, run, most, standing, own-step, own-run, row-run, call-step, row-painted}
 use Rattle.paint_whole.proofs.Runs.{stops, more}
 
 -- the steps of the row's own parts, put back in their places
-module _ (f : ℕ) (s : Screen) (r : ℕ) (a : Attributes) (l : RowLent) (b : ℕ) (e : b ≡ wide s) (o : Painted) (d p t : List ℕ) where
-  pub run-back : out o d p t ≡ own-run f (attrs-at (a .paints) (s .«paint_attrs») (a .layers) (s .«layer_attrs»))
-      (lent (part 54 r (l .state)) (part (4 * s .c) r (l .render)) (part (2 * s .d) r (l .fills))
+module _ (v f : ℕ) (a : Attrs) (b c d r : ℕ) (l : RowLent) (o : Painted) (q p t : List ℕ) where
+  pub run-back : out o q p t ≡ own-run v f a
+      (lent (part 54 r (l .state)) (part (4 * c) r (l .render)) (part (2 * d) r (l .fills))
       (take (r * b + b - r * b) (drop (r * b) (l .depth)))
       (take (r * 2 + 2 - r * 2) (drop (r * 2) (l .painting)))
       (l .list))
-      → out o (putMid (r * b) (r * b + b - r * b) (l .depth) d)
+      → out o (putMid (r * b) (r * b + b - r * b) (l .depth) q)
       (putMid (r * 2) (r * 2 + 2 - r * 2) (l .painting) p) t
-      ≡ row-run f s r a l
+      ≡ row-run v f a b c d r l
   unfolding row-run
   run-back h =
-      let i : out o d p t ≡ own-run f (attrs-at (a .paints) (s .«paint_attrs») (a .layers) (s .«layer_attrs»)) (own s r l) =
-      rw (part-is b r (l .depth), part-is 2 r (l .painting), e) at h in
-      rw (put-is b r (l .depth) d, put-is 2 r (l .painting) p, e) (ap (in-place s r l) i)
+      let i : out o q p t ≡ own-run v f a (own-parts b c d r l) = rw (part-is b r (l .depth), part-is 2 r (l .painting)) at h in
+      rw (put-is b r (l .depth) q, put-is 2 r (l .painting) p) (ap (put-parts b r l) i)
 
 -- a part in its place: it stands there, and another takes its place
 module _ (k r : ℕ) (xs ys : List ℕ) (h : Within k r xs) (e : length ys ≡ k) where
@@ -58,13 +58,18 @@ module _ (k r : ℕ) (xs ys : List ℕ) (h : Within k r xs) (e : length ys ≡ k
 pub part-of-length : (k r : ℕ) (xs : List ℕ) → Within k r xs → length (part k r xs) ≡ k
 part-of-length k r xs h = length-take-le k (drop (r * k) xs) (rw length-drop (omega (arith, h .ends)))
 
+-- the steps of row r of a screen
+abbrev screen-run : ℕ → Screen → ℕ → Attributes → RowLent → StepOut
+screen-run f s r a l =
+    row-run (bucket-tiles (s .width)) f (attrs-at (a .paints) (s .«paint_attrs») (a .layers) (s .«layer_attrs»)) (wide s) (s .c) (s .d) r l
+
 -- A call whose screen and lengths are judged 0: its steps are those of the row's own words.
 module _ (s : Screen) (r : ℕ) (a : Attributes) (l : RowLent) (z : number s r a l ≡ 0) where
   abbrev b : Attrs
   b = attrs-at (a .paints) (s .«paint_attrs») (a .layers) (s .«layer_attrs»)
 
   abbrev mine : List ℕ → List ℕ → List ℕ → StepOut
-  mine = own-step b (own s r l .state) (own s r l .render) (own s r l .fills)
+  mine = own-step (bucket-tiles (s .width)) b (own s r l .state) (own s r l .render) (own s r l .fills)
 
   abbrev called : List ℕ → List ℕ → List ℕ → StepOut
   called = call-step s r a (l .state) (l .render) (l .fills)
@@ -86,7 +91,7 @@ module _ (s : Screen) (r : ℕ) (a : Attributes) (l : RowLent) (z : number s r a
     unfolding stepped row-step
     call-mine =
         let g = ready s r a l z in
-        let o = painted-row b (lent (own s r l .state) (own s r l .render) (own s r l .fills) d p t) in
+        let o = painted-row (bucket-tiles (s .width)) b (lent (own s r l .state) (own s r l .render) (own s r l .fills) d p t) in
         rw (
           eq-eqb _ _ still,
           part-there (wide s) r (l .depth) d (g .depth) x,
@@ -102,7 +107,7 @@ module _ (s : Screen) (r : ℕ) (a : Attributes) (l : RowLent) (z : number s r a
   one-long : (g : StepOut) → Long g → Long (one-more mine g)
   unfolding one-more
   one-long g h =
-      let o = same-lengths b (lent (own s r l .state) (own s r l .render) (own s r l .fills) (g .depth) (g .painting) (drop (6 * g .answer .pieces) (g .list))) (h .1) in
+      let o = same-lengths (bucket-tiles (s .width)) b (lent (own s r l .state) (own s r l .render) (own s r l .fills) (g .depth) (g .painting) (drop (6 * g .answer .pieces) (g .list))) (h .1) in
       (o .0 ∙ h .0, o .1)
 
   run-mine : (f k : ℕ) (g : StepOut) → Long g → run called f k (in-place s r l g) ≡ in-place s r l (run mine f k g)
@@ -116,7 +121,7 @@ module _ (s : Screen) (r : ℕ) (a : Attributes) (l : RowLent) (z : number s r a
       go true = refl
       go false = refl
 
-  pub calls-are-run : row-painted s r a l ≡ row-run most s r a l
+  pub calls-are-run : row-painted s r a l ≡ screen-run most s r a l
   unfolding row-painted row-run own-run
   calls-are-run =
       let g = ready s r a l z in
@@ -140,7 +145,7 @@ module _ (s : Screen) (r : ℕ) (a : Attributes) (l : RowLent) (n : ℕ) (e : n 
       let i : goes-on (one-more step start .answer) ≡ false = rw (f, ne-eqb n 0 h) in
       sym (stops step most 0 start (omega arith) i ∙ rw f)
 
-  pub row-done : (o : StepOut) → n ≡ 0 → o ≡ row-run most s r a l → o ≡ row-painted s r a l
+  pub row-done : (o : StepOut) → n ≡ 0 → o ≡ screen-run most s r a l → o ≡ row-painted s r a l
   row-done o h p = p ∙ sym (calls-are-run s r a l (sym e ∙ h))
 
 -- a run of one step at most is the step
@@ -156,9 +161,9 @@ settled-again (some o) d p l = go (ltb (length l / 6) (length (o .pieces)))
     go true = refl
     go false = refl
 
-row-again : (a : Attrs) (w : RowLent) → again (painted-row a w) ≡ painted-row a w
+row-again : (v : ℕ) (a : Attrs) (w : RowLent) → again (painted-row v a w) ≡ painted-row v a w
 unfolding painted-row
-row-again a w = settled-again _ _ _ _
+row-again v a w = settled-again _ _ _ _
 
 first-one : (step : List ℕ → List ℕ → List ℕ → StepOut) (d p l : List ℕ) → one-more step (standing d p l) ≡ again (step d p l)
 unfolding one-more
@@ -172,9 +177,9 @@ one-run step d p l = go (goes-on (one-more step (standing d p l) .answer)) refl
     go true e = more step 1 0 (standing d p l) (omega arith) e ∙ first-one step d p l
     go false e = stops step 1 0 (standing d p l) (omega arith) e ∙ rw (first-one step d p l)
 
-pub step-is-run : (s : Screen) (r : ℕ) (a : Attributes) (l : RowLent) → row-run 1 s r a l ≡ row-step s r a l
+pub step-is-run : (s : Screen) (r : ℕ) (a : Attributes) (l : RowLent) → screen-run 1 s r a l ≡ row-step s r a l
 unfolding row-run own-run row-step
 step-is-run s r a l =
     let b = attrs-at (a .paints) (s .«paint_attrs») (a .layers) (s .«layer_attrs») in
     let w = own s r l in
-    ap (in-place s r l) (one-run (own-step b (w .state) (w .render) (w .fills)) (w .depth) (w .painting) (w .list) ∙ row-again b w)
+    ap (in-place s r l) (one-run (own-step (bucket-tiles (s .width)) b (w .state) (w .render) (w .fills)) (w .depth) (w .painting) (w .list) ∙ row-again (bucket-tiles (s .width)) b w)

@@ -27,9 +27,9 @@ settled-few (some o) d p l = go (ltb (length l / 6) (length (o .pieces))) refl
     go true e = rw e (omega arith)
     go false e = rw e (omega (arith, ltb-false (length l / 6) (length (o .pieces)) e))
 
-row-few : (a : Attrs) (w : RowLent) → 6 * painted-row a w .answer .pieces ≤ length (w .list)
+row-few : (v : ℕ) (a : Attrs) (w : RowLent) → 6 * painted-row v a w .answer .pieces ≤ length (w .list)
 unfolding painted-row
-row-few a w = settled-few _ _ _ (w .list)
+row-few v a w = settled-few _ _ _ (w .list)
 
 -- what is lent of a list from a place on, and what comes back
 module _ (xs : List ℕ) (a : ℕ) (h : a ≤ length xs) where
@@ -43,13 +43,13 @@ module _ (xs : List ℕ) (a : ℕ) (h : a ≤ length xs) where
   lent-after = take-all (length xs - a) (drop a xs) all-after
 
 -- one step more of a row's own words
-module _ (a : Attrs) (s re fi d p xs : List ℕ) (n : ℕ) (h : 6 * n ≤ length xs) (q : Painted) (e g ys : List ℕ)
-    (f : out q e g ys ≡ painted-row a (lent s re fi d p (take (length xs - 6 * n) (drop (6 * n) xs)))) where
-  same : out q e g ys ≡ own-step a s re fi d p (drop (6 * n) xs)
+module _ (v : ℕ) (a : Attrs) (s re fi d p xs : List ℕ) (n : ℕ) (h : 6 * n ≤ length xs) (q : Painted) (e g ys : List ℕ)
+    (f : out q e g ys ≡ painted-row v a (lent s re fi d p (take (length xs - 6 * n) (drop (6 * n) xs)))) where
+  same : out q e g ys ≡ own-step v a s re fi d p (drop (6 * n) xs)
   same = f ∙ rw (lent-after xs (6 * n) h)
 
   pub one-done : out (record { number = q .number; finished = q .finished; pieces = n + q .pieces }) e g (putMid (6 * n) (length xs - 6 * n) xs ys)
-      ≡ one-more (own-step a s re fi) (out (listed n) d p xs)
+      ≡ one-more (own-step v a s re fi) (out (listed n) d p xs)
   unfolding one-more
   one-done =
       rw (back-after xs (6 * n) h ys)
@@ -57,8 +57,8 @@ module _ (a : Attrs) (s re fi d p xs : List ℕ) (n : ℕ) (h : 6 * n ≤ length
 
   pub one-few : 6 * (n + q .pieces) ≤ length xs
   one-few =
-      let i : q .pieces ≡ own-step a s re fi d p (drop (6 * n) xs) .answer .pieces = ap (λ (o : StepOut). o .answer .pieces) same in
-      let j : 6 * q .pieces ≤ length (drop (6 * n) xs) = rw i (row-few a (lent s re fi d p (drop (6 * n) xs))) in
+      let i : q .pieces ≡ own-step v a s re fi d p (drop (6 * n) xs) .answer .pieces = ap (λ (o : StepOut). o .answer .pieces) same in
+      let j : 6 * q .pieces ≤ length (drop (6 * n) xs) = rw i (row-few v a (lent s re fi d p (drop (6 * n) xs))) in
       omega (arith, j, length-drop (6 * n) xs)
 
 -- the steps of a row, from the first to the last

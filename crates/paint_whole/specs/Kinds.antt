@@ -6,7 +6,7 @@ use mathlib.Core.List.{List, [], _∷_, map}
 use mathlib.Core.Option.{none, some}
 use lib.ListN.{length, getD}
 use lib.Dec.{leb, ltb, eqb}
-use Rattle.sizes.specs.Sizes.{bucket-tiles, tile-end, tile-alphas, most-layers}
+use Rattle.sizes.specs.Sizes.{tile-end, tile-alphas, most-layers}
 use Rattle.rules.specs.Lists.{join}
 use Rattle.rules.specs.Spans.{Span, span, common}
 use Rattle.rules.specs.Depth.{Summary, is-visible, runs-in, tiles-of}
@@ -87,17 +87,18 @@ run-words v t i w x m r =
     let c = common (word-span w) (tiles-of v r) in
     t ∷ i ∷ c .first ∷ c .end ∷ moved-index t x (c .first - w / 65536) ∷ m ∷ []
 
-module _ (attrs : Attrs) (u : Summary) (D : List ℕ) (m t w x i : ℕ) where
+-- at v tiles a bucket
+module _ (v : ℕ) (attrs : Attrs) (u : Summary) (D : List ℕ) (m t w x i : ℕ) where
   -- the step of four words at nesting m, after q steps
   abbrev pub step-to : ℕ → List ℕ → List ℕ → StepOut
-  step-to q P l = settled (command-step attrs u (record { buckets = D; steps = q; nesting = m }) (command-of t w x i)) D P l
+  step-to q P l = settled (command-step v attrs u (record { buckets = D; steps = q; nesting = m }) (command-of t w x i)) D P l
 
   -- a fill that is shown in part: what the look has seen of it, and its pieces
   pub record PartSaid (seen : Bool) (stop id : ℕ) : Type 0 where
-    pub looked : Looked bucket-tiles D id w seen stop
+    pub looked : Looked v D id w seen stop
     pub good : Fills t w x
-    pub pieces : (q : ℕ) (P l : List ℕ) → 6 * length (runs-met bucket-tiles D id w) ≤ length l
-        → step-to q P l ≡ out (listed (length (runs-met bucket-tiles D id w))) D ((q + 1) ∷ m ∷ []) (over (join (run-words bucket-tiles t i w x m) (runs-met bucket-tiles D id w)) l)
+    pub pieces : (q : ℕ) (P l : List ℕ) → 6 * length (runs-met v D id w) ≤ length l
+        → step-to q P l ≡ out (listed (length (runs-met v D id w))) D ((q + 1) ∷ m ∷ []) (over (join (run-words v t i w x m) (runs-met v D id w)) l)
 
   -- what is said of a command: 1 one piece with all of the fill, 2 no piece, 3 nesting up, 4 nesting down, 5 and 6 a fill that is shown in part; 0 says nothing
   pub record Said (kind stop id : ℕ) : Type 0 where

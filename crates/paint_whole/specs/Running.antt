@@ -8,8 +8,8 @@ use Rattle.rules.specs.Answers.{Done}
 use Rattle.rules.specs.Attributes.{Attrs}
 use Rattle.screen.specs.declared.Screen.{Screen}
 use Rattle.paint_pieces.specs.declared.Painted.{Painted}
-use Rattle.paint_command.specs.Painting.{attrs-at, RowLent, lent, StepOut, out, listed, painted-row}
-use Rattle.paint_screen.specs.Stepping.{Attributes, own, in-place, stepped}
+use Rattle.paint_command.specs.Painting.{RowLent, lent, StepOut, out, listed, painted-row}
+use Rattle.paint_screen.specs.Stepping.{Attributes, own-parts, put-parts, stepped}
 
 -- the row has more steps
 abbrev pub goes-on : Painted → Bool
@@ -47,18 +47,17 @@ most = 2049
 abbrev pub standing : List ℕ → List ℕ → List ℕ → StepOut
 standing d p l = out (listed 0) d p l
 
--- the steps of one row's own words
-abbrev pub own-step : Attrs → List ℕ → List ℕ → List ℕ → List ℕ → List ℕ → List ℕ → StepOut
-own-step a s re fi d p l = painted-row a (lent s re fi d p l)
+-- the steps of one row's own words, at v tiles a bucket
+abbrev pub own-step : ℕ → Attrs → List ℕ → List ℕ → List ℕ → List ℕ → List ℕ → List ℕ → StepOut
+own-step v a s re fi d p l = painted-row v a (lent s re fi d p l)
 
 -- at most f of them
-unfoldable pub own-run : ℕ → Attrs → RowLent → StepOut
-own-run f a w = run (own-step a (w .state) (w .render) (w .fills)) f 0 (standing (w .depth) (w .painting) (w .list))
+unfoldable pub own-run : ℕ → ℕ → Attrs → RowLent → StepOut
+own-run v f a w = run (own-step v a (w .state) (w .render) (w .fills)) f 0 (standing (w .depth) (w .painting) (w .list))
 
--- .. of row r of a screen, each part in its place
-unfoldable pub row-run : ℕ → Screen → ℕ → Attributes → RowLent → StepOut
-row-run f s r a l =
-    in-place s r l (own-run f (attrs-at (a .paints) (s .«paint_attrs») (a .layers) (s .«layer_attrs»)) (own s r l))
+-- .. of row r of rows of b depth words, with room for c commands and d depth fills, each part in its place
+unfoldable pub row-run : ℕ → ℕ → Attrs → ℕ → ℕ → ℕ → ℕ → RowLent → StepOut
+row-run v f a b c d r l = put-parts b r l (own-run v f a (own-parts b c d r l))
 
 -- calls of a painting step of row r of a screen
 abbrev pub call-step : Screen → ℕ → Attributes → List ℕ → List ℕ → List ℕ → List ℕ → List ℕ → List ℕ → StepOut

@@ -7,9 +7,11 @@ use row_screen::part;
 use screen::Screen;
 use sizes::ROW;
 use sizes::answers::DONE;
+use sizes::width::Width;
 ghost use mathlib.Core.Path.{_≡_};
 ghost use Prim.Native.Nat.{_≤_};
-ghost use Rattle.paint_command.specs.Painting.{lent, out};
+ghost use Rattle.sizes.specs.Widths.{bucket-tiles};
+ghost use Rattle.paint_command.specs.Painting.{attrs-at, lent, out};
 ghost use Rattle.paint_screen.specs.Stepping.{painted-of, attributes, StepReady, stepped};
 ghost use Rattle.paint_whole.specs.Running.{most, row-run, row-painted};
 
@@ -19,7 +21,12 @@ pub mod run;
 
 // At most `limit` steps of a row that is there, painting having begun: the row's own parts are handed on.
 fn row_part(
-    screen: Screen,
+    b: usize,
+    c: u32,
+    d: u32,
+    paints: u32,
+    layers: u32,
+    width: Width,
     row: usize,
     rows: &[u32],
     render: &[u32],
@@ -31,25 +38,25 @@ fn row_part(
     list: &mut [u32],
     limit: usize,
 ) -> Stepped
-    requires { ⌜ (limit ≤ most) × StepReady screen row (attributes (now «paint_attrs») (now «layer_attrs»)) (lent (now rows) (now render) (now fills) (now depth) (now painting) (now list)) ⌝ }
+    requires { ⌜ (limit ≤ most) × StepReady b c d paints layers row (attributes (now «paint_attrs») (now «layer_attrs»)) (lent (now rows) (now render) (now fills) (now depth) (now painting) (now list)) ⌝ }
     ensures { λ r. ⌜ out (painted-of r) (now (depth .exit)) (now (painting .exit)) (now (list .exit))
-        ≡ row-run limit screen row (attributes (now («paint_attrs» .entry)) (now («layer_attrs» .entry))) (lent (now (rows .entry)) (now (render .entry)) (now (fills .entry)) (now (depth .entry)) (now (painting .entry)) (now (list .entry))) ⌝ }
+        ≡ row-run (bucket-tiles width) limit (attrs-at (now («paint_attrs» .entry)) paints (now («layer_attrs» .entry)) layers) b c d row (lent (now (rows .entry)) (now (render .entry)) (now (fills .entry)) (now (depth .entry)) (now (painting .entry)) (now (list .entry))) ⌝ }
 {
-    let b = screen.buckets();
     let u = row * b;
     let v = row * 2;
     let done = run_row(
         part(rows, ROW, row),
-        part(render, 4 * (screen.c as usize), row),
-        part(fills, 2 * (screen.d as usize), row),
+        part(render, 4 * (c as usize), row),
+        part(fills, 2 * (d as usize), row),
         &mut depth[u..u + b],
         &mut painting[v..v + 2],
         paint_attrs,
-        screen.paint_attrs,
+        paints,
         layer_attrs,
-        screen.layer_attrs,
+        layers,
         list,
         limit,
+        width,
     );
     Stepped {
         number: done.number,
@@ -92,8 +99,14 @@ pub fn paint_step(
             pieces: 0,
         };
     }
+    let width = screen.width;
     row_part(
-        screen,
+        screen.buckets(),
+        screen.c,
+        screen.d,
+        screen.paint_attrs,
+        screen.layer_attrs,
+        width,
         row,
         rows,
         render,
@@ -142,8 +155,14 @@ pub fn paint_row(
             pieces: 0,
         };
     }
+    let width = screen.width;
     row_part(
-        screen,
+        screen.buckets(),
+        screen.c,
+        screen.d,
+        screen.paint_attrs,
+        screen.layer_attrs,
+        width,
         row,
         rows,
         render,

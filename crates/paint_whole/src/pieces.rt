@@ -2,7 +2,7 @@
 use paint_pieces::put_words;
 use sizes::TILE_ALPHAS;
 use sizes::wide;
-use span::Width;
+use sizes::width::Width;
 use span::larger;
 use span::smaller;
 ghost use mathlib.Core.Path.{_≡_};
@@ -13,7 +13,7 @@ ghost use Rattle.sizes.specs.Sizes.{tile-alphas};
 ghost use Rattle.rules.specs.Lists.{join};
 ghost use Rattle.rules.specs.Spans.{span};
 ghost use Rattle.rules.specs.Depth.{is-visible, runs-in};
-ghost use Rattle.span.specs.Widths as widths;
+ghost use Rattle.sizes.specs.Widths.{bucket-tiles};
 ghost use Rattle.cmd.specs.Attrs.{words-at};
 ghost use Rattle.paint_command.specs.Painting.{word};
 ghost use Rattle.paint_whole.specs.Kinds.{Fills, low-met, high-met, moved-index, run-words, runs-met, Looked};
@@ -42,8 +42,8 @@ fn put_run(
     b: usize,
     width: Width,
 )
-    requires { ⌜ (6 * k + 6 ≤ length (now list)) × Fills tag tiles alpha × (a < high-met (widths.wide width) tiles) × (b ≤ high-met (widths.wide width) tiles) ⌝ }
-    ensures { λ _. ⌜ now (list .exit) ≡ words-at (now (list .entry)) (6 * k) (run-words (widths.wide width) tag i tiles alpha level (span a b)) ⌝ }
+    requires { ⌜ (6 * k + 6 ≤ length (now list)) × Fills tag tiles alpha × (a < high-met (bucket-tiles width) tiles) × (b ≤ high-met (bucket-tiles width) tiles) ⌝ }
+    ensures { λ _. ⌜ now (list .exit) ≡ words-at (now (list .entry)) (6 * k) (run-words (bucket-tiles width) tag i tiles alpha level (span a b)) ⌝ }
 {
     let first = tiles / 65536;
     let from = larger(first, width.times(a as u32));
@@ -70,9 +70,9 @@ fn put_runs(
     width: Width,
 ) -> usize
     requires { ⌜ (start < e) × (e ≤ length (now depth)) × (is-visible id (word (now depth) start) ≡ shown) ⌝ }
-    requires { ⌜ Fills tag tiles alpha × (e ≡ high-met (widths.wide width) tiles) × (6 * (k + length (runs-in (is-visible id) (now depth) (span start e))) ≤ length (now list)) ⌝ }
+    requires { ⌜ Fills tag tiles alpha × (e ≡ high-met (bucket-tiles width) tiles) × (6 * (k + length (runs-in (is-visible id) (now depth) (span start e))) ≤ length (now list)) ⌝ }
     ensures { λ r. ⌜ r ≡ k + length (runs-in (is-visible id) (now (depth .entry)) (span start e)) ⌝ }
-    ensures { λ _. ⌜ now (list .exit) ≡ words-at (now (list .entry)) (6 * k) (join (run-words (widths.wide width) tag i tiles alpha level) (runs-in (is-visible id) (now (depth .entry)) (span start e))) ⌝ }
+    ensures { λ _. ⌜ now (list .exit) ≡ words-at (now (list .entry)) (6 * k) (join (run-words (bucket-tiles width) tag i tiles alpha level) (runs-in (is-visible id) (now (depth .entry)) (span start e))) ⌝ }
 {
     let mut at = start;
     let mut open = shown;
@@ -119,9 +119,9 @@ pub fn put_fill(
     level: u32,
     width: Width,
 ) -> usize
-    requires { ⌜ Looked (widths.wide width) (now depth) id tiles seen stop × Fills tag tiles alpha × (6 * (k + length (runs-met (widths.wide width) (now depth) id tiles)) ≤ length (now list)) ⌝ }
-    ensures { λ r. ⌜ r ≡ k + length (runs-met (widths.wide width) (now (depth .entry)) id tiles) ⌝ }
-    ensures { λ _. ⌜ now (list .exit) ≡ words-at (now (list .entry)) (6 * k) (join (run-words (widths.wide width) tag i tiles alpha level) (runs-met (widths.wide width) (now (depth .entry)) id tiles)) ⌝ }
+    requires { ⌜ Looked (bucket-tiles width) (now depth) id tiles seen stop × Fills tag tiles alpha × (6 * (k + length (runs-met (bucket-tiles width) (now depth) id tiles)) ≤ length (now list)) ⌝ }
+    ensures { λ r. ⌜ r ≡ k + length (runs-met (bucket-tiles width) (now (depth .entry)) id tiles) ⌝ }
+    ensures { λ _. ⌜ now (list .exit) ≡ words-at (now (list .entry)) (6 * k) (join (run-words (bucket-tiles width) tag i tiles alpha level) (runs-met (bucket-tiles width) (now (depth .entry)) id tiles)) ⌝ }
 {
     let e = wide(width.above(tiles % 65536));
     if seen {
@@ -162,8 +162,8 @@ pub fn put_fill(
 
 // How many runs the buckets that a fill meets can have.
 pub fn most_runs(tiles: u32, width: Width) -> usize
-    requires { ⌜ low-met (widths.wide width) tiles ≤ high-met (widths.wide width) tiles ⌝ }
-    ensures { λ r. ⌜ r ≡ (high-met (widths.wide width) tiles - low-met (widths.wide width) tiles + 1) / 2 ⌝ }
+    requires { ⌜ low-met (bucket-tiles width) tiles ≤ high-met (bucket-tiles width) tiles ⌝ }
+    ensures { λ r. ⌜ r ≡ (high-met (bucket-tiles width) tiles - low-met (bucket-tiles width) tiles + 1) / 2 ⌝ }
 {
     let a = wide(width.below(tiles / 65536));
     let e = wide(width.above(tiles % 65536));

@@ -16,7 +16,7 @@ use sizes::RENDERS;
 use sizes::TILE_ALPHAS;
 use sizes::TILE_END;
 use sizes::wide;
-use span::Width;
+use sizes::width::Width;
 ghost use mathlib.Core.Path.{_≡_};
 ghost use mathlib.Core.Bool.{true};
 ghost use mathlib.Core.List.{List};
@@ -26,7 +26,7 @@ ghost use Rattle.sizes.specs.Sizes.{tile-end, most-layers, most-room, most-attr
 ghost use Rattle.rules.specs.Attributes.{Attrs};
 ghost use Rattle.rules.specs.Spans.{span};
 ghost use Rattle.rules.specs.Depth.{Summary, can-skip};
-ghost use Rattle.span.specs.Widths as widths;
+ghost use Rattle.sizes.specs.Widths.{bucket-tiles};
 ghost use Rattle.paint_runs.specs.Summaries.{summary-at};
 ghost use Rattle.paint_command.specs.Painting.{word, given, attrs-at, out, listed};
 ghost use Rattle.paint_whole.specs.Running.{most, own-step};
@@ -142,7 +142,7 @@ fn sure_fill(
     width: Width,
 ) -> Look
     requires { ⌜ length (now depth) ≤ 65535 ⌝ }
-    ensures { λ r. ⌜ FillSaid (widths.wide width) (summary-by from to largest) (now (depth .entry)) id tag tiles alpha (r .kind) (r .stop) (r .id) ⌝ }
+    ensures { λ r. ⌜ FillSaid (bucket-tiles width) (summary-by from to largest) (now (depth .entry)) id tag tiles alpha (r .kind) (r .stop) (r .id) ⌝ }
 {
     let first = tiles / 65536;
     let end = tiles % 65536;
@@ -225,7 +225,7 @@ fn sure_fill(
 
 // What a buffer's words show; 0 where they are not sure.
 fn sure_buffer(tag: u32, tiles: u32, alpha: u32, i: u32, nesting: u32) -> u32
-    ensures { λ r. ⌜ ((a : Attrs) (u : Summary) (D : List ℕ) → Said a u D nesting tag tiles alpha i r 0 0) ⌝ }
+    ensures { λ r. ⌜ ((v : ℕ) (a : Attrs) (u : Summary) (D : List ℕ) → Said v a u D nesting tag tiles alpha i r 0 0) ⌝ }
 {
     if alpha != 0 {
         return 0;
@@ -277,9 +277,10 @@ fn sure_kind(
     paints: u32,
     layer_attrs: &[u32],
     layers: u32,
+    width: Width,
 ) -> Look
     requires { ⌜ (length (now «paint_attrs») ≡ paint-attr-table) × (paints ≤ most-attrs) × (length (now «layer_attrs») ≡ layer-attr-table) × (layers ≤ most-attrs) × (length (now depth) ≤ 65535) ⌝ }
-    ensures { λ r. ⌜ Said (attrs-at (now («paint_attrs» .entry)) paints (now («layer_attrs» .entry)) layers) (summary-by from to largest) (now (depth .entry)) nesting tag tiles alpha i (r .kind) (r .stop) (r .id) ⌝ }
+    ensures { λ r. ⌜ Said (bucket-tiles width) (attrs-at (now («paint_attrs» .entry)) paints (now («layer_attrs» .entry)) layers) (summary-by from to largest) (now (depth .entry)) nesting tag tiles alpha i (r .kind) (r .stop) (r .id) ⌝ }
 {
     if 4 < tag {
         let kind = sure_buffer(tag, tiles, alpha, i, nesting);
@@ -304,7 +305,7 @@ fn sure_kind(
             id: 0,
         };
     }
-    sure_fill(tag, tiles, alpha, id, from, to, largest, depth, Width::W128)
+    sure_fill(tag, tiles, alpha, id, from, to, largest, depth, width)
 }
 
 // Where a run of commands ended: the place of the next command, the pieces listed, the nesting, what the look showed of that command.
@@ -330,13 +331,14 @@ fn run_sure(
     stop: usize,
     pieces: usize,
     nesting: u32,
+    width: Width,
 ) -> Reached
     requires { ⌜ (length (now «paint_attrs») ≡ paint-attr-table) × (paints ≤ most-attrs) × (length (now «layer_attrs») ≡ layer-attr-table) × (layers ≤ most-attrs) × (length (now depth) ≤ 65535) ⌝ }
     requires { ⌜ (length (now state) ≡ row-size) × Calm (now state) (now render) (now fills) × (length (now render) ≤ 4 * most-room) ⌝ }
     requires { ⌜ (start ≤ stop) × (stop ≤ word (now state) 0) × (nesting ≤ most-layers) × (6 * pieces ≤ length (now list)) ⌝ }
-    ensures { λ r. ⌜ Reaches (own-step (attrs-at (now («paint_attrs» .entry)) paints (now («layer_attrs» .entry)) layers) (now (state .entry)) (now (render .entry)) (now (fills .entry))) (now (depth .entry)) (word (now (state .entry)) 1) (place start pieces nesting (now (list .entry))) (place (r .at) (r .pieces) (r .nesting) (now (list .exit))) ⌝ }
+    ensures { λ r. ⌜ Reaches (own-step (bucket-tiles width) (attrs-at (now («paint_attrs» .entry)) paints (now («layer_attrs» .entry)) layers) (now (state .entry)) (now (render .entry)) (now (fills .entry))) (now (depth .entry)) (word (now (state .entry)) 1) (place start pieces nesting (now (list .entry))) (place (r .at) (r .pieces) (r .nesting) (now (list .exit))) ⌝ }
     ensures { λ r. ⌜ r .at ≤ stop ⌝ }
-    ensures { λ r. ⌜ (4 < r .look .kind → (r .at < stop) × Said (attrs-at (now («paint_attrs» .entry)) paints (now («layer_attrs» .entry)) layers) (summary-at (now (state .entry))) (now (depth .entry)) (r .nesting) (word (now (render .entry)) (4 * r .at)) (word (now (render .entry)) (4 * r .at + 1)) (word (now (render .entry)) (4 * r .at + 2)) (word (now (render .entry)) (4 * r .at + 3)) (r .look .kind) (r .look .stop) (r .look .id)) ⌝ }
+    ensures { λ r. ⌜ (4 < r .look .kind → (r .at < stop) × Said (bucket-tiles width) (attrs-at (now («paint_attrs» .entry)) paints (now («layer_attrs» .entry)) layers) (summary-at (now (state .entry))) (now (depth .entry)) (r .nesting) (word (now (render .entry)) (4 * r .at)) (word (now (render .entry)) (4 * r .at + 1)) (word (now (render .entry)) (4 * r .at + 2)) (word (now (render .entry)) (4 * r .at + 3)) (r .look .kind) (r .look .stop) (r .look .id)) ⌝ }
 {
     let from = state[FIRST];
     let to = state[END];
@@ -364,6 +366,7 @@ fn run_sure(
             paints,
             layer_attrs,
             layers,
+            width,
         );
         let kind = look.kind;
         if kind == 1 {
@@ -433,11 +436,12 @@ fn run_commands(
     stop: usize,
     pieces: usize,
     nesting: u32,
+    width: Width,
 ) -> Reached
     requires { ⌜ (length (now «paint_attrs») ≡ paint-attr-table) × (paints ≤ most-attrs) × (length (now «layer_attrs») ≡ layer-attr-table) × (layers ≤ most-attrs) × (length (now depth) ≤ 65535) ⌝ }
     requires { ⌜ (length (now state) ≡ row-size) × Calm (now state) (now render) (now fills) × (length (now render) ≤ 4 * most-room) ⌝ }
     requires { ⌜ (start ≤ stop) × (stop ≤ word (now state) 0) × (nesting ≤ most-layers) × (6 * pieces ≤ length (now list)) ⌝ }
-    ensures { λ r. ⌜ Reaches (own-step (attrs-at (now («paint_attrs» .entry)) paints (now («layer_attrs» .entry)) layers) (now (state .entry)) (now (render .entry)) (now (fills .entry))) (now (depth .entry)) (word (now (state .entry)) 1) (place start pieces nesting (now (list .entry))) (place (r .at) (r .pieces) (r .nesting) (now (list .exit))) ⌝ }
+    ensures { λ r. ⌜ Reaches (own-step (bucket-tiles width) (attrs-at (now («paint_attrs» .entry)) paints (now («layer_attrs» .entry)) layers) (now (state .entry)) (now (render .entry)) (now (fills .entry))) (now (depth .entry)) (word (now (state .entry)) 1) (place start pieces nesting (now (list .entry))) (place (r .at) (r .pieces) (r .nesting) (now (list .exit))) ⌝ }
     ensures { λ r. ⌜ r .at ≤ stop ⌝ }
 {
     let mut at = start;
@@ -458,6 +462,7 @@ fn run_commands(
             stop,
             n,
             level,
+            width,
         );
         let look = reached.look;
         if look.kind < 5 {
@@ -467,7 +472,7 @@ fn run_commands(
         let k = 4 * next;
         let tiles = render[k + 1];
         let so_far = reached.pieces;
-        if list.len() - 6 * so_far < 6 * most_runs(tiles, Width::W128) {
+        if list.len() - 6 * so_far < 6 * most_runs(tiles, width) {
             return reached;
         }
         level = reached.nesting;
@@ -483,7 +488,7 @@ fn run_commands(
             tiles,
             render[k + 2],
             level,
-            Width::W128,
+            width,
         );
         at = next + 1;
     }
@@ -521,11 +526,12 @@ pub fn run_plain(
     list: &mut [u32],
     pieces: usize,
     limit: usize,
+    width: Width,
 ) -> Gone
     requires { ⌜ (length (now state) ≡ row-size) × (length (now render) ≤ 4 * most-room) × (length (now fills) ≤ 2 * most-room) × (length (now depth) ≤ 65535) × (length (now painting) ≡ 2) ⌝ }
     requires { ⌜ (length (now «paint_attrs») ≡ paint-attr-table) × (paints ≤ most-attrs) × (length (now «layer_attrs») ≡ layer-attr-table) × (layers ≤ most-attrs) ⌝ }
     requires { ⌜ (6 * pieces ≤ length (now list)) × (limit ≤ most) ⌝ }
-    ensures { λ r. ⌜ Onward (own-step (attrs-at (now («paint_attrs» .entry)) paints (now («layer_attrs» .entry)) layers) (now (state .entry)) (now (render .entry)) (now (fills .entry))) (r .steps) (out (listed pieces) (now (depth .entry)) (now (painting .entry)) (now (list .entry))) (out (listed (r .pieces)) (now (depth .entry)) (now (painting .exit)) (now (list .exit))) ⌝ }
+    ensures { λ r. ⌜ Onward (own-step (bucket-tiles width) (attrs-at (now («paint_attrs» .entry)) paints (now («layer_attrs» .entry)) layers) (now (state .entry)) (now (render .entry)) (now (fills .entry))) (r .steps) (out (listed pieces) (now (depth .entry)) (now (painting .entry)) (now (list .entry))) (out (listed (r .pieces)) (now (depth .entry)) (now (painting .exit)) (now (list .exit))) ⌝ }
     ensures { λ r. ⌜ (r .steps ≤ limit) × (6 * r .pieces ≤ length (now (list .entry))) ⌝ }
 {
     let depths = state[DEPTHS];
@@ -567,6 +573,7 @@ pub fn run_plain(
         start + some,
         pieces,
         nesting,
+        width,
     );
     let steps = reached.at - start;
     painting[0] = done + (steps as u32);

@@ -3,10 +3,12 @@ use crate::plain::run_plain;
 use paint_command::step_row;
 use paint_pieces::Painted;
 use sizes::answers::DONE;
+use sizes::width::Width;
 ghost use mathlib.Core.Path.{_≡_};
 ghost use Prim.Native.Nat.{_*_, _≤_};
 ghost use lib.ListN.{length};
 ghost use Rattle.sizes.specs.Sizes.{most-room, most-attrs, row-size, paint-attr-table, layer-attr-table};
+ghost use Rattle.sizes.specs.Widths.{bucket-tiles};
 ghost use Rattle.paint_command.specs.Painting.{attrs-at, lent, out, listed};
 ghost use Rattle.paint_whole.specs.Running.{most, one-more, own-step, own-run};
 
@@ -23,11 +25,12 @@ fn step_on(
     layers: u32,
     list: &mut [u32],
     pieces: usize,
+    width: Width,
 ) -> Painted
     requires { ⌜ (length (now state) ≡ row-size) × (length (now render) ≤ 4 * most-room) × (length (now fills) ≤ 2 * most-room) × (length (now depth) ≤ 65535) × (length (now painting) ≡ 2) ⌝ }
     requires { ⌜ (length (now «paint_attrs») ≡ paint-attr-table) × (paints ≤ most-attrs) × (length (now «layer_attrs») ≡ layer-attr-table) × (layers ≤ most-attrs) ⌝ }
     requires { ⌜ 6 * pieces ≤ length (now list) ⌝ }
-    ensures { λ r. ⌜ out r (now (depth .exit)) (now (painting .exit)) (now (list .exit)) ≡ one-more (own-step (attrs-at (now («paint_attrs» .entry)) paints (now («layer_attrs» .entry)) layers) (now (state .entry)) (now (render .entry)) (now (fills .entry))) (out (listed pieces) (now (depth .entry)) (now (painting .entry)) (now (list .entry))) ⌝ }
+    ensures { λ r. ⌜ out r (now (depth .exit)) (now (painting .exit)) (now (list .exit)) ≡ one-more (own-step (bucket-tiles width) (attrs-at (now («paint_attrs» .entry)) paints (now («layer_attrs» .entry)) layers) (now (state .entry)) (now (render .entry)) (now (fills .entry))) (out (listed pieces) (now (depth .entry)) (now (painting .entry)) (now (list .entry))) ⌝ }
     ensures { λ r. ⌜ 6 * r .pieces ≤ length (now (list .entry)) ⌝ }
 {
     let at = 6 * pieces;
@@ -42,6 +45,7 @@ fn step_on(
         layer_attrs,
         layers,
         &mut list[at..],
+        width,
     );
     Painted {
         number: step.number,
@@ -64,10 +68,11 @@ pub fn run_row(
     layers: u32,
     list: &mut [u32],
     limit: usize,
+    width: Width,
 ) -> Painted
     requires { ⌜ (length (now state) ≡ row-size) × (length (now render) ≤ 4 * most-room) × (length (now fills) ≤ 2 * most-room) × (length (now depth) ≤ 65535) × (length (now painting) ≡ 2) ⌝ }
     requires { ⌜ (length (now «paint_attrs») ≡ paint-attr-table) × (paints ≤ most-attrs) × (length (now «layer_attrs») ≡ layer-attr-table) × (layers ≤ most-attrs) × (limit ≤ most) ⌝ }
-    ensures { λ r. ⌜ out r (now (depth .exit)) (now (painting .exit)) (now (list .exit)) ≡ own-run limit (attrs-at (now («paint_attrs» .entry)) paints (now («layer_attrs» .entry)) layers) (lent (now (state .entry)) (now (render .entry)) (now (fills .entry)) (now (depth .entry)) (now (painting .entry)) (now (list .entry))) ⌝ }
+    ensures { λ r. ⌜ out r (now (depth .exit)) (now (painting .exit)) (now (list .exit)) ≡ own-run (bucket-tiles width) limit (attrs-at (now («paint_attrs» .entry)) paints (now («layer_attrs» .entry)) layers) (lent (now (state .entry)) (now (render .entry)) (now (fills .entry)) (now (depth .entry)) (now (painting .entry)) (now (list .entry))) ⌝ }
 {
     let mut pieces: usize = 0;
     let mut steps: usize = 0;
@@ -85,6 +90,7 @@ pub fn run_row(
             list,
             pieces,
             limit - steps,
+            width,
         );
         let k = steps + gone.steps;
         if limit <= k {
@@ -106,6 +112,7 @@ pub fn run_row(
             layers,
             list,
             gone.pieces,
+            width,
         );
         if done.number != DONE {
             if k == 0 {

@@ -46,10 +46,10 @@ module _ (S : Type 0) (step : Step → S → Answer S) (fresh-state : Frame → 
 
     -- the rules' play, by its first number
     abbrev theirs : Answer S
-    theirs = play-records S step fresh-state 32 (place q l) old r
+    theirs = play-records S step fresh-state (place q l) old r
 
     abbrev judge : ℕ
-    judge = judge-records 32 (place q l) r
+    judge = judge-records (place q l) r
 
     refused-play : (n : ℕ) → judge ≡ n → eqb n Done ≡ false → theirs ≡ answer n (cond (leb n BadForm) old start)
     unfolding play-records
@@ -98,7 +98,7 @@ module _ (S : Type 0) (step : Step → S → Answer S) (fresh-state : Frame → 
     abbrev ours : Answer ScreenLent
     ours = recorded-in r q l
 
-    no-play : (n : ℕ) → eqb n Done ≡ false → leb n BadForm ≡ true → judge-records 32 (place q l) r ≡ n → judged-reset f (lengths (l .tables)) ≡ n → Plays R old l theirs ours
+    no-play : (n : ℕ) → eqb n Done ≡ false → leb n BadForm ≡ true → judge-records (place q l) r ≡ n → judged-reset f (lengths (l .tables)) ≡ n → Plays R old l theirs ours
     no-play n z k e g = rw (refused-play n e z, refused-reset n g z, k) (record { number = refl; value = unaltered z refl refl })
 
     bad-view : good-viewport v ≡ false → Plays R old l theirs ours
@@ -109,11 +109,11 @@ module _ (S : Type 0) (step : Step → S → Answer S) (fresh-state : Frame → 
       few : ltb 512 (rows-of v) ≡ false
       few = le-ltb 512 (rows-of v) (few-rows v e)
 
-      bad-arenas : good-arenas 32 f (arenas (lengths (l .tables))) ≡ false → Plays R old l theirs ours
+      bad-arenas : good-arenas f (arenas (lengths (l .tables))) ≡ false → Plays R old l theirs ours
       unfolding judge-records judged-reset
       bad-arenas g = no-play BadArena refl refl (rw (e, few, g)) (rw (e, g))
 
-      module _ (g : good-arenas 32 f (arenas (lengths (l .tables))) ≡ true) where
+      module _ (g : good-arenas f (arenas (lengths (l .tables))) ≡ true) where
         judged-done : judged-reset f (lengths (l .tables)) ≡ 0
         unfolding judged-reset
         judged-done = rw (e, g, t)
@@ -125,7 +125,7 @@ module _ (S : Type 0) (step : Step → S → Answer S) (fresh-state : Frame → 
         unfolding reset-to
         ours-is = done-reset (settle-number (judged-reset f (lengths (l .tables))) l _ ∙ judged-done)
 
-        judge-is : judge-records 32 (place q l) r ≡ judged r
+        judge-is : judge-records (place q l) r ≡ judged r
         unfolding judge-records
         judge-is = rw (e, few, g)
 
@@ -157,9 +157,9 @@ module _ (S : Type 0) (step : Step → S → Answer S) (fresh-state : Frame → 
 
     -- the records of a file
     pub records-play : Plays R old l theirs ours
-    records-play = go (good-viewport v) (good-arenas 32 f (arenas (lengths (l .tables)))) refl refl
+    records-play = go (good-viewport v) (good-arenas f (arenas (lengths (l .tables)))) refl refl
       where
-        go : (x y : Bool) → good-viewport v ≡ x → good-arenas 32 f (arenas (lengths (l .tables))) ≡ y → Plays R old l theirs ours
+        go : (x y : Bool) → good-viewport v ≡ x → good-arenas f (arenas (lengths (l .tables))) ≡ y → Plays R old l theirs ours
         go false y p q = bad-view p
         go true false p q = bad-arenas p q
         go true true p q = by-records p q (good-records r) (good-order r) refl refl
@@ -168,7 +168,7 @@ module _ (S : Type 0) (step : Step → S → Answer S) (fresh-state : Frame → 
   -- state, or alters nothing. The tables beside the arenas are as long as the frame asks.
   pub words-play : (ws : List ℕ) (q : Setup) (l : ScreenLent) (old : S)
       → ((ss : List (List (List ℕ))) → sections shape ws ≡ some ss → good-tables (rows-of (frame q (recording ss .viewport) .viewport)) (lengths (l .tables)) ≡ true)
-      → Plays R old l (play S step fresh-state 32 (place q l) old ws) (recorded ws q l)
+      → Plays R old l (play S step fresh-state (place q l) old ws) (recorded ws q l)
   unfolding play recorded
   words-play ws q l old h = go (sections shape ws) refl
     where
@@ -176,7 +176,7 @@ module _ (S : Type 0) (step : Step → S → Answer S) (fresh-state : Frame → 
           → Plays R old l
           (elim o [
             | none ↦ answer BadForm old
-            | some ss ↦ play-records S step fresh-state 32 (place q l) old (recording ss)
+            | some ss ↦ play-records S step fresh-state (place q l) old (recording ss)
           ])
           (of-sections o q l)
       go none e = record { number = refl; value = unaltered refl refl refl }
@@ -185,8 +185,8 @@ module _ (S : Type 0) (step : Step → S → Answer S) (fresh-state : Frame → 
 -- The screens of the rules: the words left are those of the rules' screen.
 pub file-plays : (ws : List ℕ) (q : Setup) (l : ScreenLent) (old : Screen Row)
     → ((ss : List (List (List ℕ))) → sections shape ws ≡ some ss → good-tables (rows-of (frame q (recording ss .viewport) .viewport)) (lengths (l .tables)) ≡ true)
-    → Plays Refines old l (play (Screen Row) (call Row row-ops 32) (reset fresh-row) 32 (place q l) old ws) (recorded ws q l)
+    → Plays Refines old l (play (Screen Row) (call Row row-ops) (reset fresh-row) (place q l) old ws) (recorded ws q l)
 file-plays =
-    words-play (Screen Row) (call Row row-ops 32) (reset fresh-row) Refines
+    words-play (Screen Row) (call Row row-ops) (reset fresh-row) Refines
     (λ x s l h. let a = step-refines x s l h in record { number = a .number; value = λ e. a .value })
     (λ f l z. reset-refines f l z .value)

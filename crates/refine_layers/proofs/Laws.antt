@@ -15,7 +15,7 @@ use Rattle.rules.specs.Spans.{Span, Stretch, cut-to, span}
 use Rattle.rules.specs.Segments.{Segment, Cut, localised, on-row, stretch-of, cut-in, cuts}
 use Rattle.rules.specs.Inputs.{Paint, Draw, Clip, Props, Filter, good-filter, draw-segments}
 use Rattle.rules.specs.Rows.{Row, fresh-row, row-ops}
-use Rattle.rules.specs.Plans.{Frame, Layer, State, Step, a-fill, a-push, a-pop, a-filter, Act, paint, opaque, touch, close, pop, Put, on, Plan, still, clip-box, box-of, draw-act, draw-puts, plan-fill, layer-box, touches-all, plan-push, clip-segments, close-puts, closing, plan-pop, filter-box, draws-nothing, filter-puts, plan-filter-in, plan-filter, plan}
+use Rattle.rules.specs.Plans.{Frame, bucket, Layer, State, Step, a-fill, a-push, a-pop, a-filter, Act, paint, opaque, touch, close, pop, Put, on, Plan, still, clip-box, box-of, draw-act, draw-puts, plan-fill, layer-box, touches-all, plan-push, clip-segments, close-puts, closing, plan-pop, filter-box, draws-nothing, filter-puts, plan-filter-in, plan-filter, plan}
 use Rattle.rules.specs.Steps.{Screen, reset, do-act, do-puts, done, refusal, perform, touched, call}
 use Rattle.rules.proofs.All.{All, nil, cons, both, never, all-if, all-mapped, all-over, all-join, all-any, all-map}
 use Rattle.rules.proofs.laws.Changes.{change-else, puts-append}
@@ -45,8 +45,8 @@ in-all i b ls u n r = record { few = omega arith; boxed = in-under i b ls u n r 
 pub data PutIn (ls : List Layer) : Put → Type 0 where
   inside : (p : Put) → Reached ls (p .row) (length ls) → PutIn ls p
 
-module _ (w : ℕ) (ls : List Layer) where
-  after-act : (t : Act) (i m : ℕ) → Reached ls i (length ls) → Reached ls i m → Reached ls i (levels-after w (length ls) t m)
+module _ (ls : List Layer) where
+  after-act : (t : Act) (i m : ℕ) → Reached ls i (length ls) → Reached ls i m → Reached ls i (levels-after (length ls) t m)
   after-act (paint s a k) i m g r = reached-less ls i (length ls) (max m (length ls)) (omega (arith, r .few)) g
   after-act (opaque s k id) i m g r = reached-less ls i (length ls) (max m (length ls)) (omega (arith, r .few)) g
   after-act touch i m g r = reached-less ls i (length ls) (max m (length ls)) (omega (arith, r .few)) g
@@ -56,13 +56,14 @@ module _ (w : ℕ) (ls : List Layer) where
   no-levels : (i m : ℕ) → Reached ls i m → Reached ls i 0
   no-levels i m r = reached-less ls i m 0 (omega arith) r
 
+module _ (w : ℕ) (ls : List Layer) where
   module _ (rs : List Row) (h : (i : ℕ) → Reached ls i (levels-at rs i)) where
-    one : (t : Act) (r i : ℕ) → (r ≡ i → Reached ls i (levels-after w (length ls) t (levels-at rs i))) → Reached ls i (levels-at (change (do-act Row row-ops w (length ls) t) r rs) i)
+    one : (t : Act) (r i : ℕ) → (r ≡ i → Reached ls i (levels-after (length ls) t (levels-at rs i))) → Reached ls i (levels-at (change (do-act Row row-ops w (length ls) t) r rs) i)
     one t r i g =
-        changed-at (Reached ls i) (do-act Row row-ops w (length ls) t) r i rs (no-levels i (levels-at rs i) (h i)) (h i) (λ e. rw (act-levels w (length ls) t) (g e))
+        changed-at (Reached ls i) (do-act Row row-ops w (length ls) t) r i rs (no-levels ls i (levels-at rs i) (h i)) (h i) (λ e. rw (act-levels w (length ls) t) (g e))
 
     put-keeps : {p : Put} → PutIn ls p → (i : ℕ) → Reached ls i (levels-at (change (do-act Row row-ops w (length ls) (p .act)) (p .row) rs) i)
-    put-keeps (inside p g) i = one (p .act) (p .row) i (λ e. after-act (p .act) i (levels-at rs i) (rw e at g) (h i))
+    put-keeps (inside p g) i = one (p .act) (p .row) i (λ e. after-act ls (p .act) i (levels-at rs i) (rw e at g) (h i))
 
   -- puts keep rows within their layers' boxes
   pub puts-keep : {ps : List Put} → All (PutIn ls) ps → (rs : List Row) → ((i : ℕ) → Reached ls i (levels-at rs i)) → (i : ℕ) → Reached ls i (levels-at (do-puts Row row-ops w (length ls) ps rs) i)
@@ -225,24 +226,24 @@ module _ (w n : ℕ) where
           (omega (arith, d .0), d .1)
 
 -- rule 10: a row with as many levels as layers is among the touched ones
-pub touched-has : (w n i k : ℕ) (rs : List Row) → k < length rs → levels-at rs k ≡ n → some-of (eqb (i + k)) (touched Row row-ops w n i rs) ≡ true
+pub touched-has : (n i k : ℕ) (rs : List Row) → k < length rs → levels-at rs k ≡ n → some-of (eqb (i + k)) (touched Row row-ops n i rs) ≡ true
 unfolding touched
-touched-has w n i k [] h e = absurd (omega arith)
-touched-has w n i zero (r ∷ rs) h e =
+touched-has n i k [] h e = absurd (omega arith)
+touched-has n i zero (r ∷ rs) h e =
     let z : eqb (i + 0) i ≡ true = eq-eqb (i + 0) i (omega arith) in
     let y : eqb (levels r) n ≡ true = eq-eqb (levels r) n e in
     rw (y, z)
-touched-has w n i (suc k) (r ∷ rs) h e =
+touched-has n i (suc k) (r ∷ rs) h e =
     let z : suc i + k ≡ i + suc k = omega arith in
-    go (eqb (levels r) n) (rw z at (touched-has w n (suc i) k rs (omega arith) e))
+    go (eqb (levels r) n) (rw z at (touched-has n (suc i) k rs (omega arith) e))
   where
     or-true : (a b : Bool) → b ≡ true → (a || b) ≡ true
     or-true true b q = refl
     or-true false b q = q
 
-    go : (t : Bool) → some-of (eqb (i + suc k)) (touched Row row-ops w n (suc i) rs) ≡ true
-        → some-of (eqb (i + suc k)) (cond t (i ∷ touched Row row-ops w n (suc i) rs) (touched Row row-ops w n (suc i) rs)) ≡ true
-    go true rest = or-true (eqb (i + suc k) i) (some-of (eqb (i + suc k)) (touched Row row-ops w n (suc i) rs)) rest
+    go : (t : Bool) → some-of (eqb (i + suc k)) (touched Row row-ops n (suc i) rs) ≡ true
+        → some-of (eqb (i + suc k)) (cond t (i ∷ touched Row row-ops n (suc i) rs) (touched Row row-ops n (suc i) rs)) ≡ true
+    go true rest = or-true (eqb (i + suc k) i) (some-of (eqb (i + suc k)) (touched Row row-ops n (suc i) rs)) rest
     go false rest = rest
 
 closes-in : (i : ℕ) (ts : List ℕ) (ks : List Cut) → All Closes (close-puts i ts ks)
@@ -256,70 +257,69 @@ closing-in none v own parent i ss ts = all-mapped (on (close (span-of own) none 
 closing-in (some c) v own parent i ss ts = closes-in i ts (cuts v parent (clip-segments (some c) ss))
 
 -- the calls
-module _ (w : ℕ) where
-  keep-plan : (p : Plan) (s : Screen Row) → Nested (p .layers) → All (PutIn (p .layers)) (p .puts) → ((i : ℕ) → Reached (p .layers) i (levels-at (s .rows) i)) → Reaching (done Row row-ops w p s)
-  unfolding done
-  keep-plan p s n a h = record { nested = n; rows = puts-keep w (p .layers) a (s .rows) h }
+keep-plan : (p : Plan) (s : Screen Row) → Nested (p .layers) → All (PutIn (p .layers)) (p .puts) → ((i : ℕ) → Reached (p .layers) i (levels-at (s .rows) i)) → Reaching (done Row row-ops p s)
+unfolding done
+keep-plan p s n a h = record { nested = n; rows = puts-keep (bucket (s .state .frame)) (p .layers) a (s .rows) h }
 
-  abbrev pop-of : Screen Row → List Layer → List Segment → Plan
-  pop-of s ls ss = plan-pop ls ss (touched Row row-ops w (length ls) 0 (s .rows)) (s .state)
+abbrev pop-of : Screen Row → List Layer → List Segment → Plan
+pop-of s ls ss = plan-pop ls ss (touched Row row-ops (length ls) 0 (s .rows)) (s .state)
 
-  lowered : (n : ℕ) (l : Layer) (ls : List Layer) (rs : List Row) (cs : List Put) → All Closes cs → (ts : List ℕ) (i : ℕ) → Reached (l ∷ ls) i (levels-at rs i)
-      → (levels-at rs i ≡ suc (length ls) → some-of (eqb i) ts ≡ true) → Reached ls i (levels-at (do-puts Row row-ops w n (cs ++ map (on pop) ts) rs) i)
-  lowered n l ls rs cs c ts i h g =
-      let e = closes-levels w n c rs i in
-      let d = pops-levels w n i (length ls) ts (do-puts Row row-ops w n cs rs) (omega (arith, e, h .few), λ z. g (sym e ∙ z)) in
-      let m = levels-at (do-puts Row row-ops w n (map (on pop) ts) (do-puts Row row-ops w n cs rs)) i in
-      rw (puts-append Row row-ops w n cs (map (on pop) ts) rs)
-      (record { few = d .1; boxed = boxed-less ls i (levels-at rs i) m (omega (arith, d .0, e)) (h .boxed .1) })
+lowered : (w n : ℕ) (l : Layer) (ls : List Layer) (rs : List Row) (cs : List Put) → All Closes cs → (ts : List ℕ) (i : ℕ) → Reached (l ∷ ls) i (levels-at rs i)
+    → (levels-at rs i ≡ suc (length ls) → some-of (eqb i) ts ≡ true) → Reached ls i (levels-at (do-puts Row row-ops w n (cs ++ map (on pop) ts) rs) i)
+lowered w n l ls rs cs c ts i h g =
+    let e = closes-levels w n c rs i in
+    let d = pops-levels w n i (length ls) ts (do-puts Row row-ops w n cs rs) (omega (arith, e, h .few), λ z. g (sym e ∙ z)) in
+    let m = levels-at (do-puts Row row-ops w n (map (on pop) ts) (do-puts Row row-ops w n cs rs)) i in
+    rw (puts-append Row row-ops w n cs (map (on pop) ts) rs)
+    (record { few = d .1; boxed = boxed-less ls i (levels-at rs i) m (omega (arith, d .0, e)) (h .boxed .1) })
 
-  has-all : (n i : ℕ) (rs : List Row) → levels-at rs i ≡ suc n → some-of (eqb i) (touched Row row-ops w (suc n) 0 rs) ≡ true
-  has-all n i rs e = go (ltb i (length rs)) refl
-    where
-      whole : 0 + i ≡ i
-      whole = omega arith
+has-all : (n i : ℕ) (rs : List Row) → levels-at rs i ≡ suc n → some-of (eqb i) (touched Row row-ops (suc n) 0 rs) ≡ true
+has-all n i rs e = go (ltb i (length rs)) refl
+  where
+    whole : 0 + i ≡ i
+    whole = omega arith
 
-      go : (t : Bool) → ltb i (length rs) ≡ t → some-of (eqb i) (touched Row row-ops w (suc n) 0 rs) ≡ true
-      go true q = rw whole at (touched-has w (suc n) 0 i rs (ltb-true i (length rs) q) e)
-      go false q = absurd (omega (arith, past-levels rs i (ltb-false i (length rs) q)))
+    go : (t : Bool) → ltb i (length rs) ≡ t → some-of (eqb i) (touched Row row-ops (suc n) 0 rs) ≡ true
+    go true q = rw whole at (touched-has (suc n) 0 i rs (ltb-true i (length rs) q) e)
+    go false q = absurd (omega (arith, past-levels rs i (ltb-false i (length rs) q)))
 
-  popped-row : (s : Screen Row) (l : Layer) (ls : List Layer) (ss : List Segment) → ((i : ℕ) → Reached (l ∷ ls) i (levels-at (s .rows) i))
-      → (i : ℕ) → Reached ls i (levels-at (do-puts Row row-ops w (length ls) (pop-of s (l ∷ ls) ss .puts) (s .rows)) i)
-  unfolding plan-pop
-  popped-row s l ls ss h i =
-      lowered (length ls) l ls (s .rows)
-      (closing (l .props .clip) (s .state .frame .viewport) (l .bounds) (clip-box (s .state .frame .viewport) ls) (length (s .state .attrs .layers)) ss (touched Row row-ops w (suc (length ls)) 0 (s .rows)))
-      (closing-in (l .props .clip) (s .state .frame .viewport) (l .bounds) (clip-box (s .state .frame .viewport) ls) (length (s .state .attrs .layers)) ss (touched Row row-ops w (suc (length ls)) 0 (s .rows)))
-      (touched Row row-ops w (suc (length ls)) 0 (s .rows)) i (h i) (has-all (length ls) i (s .rows))
+popped-row : (s : Screen Row) (l : Layer) (ls : List Layer) (ss : List Segment) → ((i : ℕ) → Reached (l ∷ ls) i (levels-at (s .rows) i))
+    → (i : ℕ) → Reached ls i (levels-at (do-puts Row row-ops (bucket (s .state .frame)) (length ls) (pop-of s (l ∷ ls) ss .puts) (s .rows)) i)
+unfolding plan-pop
+popped-row s l ls ss h i =
+    lowered (bucket (s .state .frame)) (length ls) l ls (s .rows)
+    (closing (l .props .clip) (s .state .frame .viewport) (l .bounds) (clip-box (s .state .frame .viewport) ls) (length (s .state .attrs .layers)) ss (touched Row row-ops (suc (length ls)) 0 (s .rows)))
+    (closing-in (l .props .clip) (s .state .frame .viewport) (l .bounds) (clip-box (s .state .frame .viewport) ls) (length (s .state .attrs .layers)) ss (touched Row row-ops (suc (length ls)) 0 (s .rows)))
+    (touched Row row-ops (suc (length ls)) 0 (s .rows)) i (h i) (has-all (length ls) i (s .rows))
 
-  keep-pop : (ls : List Layer) (ss : List Segment) (s : Screen Row) → s .state .layers ≡ ls → Reaching s → Reaching (done Row row-ops w (pop-of s ls ss) s)
-  unfolding plan-pop done
-  keep-pop [] ss s e r = keep-plan (still NoLayer (s .state)) s (r .nested) nil (r .rows)
-  keep-pop (l ∷ ls) ss s e r = record { nested = (rw e at (r .nested)) .1; rows = popped-row s l ls ss (rw e at (r .rows)) }
+keep-pop : (ls : List Layer) (ss : List Segment) (s : Screen Row) → s .state .layers ≡ ls → Reaching s → Reaching (done Row row-ops (pop-of s ls ss) s)
+unfolding plan-pop done
+keep-pop [] ss s e r = keep-plan (still NoLayer (s .state)) s (r .nested) nil (r .rows)
+keep-pop (l ∷ ls) ss s e r = record { nested = (rw e at (r .nested)) .1; rows = popped-row s l ls ss (rw e at (r .rows)) }
 
-  fill-keeps : (ps : List Paint) (ss : List Segment) (d : Draw) (s : Screen Row) → Reaching s → Reaching (done Row row-ops w (plan-fill ps ss d (s .state)) s)
-  unfolding plan-fill
-  fill-keeps ps ss d s r = keep-plan (plan-fill ps ss d (s .state)) s (r .nested) (fill-in (s .state) (r .nested) ps ss d) (r .rows)
+fill-keeps : (ps : List Paint) (ss : List Segment) (d : Draw) (s : Screen Row) → Reaching s → Reaching (done Row row-ops (plan-fill ps ss d (s .state)) s)
+unfolding plan-fill
+fill-keeps ps ss d s r = keep-plan (plan-fill ps ss d (s .state)) s (r .nested) (fill-in (s .state) (r .nested) ps ss d) (r .rows)
 
-  -- a step done without limits
-  done-keeps : (x : Step) (s : Screen Row) → Reaching s → Reaching (done Row row-ops w (planned Row row-ops w x s) s)
-  unfolding plan
-  done-keeps (a-fill ps ss d) s r = fill-keeps ps ss d s r
-  done-keeps (a-push p) s r = keep-plan (plan-push p (s .state)) s (push-nested (s .state) (r .nested) p) (push-in (s .state) (r .nested) p) (push-rows (s .state) (r .nested) p (s .rows) (r .rows))
-  done-keeps (a-pop ss) s r = keep-pop (s .state .layers) ss s refl r
-  done-keeps (a-filter count f) s r =
-      let e = filter-layers (s .state) (r .nested) count f in
-      keep-plan (plan-filter count f (s .state)) s (rw e (r .nested)) (rw e (filter-in (s .state) (r .nested) count f)) (rw e (r .rows))
+-- a step done without limits
+done-keeps : (x : Step) (s : Screen Row) → Reaching s → Reaching (done Row row-ops (planned Row row-ops x s) s)
+unfolding plan
+done-keeps (a-fill ps ss d) s r = fill-keeps ps ss d s r
+done-keeps (a-push p) s r = keep-plan (plan-push p (s .state)) s (push-nested (s .state) (r .nested) p) (push-in (s .state) (r .nested) p) (push-rows (s .state) (r .nested) p (s .rows) (r .rows))
+done-keeps (a-pop ss) s r = keep-pop (s .state .layers) ss s refl r
+done-keeps (a-filter count f) s r =
+    let e = filter-layers (s .state) (r .nested) count f in
+    keep-plan (plan-filter count f (s .state)) s (rw e (r .nested)) (rw e (filter-in (s .state) (r .nested) count f)) (rw e (r .rows))
 
-  -- every step, refused or done
-  pub call-reaching : (x : Step) (s : Screen Row) → Reaching s → Reaching (call Row row-ops w x s .value)
-  unfolding call perform
-  call-reaching x s r = go (eqb (refusal Row row-ops w (planned Row row-ops w x s) (done Row row-ops w (planned Row row-ops w x s) s)) Done)
-    where
-      go : (c : Bool)
-          → Reaching (cond c (answer Done (done Row row-ops w (planned Row row-ops w x s) s)) (answer (refusal Row row-ops w (planned Row row-ops w x s) (done Row row-ops w (planned Row row-ops w x s) s)) s) .value)
-      go true = done-keeps x s r
-      go false = r
+-- every step, refused or done
+pub call-reaching : (x : Step) (s : Screen Row) → Reaching s → Reaching (call Row row-ops x s .value)
+unfolding call perform
+call-reaching x s r = go (eqb (refusal Row row-ops (planned Row row-ops x s) (done Row row-ops (planned Row row-ops x s) s)) Done)
+  where
+    go : (c : Bool)
+        → Reaching (cond c (answer Done (done Row row-ops (planned Row row-ops x s) s)) (answer (refusal Row row-ops (planned Row row-ops x s) (done Row row-ops (planned Row row-ops x s) s)) s) .value)
+    go true = done-keeps x s r
+    go false = r
 
 -- .. and a reset
 pub reset-reaching : (f : Frame) → Reaching (reset fresh-row f)

@@ -39,18 +39,10 @@ unfolding put-push-buf
 pushes zero r = omega arith
 pushes (suc k) r = pushes k (put-push-buf r) ∙ omega arith
 
-module _ (w n : ℕ) where
-  pub ensure-levels : (r : Row) → levels (ensure Row row-ops w n r) ≡ max (levels r) n
+-- with n layers open
+module _ (n : ℕ) where
+  pub ensure-levels : (r : Row) → levels (ensure Row row-ops n r) ≡ max (levels r) n
   ensure-levels r = pushes (n - levels r) r ∙ omega arith
-
-  part-levels : (i id : ℕ) (r : Row) (p : Part) → levels (put-part Row row-ops w i id r p) ≡ levels r
-  unfolding put-depth-fill
-  part-levels i id r (regular s) = put-levels (paint-fill s none i) r
-  part-levels i id r (buckets b) = refl
-
-  parts-levels : (i id : ℕ) (r : Row) (ps : List Part) → levels (foldl (put-part Row row-ops w i id) r ps) ≡ levels r
-  parts-levels i id r [] = refl
-  parts-levels i id r (p ∷ ps) = parts-levels i id (put-part Row row-ops w i id r p) ps ∙ part-levels i id r p
 
   -- the levels after an act, from those before
   abbrev pub levels-after : Act → ℕ → ℕ
@@ -60,13 +52,24 @@ module _ (w n : ℕ) where
   levels-after (close s a i) m = m
   levels-after pop m = m - 1
 
-  pub act-levels : (t : Act) (r : Row) → levels (do-act Row row-ops w n t r) ≡ levels-after t (levels r)
+-- at any width
+module _ (w : ℕ) where
+  part-levels : (i id : ℕ) (r : Row) (p : Part) → levels (put-part Row row-ops w i id r p) ≡ levels r
+  unfolding put-depth-fill
+  part-levels i id r (regular s) = put-levels (paint-fill s none i) r
+  part-levels i id r (buckets b) = refl
+
+  parts-levels : (i id : ℕ) (r : Row) (ps : List Part) → levels (foldl (put-part Row row-ops w i id) r ps) ≡ levels r
+  parts-levels i id r [] = refl
+  parts-levels i id r (p ∷ ps) = parts-levels i id (put-part Row row-ops w i id r p) ps ∙ part-levels i id r p
+
+  pub act-levels : (n : ℕ) (t : Act) (r : Row) → levels (do-act Row row-ops w n t r) ≡ levels-after n t (levels r)
   unfolding do-act
-  act-levels (paint s a i) r = put-levels (paint-fill s a i) (ensure Row row-ops w n r) ∙ ensure-levels r
-  act-levels (opaque s i id) r = parts-levels i id (ensure Row row-ops w n r) (split w s) ∙ ensure-levels r
-  act-levels touch r = ensure-levels r
-  act-levels (close s a i) r = put-levels (layer-fill s a i) r
-  act-levels pop r = pop-buf-levels r
+  act-levels n (paint s a i) r = put-levels (paint-fill s a i) (ensure Row row-ops n r) ∙ ensure-levels n r
+  act-levels n (opaque s i id) r = parts-levels i id (ensure Row row-ops n r) (split w s) ∙ ensure-levels n r
+  act-levels n touch r = ensure-levels n r
+  act-levels n (close s a i) r = put-levels (layer-fill s a i) r
+  act-levels n pop r = pop-buf-levels r
 
 -- a row past the last has none
 pub past-levels : (rs : List Row) (k : ℕ) → length rs ≤ k → levels-at rs k ≡ 0

@@ -68,13 +68,13 @@ module _ (n : ℕ) (rs : List Words) where
             rw (z, none-there 0 m (λ i l g q. omega (arith, h i q .1, h i q .2)))
 
 -- every row of a list is looked at
-as-in : (v n : ℕ) (rs : List Words) (i : ℕ) (us : List Words) → ((k : ℕ) → getD rs (i + k) nowhere ≡ getD us k nowhere) → touched Words word-ops v n i us ≡ touched-in n rs (count-from i (length us))
+as-in : (n : ℕ) (rs : List Words) (i : ℕ) (us : List Words) → ((k : ℕ) → getD rs (i + k) nowhere ≡ getD us k nowhere) → touched Words word-ops n i us ≡ touched-in n rs (count-from i (length us))
 unfolding touched touched-in
-as-in v n rs i [] h = refl
-as-in v n rs i (u ∷ us) h =
+as-in n rs i [] h = refl
+as-in n rs i (u ∷ us) h =
     let z : i + 0 ≡ i = omega arith in
     let e : getD rs i nowhere ≡ u = rw z at (h 0) in
-    rw (e, as-in v n rs (suc i) us (λ k. let y : suc i + k ≡ i + suc k = omega arith in rw y (h (suc k)))) (go (eqb (word 5 u) n) (touched-in n rs (count-from (suc i) (length us))))
+    rw (e, as-in n rs (suc i) us (λ k. let y : suc i + k ≡ i + suc k = omega arith in rw y (h (suc k)))) (go (eqb (word 5 u) n) (touched-in n rs (count-from (suc i) (length us))))
   where
     go : (t : Bool) (xs : List ℕ) → cond t (i ∷ xs) xs ≡ keep t i xs
     go true xs = refl
@@ -92,12 +92,12 @@ rows-count c d [] = refl
 rows-count c d (r ∷ rs) = ap suc (rows-count c d rs)
 
 -- reading 38: of the words of a screen that steps make, the touched rows are those among the rows of the innermost layer's box
-pub touched-own : (c d v : ℕ) (s : Screen Row) (l : Layer) (ls : List Layer) → Reaching s → s .state .layers ≡ l ∷ ls
-    → touched Words word-ops v (suc (length ls)) 0 (map (encode c d) (s .rows)) ≡ touched-in (suc (length ls)) (map (encode c d) (s .rows)) (rows-in (l .bounds))
-touched-own c d v s l ls r e =
+pub touched-own : (c d : ℕ) (s : Screen Row) (l : Layer) (ls : List Layer) → Reaching s → s .state .layers ≡ l ∷ ls
+    → touched Words word-ops (suc (length ls)) 0 (map (encode c d) (s .rows)) ≡ touched-in (suc (length ls)) (map (encode c d) (s .rows)) (rows-in (l .bounds))
+touched-own c d s l ls r e =
     let n = suc (length ls) in
     let rs = map (encode c d) (s .rows) in
-    as-in v n rs 0 rs (λ k. let z : 0 + k ≡ k = omega arith in rw z)
+    as-in n rs 0 rs (λ k. let z : 0 + k ≡ k = omega arith in rw z)
     ∙ window n rs (length rs) (l .bounds .y0 / 4) ((l .bounds .y1 + 3) / 4) inside
   where
     inside : (i : ℕ) → word 5 (row-of (map (encode c d) (s .rows)) i) ≡ suc (length ls)

@@ -8,6 +8,8 @@ use native.Mathlib.Omega.{arith}
 use lib.Dec.{leb, ltb}
 use lib.ListN.{length, getD, set}
 use borrow.Author.Tests.{leb-false}
+use Rattle.sizes.specs.declared.width.Width.{Width}
+use Rattle.sizes.specs.Widths.{bucket-tiles}
 use Rattle.rules.specs.Lists.{keep, change, times}
 use Rattle.rules.specs.Spans.{Span, span, hull}
 use Rattle.rules.specs.Split.{Part, regular, buckets, split, raised, lowered, around}
@@ -22,6 +24,7 @@ use Rattle.rules.proofs.All.{All, nil, cons, head, tail, all-keep, all-append, 
 use Rattle.rules.proofs.laws.Changes.{change-at}
 use Rattle.rules.proofs.laws.Maps.{PutOk, follows-act}
 use Rattle.rules.proofs.laws.Bounds.{BoundedSpan}
+use Rattle.rules.proofs.laws.Widths.{each, raised-least, lowered-most}
 use Rattle.cmd.specs.Good.{GoodSpan, GoodPush}
 use Rattle.paint_runs.proofs.Skips.{includes-new, includes-still}
 use Rattle.paint_command.specs.Painting.{good-paint}
@@ -78,8 +81,11 @@ include-length : (s : Span) (ls : List Level) → length (include (some s) ls) �
 include-length s [] = refl
 include-length s (l ∷ ls) = refl
 
-module _ (a : Attrs) (n : ℕ) where
-  put-paint : (s : Span) (x : Option ℕ) (i : ℕ) → FairCommand a (paint-fill s x i) → (r : Row) → Fair a n r → Fair a n (put-command (paint-fill s x i) r)
+module _ (width : Width) (a : Attrs) (n : ℕ) where
+  abbrev v : ℕ
+  v = bucket-tiles width
+
+  put-paint : (s : Span) (x : Option ℕ) (i : ℕ) → FairCommand a (paint-fill s x i) → (r : Row) → Fair v a n r → Fair v a n (put-command (paint-fill s x i) r)
   unfolding put-command
   put-paint s x i c r h =
       record {
@@ -90,7 +96,7 @@ module _ (a : Attrs) (n : ℕ) where
         levels = after-append 0 (r .commands) (paint-fill s x i ∷ []) ∙ h .levels ∙ sym (include-length s (r .levels));
       }
 
-  put-layer : (s : Span) (x : Option ℕ) (i : ℕ) → FairCommand a (layer-fill s x i) → (r : Row) → Fair a n r → Fair a n (put-command (layer-fill s x i) r)
+  put-layer : (s : Span) (x : Option ℕ) (i : ℕ) → FairCommand a (layer-fill s x i) → (r : Row) → Fair v a n r → Fair v a n (put-command (layer-fill s x i) r)
   unfolding put-command
   put-layer s x i c r h =
       record {
@@ -101,7 +107,7 @@ module _ (a : Attrs) (n : ℕ) where
         levels = after-append 0 (r .commands) (layer-fill s x i ∷ []) ∙ h .levels ∙ sym (include-length s (r .levels));
       }
 
-  push-fair : (r : Row) → length (r .levels) < 16 → Fair a n r → Fair a n (put-push-buf r)
+  push-fair : (r : Row) → length (r .levels) < 16 → Fair v a n r → Fair v a n (put-push-buf r)
   unfolding put-push-buf
   push-fair r l h =
       record {
@@ -112,12 +118,12 @@ module _ (a : Attrs) (n : ℕ) where
         levels = after-append 0 (r .commands) (push-buf none ∷ []) ∙ ap suc (h .levels);
       }
 
-  pushes-fair : (k : ℕ) (r : Row) → length (r .levels) + k ≤ 16 → Fair a n r → Fair a n (times k put-push-buf r)
+  pushes-fair : (k : ℕ) (r : Row) → length (r .levels) + k ≤ 16 → Fair v a n r → Fair v a n (times k put-push-buf r)
   unfolding put-push-buf
   pushes-fair zero r l h = h
   pushes-fair (suc k) r l h = pushes-fair k (put-push-buf r) (omega arith) (push-fair r (omega arith) h)
 
-  pop-as : (ls : List Level) (r : Row) → r .levels ≡ ls → Fine r → Fair a n r → Fair a n (pop-levels ls r)
+  pop-as : (ls : List Level) (r : Row) → r .levels ≡ ls → Fine r → Fair v a n r → Fair v a n (pop-levels ls r)
   pop-as [] r e o h = h
   pop-as (l ∷ ls) r e o h =
       let p : placed (r .commands) (length (r .commands)) (l ∷ ls) = rw e at (o .places) in
@@ -134,19 +140,19 @@ module _ (a : Attrs) (n : ℕ) where
         levels = after-append 0 (set (r .commands) (l .place) (push-buf (l .union))) (pop-buf ∷ []) ∙ rw k m;
       }
 
-  pop-fair : (r : Row) → Fine r → Fair a n r → Fair a n (put-pop-buf r)
+  pop-fair : (r : Row) → Fine r → Fair v a n r → Fair v a n (put-pop-buf r)
   unfolding put-pop-buf
   pop-fair r o h = pop-as (r .levels) r refl o h
 
   -- a depth fill: the summary includes it and what it included before
-  fill-fair : (b : Span) (i id : ℕ) → GoodSpan n b → good-paint a i ≡ true → paint-id a i ≡ id → (r : Row) → Fair a n r → Fair a n (put-depth-fill 32 (record { buckets = b; attribute = i }) id r)
+  fill-fair : (b : Span) (i id : ℕ) → GoodSpan n b → good-paint a i ≡ true → paint-id a i ≡ id → (r : Row) → Fair v a n r → Fair v a n (put-depth-fill v (record { buckets = b; attribute = i }) id r)
   unfolding put-depth-fill
   fill-fair b i id g p e r h =
       record {
         commands = h .commands;
         fills =
-            all-append (all-map (λ f o. record { good = o .good; attributed = o .attributed; included = includes-still (r .depth) (tiles-of 32 b) id (f .buckets) (paint-id a (f .attribute)) (o .included) }) (h .fills))
-            (cons {x = record { buckets = b; attribute = i }} (record { good = g; attributed = p; included = rw e (includes-new (r .depth) (tiles-of 32 b) id b refl) }) nil);
+            all-append (all-map (λ f o. record { good = o .good; attributed = o .attributed; included = includes-still v (r .depth) (tiles-of v b) id (f .buckets) (paint-id a (f .attribute)) (o .included) }) (h .fills))
+            (cons {x = record { buckets = b; attribute = i }} (record { good = g; attributed = p; included = rw e (includes-new v (r .depth) (tiles-of v b) id b refl) }) nil);
         unions = h .unions;
         nested = h .nested;
         levels = h .levels;
@@ -157,23 +163,34 @@ module _ (a : Attrs) (n : ℕ) where
   PartFair (regular s) = GoodSpan 8192 s
   PartFair (buckets b) = GoodSpan n b
 
-  split-fair : (s : Span) → GoodSpan 8192 s → s .end / 32 ≤ n → All PartFair (split 32 s)
+  split-fair : (s : Span) → GoodSpan 8192 s → s .end / v ≤ n → All PartFair (split v s)
   unfolding split
-  split-fair s o m = go (leb (lowered 32 (s .end)) (raised 32 (s .first))) refl
+  split-fair s o m = go (leb (lowered v (s .end)) (raised v (s .first))) refl
     where
-      last : All PartFair (keep (ltb (lowered 32 (s .end)) (s .end)) (regular (span (lowered 32 (s .end)) (s .end))) [])
-      last = all-keep {P = PartFair} (ltb (lowered 32 (s .end)) (s .end)) (regular (span (lowered 32 (s .end)) (s .end))) (record { in-order = omega arith; in-limit = o .in-limit }) nil
+      low : lowered v (s .end) ≤ s .end
+      low = lowered-most width (s .end)
 
-      go : (t : Bool) → leb (lowered 32 (s .end)) (raised 32 (s .first)) ≡ t
-          → All PartFair (cond t (regular s ∷ []) (around 32 s (raised 32 (s .first)) (lowered 32 (s .end))))
+      last : All PartFair (keep (ltb (lowered v (s .end)) (s .end)) (regular (span (lowered v (s .end)) (s .end))) [])
+      last = all-keep {P = PartFair} (ltb (lowered v (s .end)) (s .end)) (regular (span (lowered v (s .end)) (s .end))) (record { in-order = low; in-limit = o .in-limit }) nil
+
+      -- the whole buckets between
+      middle : raised v (s .first) < lowered v (s .end) → GoodSpan n (span (raised v (s .first) / v) (lowered v (s .end) / v))
+      middle b =
+          record {
+            in-order = each (λ v. raised v (s .first) < lowered v (s .end) → raised v (s .first) / v ≤ lowered v (s .end) / v) (λ b. omega arith) (λ b. omega arith) (λ b. omega arith) width b;
+            in-limit = each (λ v. s .end / v ≤ n → lowered v (s .end) / v ≤ n) (λ m. omega arith) (λ m. omega arith) (λ m. omega arith) width m;
+          }
+
+      go : (t : Bool) → leb (lowered v (s .end)) (raised v (s .first)) ≡ t
+          → All PartFair (cond t (regular s ∷ []) (around v s (raised v (s .first)) (lowered v (s .end))))
       go true e = cons {x = regular s} o nil
       go false e =
-          let b : raised 32 (s .first) < lowered 32 (s .end) = leb-false (lowered 32 (s .end)) (raised 32 (s .first)) e in
-          all-keep {P = PartFair} (ltb (s .first) (raised 32 (s .first))) (regular (span (s .first) (raised 32 (s .first))))
-          (record { in-order = omega arith; in-limit = omega (arith, o .in-limit) })
-          (cons {x = buckets (span (raised 32 (s .first) / 32) (lowered 32 (s .end) / 32))} (record { in-order = omega arith; in-limit = omega arith }) last)
+          let b : raised v (s .first) < lowered v (s .end) = leb-false (lowered v (s .end)) (raised v (s .first)) e in
+          all-keep {P = PartFair} (ltb (s .first) (raised v (s .first))) (regular (span (s .first) (raised v (s .first))))
+          (record { in-order = raised-least width (s .first); in-limit = omega (arith, low, o .in-limit) })
+          (cons {x = buckets (span (raised v (s .first) / v) (lowered v (s .end) / v))} (middle b) last)
 
-  parts-fair : (i id : ℕ) → good-paint a i ≡ true → paint-id a i ≡ id → {ps : List Part} → All PartFair ps → (r : Row) → Fair a n r → Fair a n (foldl (put-part Row row-ops 32 i id) r ps)
+  parts-fair : (i id : ℕ) → good-paint a i ≡ true → paint-id a i ≡ id → {ps : List Part} → All PartFair ps → (r : Row) → Fair v a n r → Fair v a n (foldl (put-part Row row-ops v i id) r ps)
   parts-fair i id p e nil r h = h
   parts-fair i id p e (cons {x = regular s} o os) r h = parts-fair i id p e os _ (put-paint s none i (record { good = (o, tt); attributed = p }) r h)
   parts-fair i id p e (cons {x = buckets b} o os) r h = parts-fair i id p e os _ (fill-fair b i id o p e r h)
@@ -181,7 +198,7 @@ module _ (a : Attrs) (n : ℕ) where
   -- what an act puts on its row is fair
   abbrev pub FairAct : Act → Type 0
   FairAct (paint s x i) = FairCommand a (paint-fill s x i)
-  FairAct (opaque s i id) = GoodSpan 8192 s × (s .end / 32 ≤ n) × (good-paint a i ≡ true) × (paint-id a i ≡ id)
+  FairAct (opaque s i id) = GoodSpan 8192 s × (s .end / v ≤ n) × (good-paint a i ≡ true) × (paint-id a i ≡ id)
   FairAct touch = Unit {0}
   FairAct (close s x i) = FairCommand a (layer-fill s x i)
   FairAct pop = Unit {0}
@@ -190,23 +207,23 @@ module _ (a : Attrs) (n : ℕ) where
     pub act : FairAct (p .act)
 
   module _ (m : ℕ) (few : m ≤ 16) where
-    ensure-fair : (r : Row) → Fine r → Fair a n r → Fair a n (ensure Row row-ops 32 m r)
+    ensure-fair : (r : Row) → Fine r → Fair v a n r → Fair v a n (ensure Row row-ops m r)
     ensure-fair r o h = pushes-fair (m - length (r .levels)) r (omega (arith, o .few)) h
 
-    act-fair : (t : Act) → FairAct t → (r : Row) → Fine r → Fair a n r → Fair a n (do-act Row row-ops 32 m t r)
+    act-fair : (t : Act) → FairAct t → (r : Row) → Fine r → Fair v a n r → Fair v a n (do-act Row row-ops v m t r)
     unfolding do-act
-    act-fair (paint s x i) c r o h = put-paint s x i c (ensure Row row-ops 32 m r) (ensure-fair r o h)
-    act-fair (opaque s i id) c r o h = parts-fair i id (c .2) (c .3) (split-fair s (c .0) (c .1)) (ensure Row row-ops 32 m r) (ensure-fair r o h)
+    act-fair (paint s x i) c r o h = put-paint s x i c (ensure Row row-ops m r) (ensure-fair r o h)
+    act-fair (opaque s i id) c r o h = parts-fair i id (c .2) (c .3) (split-fair s (c .0) (c .1)) (ensure Row row-ops m r) (ensure-fair r o h)
     act-fair touch c r o h = ensure-fair r o h
     act-fair (close s x i) c r o h = put-layer s x i c r h
     act-fair pop c r o h = pop-fair r o h
 
-    pub puts-fair : {ps : List Put} → All FairPut ps → All (PutOk BoundedSpan) ps → (rs : List Row) → ((i : ℕ) → Fine (getD rs i fresh-row)) → ((i : ℕ) → Fair a n (getD rs i fresh-row))
-        → (i : ℕ) → Fair a n (getD (do-puts Row row-ops 32 m ps rs) i fresh-row)
+    pub puts-fair : {ps : List Put} → All FairPut ps → All (PutOk BoundedSpan) ps → (rs : List Row) → ((i : ℕ) → Fine (getD rs i fresh-row)) → ((i : ℕ) → Fair v a n (getD rs i fresh-row))
+        → (i : ℕ) → Fair v a n (getD (do-puts Row row-ops v m ps rs) i fresh-row)
     unfolding do-puts
     puts-fair nil nil rs o h i = h i
     puts-fair (cons {x = p} f fs) (cons g gs) rs o h i =
-        puts-fair fs gs (change (do-act Row row-ops 32 m (p .act)) (p .row) rs)
-        (λ j. change-at Fine (do-act Row row-ops 32 m (p .act)) (p .row) j rs fresh-row (o j) (follows-act (refines 0 0 32) m few (g .act) (getD rs j fresh-row) (o j) .1))
-        (λ j. change-at (Fair a n) (do-act Row row-ops 32 m (p .act)) (p .row) j rs fresh-row (h j) (act-fair (p .act) (f .act) (getD rs j fresh-row) (o j) (h j)))
+        puts-fair fs gs (change (do-act Row row-ops v m (p .act)) (p .row) rs)
+        (λ j. change-at Fine (do-act Row row-ops v m (p .act)) (p .row) j rs fresh-row (o j) (follows-act (refines 0 0) v m few (g .act) (getD rs j fresh-row) (o j) .1))
+        (λ j. change-at (Fair v a n) (do-act Row row-ops v m (p .act)) (p .row) j rs fresh-row (h j) (act-fair (p .act) (f .act) (getD rs j fresh-row) (o j) (h j)))
         i

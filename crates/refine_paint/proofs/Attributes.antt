@@ -95,8 +95,8 @@ module _ (a b : Attrs) (e : Extends a b) where
   command-more (push-buf s) h = record { good = h .good; attributed = tt }
   command-more pop-buf h = record { good = tt; attributed = tt }
 
-  pub fair-more : (n : ℕ) (r : Row) → Fair a n r → Fair b n r
-  fair-more n r h =
+  pub fair-more : (v n : ℕ) (r : Row) → Fair v a n r → Fair v b n r
+  fair-more v n r h =
       record {
         commands = all-map command-more (h .commands);
         fills =

@@ -9,10 +9,9 @@ use lib.ListN.{length, replicate, length-append}
 use borrow.Author.Tests.{eq-eqb, ne-eqb}
 use Rattle.rules.specs.Lists.{join, is-empty}
 use Rattle.rules.specs.Answers.{first-of, answer, settle, Done, Open, BadArena, BadViewport, BadRecord}
-use Rattle.rules.specs.Boxes.{buckets-of}
 use Rattle.rules.specs.Boxes as boxes
 use Rattle.rules.specs.Rows.{Row}
-use Rattle.rules.specs.Plans.{Layer}
+use Rattle.rules.specs.Plans.{buckets-across, Layer}
 use Rattle.rules.specs.Steps as rule
 use Rattle.rules.specs.Painting.{Painter, begin}
 use Rattle.rules.specs.Calls as calls
@@ -79,7 +78,7 @@ module _ (k : calls.Canvas) (w : WholeCanvas k) where
   s = k .screen
 
   abbrev n : ℕ
-  n = buckets-of 32 (s .state .frame .viewport)
+  n = buckets-across (s .state .frame)
 
   pub depth-long : length (depth-of (k .painters)) ≡ boxes.rows-of (s .state .frame .viewport) * n
   depth-long = join-long buckets-in n (w .wide) ∙ ap (λ (m : ℕ). m * n) (w .count ∙ w .sound .count)
@@ -88,21 +87,21 @@ module _ (k : calls.Canvas) (w : WholeCanvas k) where
   painting-long = join-long standing-in 2 (all-standing (k .painters)) ∙ ap (λ (m : ℕ). m * 2) (w .count ∙ w .sound .count)
 
   -- the call at the words: the rules' number, the words of the rules' canvas
-  pub begin-by : beginning (canvas-of k) ≡ answer (begin-call 32 k .number) (canvas-of (begin-call 32 k .value))
+  pub begin-by : beginning (canvas-of k) ≡ answer (begin-call k .number) (canvas-of (begin-call k .value))
   unfolding beginning begin-number begin-call zeros
   begin-by =
       let j = judged-0 s (w .sound) (k .begun) _ _ (eq-eqb _ _ depth-long) (eq-eqb _ _ painting-long) in
       rw j (go (s .state .layers))
     where
-      same-depth : replicate (length (depth-of (k .painters))) 0 ≡ depth-of (blank 32 s)
+      same-depth : replicate (length (depth-of (k .painters))) 0 ≡ depth-of (blank s)
       same-depth = rw (depth-long, blank-depth n (length (s .rows)), w .sound .count)
 
-      same-painting : replicate (length (painting-of (k .painters))) 0 ≡ painting-of (blank 32 s)
+      same-painting : replicate (length (painting-of (k .painters))) 0 ≡ painting-of (blank s)
       same-painting = rw (painting-long, blank-painting n (length (s .rows)), w .sound .count)
 
       go : (ls : List Layer)
           → settle (cond (eqb (length ls) 0) Done Open) (canvas-of k) (canvas (screen-of (s .state) true) (replicate (length (depth-of (k .painters))) 0) (replicate (length (painting-of (k .painters))) 0))
-          ≡ answer (settle (cond (is-empty ls) Done Open) k (record { screen = s; begun = true; painters = blank 32 s }) .number)
-          (canvas-of (settle (cond (is-empty ls) Done Open) k (record { screen = s; begun = true; painters = blank 32 s }) .value))
+          ≡ answer (settle (cond (is-empty ls) Done Open) k (record { screen = s; begun = true; painters = blank s }) .number)
+          (canvas-of (settle (cond (is-empty ls) Done Open) k (record { screen = s; begun = true; painters = blank s }) .value))
       go [] = rw (same-depth, same-painting)
       go (l ∷ ls) = rw (ne-eqb (suc (length ls)) 0 (λ e. omega arith))

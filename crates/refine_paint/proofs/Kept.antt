@@ -8,10 +8,9 @@ use lib.Dec.{eqb}
 use lib.ListN.{length, getD, replicate, List·getD-map}
 use borrow.Author.Tests.{eqb-true}
 use Rattle.rules.specs.Answers.{answer, Done}
-use Rattle.rules.specs.Boxes.{buckets-of}
 use Rattle.rules.specs.Boxes as boxes
 use Rattle.rules.specs.Rows.{Row, fresh-row, row-ops}
-use Rattle.rules.specs.Plans.{Frame, Step}
+use Rattle.rules.specs.Plans.{Frame, bucket, buckets-across, Step}
 use Rattle.rules.specs.Steps.{Screen, reset, done, refusal, perform, touched, call}
 use Rattle.rules.proofs.All.{All, nil, cons}
 use Rattle.rules.proofs.laws.Bounds.{plan-ok}
@@ -23,6 +22,7 @@ use Rattle.refine_row.specs.Encode.{Fine, encode}
 use Rattle.refine_row.proofs.Refines.{fresh-fine}
 use Rattle.refine_row.proofs.Screens.{cut-screen}
 use Rattle.screen.specs.Tables.{ScreenLent}
+use Rattle.screen.proofs.Laws.{few-buckets}
 use Rattle.refine_steps.specs.Sound.{Sound}
 use Rattle.refine_steps.specs.Lent.{rows-of}
 use Rattle.refine_steps.proofs.Kept.{Passing, passing}
@@ -41,26 +41,26 @@ fine-at (cons f fs) zero = f
 fine-at (cons f fs) (suc i) = fine-at fs i
 
 abbrev after : Step → Screen Row → Screen Row
-after x s = done Row row-ops 32 (planned Row row-ops 32 x s) s
+after x s = done Row row-ops (planned Row row-ops x s) s
 
-done-fair : (x : Step) (s : Screen Row) → Sound s → FairRows s → Passing (planned Row row-ops 32 x s) (after x s) → FairRows (after x s)
+done-fair : (x : Step) (s : Screen Row) → Sound s → FairRows s → Passing (planned Row row-ops x s) (after x s) → FairRows (after x s)
 unfolding done
 done-fair x s o h n i =
-    let p = planned Row row-ops 32 x s in
-    let ts = touched Row row-ops 32 (length (s .state .layers)) 0 (s .rows) in
-    let k = buckets-of 32 (s .state .frame .viewport) in
-    puts-fair (p .attrs) k (length (p .layers)) (n .deep) (plan-fair (s .state) (o .built .framed) (o .viewport) (o .some-id) x ts (n .own) (n .ids))
+    let p = planned Row row-ops x s in
+    let ts = touched Row row-ops (length (s .state .layers)) 0 (s .rows) in
+    let k = buckets-across (s .state .frame) in
+    puts-fair (s .state .frame .width) (p .attrs) k (length (p .layers)) (n .deep) (plan-fair (s .state) (o .built .framed) (o .viewport) (o .some-id) x ts (n .own) (n .ids))
     (plan-ok (s .state) (o .built .framed) x ts (n .own)) (s .rows) (fine-at (o .built .fine))
-    (λ j. fair-more (s .state .attrs) (p .attrs) (plan-extends (s .state) x ts) k (getD (s .rows) j fresh-row) (h j)) i
+    (λ j. fair-more (s .state .attrs) (p .attrs) (plan-extends (s .state) x ts) (bucket (s .state .frame)) k (getD (s .rows) j fresh-row) (h j)) i
 
 -- every step, refused or done
-pub call-fair : (x : Step) (s : Screen Row) → Sound s → FairRows s → FairRows (call Row row-ops 32 x s .value)
+pub call-fair : (x : Step) (s : Screen Row) → Sound s → FairRows s → FairRows (call Row row-ops x s .value)
 unfolding call perform
-call-fair x s o h = go (eqb (refusal Row row-ops 32 (planned Row row-ops 32 x s) (after x s)) Done) refl
+call-fair x s o h = go (eqb (refusal Row row-ops (planned Row row-ops x s) (after x s)) Done) refl
   where
-    go : (c : Bool) → eqb (refusal Row row-ops 32 (planned Row row-ops 32 x s) (after x s)) Done ≡ c
-        → FairRows (cond c (answer Done (after x s)) (answer (refusal Row row-ops 32 (planned Row row-ops 32 x s) (after x s)) s) .value)
-    go true e = done-fair x s o h (passing (planned Row row-ops 32 x s) (after x s) (eqb-true _ Done e))
+    go : (c : Bool) → eqb (refusal Row row-ops (planned Row row-ops x s) (after x s)) Done ≡ c
+        → FairRows (cond c (answer Done (after x s)) (answer (refusal Row row-ops (planned Row row-ops x s) (after x s)) s) .value)
+    go true e = done-fair x s o h (passing (planned Row row-ops x s) (after x s) (eqb-true _ Done e))
     go false e = h
 
 -- .. and a reset
@@ -94,9 +94,8 @@ module _ (s : Screen Row) (i : ℕ) (h : i < length (s .rows)) where
 
   -- stand for the row
   pub row-stands : Sound s → FairRows s
-      → Stands (s .state .attrs) (buckets-of 32 (s .state .frame .viewport)) (getD (s .rows) i fresh-row) (part 54 i (rows-of s .state)) (part (4 * c) i (rows-of s .render)) (part (2 * d) i (rows-of s .fills))
+      → Stands (s .state .attrs) (buckets-across (s .state .frame)) (getD (s .rows) i fresh-row) (part 54 i (rows-of s .state)) (part (4 * c) i (rows-of s .render)) (part (2 * d) i (rows-of s .fills))
   row-stands o f =
       let r = getD (s .rows) i fresh-row in
-      let n = buckets-of 32 (s .state .frame .viewport) in
-      let g = stands (s .state .attrs) n c d (omega (arith, o .built .framed .wide)) r (o .rows i) (f i) in
+      let g = stands (s .state .attrs) (buckets-across (s .state .frame)) c d (omega (arith, few-buckets (s .state .frame .viewport) (o .viewport) (s .state .frame .width))) r (o .rows i) (f i) in
       rw (ap (λ (w : Words). w .state) own-words, ap (λ (w : Words). w .render) own-words, ap (λ (w : Words). w .fills) own-words) g

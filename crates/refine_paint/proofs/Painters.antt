@@ -11,11 +11,11 @@ use borrow.Author.Tests.{lt-ltb, ltb-true, ltb-false, ne-eqb}
 use Rattle.rules.specs.Lists.{is-none, is-empty}
 use Rattle.rules.specs.Spans.{Span, span}
 use Rattle.rules.specs.Depth.{Summary, written}
-use Rattle.rules.specs.Commands.{Command, paint-fill, layer-fill, push-buf, pop-buf}
+use Rattle.rules.specs.Commands.{Command, paint-fill, layer-fill, push-buf, pop-buf, DepthFill}
 use Rattle.rules.specs.Attributes.{Attrs}
 use Rattle.rules.specs.Rows.{Row}
 use Rattle.rules.specs.Painting.{Painter, begin, paint-id, no-fill, paint-depth, paint-fill-runs, paint-command, paint-when, paint-step}
-use Rattle.rules.proofs.All.{All, cons, both, never, all-at}
+use Rattle.rules.proofs.All.{All, cons, both, never, all-at, all-map}
 use Rattle.refine_row.specs.Encode.{first-of, end-of, state-of, Fine}
 use Rattle.paint_runs.specs.Summaries.{summary-at, Sound}
 use Rattle.paint_runs.proofs.Skips.{sound-blank}
@@ -74,29 +74,34 @@ some-there : {A : Type 0} (xs : List A) → 0 < length xs → is-empty xs ≡ fa
 some-there [] h = absurd (omega arith)
 some-there (x ∷ xs) h = refl
 
-module _ (a : Attrs) (n : ℕ) (r : Row) (o : Fine r) (h : Fair a n r) where
-  pub taken : (i : ℕ) → good-paint a i ≡ true → 0 < paint-id a i
-  taken i g =
-      let id = paint-id a i in
-      ltb-true _ _ (both (ltb 0 id) (leb id 1048576) (both (ltb i (length (a .paints))) (good-id id) g .1) .0)
+-- an attribute that is there has an id that a draw took
+pub taken : (a : Attrs) (i : ℕ) → good-paint a i ≡ true → 0 < paint-id a i
+taken a i g =
+    let id = paint-id a i in
+    ltb-true _ _ (both (ltb 0 id) (leb id 1048576) (both (ltb i (length (a .paints))) (good-id id) g .1) .0)
 
+-- .. as each depth fill's of a fair row has
+pub all-taken : {v : ℕ} (a : Attrs) (n : ℕ) (r : Row) → Fair v a n r → All (λ (f : DepthFill). 1 ≤ paint-id a (f .attribute)) (r .fills)
+all-taken a n r h = all-map (λ f o. taken a (f .attribute) (o .attributed)) (h .fills)
+
+module _ {v : ℕ} (a : Attrs) (n : ℕ) (r : Row) (o : Fine r) (h : Fair v a n r) where
   -- the summary of the words includes each depth fill
-  all-included : AllIncluded a (summary-at (state-of r)) r
+  all-included : AllIncluded v a (summary-at (state-of r)) r
   all-included k l =
       let f = all-at (h .fills) k no-fill l in
-      let i = taken (getD (r .fills) k no-fill .attribute) (f .attributed) in
+      let i = taken a (getD (r .fills) k no-fill .attribute) (f .attributed) in
       let e = summary-same (r .depth) (r .depth .union) refl (o .summary ∙ some-there (r .fills) (omega arith)) (omega (arith, f .included .below)) in
       rw e (f .included)
 
   -- a painter begins
-  pub begin-going : Going n r (begin n)
-  begin-going = record { wide = length-replicate n 0; steps = omega arith; nesting = rw none-yet; sound = sound-blank (summary-at (state-of r)) n }
+  pub begin-going : Going v n r (begin n)
+  begin-going = record { wide = length-replicate n 0; steps = omega arith; nesting = rw none-yet; sound = sound-blank v (summary-at (state-of r)) n }
     where
       none-yet : 0 - length (r .fills) ≡ 0
       none-yet = omega arith
 
   -- and is ready for its next step
-  pub going-ready : (p : Painter) → Going n r p → PainterReady a r p
+  pub going-ready : (p : Painter) → Going v n r p → PainterReady a r p
   going-ready p g =
       record {
         steps-left = g .steps;
@@ -104,12 +109,12 @@ module _ (a : Attrs) (n : ℕ) (r : Row) (o : Fine r) (h : Fair a n r) where
         good-next = λ l m. rw (g .nesting) (good-at a 0 (r .commands) (p .steps - length (r .fills)) (h .commands) (h .nested) m);
       }
 
-  module _ (p : Painter) (g : Going n r p) where
+  module _ (p : Painter) (g : Going v n r p) where
     abbrev place : ℕ
     place = p .steps - length (r .fills)
 
-    command-nesting : (c : Command) → (paint-command 32 a c p .painter .nesting ≡ nesting-after (p .nesting) (c ∷ [])) × (paint-command 32 a c p .painter .steps ≡ p .steps + 1)
-        × (paint-command 32 a c p .painter .buckets ≡ p .buckets)
+    command-nesting : (c : Command) → (paint-command v a c p .painter .nesting ≡ nesting-after (p .nesting) (c ∷ [])) × (paint-command v a c p .painter .steps ≡ p .steps + 1)
+        × (paint-command v a c p .painter .buckets ≡ p .buckets)
     unfolding paint-command paint-fill-runs
     command-nesting (paint-fill s x i) = (refl, refl, refl)
     command-nesting (layer-fill s x i) = (refl, refl, refl)
@@ -117,11 +122,11 @@ module _ (a : Attrs) (n : ℕ) (r : Row) (o : Fine r) (h : Fair a n r) where
     command-nesting pop-buf = (refl, refl, refl)
 
     -- a step keeps it so
-    pub step-going : Going n r (paint-step 32 a r p .painter)
+    pub step-going : Going v n r (paint-step v a r p .painter)
     unfolding paint-step paint-when paint-depth written
-    step-going = go (ltb (p .steps) (length (r .fills))) (ltb place (length (r .commands))) refl refl (sound-step a (summary-at (state-of r)) r p (g .sound) all-included)
+    step-going = go (ltb (p .steps) (length (r .fills))) (ltb place (length (r .commands))) refl refl (sound-step v a (summary-at (state-of r)) r p (g .sound) all-included)
       where
-        go : (t u : Bool) → ltb (p .steps) (length (r .fills)) ≡ t → ltb place (length (r .commands)) ≡ u → Sound (summary-at (state-of r)) (paint-when 32 a t u r p .painter .buckets) → Going n r (paint-when 32 a t u r p .painter)
+        go : (t u : Bool) → ltb (p .steps) (length (r .fills)) ≡ t → ltb place (length (r .commands)) ≡ u → Sound v (summary-at (state-of r)) (paint-when v a t u r p .painter .buckets) → Going v n r (paint-when v a t u r p .painter)
         go true u e f q =
             let l : p .steps < length (r .fills) = ltb-true _ _ e in
             let z : p .steps + 1 - length (r .fills) ≡ p .steps - length (r .fills) = omega arith in

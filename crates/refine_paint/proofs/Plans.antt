@@ -8,18 +8,21 @@ use native.Mathlib.Omega.{arith}
 use lib.Dec.{leb, ltb, eqb}
 use lib.ListN.{length}
 use borrow.Author.Tests.{leb-false, ltb-true, eqb-true}
+use Rattle.sizes.specs.declared.width.Width.{Width}
+use Rattle.sizes.specs.Widths.{bucket-tiles}
 use Rattle.rules.specs.Lists.{some-of, is-empty}
 use Rattle.rules.specs.Answers.{Done, BadRecord}
-use Rattle.rules.specs.Boxes.{Box, width, height, by-4, good-box, bounded, good-viewport, empty-box, rows-in, span-of, scene-tiles, buckets-of}
+use Rattle.rules.specs.Boxes.{Box, width, height, by-4, good-box, bounded, good-viewport, empty-box, rows-in, span-of, scene-tiles}
 use Rattle.rules.specs.Spans.{Span, span, Stretch, common, moved, meeting, cut-at, cut-when, cut-to}
 use Rattle.rules.specs.Segments.{Segment, good-segment, alpha-of, stretch-of, Cut, localised, cut-in, cuts}
 use Rattle.rules.specs.Inputs.{Paint, Draw, Clip, Props, Filter, good-filter, draw-segments, draw-paint, good-fill}
 use Rattle.rules.specs.Blends.{Blend, default-blend}
 use Rattle.rules.specs.Attributes.{FilterPaint, Attrs}
 use Rattle.rules.specs.Painting.{paint-id}
-use Rattle.rules.specs.Plans.{Layer, State, Step, a-fill, a-push, a-pop, a-filter, paint, touch, close, pop, on, Put, still, clip-box, box-of, with-paint, with-layer, eligible, draw-act, draw-puts, plan-fill, layer-box, touches-all, plan-push, clip-segments, clip-fits, close-puts, closing, clip-thread, plan-pop, filter-box, filter-paint, draws-nothing, filter-puts, plan-filter-in, plan-filter, plan}
+use Rattle.rules.specs.Plans.{buckets-across, Layer, State, Step, a-fill, a-push, a-pop, a-filter, paint, touch, close, pop, on, Put, still, clip-box, box-of, with-paint, with-layer, eligible, draw-act, draw-puts, plan-fill, layer-box, touches-all, plan-push, clip-segments, clip-fits, close-puts, closing, clip-thread, plan-pop, filter-box, filter-paint, draws-nothing, filter-puts, plan-filter-in, plan-filter, plan}
 use Rattle.rules.proofs.All.{All, nil, cons, head, both, neither, all-if, all-append, all-mapped, all-join}
 use Rattle.rules.proofs.laws.Bounds.{Framed, Inside, judged-facts, good-facts, dest-facts, box-inside}
+use Rattle.rules.proofs.laws.Widths.{each}
 use Rattle.cmd.specs.Good.{GoodSpan, GoodAlpha}
 use Rattle.paint_command.specs.Painting.{good-paint, good-layer}
 use Rattle.refine_paint.proofs.Acts.{FairPut}
@@ -104,23 +107,27 @@ span-fair b l r = go (empty-box b) refl
         let k : b .x0 < b .x1 = leb-false (b .x1) (b .x0) (h .0) in
         record { in-order = omega arith; in-limit = omega arith }
 
-module _ (a : Attrs) (w : ℕ) where
+module _ (u : Width) (a : Attrs) (w : ℕ) where
   -- the buckets of w tiles
   abbrev wide : ℕ
-  wide = (w + 31) / 32
+  wide = (w + (bucket-tiles u - 1)) / bucket-tiles u
 
-  draw-fair : (e : Bool) (i id r : ℕ) (s : Span) (x : Option ℕ) → good-paint a i ≡ true → paint-id a i ≡ id → GoodSpan 8192 s → GoodAlpha s x → s .end ≤ w → FairPut a wide (on (draw-act e i id s x) r)
+  -- tiles that end within w tiles end within their buckets
+  bucket-near : (x : ℕ) → x ≤ w → x / bucket-tiles u ≤ wide
+  bucket-near x h = each (λ v. x / v ≤ (w + (v - 1)) / v) (omega arith) (omega arith) (omega arith) u
+
+  draw-fair : (e : Bool) (i id r : ℕ) (s : Span) (x : Option ℕ) → good-paint a i ≡ true → paint-id a i ≡ id → GoodSpan 8192 s → GoodAlpha s x → s .end ≤ w → FairPut u a wide (on (draw-act e i id s x) r)
   unfolding draw-act
-  draw-fair true i id r s none p q g h n = record { act = (g, omega arith, p, q) }
+  draw-fair true i id r s none p q g h n = record { act = (g, bucket-near (s .end) n, p, q) }
   draw-fair true i id r s (some x) p q g h n = record { act = record { good = (g, h); attributed = p } }
   draw-fair false i id r s x p q g h n = record { act = record { good = (g, h); attributed = p } }
 
-  draws-fair : (e : Bool) (i id : ℕ) → good-paint a i ≡ true → paint-id a i ≡ id → {ks : List Cut} → All (FairCut w) ks → All (FairPut a wide) (draw-puts e i id ks)
+  draws-fair : (e : Bool) (i id : ℕ) → good-paint a i ≡ true → paint-id a i ≡ id → {ks : List Cut} → All (FairCut w) ks → All (FairPut u a wide) (draw-puts e i id ks)
   unfolding draw-puts
   draws-fair e i id p q nil = nil
   draws-fair e i id p q (cons {x = k} h hs) = cons (draw-fair e i id (k .row) (k .stretch .tiles) (k .stretch .alpha) p q (h .tiles) (h .alpha) (h .near)) (draws-fair e i id p q hs)
 
-  closes-fair : (i : ℕ) → good-layer a i ≡ true → (ts : List ℕ) {ks : List Cut} → All (FairCut w) ks → All (FairPut a wide) (close-puts i ts ks)
+  closes-fair : (i : ℕ) → good-layer a i ≡ true → (ts : List ℕ) {ks : List Cut} → All (FairCut w) ks → All (FairPut u a wide) (close-puts i ts ks)
   unfolding close-puts
   closes-fair i p ts nil = nil
   closes-fair i p ts (cons {x = k} h hs) =
@@ -132,7 +139,7 @@ module _ (s : State) (f : Framed s) (g : good-viewport (s .frame .viewport) ≡ 
   v = s .frame .viewport
 
   abbrev FairPuts : Attrs → List Put → Type 0
-  FairPuts a ps = All (FairPut a (buckets-of 32 v)) ps
+  FairPuts a ps = All (FairPut (s .frame .width) a (buckets-across (s .frame))) ps
 
   new-paint : (p : ℕ) (b : Blend) (m th : ℕ) (fs : List FilterPaint) → s .next ≤ 1048576 → good-paint (with-paint s p b m th fs) (length (s .attrs .paints)) ≡ true
   new-paint p b m th fs h =
@@ -158,7 +165,7 @@ module _ (s : State) (f : Framed s) (g : good-viewport (s .frame .viewport) ≡ 
           (draw-puts (eligible (is-empty (s .layers)) (draw-paint ps d) d) (length (s .attrs .paints)) (s .next) (cuts v (box-of s) own))
       go [] a = nil
       go (x ∷ xs) a =
-          draws-fair (with-paint s (d .paint) (d .blend) (d .mask) (d .thread) []) (width v / 4) (eligible (is-empty (s .layers)) (draw-paint ps d) d) (length (s .attrs .paints)) (s .next)
+          draws-fair (s .frame .width) (with-paint s (d .paint) (d .blend) (d .mask) (d .thread) []) (width v / 4) (eligible (is-empty (s .layers)) (draw-paint ps d) d) (length (s .attrs .paints)) (s .next)
           (new-paint (d .paint) (d .blend) (d .mask) (d .thread) [] (omega arith))
           (new-paint-id (d .paint) (d .blend) (d .mask) (d .thread) [])
           (cuts-fair v (box-of s) g (box-inside s f .right) a)
@@ -180,7 +187,7 @@ module _ (s : State) (f : Framed s) (g : good-viewport (s .frame .viewport) ≡ 
       → All (λ (x : Segment). good-segment x ≡ true) (clip-segments c ss) → FairPuts a (closing c v own parent i ss ts)
   unfolding closing
   closing-fair a none own parent i ss ts p h r o = all-mapped (on (close (span-of own) none i)) (λ x. record { act = record { good = (h, tt); attributed = p } }) ts
-  closing-fair a (some c) own parent i ss ts p h r o = closes-fair a (width v / 4) i p ts (cuts-fair v parent g r o)
+  closing-fair a (some c) own parent i ss ts p h r o = closes-fair (s .frame .width) a (width v / 4) i p ts (cuts-fair v parent g r o)
 
   pop-fair : (ls : List Layer) (ss : List Segment) (ts : List ℕ) → All (λ (l : Layer). Inside v (l .bounds)) ls → plan-pop ls ss ts s .refused ≡ Done → plan-pop ls ss ts s .next ≤ 1048577
       → FairPuts (plan-pop ls ss ts s .attrs) (plan-pop ls ss ts s .puts)
@@ -217,7 +224,7 @@ module _ (s : State) (f : Framed s) (g : good-viewport (s .frame .viewport) ≡ 
       go true true e m = nil
       go true false e m = filter-in-fair (filter-box v (box-of s) q) count q (filter-inside q (both (good-filter q) (leb count 4096) e .0)) m
 
-  pub plan-fair : (x : Step) (ts : List ℕ) → plan x ts s .refused ≡ Done → plan x ts s .next ≤ 1048577 → All (FairPut (plan x ts s .attrs) (buckets-of 32 (s .frame .viewport))) (plan x ts s .puts)
+  pub plan-fair : (x : Step) (ts : List ℕ) → plan x ts s .refused ≡ Done → plan x ts s .next ≤ 1048577 → FairPuts (plan x ts s .attrs) (plan x ts s .puts)
   unfolding plan
   plan-fair (a-fill ps ss d) ts e n = fill-fair ps ss d e n
   plan-fair (a-push p) ts e n = push-fair p

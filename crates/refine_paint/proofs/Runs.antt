@@ -10,18 +10,19 @@ use lib.ListN.{length, getD, length-set}
 use borrow.Author.Tests.{eq-eqb, eqb-true, le-leb, leb-false}
 use Rattle.rules.specs.Lists.{is-empty}
 use Rattle.rules.specs.Answers.{Answer, answer, settle, first-of, Done, BadRun, NoRoom}
-use Rattle.rules.specs.Boxes.{buckets-of}
 use Rattle.rules.specs.Spans.{Span, span, bad-range}
 use Rattle.rules.specs.Commands.{DepthFill}
 use Rattle.rules.specs.Depth.{apart, can-skip, can-skip-answer, write-runs, unset-answer, visible-answer, write-answer, write-after, written}
 use Rattle.rules.specs.Attributes.{Attrs}
 use Rattle.rules.specs.Rows.{Row, fresh-row}
+use Rattle.rules.specs.Plans.{buckets-across}
 use Rattle.rules.specs.Steps as rule
 use Rattle.rules.specs.Painting.{Painter, begin, no-fill}
 use Rattle.rules.specs.Calls as calls
 use Rattle.rules.specs.Calls.{unset-call, visible-call, write-call, can-skip-call, with-painter}
 use Rattle.rules.proofs.All.{never, all-at}
 use Rattle.rules.proofs.laws.Answers.{settle-kept}
+use Rattle.rules.proofs.laws.Widths.{each, meets}
 use Rattle.row.specs.Words.{Words}
 use Rattle.depth.specs.Listing.{listing, writing}
 use Rattle.refine_row.specs.Encode.{encode, state-of, Fine}
@@ -45,7 +46,7 @@ use Rattle.refine_paint.proofs.Step.{part-join, put-join, set-same}
 use Rattle.refine_paint.proofs.Whole.{all-set}
 
 -- the summary of a row's words answers as the row's own
-module _ (a : Attrs) (n : ℕ) (r : Row) (o : Fine r) (h : Fair a n r) (t : Span) (id : ℕ) where
+module _ {v : ℕ} (a : Attrs) (n : ℕ) (r : Row) (o : Fine r) (h : Fair v a n r) (t : Span) (id : ℕ) where
   apart-none : (z : Bool) → apart (cond z none (some (span 0 0))) t ≡ true
   apart-none true = refl
   apart-none false = rw (le-leb 0 (t .first) (omega arith))
@@ -63,7 +64,7 @@ module _ (a : Attrs) (n : ℕ) (r : Row) (o : Fine r) (h : Fair a n r) (t : Span
       go (some u) e =
           let m : is-empty (r .fills) ≡ false = sym (o .summary) ∙ rw e in
           let f = all-at (h .fills) 0 no-fill (some-fill (r .fills) m) in
-          let i = taken a n r o h (getD (r .fills) 0 no-fill .attribute) (f .attributed) in
+          let i = taken a (getD (r .fills) 0 no-fill .attribute) (f .attributed) in
           ap (λ d. can-skip d t id) (summary-same (r .depth) (r .depth .union) refl (rw e) (omega (arith, f .included .below)))
 
 module _ (k : calls.Canvas) (w : WholeCanvas k) (i : ℕ) where
@@ -71,7 +72,10 @@ module _ (k : calls.Canvas) (w : WholeCanvas k) (i : ℕ) where
   s = k .screen
 
   abbrev n : ℕ
-  n = buckets-of 32 (s .state .frame .viewport)
+  n = buckets-across (s .state .frame)
+
+  abbrev v : ℕ
+  v = calls.bucket-on k
 
   abbrev here : Screen
   here = screen-of (s .state) (k .begun)
@@ -110,13 +114,13 @@ module _ (k : calls.Canvas) (w : WholeCanvas k) (i : ℕ) where
         go false e = rw (own-depth e)
 
   -- The calls at the words: the rules' numbers and runs, 12 and 14 among them.
-  pub unset-by : (t : Span) (l : List ℕ) → unset-of here i depth t l ≡ listing (unset-call 32 i (length l / 2) t k) l
+  pub unset-by : (t : Span) (l : List ℕ) → unset-of here i depth t l ≡ listing (unset-call i (length l / 2) t k) l
   unfolding unset-of unset-call
-  unset-by t l = by-runs (λ bs. unset-answer 32 bs t (length l / 2)) l
+  unset-by t l = by-runs (λ bs. unset-answer v bs t (length l / 2)) l
 
-  pub visible-by : (id : ℕ) (t : Span) (l : List ℕ) → visible-of here i depth t id l ≡ listing (visible-call 32 id i (length l / 2) t k) l
+  pub visible-by : (id : ℕ) (t : Span) (l : List ℕ) → visible-of here i depth t id l ≡ listing (visible-call id i (length l / 2) t k) l
   unfolding visible-of visible-call
-  visible-by id t l = by-runs (λ bs. visible-answer 32 bs id t (length l / 2)) l
+  visible-by id t l = by-runs (λ bs. visible-answer v bs id t (length l / 2)) l
 
   module _ (id : ℕ) (t : Span) (m : ℕ) where
     abbrev wrote-answer : Answer (List Span)
@@ -144,13 +148,13 @@ module _ (k : calls.Canvas) (w : WholeCanvas k) (i : ℕ) where
 
     -- what the call gives in a row that is there, done or not; and in any
     abbrev settled : Bool → Answer (calls.Given (List Span))
-    settled b = cond b (answer Done (calls.given (wrote-answer .value) (with-painter 32 k false i q))) (answer (wrote-answer .number) (calls.given [] k))
+    settled b = cond b (answer Done (calls.given (wrote-answer .value) (with-painter k false i q))) (answer (wrote-answer .number) (calls.given [] k))
 
     abbrev written-on : Bool → Answer (calls.Given (List Span))
-    written-on missing = let a = calls.of-row missing [] wrote-answer in settle (a .number) (calls.given [] k) (calls.given (a .value) (with-painter 32 k false i q))
+    written-on missing = let a = calls.of-row missing [] wrote-answer in settle (a .number) (calls.given [] k) (calls.given (a .value) (with-painter k false i q))
 
     -- no painter's steps and nesting change
-    pub same-standing : painting-of (write-call 32 id i m t k .value .canvas .painters) ≡ painting-of (k .painters)
+    pub same-standing : painting-of (write-call id i m t k .value .canvas .painters) ≡ painting-of (k .painters)
     unfolding write-call
     same-standing = go (leb (length (s .rows)) i) refl
       where
@@ -165,7 +169,7 @@ module _ (k : calls.Canvas) (w : WholeCanvas k) (i : ℕ) where
         go true e = refl
         go false e = changed e (eqb (wrote-answer .number) Done)
 
-    pub same-screen : write-call 32 id i m t k .value .canvas .screen ≡ s
+    pub same-screen : write-call id i m t k .value .canvas .screen ≡ s
     unfolding write-call
     same-screen = go (leb (length (s .rows)) i)
       where
@@ -177,7 +181,7 @@ module _ (k : calls.Canvas) (w : WholeCanvas k) (i : ℕ) where
         go true = refl
         go false = there-same (eqb (wrote-answer .number) Done)
 
-    pub write-whole : WholeCanvas (write-call 32 id i m t k .value .canvas)
+    pub write-whole : WholeCanvas (write-call id i m t k .value .canvas)
     unfolding write-call
     write-whole = go (leb (length (s .rows)) i) refl
       where
@@ -215,7 +219,7 @@ module _ (k : calls.Canvas) (w : WholeCanvas k) (i : ℕ) where
         let y : listing a l ≡ listing (answer (a .number) []) l = ap (λ (rs : List Span). listing (answer (a .number) rs) l) (refused-none id t m u) in
         rw (kept id t m u, z, y)
 
-    pub write-by : write-of here i depth id t l ≡ wrote-of (write-call 32 id i (length l / 2) t k) l
+    pub write-by : write-of here i depth id t l ≡ wrote-of (write-call id i (length l / 2) t k) l
     unfolding write-of write-call listing
     write-by = rw runs-judged (go (leb (length (s .rows)) i) refl)
       where
@@ -232,7 +236,7 @@ module _ (k : calls.Canvas) (w : WholeCanvas k) (i : ℕ) where
   unfolding encode
   own-state h = ap (λ (x : Words). x .state) (own-words s i h)
 
-  pub skip-by : (t : Span) (id : ℕ) → skip-of-row here i (rows-of s .state) t id ≡ can-skip-call 32 i t id k
+  pub skip-by : (t : Span) (id : ℕ) → skip-of-row here i (rows-of s .state) t id ≡ can-skip-call i t id k
   unfolding skip-of-row can-skip-call can-skip-answer
   skip-by t id = rw skip-judged (go (leb (length (s .rows)) i) refl)
     where
@@ -247,16 +251,19 @@ module _ (k : calls.Canvas) (w : WholeCanvas k) (i : ℕ) where
           rw (own-state h, f, skip-same (s .state .attrs) n r (fine-at (w .sound .built .fine) i) (w .fair i) t id)
 
   -- While painting goes on, no depth word hides a tile of a span for which `can_skip` says yes.
-  pub skip-clear : k .begun ≡ true → (t : Span) (id : ℕ) → can-skip-call 32 i t id k .value ≡ true → (x : ℕ) → t .first ≤ x → x < t .end → getD (part n i depth) (x / 32) 0 ≤ id
+  pub skip-clear : k .begun ≡ true → (t : Span) (id : ℕ) → can-skip-call i t id k .value ≡ true → (x : ℕ) → t .first ≤ x → x < t .end → getD (part n i depth) (x / v) 0 ≤ id
   unfolding can-skip-call can-skip-answer
   skip-clear b t id y x lo hi = go (leb (length (s .rows)) i) refl y
     where
-      tested : i < length (s .rows) → (c : Bool) → cond c (answer BadRun false) (answer Done (can-skip (r .depth) t id)) .value ≡ true → getD (p .buckets) (x / 32) 0 ≤ id
+      low : t .first / v ≤ x / v
+      low = each (λ v. t .first / v ≤ x / v) (omega arith) (omega arith) (omega arith) (s .state .frame .width)
+
+      tested : i < length (s .rows) → (c : Bool) → cond c (answer BadRun false) (answer Done (can-skip (r .depth) t id)) .value ≡ true → getD (p .buckets) (x / v) 0 ≤ id
       tested h true q = never (sym q)
       tested h false q =
-          passes (summary-at (state-of r)) (p .buckets) (w .going b i h .sound) id t
-          (skip-same (s .state .attrs) n r (fine-at (w .sound .built .fine) i) (w .fair i) t id ∙ q) (x / 32) (omega arith) (omega arith) (omega arith)
+          passes (s .state .frame .width) (summary-at (state-of r)) (p .buckets) (w .going b i h .sound) id t
+          (skip-same (s .state .attrs) n r (fine-at (w .sound .built .fine) i) (w .fair i) t id ∙ q) (x / v) low (meets (s .state .frame .width) x (t .end) hi) (omega arith)
 
-      go : (c : Bool) → leb (length (s .rows)) i ≡ c → calls.of-row c false (can-skip-answer (r .depth) t id) .value ≡ true → getD (part n i depth) (x / 32) 0 ≤ id
+      go : (c : Bool) → leb (length (s .rows)) i ≡ c → calls.of-row c false (can-skip-answer (r .depth) t id) .value ≡ true → getD (part n i depth) (x / v) 0 ≤ id
       go true e q = never (sym q)
       go false e q = rw (own-depth e) (tested (leb-false _ _ e) (bad-range 8192 t) q)

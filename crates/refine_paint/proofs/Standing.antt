@@ -55,7 +55,7 @@ union-good : (u : Option Span) → OrderedUnion u → (leb (first-of u) (end-of 
 union-good none o = (refl, refl)
 union-good (some s) o = (le-leb _ _ (o .order), le-leb _ _ (o .end))
 
-module _ (a : Attrs) (n c d : ℕ) (few : n < 65536) (r : Row) (f : Fitting c d r) (h : Fair a n r) where
+module _ {v : ℕ} (a : Attrs) (n c d : ℕ) (few : n < 65536) (r : Row) (f : Fitting c d r) (h : Fair v a n r) where
   render-at : (k j : ℕ) → k < length (r .commands) → j < 4 → getD (padded (4 * c) (join command-words (r .commands))) (4 * k + j) 0 ≡ getD (command-words (getD (r .commands) k pop-buf)) j 0
   render-at k j l g =
       let m : length (join command-words (r .commands)) ≤ 4 * c = rw (join-length command-words 4 four (r .commands)) (omega (arith, f .commands)) in

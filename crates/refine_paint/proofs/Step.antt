@@ -11,13 +11,12 @@ use lib.Seq.{take-at, drop-at}
 use borrow.Author.Tests.{ne-eqb, eq-eqb, lt-leb, leb-false, ltb-false}
 use Rattle.rules.specs.Lists.{join, is-empty}
 use Rattle.rules.specs.Answers.{settle, Done, BadRun, Open, NoRoom}
-use Rattle.rules.specs.Boxes.{buckets-of}
 use Rattle.rules.specs.Boxes as boxes
 use Rattle.screen.specs.Attributes.{paint-attr-words}
 use Rattle.rules.specs.Rows.{Row, fresh-row}
 use Rattle.rules.specs.Steps as rule
 use Rattle.rules.specs.Painting.{Painter, Painted, begin, paint-step}
-use Rattle.rules.specs.Plans.{Layer}
+use Rattle.rules.specs.Plans.{buckets-across, Layer}
 use Rattle.rules.specs.Calls as calls
 use Rattle.rules.specs.Calls.{paint-call, given, with-painter}
 use Rattle.rules.proofs.All.{All, nil, cons, neither, all-at, and-right}
@@ -85,7 +84,7 @@ module _ (k : calls.Canvas) (w : WholeCanvas k) (i : ℕ) (l : List ℕ) where
   s = k .screen
 
   abbrev n : ℕ
-  n = buckets-of 32 (s .state .frame .viewport)
+  n = buckets-across (s .state .frame)
 
   long : Long (sizes (s .state .frame .c) (s .state .frame .d)) (boxes.rows-of (s .state .frame .viewport)) (rows-of s)
   long = rw (← w .sound .count) (screen-long (s .state .frame .c) (s .state .frame .d) (s .rows))
@@ -129,7 +128,7 @@ module _ (k : calls.Canvas) (w : WholeCanvas k) (i : ℕ) (l : List ℕ) where
     p = getD (k .painters) i (begin 0)
 
     abbrev o : Painted
-    o = paint-step 32 (s .state .attrs) r p
+    o = paint-step (calls.bucket-on k) (s .state .attrs) r p
 
     there : i < length (k .painters)
     there = rw (w .count) h
@@ -156,11 +155,11 @@ module _ (k : calls.Canvas) (w : WholeCanvas k) (i : ℕ) (l : List ℕ) where
         rw (own-depth, m) (row-stands s i h (w .sound) (w .fair)) in
         let q : PainterReady a r (painter-at (part n i (depth-of (k .painters))) (part 2 i (painting-of (k .painters)))) =
         rw (own-depth, own-painting) (going-ready a n r (fine-at (w .sound .built .fine) i) (w .fair i) p (w .going on i h)) in
-        let u : Sound (summary-at (part 54 i (rows-of s .state))) (part n i (depth-of (k .painters))) = rw (own-state, own-depth) (w .going on i h .sound) in
+        let u : Sound (calls.bucket-on k) (summary-at (part 54 i (rows-of s .state))) (part n i (depth-of (k .painters))) = rw (own-state, own-depth) (w .going on i h .sound) in
         step-by-rules (screen-of (s .state) (k .begun)) i (attributes-of s) (words-of k l) done-number a (holds s) r g q u ∙ rw (own-depth, own-painting)
 
     -- 14 alters nothing; done, the row's painter is the rules'
-    step-out : in-place (screen-of (s .state) (k .begun)) i (words-of k l) (settled (some o) (p .buckets) (standing-in p) l) ≡ given-out (paint-call 32 i (length l / 6) k) l
+    step-out : in-place (screen-of (s .state) (k .begun)) i (words-of k l) (settled (some o) (p .buckets) (standing-in p) l) ≡ given-out (paint-call i (length l / 6) k) l
     unfolding settled paint-call
     step-out = rw (lt-leb (length (s .rows)) i h, b, on) (go (ltb (length l / 6) (length (o .pieces))))
       where
@@ -172,13 +171,13 @@ module _ (k : calls.Canvas) (w : WholeCanvas k) (i : ℕ) (l : List ℕ) where
             ≡ given-out
             (settle (cond u NoRoom Done)
             (given (record { finished = false; pieces = []; painter = p }) (record { screen = s; begun = true; painters = k .painters }))
-            (given o (with-painter 32 k true i (o .painter))))
+            (given o (with-painter k true i (o .painter))))
             l
         go true = rw (kept buckets-in n (w .wide), kept standing-in 2 (all-standing (k .painters)))
         go false = rw (put-join buckets-in n (w .wide) i (o .painter) there, put-join standing-in 2 (all-standing (k .painters)) i (o .painter) there)
 
   abbrev Same : Type 0
-  Same = stepped (screen-of (s .state) (k .begun)) i (attributes-of s) (words-of k l) ≡ given-out (paint-call 32 i (length l / 6) k) l
+  Same = stepped (screen-of (s .state) (k .begun)) i (attributes-of s) (words-of k l) ≡ given-out (paint-call i (length l / 6) k) l
 
   missing : leb (length (s .rows)) i ≡ true → Same
   unfolding stepped paint-call
@@ -189,7 +188,7 @@ module _ (k : calls.Canvas) (w : WholeCanvas k) (i : ℕ) (l : List ℕ) where
   not-begun e f = rw (step-judged, e, f)
 
   -- The call at the words: the rules' number, pieces and painter, and nothing else altered.
-  pub step-by : stepped (screen-of (s .state) (k .begun)) i (attributes-of s) (words-of k l) ≡ given-out (paint-call 32 i (length l / 6) k) l
+  pub step-by : stepped (screen-of (s .state) (k .begun)) i (attributes-of s) (words-of k l) ≡ given-out (paint-call i (length l / 6) k) l
   step-by = go (leb (length (s .rows)) i) (calls.paints-on k) refl refl
     where
       go : (t b : Bool) → leb (length (s .rows)) i ≡ t → calls.paints-on k ≡ b → Same

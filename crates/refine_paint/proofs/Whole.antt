@@ -9,10 +9,10 @@ use lib.Seq.{getD-set-same, getD-set-other}
 use borrow.Author.Tests.{leb-false, eqb-true, eqb-false}
 use Rattle.rules.specs.Lists.{is-empty}
 use Rattle.rules.specs.Answers.{settle, first-of, Done, BadRun, Open, NoRoom}
-use Rattle.rules.specs.Boxes.{buckets-of}
 use Rattle.rules.specs.Rows.{fresh-row}
+use Rattle.rules.specs.Plans.{buckets-across}
 use Rattle.rules.specs.Painting.{Painter, Painted, begin, paint-step}
-use Rattle.rules.specs.Calls.{Canvas, paints-on, given, begin-call, paint-call, blank, with-painter}
+use Rattle.rules.specs.Calls.{Canvas, bucket-on, paints-on, given, begin-call, paint-call, blank, with-painter}
 use Rattle.rules.proofs.All.{All, nil, cons, all-replicate, and-right}
 use Rattle.refine_paint.specs.Painters.{Going}
 use Rattle.refine_paint.specs.Canvases.{WholeCanvas}
@@ -26,13 +26,13 @@ all-set (suc i) x p (cons q a) = cons q (all-set i x p a)
 
 module _ (k : Canvas) (w : WholeCanvas k) where
   abbrev n : ℕ
-  n = buckets-of 32 (k .screen .state .frame .viewport)
+  n = buckets-across (k .screen .state .frame)
 
-  pub begin-whole : WholeCanvas (begin-call 32 k .value)
+  pub begin-whole : WholeCanvas (begin-call k .value)
   unfolding begin-call
   begin-whole = go (is-empty (k .screen .state .layers)) refl
     where
-      begun-now : is-empty (k .screen .state .layers) ≡ true → WholeCanvas (record { screen = k .screen; begun = true; painters = blank 32 (k .screen) })
+      begun-now : is-empty (k .screen .state .layers) ≡ true → WholeCanvas (record { screen = k .screen; begun = true; painters = blank (k .screen) })
       begun-now none-open =
           record {
             sound = w .sound;
@@ -45,15 +45,15 @@ module _ (k : Canvas) (w : WholeCanvas k) where
                 (begin-going (k .screen .state .attrs) n (getD (k .screen .rows) i fresh-row) (fine-at (w .sound .built .fine) i) (w .fair i));
           }
 
-      go : (b : Bool) → is-empty (k .screen .state .layers) ≡ b → WholeCanvas (settle (cond b Done Open) k (record { screen = k .screen; begun = true; painters = blank 32 (k .screen) }) .value)
+      go : (b : Bool) → is-empty (k .screen .state .layers) ≡ b → WholeCanvas (settle (cond b Done Open) k (record { screen = k .screen; begun = true; painters = blank (k .screen) }) .value)
       go true e = begun-now e
       go false e = w
 
   module _ (i : ℕ) where
     abbrev o : Painted
-    o = paint-step 32 (k .screen .state .attrs) (getD (k .screen .rows) i fresh-row) (getD (k .painters) i (begin 0))
+    o = paint-step (bucket-on k) (k .screen .state .attrs) (getD (k .screen .rows) i fresh-row) (getD (k .painters) i (begin 0))
 
-    step-on : k .begun ≡ true → i < length (k .screen .rows) → WholeCanvas (with-painter 32 k (k .begun) i (o .painter))
+    step-on : k .begun ≡ true → i < length (k .screen .rows) → WholeCanvas (with-painter k (k .begun) i (o .painter))
     step-on b h =
         let g = step-going (k .screen .state .attrs) n (getD (k .screen .rows) i fresh-row) (fine-at (w .sound .built .fine) i) (w .fair i) (getD (k .painters) i (begin 0)) (w .going b i h) in
         record {
@@ -68,12 +68,12 @@ module _ (k : Canvas) (w : WholeCanvas k) where
         there : i < length (k .painters)
         there = rw (w .count) h
 
-        go : Going n (getD (k .screen .rows) i fresh-row) (o .painter) → (j : ℕ) → j < length (k .screen .rows) → (t : Bool) → eqb j i ≡ t
-            → Going n (getD (k .screen .rows) j fresh-row) (getD (set (k .painters) i (o .painter)) j (begin 0))
+        go : Going (bucket-on k) n (getD (k .screen .rows) i fresh-row) (o .painter) → (j : ℕ) → j < length (k .screen .rows) → (t : Bool) → eqb j i ≡ t
+            → Going (bucket-on k) n (getD (k .screen .rows) j fresh-row) (getD (set (k .painters) i (o .painter)) j (begin 0))
         go g j l true e = rw (eqb-true j i e, getD-set-same (k .painters) i (o .painter) (begin 0) there) g
         go g j l false e = rw (getD-set-other (k .painters) i j (o .painter) (begin 0) (eqb-false j i e)) (w .going b j l)
 
-    pub paint-whole : (m : ℕ) → WholeCanvas (paint-call 32 i m k .value .canvas)
+    pub paint-whole : (m : ℕ) → WholeCanvas (paint-call i m k .value .canvas)
     unfolding paint-call
     paint-whole m = go (leb (length (k .screen .rows)) i) (paints-on k) (ltb m (length (o .pieces))) refl refl
       where
@@ -81,7 +81,7 @@ module _ (k : Canvas) (w : WholeCanvas k) where
             → WholeCanvas
             (settle (first-of ((t, BadRun) ∷ (not b, Open) ∷ (u, NoRoom) ∷ []))
             (given (record { finished = false; pieces = []; painter = getD (k .painters) i (begin 0) }) k)
-            (given o (with-painter 32 k (k .begun) i (o .painter)))
+            (given o (with-painter k (k .begun) i (o .painter)))
             .value .canvas)
         go true b u e f = w
         go false false u e f = w

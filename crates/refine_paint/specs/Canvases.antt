@@ -4,13 +4,13 @@ use mathlib.Core.Path.{_≡_}
 use mathlib.Core.Bool.{true}
 use mathlib.Core.List.{List, [], _∷_}
 use lib.ListN.{length, getD}
-use Rattle.sizes.specs.Sizes.{bucket-tiles, paint-attr-table, layer-attr-table}
+use Rattle.sizes.specs.Sizes.{paint-attr-table, layer-attr-table}
 use Rattle.rules.specs.Lists.{join, is-empty}
 use Rattle.rules.specs.Answers.{Answer, answer}
-use Rattle.rules.specs.Boxes.{buckets-of}
 use Rattle.rules.specs.Spans.{Span}
 use Rattle.rules.specs.Rows.{Row, fresh-row}
 use Rattle.screen.specs.Attributes.{paint-attr-words}
+use Rattle.rules.specs.Plans.{buckets-across}
 use Rattle.rules.specs.Steps.{Screen}
 use Rattle.rules.specs.Painting.{Painter, Painted, begin}
 use Rattle.rules.specs.Calls as rule
@@ -48,10 +48,10 @@ pub record WholeCanvas (k : rule.Canvas) : Type 0 where
   pub sound : Sound (k .screen)
   pub fair : FairRows (k .screen)
   pub count : length (k .painters) ≡ length (k .screen .rows)
-  pub wide : All (λ (p : Painter). length (p .buckets) ≡ buckets-of bucket-tiles (k .screen .state .frame .viewport)) (k .painters)
+  pub wide : All (λ (p : Painter). length (p .buckets) ≡ buckets-across (k .screen .state .frame)) (k .painters)
   pub closed : k .begun ≡ true → is-empty (k .screen .state .layers) ≡ true
   pub going : k .begun ≡ true → (i : ℕ) → i < length (k .screen .rows)
-      → Going (buckets-of bucket-tiles (k .screen .state .frame .viewport)) (getD (k .screen .rows) i fresh-row) (getD (k .painters) i (begin 0))
+      → Going (rule.bucket-on k) (buckets-across (k .screen .state .frame)) (getD (k .screen .rows) i fresh-row) (getD (k .painters) i (begin 0))
 
 -- what a painting step of the rules gives, as words: the answer, the depth and painting words, the list
 abbrev pub given-out : Answer (rule.Given Painted) → List ℕ → StepOut

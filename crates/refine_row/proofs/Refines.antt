@@ -134,10 +134,10 @@ split-ok v s g = go (leb (lowered v (s .end)) (raised v (s .first))) refl
           end = omega (arith, div-le-self (lowered v (s .end)) v, low, g .end);
         })) last)
 
--- the refinement, operation by operation: c and d are the room of a row, v the tiles of a bucket
-pub refines : (c d v : ℕ) → Follows Row Words row-ops word-ops (encode c d) Fine BoundedSpan v
+-- the refinement, operation by operation: c and d are the room of a row
+pub refines : (c d : ℕ) → Follows Row Words row-ops word-ops (encode c d) Fine BoundedSpan
 unfolding encode put-push-buf put-pop-buf
-refines c d v =
+refines c d =
     record {
       renders = λ r o. refl;
       depths = λ r o. refl;
@@ -148,14 +148,14 @@ refines c d v =
       closes = λ s i a g r o. (puts c d r o (layer-fill s i a), fine-put (layer-fill s i a) s refl g r o);
       pushes = λ r o h. (pushes c d r (omega arith), fine-push r o h);
       pops = λ r o. (pops c d r o, fine-pop (r .levels) r o refl);
-      fills = λ s a id g r o. (fills c d v r o (record { buckets = s; attribute = a }) id, fine-fill v (record { buckets = s; attribute = a }) id r o);
-      parts = split-ok v;
+      fills = λ v s a id g r o. (fills c d v r o (record { buckets = s; attribute = a }) id, fine-fill v (record { buckets = s; attribute = a }) id r o);
+      parts = split-ok;
     }
 
 -- the words of the rows that puts make of the rules' rows are what the same puts make of the rows' words
 pub refined : (c d v n : ℕ) → n ≤ 16 → (ps : List Put) → All (PutOk BoundedSpan) ps → (rows : List Row) → All Fine rows
     → (map (encode c d) (do-puts Row row-ops v n ps rows) ≡ do-puts Words word-ops v n ps (map (encode c d) rows)) × All Fine (do-puts Row row-ops v n ps rows)
-refined c d v n m ps o rows f = follows-puts (refines c d v) n m o rows f
+refined c d v n m ps o rows f = follows-puts (refines c d) v n m o rows f
 
 -- a reset's row
 pub fresh-fine : Fine fresh-row
@@ -177,13 +177,13 @@ pub record Built (s : Screen Row) : Type 0 where
   pub fine : All Fine (s .rows)
 
 -- Every step, refused or done: on the words of a screen's rows it has the answer of the rules, and gives the words of the rules' rows.
-pub called : (c d v : ℕ) (x : Step) (s : Screen Row) → Built s
-    → (call Words word-ops v x (screen-by (encode c d) s) ≡ answer-by (screen-by (encode c d)) (call Row row-ops v x s)) × Built (call Row row-ops v x s .value)
-called c d v x s b =
-    let r = follows-call (refines c d v) x s (plan-ok (s .state) (b .framed) x (touched Row row-ops v (length (s .state .layers)) 0 (s .rows))) (b .fine) in
-    (r .0, record { framed = call-framed Row row-ops v x s (b .framed); fine = r .1 })
+pub called : (c d : ℕ) (x : Step) (s : Screen Row) → Built s
+    → (call Words word-ops x (screen-by (encode c d) s) ≡ answer-by (screen-by (encode c d)) (call Row row-ops x s)) × Built (call Row row-ops x s .value)
+called c d x s b =
+    let r = follows-call (refines c d) x s (plan-ok (s .state) (b .framed) x (touched Row row-ops (length (s .state .layers)) 0 (s .rows))) (b .fine) in
+    (r .0, record { framed = call-framed Row row-ops x s (b .framed); fine = r .1 })
 
 -- .. and a reset
 pub reset-built : (f : Frame) → good-viewport (f .viewport) ≡ true → Built (reset fresh-row f)
 unfolding reset
-reset-built f g = record { framed = reset-framed Row row-ops 32 fresh-row f g; fine = all-replicate (rows-of (f .viewport)) fresh-row fresh-fine }
+reset-built f g = record { framed = reset-framed Row row-ops fresh-row f g; fine = all-replicate (rows-of (f .viewport)) fresh-row fresh-fine }

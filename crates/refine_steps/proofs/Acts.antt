@@ -3,11 +3,14 @@ use mathlib.Core.Path.{_≡_, refl}
 use mathlib.Core.Bool.{Bool, true, false, cond}
 use mathlib.Core.List.{List, [], _∷_, foldl}
 use mathlib.Core.Option.{Option, none, some}
-use Prim.Native.Nat.{ℕ, zero, suc, _-_, _/_, _≤_, _<_}
+use Prim.Native.Nat.{ℕ, zero, suc, _+_, _-_, _*_, _/_, _≤_, _<_}
+use native.Mathlib.Nat.{mul-div-cancel}
 use native.Mathlib.Omega.{arith}
 use lib.Dec.{leb, ltb}
 use lib.ListN.{length, getD}
 use borrow.Author.Tests.{leb-false}
+use Rattle.sizes.specs.declared.width.Width.{Width}
+use Rattle.sizes.specs.Widths.{bucket-tiles}
 use Rattle.rules.specs.Lists.{keep, change, times}
 use Rattle.rules.specs.Spans.{Span, span, hull}
 use Rattle.rules.specs.Split.{Part, regular, buckets, split, raised, lowered, around}
@@ -18,6 +21,7 @@ use Rattle.rules.specs.Plans.{Act, paint, opaque, touch, close, pop, Put}
 use Rattle.rules.specs.Steps.{ensure, put-part, do-act, do-puts}
 use Rattle.rules.proofs.All.{All, nil, cons, head, tail, all-keep}
 use Rattle.rules.proofs.laws.Changes.{change-at}
+use Rattle.rules.proofs.laws.Widths.{bucket-some, raised-least, lowered-most}
 use Rattle.rules.proofs.laws.Maps.{ActOk, paints, splits, touches, closes, pops}
 use Rattle.refine_steps.specs.Sound.{Ordered, OrderedUnion, Sane}
 
@@ -62,48 +66,62 @@ pop-sane : (r : Row) → Sane r → Sane (put-pop-buf r)
 unfolding put-pop-buf
 pop-sane r h = pop-as (r .levels) r refl h
 
--- the parts of a span, at 32 tiles a bucket
-abbrev PartFine : Part → Type 0
-PartFine (regular s) = Ordered s
-PartFine (buckets b) = Ordered (tiles-of 32 b)
+-- the parts of a span, at w tiles a bucket
+abbrev PartFine : ℕ → Part → Type 0
+PartFine w (regular s) = Ordered s
+PartFine w (buckets b) = Ordered (tiles-of w b)
 
-part-sane : (i id : ℕ) → id ≤ 1048576 → (p : Part) → PartFine p → (r : Row) → Sane r → Sane (put-part Row row-ops 32 i id r p)
-unfolding put-depth-fill
-part-sane i id g (regular s) o r h = put-sane (paint-fill s none i) s refl o r h
-part-sane i id g (buckets b) o r h = record { unions = h .unions; depth = hull-ordered (r .depth .union) (tiles-of 32 b) (h .depth) o; largest = omega (arith, h .largest) }
+module _ (w : ℕ) where
+  part-sane : (i id : ℕ) → id ≤ 1048576 → (p : Part) → PartFine w p → (r : Row) → Sane r → Sane (put-part Row row-ops w i id r p)
+  unfolding put-depth-fill
+  part-sane i id g (regular s) o r h = put-sane (paint-fill s none i) s refl o r h
+  part-sane i id g (buckets b) o r h = record { unions = h .unions; depth = hull-ordered (r .depth .union) (tiles-of w b) (h .depth) o; largest = omega (arith, h .largest) }
 
-parts-sane : (i id : ℕ) → id ≤ 1048576 → {ps : List Part} → All PartFine ps → (r : Row) → Sane r → Sane (foldl (put-part Row row-ops 32 i id) r ps)
-parts-sane i id g nil r h = h
-parts-sane i id g (cons {x = p} o os) r h = parts-sane i id g os (put-part Row row-ops 32 i id r p) (part-sane i id g p o r h)
+  parts-sane : (i id : ℕ) → id ≤ 1048576 → {ps : List Part} → All (PartFine w) ps → (r : Row) → Sane r → Sane (foldl (put-part Row row-ops w i id) r ps)
+  parts-sane i id g nil r h = h
+  parts-sane i id g (cons {x = p} o os) r h = parts-sane i id g os (put-part Row row-ops w i id r p) (part-sane i id g p o r h)
 
-split-fine : (s : Span) → Ordered s → All PartFine (split 32 s)
-unfolding split
-split-fine s o = go (leb (lowered 32 (s .end)) (raised 32 (s .first))) refl
-  where
-    last : All PartFine (keep (ltb (lowered 32 (s .end)) (s .end)) (regular (span (lowered 32 (s .end)) (s .end))) [])
-    last = all-keep {P = PartFine} (ltb (lowered 32 (s .end)) (s .end)) (regular (span (lowered 32 (s .end)) (s .end))) (record { order = omega arith; end = o .end }) nil
+  -- whole buckets
+  multiples : 0 < w → (a b : ℕ) → a * w < b * w → b * w ≤ 8192 → Ordered (tiles-of w (span (a * w / w) (b * w / w)))
+  multiples p a b h g = rw (mul-div-cancel a p, mul-div-cancel b p) (record { order = omega (arith, h); end = g })
 
-    go : (t : Bool) → leb (lowered 32 (s .end)) (raised 32 (s .first)) ≡ t
-        → All PartFine (cond t (regular s ∷ []) (around 32 s (raised 32 (s .first)) (lowered 32 (s .end))))
-    go true e = cons {x = regular s} o nil
-    go false e =
-        let b : raised 32 (s .first) < lowered 32 (s .end) = leb-false (lowered 32 (s .end)) (raised 32 (s .first)) e in
-        all-keep {P = PartFine} (ltb (s .first) (raised 32 (s .first))) (regular (span (s .first) (raised 32 (s .first))))
-        (record { order = omega arith; end = omega (arith, o .end) })
-        (cons {x = buckets (span (raised 32 (s .first) / 32) (lowered 32 (s .end) / 32))} (record { order = omega arith; end = omega (arith, o .end) }) last)
+module _ (width : Width) where
+  abbrev tiles : ℕ
+  tiles = bucket-tiles width
 
-act-sane : (n : ℕ) (t : Act) → ActOk Ordered t → id-of t ≤ 1048576 → (r : Row) → Sane r → Sane (do-act Row row-ops 32 n t r)
-unfolding do-act
-act-sane n (paint s a i) (paints o) g r h = put-sane (paint-fill s a i) s refl o (ensure Row row-ops 32 n r) (pushes-sane (n - length (r .levels)) r h)
-act-sane n (opaque s i id) (splits o) g r h = parts-sane i id g (split-fine s o) (ensure Row row-ops 32 n r) (pushes-sane (n - length (r .levels)) r h)
-act-sane n touch touches g r h = pushes-sane (n - length (r .levels)) r h
-act-sane n (close s a i) (closes o) g r h = put-sane (layer-fill s a i) s refl o r h
-act-sane n pop pops g r h = pop-sane r h
+  split-fine : (s : Span) → Ordered s → All (PartFine tiles) (split tiles s)
+  unfolding split
+  split-fine s o = go (leb (lowered tiles (s .end)) (raised tiles (s .first))) refl
+    where
+      low : lowered tiles (s .end) ≤ s .end
+      low = lowered-most width (s .end)
 
-pub puts-sane : (n : ℕ) {ps : List Put} → All PutFine ps → (rs : List Row) → ((i : ℕ) → Sane (getD rs i fresh-row)) → (i : ℕ) → Sane (getD (do-puts Row row-ops 32 n ps rs) i fresh-row)
-unfolding do-puts
-puts-sane n nil rs h i = h i
-puts-sane n (cons {x = p} o os) rs h i =
-    puts-sane n os (change (do-act Row row-ops 32 n (p .act)) (p .row) rs)
-    (λ j. change-at Sane (do-act Row row-ops 32 n (p .act)) (p .row) j rs fresh-row (h j) (act-sane n (p .act) (o .act) (o .id) (getD rs j fresh-row) (h j)))
-    i
+      last : All (PartFine tiles) (keep (ltb (lowered tiles (s .end)) (s .end)) (regular (span (lowered tiles (s .end)) (s .end))) [])
+      last = all-keep {P = PartFine tiles} (ltb (lowered tiles (s .end)) (s .end)) (regular (span (lowered tiles (s .end)) (s .end))) (record { order = low; end = o .end }) nil
+
+      go : (t : Bool) → leb (lowered tiles (s .end)) (raised tiles (s .first)) ≡ t
+          → All (PartFine tiles) (cond t (regular s ∷ []) (around tiles s (raised tiles (s .first)) (lowered tiles (s .end))))
+      go true e = cons {x = regular s} o nil
+      go false e =
+          let b : raised tiles (s .first) < lowered tiles (s .end) = leb-false (lowered tiles (s .end)) (raised tiles (s .first)) e in
+          all-keep {P = PartFine tiles} (ltb (s .first) (raised tiles (s .first))) (regular (span (s .first) (raised tiles (s .first))))
+          (record { order = raised-least width (s .first); end = omega (arith, b, low, o .end) })
+          (cons {x = buckets (span (raised tiles (s .first) / tiles) (lowered tiles (s .end) / tiles))}
+          (multiples tiles (bucket-some width) ((s .first + (tiles - 1)) / tiles) (s .end / tiles) b (omega (arith, low, o .end))) last)
+
+  act-sane : (n : ℕ) (t : Act) → ActOk Ordered t → id-of t ≤ 1048576 → (r : Row) → Sane r → Sane (do-act Row row-ops tiles n t r)
+  unfolding do-act
+  act-sane n (paint s a i) (paints o) g r h = put-sane (paint-fill s a i) s refl o (ensure Row row-ops n r) (pushes-sane (n - length (r .levels)) r h)
+  act-sane n (opaque s i id) (splits o) g r h = parts-sane tiles i id g (split-fine s o) (ensure Row row-ops n r) (pushes-sane (n - length (r .levels)) r h)
+  act-sane n touch touches g r h = pushes-sane (n - length (r .levels)) r h
+  act-sane n (close s a i) (closes o) g r h = put-sane (layer-fill s a i) s refl o r h
+  act-sane n pop pops g r h = pop-sane r h
+
+  pub puts-sane : (n : ℕ) {ps : List Put} → All PutFine ps → (rs : List Row) → ((i : ℕ) → Sane (getD rs i fresh-row))
+      → (i : ℕ) → Sane (getD (do-puts Row row-ops (bucket-tiles width) n ps rs) i fresh-row)
+  unfolding do-puts
+  puts-sane n nil rs h i = h i
+  puts-sane n (cons {x = p} o os) rs h i =
+      puts-sane n os (change (do-act Row row-ops tiles n (p .act)) (p .row) rs)
+      (λ j. change-at Sane (do-act Row row-ops tiles n (p .act)) (p .row) j rs fresh-row (h j) (act-sane n (p .act) (o .act) (o .id) (getD rs j fresh-row) (h j)))
+      i

@@ -82,43 +82,43 @@ module _ (s : rule.Screen Row) (h : Sound s) (x : State) (f : x .frame ≡ s .st
   here-rows : here .rows ≡ words-screen .rows
   here-rows = rw f (rows-cut s h)
 
-  done-rows : done Words word-ops 32 p here .rows ≡ done Words word-ops 32 q words-screen .rows
+  done-rows : done Words word-ops p here .rows ≡ done Words word-ops q words-screen .rows
   unfolding done
-  done-rows = rw (here-rows, a .deep, a .puts)
+  done-rows = rw (here-rows, f, a .deep, a .puts)
 
-  same-refusal : refusal Words word-ops 32 p (done Words word-ops 32 p here) ≡ refusal Words word-ops 32 q (done Words word-ops 32 q words-screen)
+  same-refusal : refusal Words word-ops p (done Words word-ops p here) ≡ refusal Words word-ops q (done Words word-ops q words-screen)
   unfolding refusal done
   same-refusal = rw (here-rows, f, a .refused, a .next, a .deep, a .puts, grown-length (a .paints), a .layers, grown-length (a .filters))
 
-  performed : perform Words word-ops 32 q words-screen ≡ answer-by (screen-by (encode (s .state .frame .c) (s .state .frame .d))) (perform Row row-ops 32 q s)
-  performed = follows-perform (refines (s .state .frame .c) (s .state .frame .d) 32) q o s (h .built .fine) .0
+  performed : perform Words word-ops q words-screen ≡ answer-by (screen-by (encode (s .state .frame .c) (s .state .frame .d))) (perform Row row-ops q s)
+  performed = follows-perform (refines (s .state .frame .c) (s .state .frame .d)) q o s (h .built .fine) .0
 
-  rules-refusal : refusal Words word-ops 32 q (done Words word-ops 32 q words-screen) ≡ refusal Row row-ops 32 q (done Row row-ops 32 q s)
+  rules-refusal : refusal Words word-ops q (done Words word-ops q words-screen) ≡ refusal Row row-ops q (done Row row-ops q s)
   unfolding perform
   rules-refusal =
-      sym (settle-number (refusal Words word-ops 32 q (done Words word-ops 32 q words-screen)) words-screen (done Words word-ops 32 q words-screen))
+      sym (settle-number (refusal Words word-ops q (done Words word-ops q words-screen)) words-screen (done Words word-ops q words-screen))
       ∙ ap (λ (x : Answer (rule.Screen Words)). x .number) performed
-      ∙ settle-number (refusal Row row-ops 32 q (done Row row-ops 32 q s)) s (done Row row-ops 32 q s)
+      ∙ settle-number (refusal Row row-ops q (done Row row-ops q s)) s (done Row row-ops q s)
 
   -- the rules' number
-  pub plan-number : refusal Words word-ops 32 p (done Words word-ops 32 p here) ≡ refusal Row row-ops 32 q (done Row row-ops 32 q s)
+  pub plan-number : refusal Words word-ops p (done Words word-ops p here) ≡ refusal Row row-ops q (done Row row-ops q s)
   plan-number = same-refusal ∙ rules-refusal
 
-  rules-rows : refusal Row row-ops 32 q (done Row row-ops 32 q s) ≡ Done
-      → done Words word-ops 32 q words-screen .rows ≡ map (encode (s .state .frame .c) (s .state .frame .d)) (done Row row-ops 32 q s .rows)
+  rules-rows : refusal Row row-ops q (done Row row-ops q s) ≡ Done
+      → done Words word-ops q words-screen .rows ≡ map (encode (s .state .frame .c) (s .state .frame .d)) (done Row row-ops q s .rows)
   unfolding perform
   rules-rows e =
-      sym (ap (λ (x : rule.Screen Words). x .rows) (settle-done (refusal Words word-ops 32 q (done Words word-ops 32 q words-screen)) words-screen (done Words word-ops 32 q words-screen) (rules-refusal ∙ e)))
+      sym (ap (λ (x : rule.Screen Words). x .rows) (settle-done (refusal Words word-ops q (done Words word-ops q words-screen)) words-screen (done Words word-ops q words-screen) (rules-refusal ∙ e)))
       ∙ ap (λ (x : Answer (rule.Screen Words)). x .value .rows) performed
-      ∙ ap (λ (x : rule.Screen Row). map (encode (s .state .frame .c) (s .state .frame .d)) (x .rows)) (settle-done (refusal Row row-ops 32 q (done Row row-ops 32 q s)) s (done Row row-ops 32 q s) e)
+      ∙ ap (λ (x : rule.Screen Row). map (encode (s .state .frame .c) (s .state .frame .d)) (x .rows)) (settle-done (refusal Row row-ops q (done Row row-ops q s)) s (done Row row-ops q s) e)
 
   -- the words of the rules' rows
-  pub plan-rows : refusal Row row-ops 32 q (done Row row-ops 32 q s) ≡ Done → lay (done Words word-ops 32 p here .rows) ≡ rows-of (done Row row-ops 32 q s)
+  pub plan-rows : refusal Row row-ops q (done Row row-ops q s) ≡ Done → lay (done Words word-ops p here .rows) ≡ rows-of (done Row row-ops q s)
   unfolding done
   plan-rows e = ap lay (done-rows ∙ rules-rows e)
 
   -- a step's number, where the tests before say nothing
-  pub number-is : (k : ℕ) (g : Bool) → k ≡ 0 → g ≡ true → step-number k g p here ≡ refusal Row row-ops 32 q (done Row row-ops 32 q s)
+  pub number-is : (k : ℕ) (g : Bool) → k ≡ 0 → g ≡ true → step-number k g p here ≡ refusal Row row-ops q (done Row row-ops q s)
   unfolding step-number
   number-is k g z t = rw (z, t) plan-number
 
@@ -129,16 +129,16 @@ state-frame s b = refl
 
 module _ (s : rule.Screen Row) (h : Sound s) (b : Bool) (p q : Plan) (a : Alike (s .state) p q) (o : q .refused ≡ Done → All (PutOk BoundedSpan) (q .puts)) where
   -- the screen's numbers afterwards
-  pub plan-screen : screen-after (screen-of (s .state) b) p ≡ screen-of (done Row row-ops 32 q s .state) false
+  pub plan-screen : screen-after (screen-of (s .state) b) p ≡ screen-of (done Row row-ops q s .state) false
   unfolding screen-after done
   plan-screen = rw (a .next, a .deep, a .clip, grown-length (a .paints), a .layers, grown-length (a .filters))
 
-  pub rows-is : refusal Row row-ops 32 q (done Row row-ops 32 q s) ≡ Done → lay (done Words word-ops 32 p (screen-at (state-of (screen-of (s .state) b)) (rows-of s)) .rows) ≡ rows-of (done Row row-ops 32 q s)
+  pub rows-is : refusal Row row-ops q (done Row row-ops q s) ≡ Done → lay (done Words word-ops p (screen-at (state-of (screen-of (s .state) b)) (rows-of s)) .rows) ≡ rows-of (done Row row-ops q s)
   rows-is e = plan-rows s h (state-of (screen-of (s .state) b)) (state-frame (s .state) b) p q a o e
 
   -- .. of a step that judges the records of the rows that it puts on
   pub step-is : (k : ℕ) → k ≡ 0
-      → step-number k (good-rows (s .state .frame) (length (s .state .layers)) (p .puts) (rows-at (s .state .frame) (rows-of s))) p (screen-at (state-of (screen-of (s .state) b)) (rows-of s)) ≡ refusal Row row-ops 32 q (done Row row-ops 32 q s)
+      → step-number k (good-rows (s .state .frame) (length (s .state .layers)) (p .puts) (rows-at (s .state .frame) (rows-of s))) p (screen-at (state-of (screen-of (s .state) b)) (rows-of s)) ≡ refusal Row row-ops q (done Row row-ops q s)
   step-is k z =
       let g = records-good (s .state .frame) (length (s .state .layers)) (p .puts) (s .rows) (λ j. (h .rows j, h .reaching .rows j .few)) (h .built .fine) in
       number-is s h (state-of (screen-of (s .state) b)) (state-frame (s .state) b) p q a o k _ z (rw (rows-cut s h) g)

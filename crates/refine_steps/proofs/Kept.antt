@@ -17,7 +17,7 @@ use Rattle.rules.specs.Blends.{good-blend}
 use Rattle.rules.specs.Inputs.{Paint, Draw, Clip, Props, good-handle, all-good, good-props, Filter, good-filter, draw-segments, good-fill}
 use Rattle.rules.specs.Attributes.{attrs-full}
 use Rattle.rules.specs.Rows.{Row, fresh-row, row-ops}
-use Rattle.rules.specs.Plans.{Frame, Layer, State, Step, a-fill, a-push, a-pop, a-filter, paint, touch, close, pop, on, Put, Plan, still, clip-box, box-of, draw-act, draw-puts, plan-fill, layer-box, touches-all, plan-push, clip-segments, clip-fits, close-puts, closing, plan-pop, filter-box, draws-nothing, filter-puts, plan-filter-in, plan-filter, plan}
+use Rattle.rules.specs.Plans.{Frame, bucket, Layer, State, Step, a-fill, a-push, a-pop, a-filter, paint, touch, close, pop, on, Put, Plan, still, clip-box, box-of, draw-act, draw-puts, plan-fill, layer-box, touches-all, plan-push, clip-segments, clip-fits, close-puts, closing, plan-pop, filter-box, draws-nothing, filter-puts, plan-filter-in, plan-filter, plan}
 use Rattle.rules.specs.Steps.{Screen, reset, do-puts, done, row-passes, passes, refusal, perform, touched, call}
 use Rattle.rules.specs.Walk.{good-room}
 use Rattle.rules.proofs.All.{All, nil, cons, head, tail, both, neither, never, all-if, all-append, all-mapped, all-join}
@@ -163,8 +163,8 @@ pub record Passing (p : Plan) (t : Screen Row) : Type 0 where
   pub deep : length (p .layers) ≤ 16
   pub ids : p .next ≤ 1048577
   pub attrs : attrs-full (p .attrs) ≡ false
-  pub renders : passes Row row-ops 32 (λ (r : Row). length (r .commands)) (t .state .frame .c) (p .puts) (t .rows) ≡ false
-  pub depths : passes Row row-ops 32 (λ (r : Row). length (r .fills)) (t .state .frame .d) (p .puts) (t .rows) ≡ false
+  pub renders : passes Row row-ops (λ (r : Row). length (r .commands)) (t .state .frame .c) (p .puts) (t .rows) ≡ false
+  pub depths : passes Row row-ops (λ (r : Row). length (r .fills)) (t .state .frame .d) (p .puts) (t .rows) ≡ false
 
 none-says : (a b c d e : Bool) → first-of ((a, Deep) ∷ (b, Ids) ∷ (c, FullAttrs) ∷ (d, FullRow) ∷ (e, FullDepth) ∷ []) ≡ Done
     → (a ≡ false) × (b ≡ false) × (c ≡ false) × (d ≡ false) × (e ≡ false)
@@ -175,7 +175,7 @@ none-says false false false true e h = absurd (omega arith)
 none-says false false false false true h = absurd (omega arith)
 none-says false false false false false h = (refl, refl, refl, refl, refl)
 
-pub passing : (p : Plan) (t : Screen Row) → refusal Row row-ops 32 p t ≡ Done → Passing p t
+pub passing : (p : Plan) (t : Screen Row) → refusal Row row-ops p t ≡ Done → Passing p t
 unfolding refusal
 passing p t e = go (eqb (p .refused) Done) refl
   where
@@ -187,29 +187,29 @@ passing p t e = go (eqb (p .refused) Done) refl
 
 -- counts stay within their limit
 module _ (count : Row → ℕ) (n : ℕ) (z : count fresh-row ≤ n) where
-  row-fits : (i : ℕ) (rs : List Row) → row-passes Row row-ops 32 count n i rs ≡ false → count (getD rs i fresh-row) ≤ n
+  row-fits : (i : ℕ) (rs : List Row) → row-passes Row row-ops count n i rs ≡ false → count (getD rs i fresh-row) ≤ n
   row-fits i [] e = z
   row-fits zero (r ∷ rs) e = ltb-false n (count r) e
   row-fits (suc i) (r ∷ rs) e = row-fits i rs e
 
-  put-fits : (x : ℕ) (ps : List Put) (rs : List Row) → passes Row row-ops 32 count n ps rs ≡ false → puts-on x ps ≡ true → count (getD rs x fresh-row) ≤ n
+  put-fits : (x : ℕ) (ps : List Put) (rs : List Row) → passes Row row-ops count n ps rs ≡ false → puts-on x ps ≡ true → count (getD rs x fresh-row) ≤ n
   unfolding passes puts-on
   put-fits x [] rs e h = never (sym h)
   put-fits x (p ∷ ps) rs e h =
-      let k = neither (row-passes Row row-ops 32 count n (p .row) rs) (passes Row row-ops 32 count n ps rs) e in
+      let k = neither (row-passes Row row-ops count n (p .row) rs) (passes Row row-ops count n ps rs) e in
       go (eqb (p .row) x) refl (k .0) (put-fits x ps rs (k .1))
     where
-      go : (t : Bool) → eqb (p .row) x ≡ t → row-passes Row row-ops 32 count n (p .row) rs ≡ false → (puts-on x ps ≡ true → count (getD rs x fresh-row) ≤ n) → count (getD rs x fresh-row) ≤ n
+      go : (t : Bool) → eqb (p .row) x ≡ t → row-passes Row row-ops count n (p .row) rs ≡ false → (puts-on x ps ≡ true → count (getD rs x fresh-row) ≤ n) → count (getD rs x fresh-row) ≤ n
       go true q a more = rw (eqb-true (p .row) x q) at (row-fits (p .row) rs a)
       go false q a more = more (rw q at h)
 
-  fits-after : (m : ℕ) (ps : List Put) (rs : List Row) → passes Row row-ops 32 count n ps (do-puts Row row-ops 32 m ps rs) ≡ false
-      → (x : ℕ) → count (getD rs x fresh-row) ≤ n → count (getD (do-puts Row row-ops 32 m ps rs) x fresh-row) ≤ n
-  fits-after m ps rs e x h = go (puts-on x ps) refl
+  fits-after : (v m : ℕ) (ps : List Put) (rs : List Row) → passes Row row-ops count n ps (do-puts Row row-ops v m ps rs) ≡ false
+      → (x : ℕ) → count (getD rs x fresh-row) ≤ n → count (getD (do-puts Row row-ops v m ps rs) x fresh-row) ≤ n
+  fits-after v m ps rs e x h = go (puts-on x ps) refl
     where
-      go : (t : Bool) → puts-on x ps ≡ t → count (getD (do-puts Row row-ops 32 m ps rs) x fresh-row) ≤ n
-      go true q = put-fits x ps (do-puts Row row-ops 32 m ps rs) e q
-      go false q = rw (untouched Row row-ops 32 m x fresh-row ps rs q) h
+      go : (t : Bool) → puts-on x ps ≡ t → count (getD (do-puts Row row-ops v m ps rs) x fresh-row) ≤ n
+      go true q = put-fits x ps (do-puts Row row-ops v m ps rs) e q
+      go false q = rw (untouched Row row-ops v m x fresh-row ps rs q) h
 
 -- the layers that a plan leaves open
 boxes-4 : (v : Box) → good-box v ≡ true → (v .x0 % 4 ≡ 0) × (v .x1 % 4 ≡ 0) × (v .y0 % 4 ≡ 0) × (v .y1 % 4 ≡ 0)
@@ -323,13 +323,13 @@ module _ (s : State) (g : good-viewport (s .frame .viewport) ≡ true) (a : All 
 
 -- the calls
 abbrev after : Step → Screen Row → Screen Row
-after x s = done Row row-ops 32 (planned Row row-ops 32 x s) s
+after x s = done Row row-ops (planned Row row-ops x s) s
 
-done-sound : (x : Step) (s : Screen Row) → Sound s → Passing (planned Row row-ops 32 x s) (after x s) → Built (after x s) → Reaching (after x s) → Sound (after x s)
+done-sound : (x : Step) (s : Screen Row) → Sound s → Passing (planned Row row-ops x s) (after x s) → Built (after x s) → Reaching (after x s) → Sound (after x s)
 unfolding done
 done-sound x s h n b r =
-    let p = planned Row row-ops 32 x s in
-    let ts = touched Row row-ops 32 (length (s .state .layers)) 0 (s .rows) in
+    let p = planned Row row-ops x s in
+    let ts = touched Row row-ops (length (s .state .layers)) 0 (s .rows) in
     record {
       built = b;
       reaching = r;
@@ -341,24 +341,24 @@ done-sound x s h n b r =
       attrs = n .attrs;
       deep = n .deep;
       layers = plan-layers (s .state) (h .viewport) (h .layers) x ts (n .own);
-      count = puts-length Row row-ops 32 (length (p .layers)) (p .puts) (s .rows) ∙ h .count;
+      count = puts-length Row row-ops (bucket (s .state .frame)) (length (p .layers)) (p .puts) (s .rows) ∙ h .count;
       rows = λ i. record {
-        commands = fits-after (λ (r : Row). length (r .commands)) (s .state .frame .c) (omega arith) (length (p .layers)) (p .puts) (s .rows) (n .renders) i (h .rows i .commands);
-        fills = fits-after (λ (r : Row). length (r .fills)) (s .state .frame .d) (omega arith) (length (p .layers)) (p .puts) (s .rows) (n .depths) i (h .rows i .fills);
-        sane = puts-sane (length (p .layers)) (plan-fine (s .state) (h .built .framed) x ts (n .own) (n .ids)) (s .rows) (λ j. h .rows j .sane) i;
+        commands = fits-after (λ (r : Row). length (r .commands)) (s .state .frame .c) (omega arith) (bucket (s .state .frame)) (length (p .layers)) (p .puts) (s .rows) (n .renders) i (h .rows i .commands);
+        fills = fits-after (λ (r : Row). length (r .fills)) (s .state .frame .d) (omega arith) (bucket (s .state .frame)) (length (p .layers)) (p .puts) (s .rows) (n .depths) i (h .rows i .fills);
+        sane = puts-sane (s .state .frame .width) (length (p .layers)) (plan-fine (s .state) (h .built .framed) x ts (n .own) (n .ids)) (s .rows) (λ j. h .rows j .sane) i;
       };
     }
 
 -- every step, refused or done
-pub call-sound : (x : Step) (s : Screen Row) → Sound s → Sound (call Row row-ops 32 x s .value)
+pub call-sound : (x : Step) (s : Screen Row) → Sound s → Sound (call Row row-ops x s .value)
 unfolding call perform
-call-sound x s h = go (eqb (refusal Row row-ops 32 (planned Row row-ops 32 x s) (after x s)) Done) refl (called 0 0 32 x s (h .built) .1) (call-reaching 32 x s (h .reaching))
+call-sound x s h = go (eqb (refusal Row row-ops (planned Row row-ops x s) (after x s)) Done) refl (called 0 0 x s (h .built) .1) (call-reaching x s (h .reaching))
   where
-    go : (c : Bool) → eqb (refusal Row row-ops 32 (planned Row row-ops 32 x s) (after x s)) Done ≡ c
-        → Built (cond c (answer Done (after x s)) (answer (refusal Row row-ops 32 (planned Row row-ops 32 x s) (after x s)) s) .value)
-        → Reaching (cond c (answer Done (after x s)) (answer (refusal Row row-ops 32 (planned Row row-ops 32 x s) (after x s)) s) .value)
-        → Sound (cond c (answer Done (after x s)) (answer (refusal Row row-ops 32 (planned Row row-ops 32 x s) (after x s)) s) .value)
-    go true e b r = done-sound x s h (passing (planned Row row-ops 32 x s) (after x s) (eqb-true _ Done e)) b r
+    go : (c : Bool) → eqb (refusal Row row-ops (planned Row row-ops x s) (after x s)) Done ≡ c
+        → Built (cond c (answer Done (after x s)) (answer (refusal Row row-ops (planned Row row-ops x s) (after x s)) s) .value)
+        → Reaching (cond c (answer Done (after x s)) (answer (refusal Row row-ops (planned Row row-ops x s) (after x s)) s) .value)
+        → Sound (cond c (answer Done (after x s)) (answer (refusal Row row-ops (planned Row row-ops x s) (after x s)) s) .value)
+    go true e b r = done-sound x s h (passing (planned Row row-ops x s) (after x s) (eqb-true _ Done e)) b r
     go false e b r = h
 
 -- .. and a reset of a good frame

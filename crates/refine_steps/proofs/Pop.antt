@@ -81,12 +81,12 @@ module _ (f : Frame) (n : ℕ) (a : Attrs) (rows : List Row) (b : Bool) (de pa :
   ours ls = plan-pop (map bare ls) ss (touched-in (length ls) (rows-at f (rows-of (screen f n a ls rows))) (own-rows (map bare ls))) (inner ls)
 
   abbrev theirs : List Layer → Plan
-  theirs ls = plan-pop ls ss (touched Row row-ops 32 (length ls) 0 rows) (screen f n a ls rows .state)
+  theirs ls = plan-pop ls ss (touched Row row-ops (length ls) 0 rows) (screen f n a ls rows .state)
 
   module _ (ls : List Layer) (h : Sound (screen f n a ls rows)) where
     theirs-ok : theirs ls .refused ≡ Done → All (PutOk BoundedSpan) (theirs ls .puts)
     unfolding plan
-    theirs-ok e = plan-ok (screen f n a ls rows .state) (h .built .framed) (a-pop ss) (touched Row row-ops 32 (length ls) 0 rows) e
+    theirs-ok e = plan-ok (screen f n a ls rows .state) (h .built .framed) (a-pop ss) (touched Row row-ops (length ls) 0 rows) e
 
     attrs-long : length (table 0 6144 (join attr-words (a .layers))) ≡ 6144
     attrs-long = table-length 0 6144 (join attr-words (a .layers)) (omega (arith, join-length attr-words 6 (λ x. refl) (a .layers), few-attrs (screen f n a ls rows) h b de pa .1))
@@ -117,11 +117,11 @@ module _ (f : Frame) (n : ℕ) (a : Attrs) (rows : List Row) (b : Bool) (de pa :
 
   -- the touched rows
   touched-same : (l : Layer) (ls : List Layer) (h : Sound (screen f n a (l ∷ ls) rows))
-      → touched-in (suc (length ls)) (rows-at f (rows-of (screen f n a (l ∷ ls) rows))) (rows-in (l .bounds)) ≡ touched Row row-ops 32 (suc (length ls)) 0 rows
+      → touched-in (suc (length ls)) (rows-at f (rows-of (screen f n a (l ∷ ls) rows))) (rows-in (l .bounds)) ≡ touched Row row-ops (suc (length ls)) 0 rows
   touched-same l ls h =
       rw (rows-cut (screen f n a (l ∷ ls) rows) h)
-      (sym (touched-own (f .c) (f .d) 32 (screen f n a (l ∷ ls) rows) l ls (h .reaching) refl)
-      ∙ follows-touched (refines (f .c) (f .d) 32) (suc (length ls)) 0 (h .built .fine))
+      (sym (touched-own (f .c) (f .d) (screen f n a (l ∷ ls) rows) l ls (h .reaching) refl)
+      ∙ follows-touched (refines (f .c) (f .d)) (suc (length ls)) 0 (h .built .fine))
 
   alike : (ls : List Layer) → Sound (screen f n a ls rows) → Alike (screen f n a ls rows .state) (ours ls) (theirs ls)
   unfolding plan-pop state-of own-rows
@@ -153,7 +153,7 @@ module _ (f : Frame) (n : ℕ) (a : Attrs) (rows : List Row) (b : Bool) (de pa :
     unfolding lent-of
     plan-is = rw (read ls, segments-said ss)
 
-    pop-number : pop.number (screen-of (screen f n a ls rows .state) b) (pop-part (at ls)) (join segment-words ss) ≡ refusal Row row-ops 32 (theirs ls) (done Row row-ops 32 (theirs ls) (screen f n a ls rows))
+    pop-number : pop.number (screen-of (screen f n a ls rows .state) b) (pop-part (at ls)) (join segment-words ss) ≡ refusal Row row-ops (theirs ls) (done Row row-ops (theirs ls) (screen f n a ls rows))
     unfolding pop.number-after lent-of
     pop-number =
         rw (read ls, segments-said ss)
@@ -162,15 +162,15 @@ module _ (f : Frame) (n : ℕ) (a : Attrs) (rows : List Row) (b : Bool) (de pa :
         (good-pops (f .c) (f .d) (length ls) (rows-at f (rows-of (screen f n a ls rows))) (own-rows (map bare ls)))
         (first-none ls h) (rows-fine ls h ls refl))
 
-    pop-rows : refusal Row row-ops 32 (theirs ls) (done Row row-ops 32 (theirs ls) (screen f n a ls rows)) ≡ Done
-        → pop.lent-after (screen-of (screen f n a ls rows .state) b) (pop-part (at ls)) (join segment-words ss) .words ≡ rows-of (done Row row-ops 32 (theirs ls) (screen f n a ls rows))
+    pop-rows : refusal Row row-ops (theirs ls) (done Row row-ops (theirs ls) (screen f n a ls rows)) ≡ Done
+        → pop.lent-after (screen-of (screen f n a ls rows .state) b) (pop-part (at ls)) (join segment-words ss) .words ≡ rows-of (done Row row-ops (theirs ls) (screen f n a ls rows))
     unfolding lent-of
     pop-rows e =
         rw (read ls, segments-said ss)
         (plan-rows (screen f n a ls rows) h (inner ls) refl (ours ls) (theirs ls) (alike ls h) (theirs-ok ls h) e)
 
     pop-screen : screen-after (screen-of (screen f n a ls rows .state) b) (pop.pop-plan (screen-of (screen f n a ls rows .state) b) (pop-part (at ls)) (join segment-words ss))
-        ≡ screen-of (done Row row-ops 32 (theirs ls) (screen f n a ls rows) .state) false
+        ≡ screen-of (done Row row-ops (theirs ls) (screen f n a ls rows) .state) false
     pop-screen = rw plan-is (plan-screen (screen f n a ls rows) h b (ours ls) (theirs ls) (alike ls h) (theirs-ok ls h))
 
   -- the innermost of the layers
@@ -240,20 +240,20 @@ module _ (f : Frame) (n : ℕ) (a : Attrs) (rows : List Row) (b : Bool) (de pa :
         rw (join-append attr-words (a .layers) (the-attr ∷ []))
         (table-more 0 6144 (6 * length (a .layers)) (join attr-words (a .layers)) (attr-words the-attr) (join-length attr-words 6 (λ x. refl) (a .layers)))
 
-    room-left : refusal Row row-ops 32 (theirs (l ∷ ls)) (done Row row-ops 32 (theirs (l ∷ ls)) before) ≡ Done → length (a .layers) < 1024
+    room-left : refusal Row row-ops (theirs (l ∷ ls)) (done Row row-ops (theirs (l ∷ ls)) before) ≡ Done → length (a .layers) < 1024
     room-left e =
-        let k : attrs-full (record { paints = a .paints; layers = a .layers ++ (the-attr ∷ []); filters = a .filters }) ≡ false = rw (theirs-leave .1) at (passing (theirs (l ∷ ls)) (done Row row-ops 32 (theirs (l ∷ ls)) before) e .attrs) in
+        let k : attrs-full (record { paints = a .paints; layers = a .layers ++ (the-attr ∷ []); filters = a .filters }) ≡ false = rw (theirs-leave .1) at (passing (theirs (l ∷ ls)) (done Row row-ops (theirs (l ∷ ls)) before) e .attrs) in
         let f1 = ltb 1024 (length (a .paints)) in
         let f2 = ltb 1024 (length (a .layers ++ (the-attr ∷ []))) in
         let f3 = ltb 256 (length (a .filters)) in
         let j = neither f1 f2 (neither (f1 || f2) f3 k .0) in
         omega (arith, ltb-false 1024 (length (a .layers ++ (the-attr ∷ []))) (j .1), length-append (a .layers) (the-attr ∷ []))
 
-    pop-after : refusal Row row-ops 32 (theirs (l ∷ ls)) (done Row row-ops 32 (theirs (l ∷ ls)) before) ≡ Done
+    pop-after : refusal Row row-ops (theirs (l ∷ ls)) (done Row row-ops (theirs (l ∷ ls)) before) ≡ Done
         → pop-into (at (l ∷ ls) .tables)
         (pop.out Done (screen-after (screen-of (before .state) b) (pop.pop-plan (screen-of (before .state) b) (pop-part (at (l ∷ ls))) (join segment-words ss)))
         (pop.lent-after (screen-of (before .state) b) (pop-part (at (l ∷ ls))) (join segment-words ss)))
-        ≡ answer Done (lent-of (done Row row-ops 32 (theirs (l ∷ ls)) before) false de pa)
+        ≡ answer Done (lent-of (done Row row-ops (theirs (l ∷ ls)) before) false de pa)
     unfolding lent-of done
     pop-after e = rw (pop-screen (l ∷ ls) h, pop-rows (l ∷ ls) h e, new-is, layers-left, opacities-left (room-left e), attrs-left, theirs-leave .0, theirs-leave .1)
 
@@ -268,15 +268,15 @@ pop-settled t k n x y u v s s' b de pa e p q = rw e (go (eqb n Done) refl)
     go false z = rw z p
 
 module _ (f : Frame) (n : ℕ) (a : Attrs) (rows : List Row) (b : Bool) (de pa : List ℕ) (ss : List Segment) where
-  none-open : Sound (screen f n a [] rows) → refusal Row row-ops 32 (theirs f n a rows b de pa ss []) (done Row row-ops 32 (theirs f n a rows b de pa ss []) (screen f n a [] rows)) ≡ Done → ⊥
+  none-open : Sound (screen f n a [] rows) → refusal Row row-ops (theirs f n a rows b de pa ss []) (done Row row-ops (theirs f n a rows b de pa ss []) (screen f n a [] rows)) ≡ Done → ⊥
   unfolding plan-pop
-  none-open h e = let z : NoLayer ≡ Done = passing (theirs f n a rows b de pa ss []) (done Row row-ops 32 (theirs f n a rows b de pa ss []) (screen f n a [] rows)) e .own in omega arith
+  none-open h e = let z : NoLayer ≡ Done = passing (theirs f n a rows b de pa ss []) (done Row row-ops (theirs f n a rows b de pa ss []) (screen f n a [] rows)) e .own in omega arith
 
-  afterwards : (ls : List Layer) → Sound (screen f n a ls rows) → refusal Row row-ops 32 (theirs f n a rows b de pa ss ls) (done Row row-ops 32 (theirs f n a rows b de pa ss ls) (screen f n a ls rows)) ≡ Done
+  afterwards : (ls : List Layer) → Sound (screen f n a ls rows) → refusal Row row-ops (theirs f n a rows b de pa ss ls) (done Row row-ops (theirs f n a rows b de pa ss ls) (screen f n a ls rows)) ≡ Done
       → pop-into (lent-of (screen f n a ls rows) b de pa .tables)
       (pop.out Done (screen-after (screen-of (screen f n a ls rows .state) b) (pop.pop-plan (screen-of (screen f n a ls rows .state) b) (pop-part (lent-of (screen f n a ls rows) b de pa)) (join segment-words ss)))
       (pop.lent-after (screen-of (screen f n a ls rows .state) b) (pop-part (lent-of (screen f n a ls rows) b de pa)) (join segment-words ss)))
-      ≡ answer Done (lent-of (done Row row-ops 32 (theirs f n a rows b de pa ss ls) (screen f n a ls rows)) false de pa)
+      ≡ answer Done (lent-of (done Row row-ops (theirs f n a rows b de pa ss ls) (screen f n a ls rows)) false de pa)
   afterwards [] h e = absurd (none-open h e)
   afterwards (l ∷ ls) h e = pop-after f n a rows b de pa ss l ls h e
 
@@ -289,19 +289,19 @@ module _ (f : Frame) (n : ℕ) (a : Attrs) (rows : List Row) (b : Bool) (de pa :
   unfolding lent-of
   same-lent k ls = refl
 
-  pop-as : (ls : List Layer) → Sound (screen f n a ls rows) → call-at (a-pop ss) (lent-of (screen f n a ls rows) b de pa) ≡ answer-of (call Row row-ops 32 (a-pop ss) (screen f n a ls rows)) b de pa
+  pop-as : (ls : List Layer) → Sound (screen f n a ls rows) → call-at (a-pop ss) (lent-of (screen f n a ls rows) b de pa) ≡ answer-of (call Row row-ops (a-pop ss) (screen f n a ls rows)) b de pa
   unfolding call-at call perform plan popped
   pop-as ls h =
       rw (same-screen ls)
       (pop-settled (lent-of (screen f n a ls rows) b de pa .tables)
       (pop.number (screen-of (screen f n a ls rows .state) b) (pop-part (lent-of (screen f n a ls rows) b de pa)) (join segment-words ss))
-      (refusal Row row-ops 32 (theirs f n a rows b de pa ss ls) (done Row row-ops 32 (theirs f n a rows b de pa ss ls) (screen f n a ls rows)))
+      (refusal Row row-ops (theirs f n a rows b de pa ss ls) (done Row row-ops (theirs f n a rows b de pa ss ls) (screen f n a ls rows)))
       (screen-of (screen f n a ls rows .state) b)
       (screen-after (screen-of (screen f n a ls rows .state) b) (pop.pop-plan (screen-of (screen f n a ls rows .state) b) (pop-part (lent-of (screen f n a ls rows) b de pa)) (join segment-words ss)))
       (pop-part (lent-of (screen f n a ls rows) b de pa))
       (pop.lent-after (screen-of (screen f n a ls rows .state) b) (pop-part (lent-of (screen f n a ls rows) b de pa)) (join segment-words ss))
-      (screen f n a ls rows) (done Row row-ops 32 (theirs f n a rows b de pa ss ls) (screen f n a ls rows)) b de pa
+      (screen f n a ls rows) (done Row row-ops (theirs f n a rows b de pa ss ls) (screen f n a ls rows)) b de pa
       (pop-number f n a rows b de pa ss ls h) (same-lent _ ls) (afterwards ls h))
 
-pub pop-stepped : (s : rule.Screen Row) → Sound s → (b : Bool) (de pa : List ℕ) (ss : List Segment) → call-at (a-pop ss) (lent-of s b de pa) ≡ answer-of (call Row row-ops 32 (a-pop ss) s) b de pa
+pub pop-stepped : (s : rule.Screen Row) → Sound s → (b : Bool) (de pa : List ℕ) (ss : List Segment) → call-at (a-pop ss) (lent-of s b de pa) ≡ answer-of (call Row row-ops (a-pop ss) s) b de pa
 pop-stepped s h b de pa ss = pop-as (s .state .frame) (s .state .next) (s .state .attrs) (s .rows) b de pa ss (s .state .layers) h

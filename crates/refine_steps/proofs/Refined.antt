@@ -21,7 +21,7 @@ use Rattle.refine_steps.proofs.Pop.{pop-stepped}
 use Rattle.refine_steps.proofs.Reset.{fresh-sound, fresh-words}
 
 -- Every step, refused or done: at the words of a sound screen it has the rules' number, and leaves the words of the rules' screen.
-pub stepped : (x : Step) (s : rule.Screen Row) → Sound s → (b : Bool) (de pa : List ℕ) → call-at x (lent-of s b de pa) ≡ answer-of (call Row row-ops 32 x s) b de pa
+pub stepped : (x : Step) (s : rule.Screen Row) → Sound s → (b : Bool) (de pa : List ℕ) → call-at x (lent-of s b de pa) ≡ answer-of (call Row row-ops x s) b de pa
 stepped (a-fill ps ss d) s h b de pa = fill-stepped s h b de pa ps ss d
 stepped (a-push p) s h b de pa = push-stepped s h b de pa p
 stepped (a-pop ss) s h b de pa = pop-stepped s h b de pa ss
@@ -50,22 +50,22 @@ reset-refines f l z =
     }
 
 -- every step, refused or done
-pub step-refines : (x : Step) (s : rule.Screen Row) (l : ScreenLent) → Refines s l → Agrees (call Row row-ops 32 x s) (call-at x l)
+pub step-refines : (x : Step) (s : rule.Screen Row) (l : ScreenLent) → Refines s l → Agrees (call Row row-ops x s) (call-at x l)
 step-refines x s l r =
     let h = r .holds in
-    let e : call-at x l ≡ answer-of (call Row row-ops 32 x s) (h .begun) (h .depth) (h .painting) = ap (call-at x) (h .same) ∙ stepped x s (r .sound) (h .begun) (h .depth) (h .painting) in
+    let e : call-at x l ≡ answer-of (call Row row-ops x s) (h .begun) (h .depth) (h .painting) = ap (call-at x) (h .same) ∙ stepped x s (r .sound) (h .begun) (h .depth) (h .painting) in
     record {
       number = ap (λ (w : Answer ScreenLent). w .number) e;
       value = record {
         sound = call-sound x s (r .sound);
-        holds = record { begun = cond (eqb (call Row row-ops 32 x s .number) Done) false (h .begun); depth = h .depth; painting = h .painting; same = ap (λ (w : Answer ScreenLent). w .value) e };
+        holds = record { begun = cond (eqb (call Row row-ops x s .number) Done) false (h .begun); depth = h .depth; painting = h .painting; same = ap (λ (w : Answer ScreenLent). w .value) e };
       };
     }
 
 -- a done reset and then done steps, each on the words that the last call left; s is what the rules make of the same steps
 pub data BuiltBy : rule.Screen Row → ScreenLent → Type 0 where
   by-reset : (f : Frame) (l : ScreenLent) → judged-reset f (lengths (l .tables)) ≡ 0 → BuiltBy (reset fresh-row f) (reset-to f l .value)
-  by-step : (x : Step) (s : rule.Screen Row) (l : ScreenLent) → BuiltBy s l → call-at x l .number ≡ 0 → BuiltBy (call Row row-ops 32 x s .value) (call-at x l .value)
+  by-step : (x : Step) (s : rule.Screen Row) (l : ScreenLent) → BuiltBy s l → call-at x l .number ≡ 0 → BuiltBy (call Row row-ops x s .value) (call-at x l .value)
 
 -- on every built screen the lent words are those of the rules' screen
 pub built-refines : {s : rule.Screen Row} {l : ScreenLent} → BuiltBy s l → Refines s l
@@ -73,5 +73,5 @@ built-refines (by-reset f l z) = reset-refines f l z .value
 built-refines (by-step x s l b z) = step-refines x s l (built-refines b) .value
 
 -- and every step, refused or done, has the rules' number there
-pub built-number : (x : Step) (s : rule.Screen Row) (l : ScreenLent) → BuiltBy s l → call-at x l .number ≡ call Row row-ops 32 x s .number
+pub built-number : (x : Step) (s : rule.Screen Row) (l : ScreenLent) → BuiltBy s l → call-at x l .number ≡ call Row row-ops x s .number
 built-number x s l b = step-refines x s l (built-refines b) .number

@@ -1,7 +1,7 @@
 -- A reset's words are those of the rules' reset (rule 1). Assumes nothing.
 use mathlib.Core.Path.{_≡_, refl, sym, ap, _∙_}
-use mathlib.Core.Bool.{Bool, true, false, _&&_, not}
-use mathlib.Core.List.{List, [], _∷_, _++_, map}
+use mathlib.Core.Bool.{true, false, _&&_}
+use mathlib.Core.List.{List, [], _++_, map}
 use Prim.Native.Nat.{ℕ, zero, suc, _+_, _-_, _*_}
 use native.Mathlib.Nat.{suc-mul}
 use native.Mathlib.Omega.{arith}
@@ -9,7 +9,7 @@ use lib.Dec.{eqb}
 use lib.IntN.{pos}
 use lib.ListN.{length, replicate}
 use borrow.Author.Tests.{eqb-true}
-use Rattle.rules.specs.Answers.{answer, first-of, BadArena, BadViewport, BadRecord}
+use Rattle.rules.specs.Answers.{answer}
 use Rattle.rules.specs.Boxes.{good-viewport, rows-of}
 use Rattle.rules.specs.Lists.{join}
 use Rattle.screen.specs.Attributes.{paint-attr-words}
@@ -25,6 +25,7 @@ use Rattle.screen.specs.Screens.{fresh-screen}
 use Rattle.screen.specs.declared.Lengths.{Lengths}
 use Rattle.screen.specs.Judging.{good-fixed, good-tables, arenas, judged-reset}
 use Rattle.screen.specs.Tables.{zeros, lengths, ScreenLent, lent, float-0, reset-to}
+use Rattle.screen.proofs.Passed.{reset-says}
 use Rattle.step_filter.specs.Filter.{filter-paint-words}
 use Rattle.refine_steps.specs.Sound.{Sound}
 use Rattle.refine_steps.specs.Lent.{table, layers-words, layers-opacities, attr-words, attr-opacity, screen-of, lent-of}
@@ -59,12 +60,6 @@ two-tables z m n xs e =
     let q : n - 0 ≡ n = omega arith in
     rw (p, q, e) (sym (replicate-add m n z))
 
-says : (a b c : Bool) → first-of ((not a, BadViewport) ∷ (not b, BadArena) ∷ (not c, BadRecord) ∷ []) ≡ 0 → (a ≡ true) × (b ≡ true) × (c ≡ true)
-says false b c h = absurd (omega arith)
-says true false c h = absurd (omega arith)
-says true true false h = absurd (omega arith)
-says true true true h = (refl, refl, refl)
-
 -- how many words are lent
 pub record Lengthy (l : Lengths) (n c d : ℕ) : Type 0 where
   pub render : l .render ≡ n * (4 * c)
@@ -80,9 +75,8 @@ module _ (f : Frame) (l : ScreenLent) (z : judged-reset f (lengths (l .tables)) 
   abbrev n : ℕ
   n = rows-of (f .viewport)
 
-  pub judged-facts : (good-viewport (f .viewport) ≡ true) × (good-arenas 32 f (arenas (lengths (l .tables))) ≡ true) × (good-tables n (lengths (l .tables)) ≡ true)
-  unfolding judged-reset
-  judged-facts = says (good-viewport (f .viewport)) (good-arenas 32 f (arenas (lengths (l .tables)))) (good-tables n (lengths (l .tables))) z
+  pub judged-facts : (good-viewport (f .viewport) ≡ true) × (good-arenas f (arenas (lengths (l .tables))) ≡ true) × (good-tables n (lengths (l .tables)) ≡ true)
+  judged-facts = reset-says f (lengths (l .tables)) z
 
   pub rooms : (good-room (f .c) ≡ true) × (good-room (f .d) ≡ true)
   rooms = both (good-room (f .c)) (good-room (f .d)) (both (good-room (f .c) && good-room (f .d)) _ (judged-facts .1) .0)

@@ -136,14 +136,14 @@ module _ (s : rule.Screen Row) (h : Sound s) (b : Bool) (de pa : List ℕ) where
     unfolding lent-of
     filter-first = rw (judged-done s h b, eq-eqb _ _ paints-long, eq-eqb _ _ filters-long)
 
-    filter-is : filter-number (given (placement-in f) (f .pixmap) count) (filter-part (lent-of s b de pa)) ≡ refusal Row row-ops 32 filter-plan (done Row row-ops 32 filter-plan s)
+    filter-is : filter-number (given (placement-in f) (f .pixmap) count) (filter-part (lent-of s b de pa)) ≡ refusal Row row-ops filter-plan (done Row row-ops filter-plan s)
     unfolding filter-number lent-of
     filter-is =
         step-is s h b (plan-filter count f (state-of (screen-of st b))) filter-plan (filter-alike st b count f) filter-ok
         (filter.first-number (filter-part (lent-of s b de pa))) filter-first
 
-    filter-after : refusal Row row-ops 32 filter-plan (done Row row-ops 32 filter-plan s) ≡ Done
-        → filter-into (lent-of s b de pa .tables) (filter.after (given (placement-in f) (f .pixmap) count) (filter-part (lent-of s b de pa))) ≡ lent-of (done Row row-ops 32 filter-plan s) false de pa
+    filter-after : refusal Row row-ops filter-plan (done Row row-ops filter-plan s) ≡ Done
+        → filter-into (lent-of s b de pa .tables) (filter.after (given (placement-in f) (f .pixmap) count) (filter-part (lent-of s b de pa))) ≡ lent-of (done Row row-ops filter-plan s) false de pa
     unfolding filter.after lent-of done
     filter-after e =
         let a = filter-alike st b count f in
@@ -157,11 +157,11 @@ module _ (s : rule.Screen Row) (h : Sound s) (b : Bool) (de pa : List ℕ) where
           filter-keeps .1,
         )
 
-    pub filter-stepped : call-at (a-filter count f) (lent-of s b de pa) ≡ answer-of (call Row row-ops 32 (a-filter count f) s) b de pa
+    pub filter-stepped : call-at (a-filter count f) (lent-of s b de pa) ≡ answer-of (call Row row-ops (a-filter count f) s) b de pa
     unfolding call-at filtered call perform plan
     filter-stepped =
-        settled (filter-into (lent-of s b de pa .tables)) (filter-number (given (placement-in f) (f .pixmap) count) (filter-part (lent-of s b de pa))) (refusal Row row-ops 32 filter-plan (done Row row-ops 32 filter-plan s))
-        (filter-part (lent-of s b de pa)) (filter.after (given (placement-in f) (f .pixmap) count) (filter-part (lent-of s b de pa))) s (done Row row-ops 32 filter-plan s) b de pa filter-is refl filter-after
+        settled (filter-into (lent-of s b de pa .tables)) (filter-number (given (placement-in f) (f .pixmap) count) (filter-part (lent-of s b de pa))) (refusal Row row-ops filter-plan (done Row row-ops filter-plan s))
+        (filter-part (lent-of s b de pa)) (filter.after (given (placement-in f) (f .pixmap) count) (filter-part (lent-of s b de pa))) s (done Row row-ops filter-plan s) b de pa filter-is refl filter-after
 
   -- a fill
   module _ (ps : List Paint) (ss : List Segment) (d : Draw) where
@@ -189,15 +189,15 @@ module _ (s : rule.Screen Row) (h : Sound s) (b : Bool) (de pa : List ℕ) where
         let q : length (join segment-words ss) % 5 ≡ 0 = omega (arith, segments-words-length ss) in
         rw (judged-done s h b, eq-eqb _ _ paints-long, eq-eqb _ _ p, eq-eqb _ _ q)
 
-    fill-is : fills.fill-number (fill-part (lent-of s b de pa)) (join paint-words ps) (join segment-words ss) (draw-in d) ≡ refusal Row row-ops 32 the-fill (done Row row-ops 32 the-fill s)
+    fill-is : fills.fill-number (fill-part (lent-of s b de pa)) (join paint-words ps) (join segment-words ss) (draw-in d) ≡ refusal Row row-ops the-fill (done Row row-ops the-fill s)
     unfolding fills.fill-number lent-of state-of
     fill-is =
         rw (paints-said ps, segments-said ss)
         (step-is s h b (plan-fill ps ss d (state-of (screen-of st b))) the-fill (fill-alike st b ps ss d) fill-ok
         (fills.first-of-lent (fill-part (lent-of s b de pa)) (join paint-words ps) (join segment-words ss)) fill-first)
 
-    fill-after : refusal Row row-ops 32 the-fill (done Row row-ops 32 the-fill s) ≡ Done
-        → fill-into (lent-of s b de pa .tables) (fills.fill-done (fill-part (lent-of s b de pa)) (join paint-words ps) (join segment-words ss) (draw-in d)) ≡ lent-of (done Row row-ops 32 the-fill s) false de pa
+    fill-after : refusal Row row-ops the-fill (done Row row-ops the-fill s) ≡ Done
+        → fill-into (lent-of s b de pa .tables) (fills.fill-done (fill-part (lent-of s b de pa)) (join paint-words ps) (join segment-words ss) (draw-in d)) ≡ lent-of (done Row row-ops the-fill s) false de pa
     unfolding fills.fill-done lent-of done
     fill-after e =
         let a = fill-alike st b ps ss d in
@@ -213,11 +213,11 @@ module _ (s : rule.Screen Row) (h : Sound s) (b : Bool) (de pa : List ℕ) where
           fill-keeps .2,
         )
 
-    pub fill-stepped : call-at (a-fill ps ss d) (lent-of s b de pa) ≡ answer-of (call Row row-ops 32 (a-fill ps ss d) s) b de pa
+    pub fill-stepped : call-at (a-fill ps ss d) (lent-of s b de pa) ≡ answer-of (call Row row-ops (a-fill ps ss d) s) b de pa
     unfolding call-at call perform plan
     fill-stepped =
-        settled (fill-into (lent-of s b de pa .tables)) (fills.fill-number (fill-part (lent-of s b de pa)) (join paint-words ps) (join segment-words ss) (draw-in d)) (refusal Row row-ops 32 the-fill (done Row row-ops 32 the-fill s))
-        (fill-part (lent-of s b de pa)) (fills.fill-done (fill-part (lent-of s b de pa)) (join paint-words ps) (join segment-words ss) (draw-in d)) s (done Row row-ops 32 the-fill s) b de pa fill-is refl fill-after
+        settled (fill-into (lent-of s b de pa .tables)) (fills.fill-number (fill-part (lent-of s b de pa)) (join paint-words ps) (join segment-words ss) (draw-in d)) (refusal Row row-ops the-fill (done Row row-ops the-fill s))
+        (fill-part (lent-of s b de pa)) (fills.fill-done (fill-part (lent-of s b de pa)) (join paint-words ps) (join segment-words ss) (draw-in d)) s (done Row row-ops the-fill s) b de pa fill-is refl fill-after
 
   -- a push
   module _ (p : Props) where
@@ -250,7 +250,7 @@ module _ (s : rule.Screen Row) (h : Sound s) (b : Bool) (de pa : List ℕ) where
     unfolding lent-of
     push-first = rw (judged-done s h b, eq-eqb _ _ (layers-long (st .layers) (h .deep)), eq-eqb _ _ opacities-long, pattern-good (p .opacity))
 
-    push-is : push.push-number (props-in p) (push-part (lent-of s b de pa)) ≡ refusal Row row-ops 32 the-push (done Row row-ops 32 the-push s)
+    push-is : push.push-number (props-in p) (push-part (lent-of s b de pa)) ≡ refusal Row row-ops the-push (done Row row-ops the-push s)
     unfolding push.push-number lent-of
     push-is =
         step-is s h b (push.plan-of (props-in p) (screen-of st b)) the-push push-same push-ok
@@ -270,11 +270,11 @@ module _ (s : rule.Screen Row) (h : Sound s) (b : Bool) (de pa : List ℕ) where
         (set-append-left (table float-0 16 (layers-opacities (st .layers))) ys (length (st .layers)) (ofBits binary32 (p .opacity)) k
         ∙ ap (λ (t : List Float). t ++ ys) (table-set float-0 16 (length (st .layers)) (layers-opacities (st .layers)) (ofBits binary32 (p .opacity)) (opacities-count (st .layers)) l))
 
-    deep-enough : refusal Row row-ops 32 the-push (done Row row-ops 32 the-push s) ≡ Done → length (st .layers) < 16
-    deep-enough e = rw (push-layers .0) at (passing the-push (done Row row-ops 32 the-push s) e .deep)
+    deep-enough : refusal Row row-ops the-push (done Row row-ops the-push s) ≡ Done → length (st .layers) < 16
+    deep-enough e = rw (push-layers .0) at (passing the-push (done Row row-ops the-push s) e .deep)
 
-    push-after : refusal Row row-ops 32 the-push (done Row row-ops 32 the-push s) ≡ Done
-        → push-into (lent-of s b de pa .tables) (push.after (props-in p) (push-part (lent-of s b de pa))) ≡ lent-of (done Row row-ops 32 the-push s) false de pa
+    push-after : refusal Row row-ops the-push (done Row row-ops the-push s) ≡ Done
+        → push-into (lent-of s b de pa .tables) (push.after (props-in p) (push-part (lent-of s b de pa))) ≡ lent-of (done Row row-ops the-push s) false de pa
     unfolding push.after lent-of done
     push-after e =
         rw (
@@ -285,8 +285,8 @@ module _ (s : rule.Screen Row) (h : Sound s) (b : Bool) (de pa : List ℕ) where
           push-layers .1,
         )
 
-    pub push-stepped : call-at (a-push p) (lent-of s b de pa) ≡ answer-of (call Row row-ops 32 (a-push p) s) b de pa
+    pub push-stepped : call-at (a-push p) (lent-of s b de pa) ≡ answer-of (call Row row-ops (a-push p) s) b de pa
     unfolding call-at call perform plan push.pushed
     push-stepped =
-        settled (push-into (lent-of s b de pa .tables)) (push.push-number (props-in p) (push-part (lent-of s b de pa))) (refusal Row row-ops 32 the-push (done Row row-ops 32 the-push s))
-        (push-part (lent-of s b de pa)) (push.after (props-in p) (push-part (lent-of s b de pa))) s (done Row row-ops 32 the-push s) b de pa push-is refl push-after
+        settled (push-into (lent-of s b de pa .tables)) (push.push-number (props-in p) (push-part (lent-of s b de pa))) (refusal Row row-ops the-push (done Row row-ops the-push s))
+        (push-part (lent-of s b de pa)) (push.after (props-in p) (push-part (lent-of s b de pa))) s (done Row row-ops the-push s) b de pa push-is refl push-after

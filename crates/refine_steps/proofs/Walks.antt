@@ -106,5 +106,5 @@ module _ {S T : Type 0} (R : S → T → Type 0) where
       record { number = a .number tt; value = a .value }
 
 -- .. at the words beside the rules' screens
-pub walk-refines : (r : Recording) → Follow Refines (walk-all (rule.Screen Row) (call Row row-ops 32) r) (walk-all ScreenLent call-at r)
-walk-refines = walk-follows Refines (call Row row-ops 32) call-at (λ x s l h. let a = step-refines x s l h in record { number = a .number; value = λ e. a .value })
+pub walk-refines : (r : Recording) → Follow Refines (walk-all (rule.Screen Row) (call Row row-ops) r) (walk-all ScreenLent call-at r)
+walk-refines = walk-follows Refines (call Row row-ops) call-at (λ x s l h. let a = step-refines x s l h in record { number = a .number; value = λ e. a .value })

@@ -7,15 +7,16 @@ use Prim.Native.Nat.{ℕ, zero, suc, _≤_, _<_}
 use native.Mathlib.Omega.{arith}
 use lib.ListN.{length, getD}
 use borrow.Author.Tests.{le-leb}
-use Rattle.rules.specs.Boxes.{buckets-of}
 use Rattle.rules.specs.Boxes as boxes
 use Rattle.rules.specs.Commands.{pop-buf}
 use Rattle.rules.specs.Rows.{Row, fresh-row}
+use Rattle.rules.specs.Plans.{buckets-across}
 use Rattle.rules.specs.Steps.{Screen}
 use Rattle.rules.specs.Lines as rules
 use Rattle.row.specs.Words.{Words, words}
 use Rattle.row_screen.specs.Arena.{sizes, row-at}
 use Rattle.screen.specs.Tables.{ScreenLent}
+use Rattle.screen.proofs.Laws.{few-buckets}
 use Rattle.refine_steps.specs.Sound.{Sound}
 use Rattle.refine_steps.specs.Lent.{screen-of, rows-of, lent-of}
 use Rattle.refine_steps.proofs.Judged.{judged-done}
@@ -48,16 +49,16 @@ module _ (s : Screen Row) (o : Sound s) (f : FairRows s) where
   d = s .state .frame .d
 
   abbrev n : ℕ
-  n = buckets-of 32 (s .state .frame .viewport)
+  n = buckets-across (s .state .frame)
 
   -- a row's words stand for the row
   pub row-shown : (i : ℕ) → i < length (s .rows) → Stands n (getD (s .rows) i fresh-row) (row-at (sizes c d) i (rows-of s))
   row-shown i h =
-      let g = stands (s .state .attrs) n c d (omega (arith, o .built .framed .wide)) (getD (s .rows) i fresh-row) (o .rows i) (f i) in
+      let g = stands (s .state .attrs) n c d (omega (arith, few-buckets (s .state .frame .viewport) (o .viewport) (s .state .frame .width))) (getD (s .rows) i fresh-row) (o .rows i) (f i) in
       rw (own-words s i h) (record { renders = g .renders; depths = g .depths; commands-at = g .commands-at; fills-at = g .fills-at })
 
   -- the lines of the words are the rules' lines
-  pub screen-printed : (b : Bool) → screen-lines (screen-of (s .state) b) (rows-of s) ≡ rules.screen-lines 32 s
+  pub screen-printed : (b : Bool) → screen-lines (screen-of (s .state) b) (rows-of s) ≡ rules.screen-lines s
   screen-printed b = screen-by-rules (screen-of (s .state) b) (rows-of s) (s .rows) (o .count) row-shown
 
   row-good : (i : ℕ) → i < length (s .rows) → good-row c d n (row-at (sizes c d) i (rows-of s)) ≡ true
@@ -84,7 +85,7 @@ module _ (s : Screen Row) (o : Sound s) (f : FairRows s) where
   number-printed b = rw (judged-done s o b, rows-good)
 
   -- what is listed: the text of the rules' lines, where it fits
-  pub listed-printed : (b : Bool) (bs : List ℕ) → listed (screen-of (s .state) b) (rows-of s) bs ≡ written (text-of (rules.screen-lines 32 s)) bs
+  pub listed-printed : (b : Bool) (bs : List ℕ) → listed (screen-of (s .state) b) (rows-of s) bs ≡ written (text-of (rules.screen-lines s)) bs
   unfolding listed
   listed-printed b bs = rw (number-printed b, screen-printed b)
 
@@ -94,18 +95,18 @@ row-words l = words (l .tables .rows) (l .tables .render) (l .tables .fills)
 
 module _ {s : Screen Row} {l : ScreenLent} (h : Refines s l) (f : FairRows s) where
   -- words that hold a sound screen with fair rows
-  pub lines-held : screen-lines (l .screen) (row-words l) ≡ rules.screen-lines 32 s
+  pub lines-held : screen-lines (l .screen) (row-words l) ≡ rules.screen-lines s
   unfolding lent-of
   lines-held = rw (h .holds .same) (screen-printed s (h .sound) f (h .holds .begun))
 
-  pub listed-held : (bs : List ℕ) → listed (l .screen) (row-words l) bs ≡ written (text-of (rules.screen-lines 32 s)) bs
+  pub listed-held : (bs : List ℕ) → listed (l .screen) (row-words l) bs ≡ written (text-of (rules.screen-lines s)) bs
   unfolding lent-of
   listed-held bs = rw (h .holds .same) (listed-printed s (h .sound) f (h .holds .begun) bs)
 
 -- After a done reset and done steps: the lines of the lent words are the rules' lines of the screen, ..
-pub built-lines : {s : Screen Row} {l : ScreenLent} → BuiltBy s l → screen-lines (l .screen) (row-words l) ≡ rules.screen-lines 32 s
+pub built-lines : {s : Screen Row} {l : ScreenLent} → BuiltBy s l → screen-lines (l .screen) (row-words l) ≡ rules.screen-lines s
 built-lines b = lines-held (built-refines b) (built-fair b)
 
 -- .. and `list_screen` writes their text wherever it fits: 14 is its only refusal there.
-pub built-listed : {s : Screen Row} {l : ScreenLent} → BuiltBy s l → (bs : List ℕ) → listed (l .screen) (row-words l) bs ≡ written (text-of (rules.screen-lines 32 s)) bs
+pub built-listed : {s : Screen Row} {l : ScreenLent} → BuiltBy s l → (bs : List ℕ) → listed (l .screen) (row-words l) bs ≡ written (text-of (rules.screen-lines s)) bs
 built-listed b bs = listed-held (built-refines b) (built-fair b) bs

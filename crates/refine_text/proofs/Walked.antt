@@ -25,12 +25,12 @@ pub record Kept (f : Frame) (s : Screen Row) : Type 0 where
   pub frame : s .state .frame ≡ f
 
 -- a step does not change the frame
-call-frame : (x : Step) (s : Screen Row) → call Row row-ops 32 x s .value .state .frame ≡ s .state .frame
+call-frame : (x : Step) (s : Screen Row) → call Row row-ops x s .value .state .frame ≡ s .state .frame
 unfolding call perform done
-call-frame x s = go (eqb (refusal Row row-ops 32 (planned Row row-ops 32 x s) (done Row row-ops 32 (planned Row row-ops 32 x s) s)) Done)
+call-frame x s = go (eqb (refusal Row row-ops (planned Row row-ops x s) (done Row row-ops (planned Row row-ops x s) s)) Done)
   where
     go : (t : Bool)
-        → cond t (answer Done (done Row row-ops 32 (planned Row row-ops 32 x s) s)) (answer (refusal Row row-ops 32 (planned Row row-ops 32 x s) (done Row row-ops 32 (planned Row row-ops 32 x s) s)) s) .value .state .frame
+        → cond t (answer Done (done Row row-ops (planned Row row-ops x s) s)) (answer (refusal Row row-ops (planned Row row-ops x s) (done Row row-ops (planned Row row-ops x s) s)) s) .value .state .frame
         ≡ s .state .frame
     go true = refl
     go false = refl
@@ -40,7 +40,7 @@ pub record Keeps (P : Screen Row → Type 0) (f : Screen Row → Answer (Screen 
   pub kept : (s : Screen Row) → P s → P (f s .value)
 
 abbrev step : Step → Screen Row → Answer (Screen Row)
-step = call Row row-ops 32
+step = call Row row-ops
 
 module _ {P : Screen Row → Type 0} where
   then-keeps : {f g : Screen Row → Answer (Screen Row)} → Keeps P f → Keeps P g → Keeps P (f then g)

@@ -32,7 +32,7 @@ reason-retold w v row tile xs ws t h q =
 
 -- .. of a recording: where the rules' walk is done, the engine's lines give the reason of the recording's history
 pub reason-told : (w : ℕ) (f : Frame) (r : Recording) (row tile : ℕ) (ws : List ℕ) → good-viewport (f .viewport) ≡ true
-    → let a = walk-logged Row row-ops w fresh-row f r in
+    → let a = walk-logged Row row-ops fresh-row f r in
     let b = walk-all Telling (tell-at w (f .viewport) row tile) r (nothing-told ws) in
     a .number ≡ Done → (q : Asked) → reason-read q (b .value .lines) (b .value .paints + b .value .layers) ≡ reason w (f .viewport) row tile (a .value .log) q
 reason-told w f r row tile ws g e q = reason-retold w (f .viewport) row tile _ ws _ (tile-told w f r row tile ws g e .1) q

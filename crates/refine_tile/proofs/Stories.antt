@@ -48,9 +48,9 @@ pub filter-planned : (n : ℕ) (f : Filter) (s : State) (b : Box) → filter-box
 unfolding plan-filter
 filter-planned n f s b e j = rw (filter-good n f s j) (ap (λ (c : Box). cond (draws-nothing f c) (still Done s) (plan-filter-in c n f s)) e)
 
-pub done-state : (w : ℕ) (p : Plan) (s : Screen Row) → done Row row-ops w p s .state ≡ planned p (s .state)
+pub done-state : (p : Plan) (s : Screen Row) → done Row row-ops p s .state ≡ planned p (s .state)
 unfolding done
-done-state w p s = refl
+done-state p s = refl
 
 module _ (w : ℕ) (v : Box) (row tile : ℕ) where
   fill-stands : (ps : List Paint) (ss : List Segment) (d : Draw) (o : Story) (s : State) → Stands v o s
@@ -138,15 +138,15 @@ module _ (w : ℕ) (v : Box) (row tile : ℕ) where
   step-stands (a-filter n q) js o s h j = (tt, filter-stands n q o s h j)
 
   -- a done step
-  pub call-stands : (x : Step) (o : Story) (s : Screen Row) → Stands v o (s .state) → call Row row-ops w x s .number ≡ Done
-      → Fits x o × Stands v (tell-step w v row tile x o) (call Row row-ops w x s .value .state)
+  pub call-stands : (x : Step) (o : Story) (s : Screen Row) → Stands v o (s .state) → call Row row-ops x s .number ≡ Done
+      → Fits x o × Stands v (tell-step w v row tile x o) (call Row row-ops x s .value .state)
   call-stands x o s h e =
-      let (j, q) = call-done w x s e in
-      let r = step-stands x (touched Row row-ops w (length (s .state .layers)) 0 (s .rows)) o (s .state) h j in
-      (r .0, rw (q, done-state w (plan x (touched Row row-ops w (length (s .state .layers)) 0 (s .rows)) (s .state)) s) (r .1))
+      let (j, q) = call-done x s e in
+      let r = step-stands x (touched Row row-ops (length (s .state .layers)) 0 (s .rows)) o (s .state) h j in
+      (r .0, rw (q, done-state (plan x (touched Row row-ops (length (s .state .layers)) 0 (s .rows)) (s .state)) s) (r .1))
 
   -- the steps that built a screen fit one after the other
-  pub built-fits : {xs : List Step} {s u : Screen Row} → Built w xs s u → (o : Story) → Stands v o (s .state) → Fitting w v row tile xs o × Stands v (tell-steps w v row tile xs o) (u .state)
+  pub built-fits : {xs : List Step} {s u : Screen Row} → Built xs s u → (o : Story) → Stands v o (s .state) → Fitting w v row tile xs o × Stands v (tell-steps w v row tile xs o) (u .state)
   unfolding tell-steps
   built-fits no-step o h = (fits.no-step, h)
   built-fits ((then) {x = x} {s = s} e b) o h =
@@ -171,22 +171,22 @@ limits-of false true c d e q = absurd (omega arith)
 limits-of false false true d e q = absurd (omega arith)
 limits-of false false false d e q = (refl, refl, refl)
 
-pub call-limits : (w : ℕ) (x : Step) (s : Screen Row) → call Row row-ops w x s .number ≡ Done → Limits (plan x (touched Row row-ops w (length (s .state .layers)) 0 (s .rows)) (s .state))
+pub call-limits : (x : Step) (s : Screen Row) → call Row row-ops x s .number ≡ Done → Limits (plan x (touched Row row-ops (length (s .state .layers)) 0 (s .rows)) (s .state))
 unfolding call perform refusal
-call-limits w x s e =
-    let p = plan x (touched Row row-ops w (length (s .state .layers)) 0 (s .rows)) (s .state) in
-    let t = done Row row-ops w p s in
-    let n = refusal Row row-ops w p t in
+call-limits x s e =
+    let p = plan x (touched Row row-ops (length (s .state .layers)) 0 (s .rows)) (s .state) in
+    let t = done Row row-ops p s in
+    let n = refusal Row row-ops p t in
     let q : n ≡ Done = by (eqb n Done) (λ y. eqb-true n Done y) (λ z. rw z at e) in
-    let j = eq-eqb (p .refused) Done (call-done w x s e .0) in
+    let j = eq-eqb (p .refused) Done (call-done x s e .0) in
     let k : first-of
     ((ltb most-layers (length (p .layers)), Deep)
     ∷ (ltb 1048577 (p .next), Ids)
     ∷ (attrs-full (p .attrs), FullAttrs)
-    ∷ (passes Row row-ops w (row-ops .renders) (t .state .frame .c) (p .puts) (t .rows), FullRow)
-    ∷ (passes Row row-ops w (row-ops .depths) (t .state .frame .d) (p .puts) (t .rows), FullDepth)
+    ∷ (passes Row row-ops (row-ops .renders) (t .state .frame .c) (p .puts) (t .rows), FullRow)
+    ∷ (passes Row row-ops (row-ops .depths) (t .state .frame .d) (p .puts) (t .rows), FullDepth)
     ∷ []) ≡ Done = rw j at q in
     let l = limits-of _ _ _
-    (passes Row row-ops w (row-ops .renders) (t .state .frame .c) (p .puts) (t .rows))
-    (passes Row row-ops w (row-ops .depths) (t .state .frame .d) (p .puts) (t .rows)) k in
+    (passes Row row-ops (row-ops .renders) (t .state .frame .c) (p .puts) (t .rows))
+    (passes Row row-ops (row-ops .depths) (t .state .frame .d) (p .puts) (t .rows)) k in
     record { deep = l .0; ids = l .1; attrs = l .2 }

@@ -45,9 +45,9 @@ even v g =
     record { left = omega arith; top = omega arith }
 
 -- the state that a done call leaves
-called : (w : ℕ) (x : Step) (s : Screen Row) → call Row row-ops w x s .number ≡ Done
-    → call Row row-ops w x s .value .state ≡ planned (plan x (touched Row row-ops w (length (s .state .layers)) 0 (s .rows)) (s .state)) (s .state)
-called w x s e = ap (λ (u : Screen Row). u .state) (call-done w x s e .1) ∙ done-state w (plan x (touched Row row-ops w (length (s .state .layers)) 0 (s .rows)) (s .state)) s
+called : (x : Step) (s : Screen Row) → call Row row-ops x s .number ≡ Done
+    → call Row row-ops x s .value .state ≡ planned (plan x (touched Row row-ops (length (s .state .layers)) 0 (s .rows)) (s .state)) (s .state)
+called x s e = ap (λ (u : Screen Row). u .state) (call-done x s e .1) ∙ done-state (plan x (touched Row row-ops (length (s .state .layers)) 0 (s .rows)) (s .state)) s
 
 module _ (w : ℕ) (v : Box) (row tile : ℕ) (ws : List ℕ) where
   abbrev story : Logged Row → Story
@@ -62,21 +62,21 @@ module _ (w : ℕ) (v : Box) (row tile : ℕ) (ws : List ℕ) where
     shape : Shape (story s .open-layers) (t .levels)
     count : length (all-lines w v row tile (s .log) untold) ≡ story s .paints + story s .layers
 
-  step-beside : (x : Step) (s : Logged Row) (t : Telling) → Beside s t → call Row row-ops w x (s .screen) .number ≡ Done
-      → (tell-at w v row tile x t .number ≡ Done) × Beside (record { screen = call Row row-ops w x (s .screen) .value; log = s .log ++ (x ∷ []) }) (tell-at w v row tile x t .value)
+  step-beside : (x : Step) (s : Logged Row) (t : Telling) → Beside s t → call Row row-ops x (s .screen) .number ≡ Done
+      → (tell-at w v row tile x t .number ≡ Done) × Beside (record { screen = call Row row-ops x (s .screen) .value; log = s .log ++ (x ∷ []) }) (tell-at w v row tile x t .value)
   step-beside x s t h e =
       let st = s .screen .state in
-      let js = touched Row row-ops w (length (st .layers)) 0 (s .screen .rows) in
+      let js = touched Row row-ops (length (st .layers)) 0 (s .screen .rows) in
       let o = story s in
       let ls = all-lines w v row tile (s .log) untold in
       let (f, k) = call-stands w v row tile x o (s .screen) (h .stands) e in
-      let lim = call-limits w x (s .screen) e in
-      let a = step-after w v row tile ws x js o st ls (t .levels) (h .stands) (call-done w x (s .screen) e .0) lim f (h .shape) (h .count) in
+      let lim = call-limits x (s .screen) e in
+      let a = step-after w v row tile ws x js o st ls (t .levels) (h .stands) (call-done x (s .screen) e .0) lim f (h .shape) (h .count) in
       let told : tell-at w v row tile x t ≡ answer Done (telling ws (tell-step w v row tile x o) (ls ++ step-lines w v row tile x o) (a .levels) (length (plan x js st .attrs .filters))) =
       ap (tell-at w v row tile x) (h .is) ∙ a .is in
       let more = steps-more w v row tile x (s .log) untold in
       let longer = lines-more w v row tile x (s .log) untold in
-      let after = called w x (s .screen) e in
+      let after = called x (s .screen) e in
       rw told (
         refl,
         record {
@@ -89,7 +89,7 @@ module _ (w : ℕ) (v : Box) (row tile : ℕ) (ws : List ℕ) where
         },
       )
 
-  step-agrees : (x : Step) → Agrees (λ (n : ℕ). n ≡ Done) refl Beside (logged-call Row row-ops w x) (tell-at w v row tile x)
+  step-agrees : (x : Step) → Agrees (λ (n : ℕ). n ≡ Done) refl Beside (logged-call Row row-ops x) (tell-at w v row tile x)
   unfolding logged-call
   step-agrees x s t h = record { number = λ e. step-beside x s t h e .0 ∙ sym e; value = λ e. step-beside x s t h e .1 }
 
@@ -131,13 +131,13 @@ module _ (w : ℕ) (v : Box) (row tile : ℕ) (ws : List ℕ) where
 
 -- Where the rules' walk of a recording is done, so is the engine's; and what it has told is the rules' account of the tile.
 pub tile-told : (w : ℕ) (f : Frame) (r : Recording) (row tile : ℕ) (ws : List ℕ) → good-viewport (f .viewport) ≡ true
-    → let a = walk-logged Row row-ops w fresh-row f r in
+    → let a = walk-logged Row row-ops fresh-row f r in
     let b = walk-all Telling (tell-at w (f .viewport) row tile) r (nothing-told ws) in
     a .number ≡ Done → (b .number ≡ Done) × Retold w (f .viewport) row tile (a .value .log) ws (b .value)
 unfolding walk-logged
 tile-told w f r row tile ws g e =
     let v = f .viewport in
     let begin : Logged Row = record { screen = reset fresh-row f; log = [] } in
-    let a = walk-agrees (λ (n : ℕ). n ≡ Done) refl (Beside w v row tile ws) (logged-call Row row-ops w) (tell-at w v row tile) (step-agrees w v row tile ws) r
+    let a = walk-agrees (λ (n : ℕ). n ≡ Done) refl (Beside w v row tile ws) (logged-call Row row-ops) (tell-at w v row tile) (step-agrees w v row tile ws) r
     begin (nothing-told ws) (start w v row tile ws f refl) in
     (a .number e ∙ e, retold w v row tile ws (even v g) _ _ (a .value e))

@@ -11,9 +11,9 @@ use sizes::LEVEL_BASE;
 use sizes::LEVELS;
 use sizes::RENDERS;
 use sizes::wide;
+use sizes::width::Width;
 use span::Alpha;
 use span::TileSpan;
-use span::Width;
 use span::larger;
 use span::smaller;
 ghost use mathlib.Core.Path.{_≡_};
@@ -25,7 +25,7 @@ ghost use Rattle.rules.specs.Commands.{span-word, paint-fill, layer-fill};
 ghost use Rattle.cmd.specs.DepthFills.{depth-fill};
 ghost use Rattle.span.specs.Spans.{tiles, buckets};
 ghost use Rattle.span.specs.Spans as spans;
-ghost use Rattle.span.specs.Widths as widths;
+ghost use Rattle.sizes.specs.Widths.{bucket-tiles};
 ghost use Rattle.row.specs.Cmds.{Short};
 ghost use Rattle.row.specs.Words.{words, put4, hull-word, include-span, put-command, put-buf, end-buf, put-depth, Room, Ends};
 
@@ -177,8 +177,8 @@ pub fn push_depth_fill(
     draw_id: u32,
     width: Width,
 )
-    requires { ⌜ Short (buckets (cmd .buckets)) × Room (words (now state) (now render) (now fills)) (put-depth (widths.wide width) (depth-fill cmd) «draw_id» (words (now state) (now render) (now fills))) ⌝ }
-    ensures { λ _. ⌜ words (now (state .exit)) (now (render .exit)) (now (fills .exit)) ≡ put-depth (widths.wide width) (depth-fill cmd) «draw_id» (words (now (state .entry)) (now (render .entry)) (now (fills .entry))) ⌝ }
+    requires { ⌜ Short (buckets (cmd .buckets)) × Room (words (now state) (now render) (now fills)) (put-depth (bucket-tiles width) (depth-fill cmd) «draw_id» (words (now state) (now render) (now fills))) ⌝ }
+    ensures { λ _. ⌜ words (now (state .exit)) (now (render .exit)) (now (fills .exit)) ≡ put-depth (bucket-tiles width) (depth-fill cmd) «draw_id» (words (now (state .entry)) (now (render .entry)) (now (fills .entry))) ⌝ }
 {
     let two = cmd.words();
     let range = cmd.buckets;

@@ -19,9 +19,9 @@ use Rattle.rules.proofs.All.{All, nil, cons, head, tail, all-if, all-keep}
 use Rattle.span.specs.Spans.{tiles, buckets as bucket-span}
 use Rattle.span.specs.declared.TileSpan.{TileSpan}
 use Rattle.span.specs.declared.BucketRange.{BucketRange}
-use Rattle.span.specs.declared.Width.{Width}
-use Rattle.span.specs.Widths.{wide}
-use Rattle.span.proofs.Widths.{below-small, raised-short, raised-least, lowered-most}
+use Rattle.sizes.specs.declared.width.Width.{Width}
+use Rattle.sizes.specs.Widths.{bucket-tiles}
+use Rattle.rules.proofs.laws.Widths.{below-small, raised-short, raised-least, lowered-most}
 use Rattle.depth.specs.declared.split.Edge.{Edge}
 use Rattle.depth.specs.declared.split.Edge.the-variants.{Absent, Tiles}
 use Rattle.depth.specs.declared.split.Split.{Split}
@@ -136,11 +136,11 @@ abbrev ShortPart : Part → Type 0
 ShortPart (regular s) = Short s
 ShortPart (buckets s) = Short s
 
-parts-short : (width : Width) (s : Span) → Short s → All ShortPart (split (wide width) s)
+parts-short : (width : Width) (s : Span) → Short s → All ShortPart (split (bucket-tiles width) s)
 unfolding split
 parts-short width s h =
-    let a = raised (wide width) (s .first) in
-    let b = lowered (wide width) (s .end) in
+    let a = raised (bucket-tiles width) (s .first) in
+    let b = lowered (bucket-tiles width) (s .end) in
     let low : a ≤ 8192 = raised-short width (s .first) (h .0) in
     let high : b ≤ s .end = lowered-most width (s .end) in
     all-if (leb b a) (cons h nil)
@@ -181,13 +181,13 @@ unfolding split-answer
 refused-back v s h e = backwards v s h _ _ refl refl e
 
 -- by what the code finds of a span's split: its parts are short, they come to the whole, and each has room
-module _ (width : Width) (i id : ℕ) (s : Span) (h : Short s) (w : Words) (o : Room w (parted (wide width) i id s w)) {r : Split} (e : split-of r ≡ split-answer (wide width) s) where
-  pub refused-is : r ≡ Refused → parted (wide width) i id s w ≡ put-command (paint-fill s none i) w
+module _ (width : Width) (i id : ℕ) (s : Span) (h : Short s) (w : Words) (o : Room w (parted (bucket-tiles width) i id s w)) {r : Split} (e : split-of r ≡ split-answer (bucket-tiles width) s) where
+  pub refused-is : r ≡ Refused → parted (bucket-tiles width) i id s w ≡ put-command (paint-fill s none i) w
   unfolding split
   refused-is t =
-      rw (le-leb (lowered (wide width) (s .end)) (raised (wide width) (s .first)) (omega (
+      rw (le-leb (lowered (bucket-tiles width) (s .end)) (raised (bucket-tiles width) (s .first)) (omega (
         arith,
-        refused-back (wide width) s (h .1) (ap split-of (sym t) ∙ e),
+        refused-back (bucket-tiles width) s (h .1) (ap split-of (sym t) ∙ e),
         raised-least width (s .first),
         lowered-most width (s .end),
       )))
@@ -196,30 +196,30 @@ module _ (width : Width) (i id : ℕ) (s : Span) (h : Short s) (w : Words) (o : 
   refused-asks t = (h, rw (refused-is t) at o)
 
   module _ (u : TileSpan) (t : r ≡ Whole u) where
-    only : split (wide width) s ≡ regular (tiles u) ∷ []
-    only = split-told (wide width) s (regular (tiles u) ∷ []) (ap split-of (sym t) ∙ e)
+    only : split (bucket-tiles width) s ≡ regular (tiles u) ∷ []
+    only = split-told (bucket-tiles width) s (regular (tiles u) ∷ []) (ap split-of (sym t) ∙ e)
 
-    pub whole-is : parted (wide width) i id s w ≡ put-command (paint-fill (tiles u) none i) w
-    whole-is = ap (λ (ps : List Part). foldl (put-part Words word-ops (wide width) i id) w ps) only
+    pub whole-is : parted (bucket-tiles width) i id s w ≡ put-command (paint-fill (tiles u) none i) w
+    whole-is = ap (λ (ps : List Part). foldl (put-part Words word-ops (bucket-tiles width) i id) w ps) only
 
     pub whole-asks : Short (tiles u) × Room w (put-command (paint-fill (tiles u) none i) w)
     whole-asks = (head (rw only at (parts-short width s h)), rw whole-is at o)
 
   module _ (a : Edge) (b : BucketRange) (c : Edge) (t : r ≡ Opaque a b c) where
-    three : split (wide width) s ≡ beside a (buckets (bucket-span b) ∷ beside c [])
-    three = split-told (wide width) s (beside a (buckets (bucket-span b) ∷ beside c [])) (ap split-of (sym t) ∙ e)
+    three : split (bucket-tiles width) s ≡ beside a (buckets (bucket-span b) ∷ beside c [])
+    three = split-told (bucket-tiles width) s (beside a (buckets (bucket-span b) ∷ beside c [])) (ap split-of (sym t) ∙ e)
 
     abbrev mid : Words
-    mid = put-depth (wide width) (deep (bucket-span b) i) id (edged a i w)
+    mid = put-depth (bucket-tiles width) (deep (bucket-span b) i) id (edged a i w)
 
-    folded : (x y : Edge) → foldl (put-part Words word-ops (wide width) i id) w (beside x (buckets (bucket-span b) ∷ beside y [])) ≡ edged y i (put-depth (wide width) (deep (bucket-span b) i) id (edged x i w))
+    folded : (x y : Edge) → foldl (put-part Words word-ops (bucket-tiles width) i id) w (beside x (buckets (bucket-span b) ∷ beside y [])) ≡ edged y i (put-depth (bucket-tiles width) (deep (bucket-span b) i) id (edged x i w))
     folded Absent Absent = refl
     folded Absent (Tiles v) = refl
     folded (Tiles u) Absent = refl
     folded (Tiles u) (Tiles v) = refl
 
-    pieces-are : parted (wide width) i id s w ≡ edged c i mid
-    pieces-are = ap (λ (ps : List Part). foldl (put-part Words word-ops (wide width) i id) w ps) three ∙ folded a c
+    pieces-are : parted (bucket-tiles width) i id s w ≡ edged c i mid
+    pieces-are = ap (λ (ps : List Part). foldl (put-part Words word-ops (bucket-tiles width) i id) w ps) three ∙ folded a c
 
     all-short : (x y : Edge) → All ShortPart (beside x (buckets (bucket-span b) ∷ beside y [])) → ShortEdge x × Short (bucket-span b) × ShortEdge y
     all-short Absent Absent k = (tt, head k, tt)
@@ -237,7 +237,7 @@ module _ (width : Width) (i id : ℕ) (s : Span) (h : Short s) (w : Words) (o : 
     s1 = edge-sound w (o .state) (o .levels) a i
 
     s2 : Sound (edged a i w) mid
-    s2 = fill-sound (edged a i w) (state-long s1 (o .state)) (s1 .levels) (wide width) (deep (bucket-span b) i) id
+    s2 = fill-sound (edged a i w) (state-long s1 (o .state)) (s1 .levels) (bucket-tiles width) (deep (bucket-span b) i) id
 
     s3 : Sound mid (edged c i mid)
     s3 = edge-sound mid (state-long (sound-trans s1 s2) (o .state)) (s2 .levels) c i
@@ -246,14 +246,14 @@ module _ (width : Width) (i id : ℕ) (s : Span) (h : Short s) (w : Words) (o : 
     before-asks = (short .0, room-first (sound-trans s2 s3 .grown) room)
 
     module _ {u : Words} (p : u ≡ edged a i w) where
-      pub buckets-ask : Short (bucket-span b) × Room u (put-depth (wide width) (deep (bucket-span b) i) id u)
+      pub buckets-ask : Short (bucket-span b) × Room u (put-depth (bucket-tiles width) (deep (bucket-span b) i) id u)
       buckets-ask = (short .1, rw p (room-first (s3 .grown) (room-after s1 room)))
 
-      module _ {v : Words} (q : v ≡ put-depth (wide width) (deep (bucket-span b) i) id u) where
+      module _ {v : Words} (q : v ≡ put-depth (bucket-tiles width) (deep (bucket-span b) i) id u) where
         pub after-asks : ShortEdge c × Room v (edged c i v)
         after-asks = (short .2, rw (q, p) (room-after (sound-trans s1 s2) room))
 
-        pub pieces-done : {x : Words} → x ≡ edged c i v → x ≡ parted (wide width) i id s w
+        pub pieces-done : {x : Words} → x ≡ edged c i v → x ≡ parted (bucket-tiles width) i id s w
         pieces-done k = rw (k, q, p) (sym pieces-are)
 
 -- rules 5 to 7

@@ -3,7 +3,6 @@ use Prim.Native.Nat.{ℕ}
 use mathlib.Core.Bool.{Bool}
 use mathlib.Core.List.{foldl}
 use mathlib.Core.Option.{Option, none}
-use Rattle.sizes.specs.Sizes.{bucket-tiles}
 use Rattle.rules.specs.Spans.{Span}
 use Rattle.rules.specs.Split.{split}
 use Rattle.rules.specs.Commands.{paint-fill}
@@ -22,7 +21,7 @@ alpha-of a = alpha a
 
 -- rule 5, with n layers open: no depth fill, so that it is the same at each width
 abbrev pub ensured : ℕ → Words → Words
-ensured n w = ensure Words word-ops bucket-tiles n w
+ensured n w = ensure Words word-ops n w
 
 -- any act, with n layers open
 abbrev pub acted : ℕ → ℕ → Act → Words → Words

@@ -8,15 +8,15 @@ use row::push_buf;
 use row::push_depth_fill;
 use row::push_paint;
 use sizes::LEVELS;
+use sizes::width::Width;
 use span::Alpha;
 use span::TileSpan;
-use span::Width;
 ghost use mathlib.Core.Path.{_≡_};
 ghost use Prim.Native.Nat.{_≤_};
 ghost use Rattle.sizes.specs.Sizes.{most-layers};
 ghost use Rattle.rules.specs.Commands.{paint-fill, layer-fill};
 ghost use Rattle.span.specs.Spans.{tiles};
-ghost use Rattle.span.specs.Widths.{wide};
+ghost use Rattle.sizes.specs.Widths.{bucket-tiles};
 ghost use Rattle.row.specs.Words.{words, put-command, Room};
 ghost use Rattle.row.specs.Cmds.{Short};
 ghost use Rattle.row_acts.specs.Acts.{alpha-of, ensured, parted, ShortEdge, edged, drawn};
@@ -56,8 +56,8 @@ fn push_opaque(
     draw_id: u32,
     width: Width,
 )
-    requires { ⌜ Short (tiles span) × Room (words (now state) (now render) (now fills)) (parted (wide width) «attrs_idx» «draw_id» (tiles span) (words (now state) (now render) (now fills))) ⌝ }
-    ensures { λ _. ⌜ words (now (state .exit)) (now (render .exit)) (now (fills .exit)) ≡ parted (wide width) «attrs_idx» «draw_id» (tiles span) (words (now (state .entry)) (now (render .entry)) (now (fills .entry))) ⌝ }
+    requires { ⌜ Short (tiles span) × Room (words (now state) (now render) (now fills)) (parted (bucket-tiles width) «attrs_idx» «draw_id» (tiles span) (words (now state) (now render) (now fills))) ⌝ }
+    ensures { λ _. ⌜ words (now (state .exit)) (now (render .exit)) (now (fills .exit)) ≡ parted (bucket-tiles width) «attrs_idx» «draw_id» (tiles span) (words (now (state .entry)) (now (render .entry)) (now (fills .entry))) ⌝ }
 {
     let split = split_opaque_span(span, width);
     match split {
@@ -99,8 +99,8 @@ pub fn push_fill(
     draw_id: u32,
     width: Width,
 )
-    requires { ⌜ Short (tiles span) × (n ≤ most-layers) × Room (words (now state) (now render) (now fills)) (drawn (wide width) n eligible (tiles span) (alpha-of alpha) «attrs_idx» «draw_id» (words (now state) (now render) (now fills))) ⌝ }
-    ensures { λ _. ⌜ words (now (state .exit)) (now (render .exit)) (now (fills .exit)) ≡ drawn (wide width) n eligible (tiles span) (alpha-of alpha) «attrs_idx» «draw_id» (words (now (state .entry)) (now (render .entry)) (now (fills .entry))) ⌝ }
+    requires { ⌜ Short (tiles span) × (n ≤ most-layers) × Room (words (now state) (now render) (now fills)) (drawn (bucket-tiles width) n eligible (tiles span) (alpha-of alpha) «attrs_idx» «draw_id» (words (now state) (now render) (now fills))) ⌝ }
+    ensures { λ _. ⌜ words (now (state .exit)) (now (render .exit)) (now (fills .exit)) ≡ drawn (bucket-tiles width) n eligible (tiles span) (alpha-of alpha) «attrs_idx» «draw_id» (words (now (state .entry)) (now (render .entry)) (now (fills .entry))) ⌝ }
 {
     ensure_row_layers(state, render, fills, n);
     match alpha {

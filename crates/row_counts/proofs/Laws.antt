@@ -61,8 +61,8 @@ module _ (w : Words) (o : Sane w) where
   unfolding end-buf
   pop-counts = either (eqb (word 5 w) 0)
 
-pub counted : (v : ℕ) → Follows Words Counts word-ops count-ops count Sane any v
-counted v =
+pub counted : Follows Words Counts word-ops count-ops count Sane any
+counted =
     record {
       renders = λ w o. refl;
       depths = λ w o. refl;
@@ -76,18 +76,18 @@ counted v =
         record { state = buf-grown w (o .state) (omega arith) .state ∙ o .state; levels = omega (arith, buf-levels w (o .state) (omega arith), h) },
       );
       pops = λ w o. (pop-counts w o, record { state = end-grown w (o .state) .state ∙ o .state; levels = omega (arith, end-levels w (o .state), o .levels) });
-      fills = λ s a id g w o. fill-counts w o v (record { buckets = s; attribute = a }) id;
-      parts = λ s g. all-any any-part (split v s);
+      fills = λ v s a id g w o. fill-counts w o v (record { buckets = s; attribute = a }) id;
+      parts = λ v s g. all-any any-part (split v s);
     }
 
 -- what a judge may count in place of doing; and rows stay sane
 pub counts-after : (v n : ℕ) → n ≤ 16 → (ps : List Put) (rows : List Words) → All Sane rows
     → (map count (do-puts Words word-ops v n ps rows) ≡ do-puts Counts count-ops v n ps (map count rows)) × All Sane (do-puts Words word-ops v n ps rows)
-counts-after v n m ps rows f = follows-puts (counted v) n m (all-any any-put ps) rows f
+counts-after v n m ps rows f = follows-puts counted v n m (all-any any-put ps) rows f
 
 -- the number of any plan, and of any step, is that of its counts
-pub counts-number : (v : ℕ) (p : Plan) (s : Screen Words) → All Sane (s .rows) → perform Words word-ops v p s .number ≡ perform Counts count-ops v p (screen-by count s) .number
-counts-number v p s f = sym (ap (λ a. a .number) (follows-perform (counted v) p (λ e. all-any any-put (p .puts)) s f .0))
+pub counts-number : (p : Plan) (s : Screen Words) → All Sane (s .rows) → perform Words word-ops p s .number ≡ perform Counts count-ops p (screen-by count s) .number
+counts-number p s f = sym (ap (λ a. a .number) (follows-perform counted p (λ e. all-any any-put (p .puts)) s f .0))
 
-pub counts-call : (v : ℕ) (x : Step) (s : Screen Words) → All Sane (s .rows) → call Words word-ops v x s .number ≡ call Counts count-ops v x (screen-by count s) .number
-counts-call v x s f = sym (ap (λ a. a .number) (follows-call (counted v) x s (λ e. all-any any-put _) f .0))
+pub counts-call : (x : Step) (s : Screen Words) → All Sane (s .rows) → call Words word-ops x s .number ≡ call Counts count-ops x (screen-by count s) .number
+counts-call x s f = sym (ap (λ a. a .number) (follows-call counted x s (λ e. all-any any-put _) f .0))

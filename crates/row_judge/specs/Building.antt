@@ -4,7 +4,7 @@ use mathlib.Core.Bool.{Bool, true, false, _&&_, _||_, not, cond}
 use mathlib.Core.List.{List, [], _∷_}
 use lib.ListN.{getD}
 use lib.Dec.{leb, ltb, eqb}
-use Rattle.sizes.specs.Sizes.{bucket-tiles, tile-end, last-id, renders-at, depths-at, first-at, end-at, largest-at, levels-at, level-at}
+use Rattle.sizes.specs.Sizes.{tile-end, last-id, renders-at, depths-at, first-at, end-at, largest-at, levels-at, level-at}
 use Rattle.rules.specs.Lists.{every}
 use Rattle.rules.specs.Answers.{Done, BadRecord}
 use Rattle.rules.specs.Boxes.{rows-of}
@@ -58,4 +58,4 @@ good-rows f n ps rs = every (λ (p : Put). good-at f n (p .row) rs) ps
 -- a step's number: what the screen and the lent words say (2, 1, 4), then 4 for a row's record, then the rules' own refusal
 unfoldable pub step-number : ℕ → Bool → Plan → Screen Words → ℕ
 step-number first good p s =
-    cond (eqb first Done) (cond good (refusal Words word-ops bucket-tiles p (done Words word-ops bucket-tiles p s)) BadRecord) first
+    cond (eqb first Done) (cond good (refusal Words word-ops p (done Words word-ops p s)) BadRecord) first

@@ -4,9 +4,10 @@
 use libc::STDERR_FILENO;
 use libc::STDIN_FILENO;
 use libc::STDOUT_FILENO;
-use screen::Setup;
 use sizes::wide;
+use text_dump::no_width_dump;
 use text_dump::rowdump_text;
+use text_programs::options::Want;
 use text_programs::options::read_options;
 use text_programs::read_all;
 use text_programs::stream::read;
@@ -18,20 +19,34 @@ ghost use Prim.Native.Nat.{_≤_};
 ghost use lib.ListN.{length};
 ghost use Rattle.screen.specs.Screens.{setup-of};
 ghost use Rattle.text_file.specs.Files.{Usual};
-ghost use Rattle.text_dump.specs.Rowdump.{rowdump-text};
+ghost use Rattle.text_programs.specs.Programs.{first};
+ghost use Rattle.text_dump.specs.Rowdump.{rowdump-text, dump-by-width};
 
-// Writes the text of recording i, a file's bytes in a setup: no other bytes can be handed to it. Whether that could be done.
-fn print(i: u64, file: &[u8], setup: Setup, text: &[u8]) -> bool
-    requires { ⌜ now text ≡ rowdump-text (setup-of setup) i (now file) ⌝ }
+// Writes what is wanted of recording i, a file's bytes: no other bytes can be handed to it. Whether that could be done.
+fn print(i: u64, file: &[u8], want: Want, text: &[u8]) -> bool
+    requires { ⌜ now text ≡ dump-by-width (want .«no_width») i (now file) (rowdump-text (setup-of (want .setup)) i (now file)) ⌝ }
 {
     io::write_all(STDOUT_FILENO, text)
 }
 
-fn print_recording(i: u64, file: &[u8], setup: Setup, out: &mut [u8]) -> bool
-    requires { ⌜ Usual (setup-of setup) × (4682240 ≤ length (now out)) ⌝ }
+// What is wanted, put first; how long it is.
+fn wanted_text(i: u64, file: &[u8], want: Want, out: &mut [u8]) -> usize
+    requires { ⌜ Usual (setup-of (want .setup)) × (4813312 ≤ length (now out)) ⌝ }
+    ensures { λ r. ⌜ r ≡ length (dump-by-width (want .«no_width») i (now (file .entry)) (rowdump-text (setup-of (want .setup)) i (now (file .entry)))) ⌝ }
+    ensures { λ r. ⌜ now (out .exit) ≡ first (dump-by-width (want .«no_width») i (now (file .entry)) (rowdump-text (setup-of (want .setup)) i (now (file .entry)))) (now (out .entry)) ⌝ }
 {
-    let n = rowdump_text(i, file, setup, out);
-    print(i, file, setup, &out[..n])
+    if want.no_width {
+        return no_width_dump(i, file, out);
+    }
+    let setup = want.setup;
+    rowdump_text(i, file, setup, out)
+}
+
+fn print_recording(i: u64, file: &[u8], want: Want, out: &mut [u8]) -> bool
+    requires { ⌜ Usual (setup-of (want .setup)) × (4813312 ≤ length (now out)) ⌝ }
+{
+    let n = wanted_text(i, file, want, out);
+    print(i, file, want, &out[..n])
 }
 
 fn no_read() {
@@ -43,8 +58,8 @@ fn no_write() {
 }
 
 // The recording after its length; whether the stream goes on.
-fn print_next(i: u64, size: usize, setup: Setup, out: &mut [u8]) -> bool
-    requires { ⌜ Usual (setup-of setup) × (4682240 ≤ length (now out)) ⌝ }
+fn print_next(i: u64, size: usize, want: Want, out: &mut [u8]) -> bool
+    requires { ⌜ Usual (setup-of (want .setup)) × (4813312 ≤ length (now out)) ⌝ }
 {
     let mut bytes = file_buffer();
     let got = read(&mut bytes, size);
@@ -52,7 +67,7 @@ fn print_next(i: u64, size: usize, setup: Setup, out: &mut [u8]) -> bool
         no_read();
         return false;
     }
-    if !print_file(i, &bytes, got.count, setup, out) {
+    if !print_file(i, &bytes, got.count, want, out) {
         no_write();
         return false;
     }
@@ -63,18 +78,18 @@ fn print_next(i: u64, size: usize, setup: Setup, out: &mut [u8]) -> bool
     true
 }
 
-fn print_file(i: u64, bytes: &[u8], n: usize, setup: Setup, out: &mut [u8]) -> bool
-    requires { ⌜ Usual (setup-of setup) × (4682240 ≤ length (now out)) ⌝ }
+fn print_file(i: u64, bytes: &[u8], n: usize, want: Want, out: &mut [u8]) -> bool
+    requires { ⌜ Usual (setup-of (want .setup)) × (4813312 ≤ length (now out)) ⌝ }
 {
     if n <= bytes.len() {
-        return print_recording(i, &bytes[..n], setup, out);
+        return print_recording(i, &bytes[..n], want, out);
     }
     true
 }
 
 // Whether there was another recording.
-fn next(i: u64, setup: Setup, out: &mut [u8]) -> bool
-    requires { ⌜ Usual (setup-of setup) × (4682240 ≤ length (now out)) ⌝ }
+fn next(i: u64, want: Want, out: &mut [u8]) -> bool
+    requires { ⌜ Usual (setup-of (want .setup)) × (4813312 ≤ length (now out)) ⌝ }
 {
     let mut head = [0u8; 4];
     let got = read_all(STDIN_FILENO, &mut head);
@@ -85,16 +100,16 @@ fn next(i: u64, setup: Setup, out: &mut [u8]) -> bool
     if got.count < 4 {
         return false;
     }
-    print_next(i, wide(word(&head, 0)), setup, out)
+    print_next(i, wide(word(&head, 0)), want, out)
 }
 
 // A proved loop has to end, and nothing says that a stream does: it counts up to a number that no run reaches.
-fn print_all(setup: Setup, out: &mut [u8])
-    requires { ⌜ Usual (setup-of setup) × (4682240 ≡ length (now out)) ⌝ }
+fn print_all(want: Want, out: &mut [u8])
+    requires { ⌜ Usual (setup-of (want .setup)) × (4813312 ≡ length (now out)) ⌝ }
 {
     let mut i: u64 = 0;
     while i < u64::MAX {
-        if !next(i, setup, out) {
+        if !next(i, want, out) {
             return;
         }
         i += 1;
@@ -102,19 +117,22 @@ fn print_all(setup: Setup, out: &mut [u8])
 }
 
 // Room for the longest text, made once.
-fn print_stream(setup: Setup)
-    requires { ⌜ Usual (setup-of setup) ⌝ }
+fn print_stream(want: Want)
+    requires { ⌜ Usual (setup-of (want .setup)) ⌝ }
 {
-    let mut out = [0u8; 4682240];
-    print_all(setup, &mut out);
+    let mut out = [0u8; 4813312];
+    print_all(want, &mut out);
 }
 
 fn main() {
     let options = read_options();
     if options.others != 0 {
-        io::write_all(STDERR_FILENO, b"usage: rowdump [--snap] < STREAM\n");
+        io::write_all(
+            STDERR_FILENO,
+            b"usage: rowdump [--snap] [--width N] < STREAM\n",
+        );
         return;
     }
-    let setup = options.setup;
-    print_stream(setup);
+    let want = options.want;
+    print_stream(want);
 }

@@ -1,9 +1,10 @@
 -- Tests: directed cases. A recording, the lines that `rowlist` prints of it, its attributes and its painted pieces, by computation.
 use mathlib.Core.Path.{_≡_, refl}
 use mathlib.Core.Bool.{true}
-use mathlib.Core.List.{[], _∷_}
+use mathlib.Core.List.{List, [], _∷_}
 use mathlib.Core.Option.{none, some}
 use lib.IntN.{pos}
+use Rattle.sizes.specs.declared.width.Width.the-variants.{W128}
 use Rattle.rules.specs.Lists.{every}
 use Rattle.rules.specs.Spans.{span}
 use Rattle.rules.specs.Boxes.{box}
@@ -510,10 +511,10 @@ pub in-turn-attributes :
 unfolding computing
 in-turn-attributes = refl
 
--- Painting gives each tile of each accepted case what plain draw order gives it: one test.
-pub same-pictures :
-    every (same-picture 32)
-    (left-cut
+-- the accepted cases
+abbrev pub pictured : List Recording
+pictured =
+    left-cut
     ∷ parent-cut
     ∷ unreached
     ∷ no-span
@@ -531,6 +532,9 @@ pub same-pictures :
     ∷ empty-push
     ∷ clipped-filter
     ∷ in-turn
-    ∷ []) ≡ true
+    ∷ []
+
+-- Painting gives each tile of each of them what plain draw order gives it: one test.
+pub same-pictures : every (same-picture W128) pictured ≡ true
 unfolding computing
 same-pictures = refl

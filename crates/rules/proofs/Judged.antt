@@ -6,6 +6,7 @@ use mathlib.Core.List.{List, [], _∷_, _++_, map}
 use mathlib.Core.Option.{none, some}
 use lib.ListN.{length, take, replicate}
 use lib.Dec.{eqb}
+use Rattle.sizes.specs.declared.width.Width.the-variants.{W128}
 use Rattle.rules.specs.Lists.{every, join, range}
 use Rattle.rules.specs.Answers.{Answer, answer, Done, BadArena, BadViewport, BadForm, BadRecord, BadOrder, Deep}
 use Rattle.rules.specs.Boxes.{Box, box}
@@ -27,17 +28,17 @@ use Rattle.rules.proofs.Computing.{computing}
 
 -- two rows and two buckets, C = 4 and D = 5, lent what they need and `a`, `b`, `c` words more
 abbrev asked : ℕ → ℕ → Mode → Setup
-asked c d m = record { c = c; d = d; mode = m }
+asked c d m = record { c = c; d = d; mode = m; width = W128 }
 
 abbrev lent : ℕ → ℕ → ℕ → Place
 lent a b c = record { limit = 512; setup = asked 4 5 exact; arenas = record { render = 32 + a; fills = 20 + b; depth = 4 + c } }
 
 -- the screen before
 abbrev old : Screen Row
-old = reset fresh-row (record { viewport = box 4 8 12 16; c = 7; d = 9 })
+old = reset fresh-row (record { viewport = box 4 8 12 16; c = 7; d = 9; width = W128 })
 
 abbrev plays : Place → List ℕ → Answer (Screen Row)
-plays p ws = play (Screen Row) (call Row row-ops 32) (reset fresh-row) 32 p old ws
+plays p ws = play (Screen Row) (call Row row-ops) (reset fresh-row) p old ws
 
 abbrev judged : List ℕ → ℕ
 judged ws = plays (lent 0 0 0) ws .number
@@ -46,7 +47,7 @@ judged ws = plays (lent 0 0 0) ws .number
 abbrev views-in : Mode → Box → ℕ
 views-in m v =
     let q = asked 1 1 m in
-    plays (record { limit = 512; setup = q; arenas = needed 32 (frame q v) }) (file (rec v [] [] [] [] 0 0)) .number
+    plays (record { limit = 512; setup = q; arenas = needed (frame q v) }) (file (rec v [] [] [] [] 0 0)) .number
 
 abbrev views : Box → ℕ
 views = views-in exact
@@ -182,7 +183,7 @@ unfolding computing
 all-judged = refl
 
 -- Answer 1: rows x 4C, rows x 2D and rows x buckets words.
-pub arenas-needed : needed 32 (record { viewport = box 0 0 260 8; c = 3; d = 5 }) ≡ record { render = 24; fills = 20; depth = 6 }
+pub arenas-needed : needed (record { viewport = box 0 0 260 8; c = 3; d = 5; width = W128 }) ≡ record { render = 24; fills = 20; depth = 6 }
 unfolding computing
 arenas-needed = refl
 
@@ -201,7 +202,7 @@ left-by-1 = refl
 
 -- .. with another number its own viewport, freshly reset: for a record, an order, a step that comes after others
 abbrev reset-to : Screen Row
-reset-to = reset fresh-row (record { viewport = box 0 0 256 8; c = 4; d = 5 })
+reset-to = reset fresh-row (record { viewport = box 0 0 256 8; c = 4; d = 5; width = W128 })
 
 pub left-by-4 : plays (lent 0 0 0) (file (rec (box 0 0 256 8) [] [] [] [] 1 0)) ≡ answer BadRecord reset-to
 unfolding computing
@@ -215,7 +216,7 @@ left-by-5 = refl
 pub left-by-6 :
     plays (record { limit = 512; setup = asked 64 5 exact; arenas = record { render = 512; fills = 20; depth = 4 } })
     (file (rec (box 0 0 256 8) (solid 0 0 4 ∷ []) (draw 0 1 ∷ []) (layer 0 1 ∷ []) (node 0 1 1 ∷ []) 0 1)) ≡
-    answer Deep (reset fresh-row (record { viewport = box 0 0 256 8; c = 64; d = 5 }))
+    answer Deep (reset fresh-row (record { viewport = box 0 0 256 8; c = 64; d = 5; width = W128 }))
 unfolding computing
 left-by-6 = refl
 

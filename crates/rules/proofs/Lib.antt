@@ -12,6 +12,7 @@ pub mod Edges
 pub mod Judged
 pub mod Refusals
 pub mod Shapes
+pub mod Widths
 -- What other crates cite.
 pub mod All
 pub mod laws

@@ -1,5 +1,4 @@
 -- Walks with their logs, for the tests and for what is proved of walks: no rule reads a log.
-use Prim.Native.Nat.{ℕ}
 use mathlib.Core.List.{List, [], _∷_, _++_}
 use Rattle.rules.specs.Answers.{Answer, answer}
 use Rattle.rules.specs.Rows.{RowOps}
@@ -13,10 +12,10 @@ pub record Logged (R : Type 0) : Type 0 where
   pub screen : Screen R
   pub log : List Step
 
-module _ (R : Type 0) (ops : RowOps R) (w : ℕ) where
+module _ (R : Type 0) (ops : RowOps R) where
   unfoldable pub logged-call : Step → Logged R → Answer (Logged R)
   logged-call x s =
-      let a = call R ops w x (s .screen) in
+      let a = call R ops x (s .screen) in
       answer (a .number) (record { screen = a .value; log = s .log ++ (x ∷ []) })
 
   unfoldable pub walk-logged : R → Frame → Recording → Answer (Logged R)

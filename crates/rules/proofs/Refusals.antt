@@ -6,6 +6,7 @@ use mathlib.Core.List.{List, [], _∷_, _++_}
 use mathlib.Core.Option.{none, some}
 use lib.ListN.{replicate}
 use lib.Dec.{eqb}
+use Rattle.sizes.specs.declared.width.Width.the-variants.{W128}
 use Rattle.rules.specs.Lists.{every}
 use Rattle.rules.specs.Answers.{Answer, answer, Done, BadArena, BadViewport, BadForm, BadRecord, BadOrder, Deep, NoLayer, Ids, FullAttrs, FullRow, FullDepth, BadRun, Open, NoRoom}
 use Rattle.rules.specs.Boxes.{Box, box}
@@ -28,10 +29,10 @@ use Rattle.rules.proofs.Computing.{computing}
 
 -- a screen of one row and two buckets, with room for one command and one depth fill
 abbrev frame : Frame
-frame = record { viewport = box 0 0 256 4; c = 1; d = 1 }
+frame = record { viewport = box 0 0 256 4; c = 1; d = 1; width = W128 }
 
 abbrev start : Canvas
-start = fresh-canvas 32 frame
+start = fresh-canvas frame
 
 abbrev with-state : ℕ → Attrs → List Layer → Canvas
 with-state n a ls =
@@ -53,9 +54,9 @@ next-id n = with-state n no-attrs []
 -- reset to a viewport in a mode, with C and D, lent what a frame needs, and some more render words
 abbrev reset-in : Mode → Box → ℕ → ℕ → ℕ → ℕ
 reset-in m v c d more =
-    let q : Setup = record { c = c; d = d; mode = m } in
-    let a = needed 32 (setup.frame q v) in
-    reset-call 32 q v (record { render = a .render + more; fills = a .fills; depth = a .depth }) start .number
+    let q : Setup = record { c = c; d = d; mode = m; width = W128 } in
+    let a = needed (setup.frame q v) in
+    reset-call q v (record { render = a .render + more; fills = a .fills; depth = a .depth }) start .number
 
 abbrev resets : Box → ℕ → ℕ → ℕ → ℕ
 resets = reset-in exact
@@ -64,7 +65,7 @@ abbrev snaps : Box → ℕ
 snaps v = reset-in snapping v 1 1 0
 
 abbrev steps : Step → Canvas → ℕ
-steps x k = step-call 32 x k .number
+steps x k = step-call x k .number
 
 -- a fill of all the segments of a list with an opaque paint
 abbrev fills : List Segment → ℕ → Step
@@ -94,10 +95,10 @@ attrs a b c = record { paints = replicate a attr; layers = replicate b layer-att
 
 -- the canvas after a step, and after beginning to paint
 abbrev after : Step → Canvas → Canvas
-after x k = step-call 32 x k .value
+after x k = step-call x k .value
 
 abbrev begins : Canvas → Canvas
-begins k = begin-call 32 k .value
+begins k = begin-call k .value
 
 -- one depth fill on the row, painting begun
 abbrev painting : Canvas
@@ -105,14 +106,14 @@ painting = begins (after (fills (solid 0 0 64 ∷ []) 1) start)
 
 -- bucket 0 holds id 9 after a direct writing run
 abbrev nine : Canvas
-nine = write-call 32 9 0 2 (span 0 1) start .value .canvas
+nine = write-call 9 0 2 (span 0 1) start .value .canvas
 
 -- a recording of one row and two buckets at C = D = 1, and its words
 abbrev one-each : Setup
-one-each = record { c = 1; d = 1; mode = exact }
+one-each = record { c = 1; d = 1; mode = exact; width = W128 }
 
 abbrev recorded : List ℕ → Canvas → Answer Canvas
-recorded ws k = record-call 32 one-each (record { render = 4; fills = 2; depth = 2 }) ws k
+recorded ws k = record-call one-each (record { render = 4; fills = 2; depth = 2 }) ws k
 
 abbrev a-file : List ℕ
 a-file = file (rec (box 0 0 256 4) (solid 0 0 64 ∷ []) (draw 0 1 ∷ []) [] (node 0 1 0 ∷ []) 0 1)
@@ -132,7 +133,7 @@ answers =
     recorded a-file start .number is Done
     ∷ recorded (a-file ++ (0 ∷ [])) start .number is BadForm
     ∷ recorded [] start .number is BadForm
-    ∷ record-call 32 one-each (record { render = 2048; fills = 1024; depth = 0 }) (file (rec (box 0 0 0 2048) [] [] [] [] 0 0)) start .number is Done
+    ∷ record-call one-each (record { render = 2048; fills = 1024; depth = 0 }) (file (rec (box 0 0 0 2048) [] [] [] [] 0 0)) start .number is Done
     ∷ recorded (file (rec (box 2 0 256 4) [] [] [] [] 1 0) ++ (0 ∷ [])) start .number is BadForm
     ∷ recorded (file (rec (box 2 0 256 4) [] [] [] [] 1 0)) start .number is BadViewport
     -- 2, then 1
@@ -207,36 +208,36 @@ answers =
     ∷ steps (fills (solid 0 0 32 ∷ solid 0 32 64 ∷ []) 2) start is FullDepth
     ∷ steps (fills (solid 0 0 33 ∷ solid 0 33 64 ∷ []) 2) start is FullRow
     -- 13: painting with a layer open, or not begun since the last done building step or direct writing run
-    ∷ begin-call 32 (after (a-push plain-props) start) .number is Open
-    ∷ begin-call 32 start .number is Done
-    ∷ paint-call 32 0 9 start .number is Open
-    ∷ paint-call 32 0 9 painting .number is Done
-    ∷ paint-call 32 0 9 (record { screen = clip-open 0 0 .screen; begun = true; painters = painting .painters }) .number is Open
-    ∷ paint-call 32 0 9 (after (fills [] 0) painting) .number is Open
-    ∷ paint-call 32 0 9 (write-call 32 1 0 9 (span 0 1) painting .value .canvas) .number is Open
+    ∷ begin-call (after (a-push plain-props) start) .number is Open
+    ∷ begin-call start .number is Done
+    ∷ paint-call 0 9 start .number is Open
+    ∷ paint-call 0 9 painting .number is Done
+    ∷ paint-call 0 9 (record { screen = clip-open 0 0 .screen; begun = true; painters = painting .painters }) .number is Open
+    ∷ paint-call 0 9 (after (fills [] 0) painting) .number is Open
+    ∷ paint-call 0 9 (write-call 1 0 9 (span 0 1) painting .value .canvas) .number is Open
     -- .. a done recording and one refused for its records end painting, one refused for its form does not
-    ∷ paint-call 32 0 9 (recorded a-file painting .value) .number is Open
-    ∷ paint-call 32 0 9 (recorded (file (rec (box 0 0 256 4) [] [] [] [] 1 0)) painting .value) .number is Open
-    ∷ paint-call 32 0 9 (recorded [] painting .value) .number is Done
+    ∷ paint-call 0 9 (recorded a-file painting .value) .number is Open
+    ∷ paint-call 0 9 (recorded (file (rec (box 0 0 256 4) [] [] [] [] 1 0)) painting .value) .number is Open
+    ∷ paint-call 0 9 (recorded [] painting .value) .number is Done
     -- 12, then 14
-    ∷ paint-call 32 1 0 start .number is BadRun
-    ∷ paint-call 32 0 0 painting .number is NoRoom
-    ∷ paint-call 32 0 1 painting .number is Done
-    ∷ unset-call 32 0 9 (span 0 8192) start .number is Done
-    ∷ unset-call 32 0 9 (span 0 8193) start .number is BadRun
-    ∷ unset-call 32 0 9 (span 6 5) start .number is BadRun
-    ∷ unset-call 32 1 9 (span 0 1) start .number is BadRun
-    ∷ unset-call 32 0 0 (span 5 5) start .number is Done
-    ∷ unset-call 32 0 0 (span 5 6) start .number is NoRoom
-    ∷ unset-call 32 0 0 (span 31 32) nine .number is Done
-    ∷ visible-call 32 8 0 0 (span 31 32) nine .number is Done
-    ∷ visible-call 32 9 0 0 (span 31 32) nine .number is NoRoom
-    ∷ write-call 32 0 0 9 (span 0 1) start .number is BadRun
-    ∷ write-call 32 1 0 9 (span 0 2) start .number is Done
-    ∷ write-call 32 1 0 9 (span 0 3) start .number is BadRun
-    ∷ write-call 32 1 0 0 (span 0 2) start .number is NoRoom
-    ∷ can-skip-call 32 0 (span 0 8192) 1 start .number is Done
-    ∷ can-skip-call 32 0 (span 0 8193) 1 start .number is BadRun
+    ∷ paint-call 1 0 start .number is BadRun
+    ∷ paint-call 0 0 painting .number is NoRoom
+    ∷ paint-call 0 1 painting .number is Done
+    ∷ unset-call 0 9 (span 0 8192) start .number is Done
+    ∷ unset-call 0 9 (span 0 8193) start .number is BadRun
+    ∷ unset-call 0 9 (span 6 5) start .number is BadRun
+    ∷ unset-call 1 9 (span 0 1) start .number is BadRun
+    ∷ unset-call 0 0 (span 5 5) start .number is Done
+    ∷ unset-call 0 0 (span 5 6) start .number is NoRoom
+    ∷ unset-call 0 0 (span 31 32) nine .number is Done
+    ∷ visible-call 8 0 0 (span 31 32) nine .number is Done
+    ∷ visible-call 9 0 0 (span 31 32) nine .number is NoRoom
+    ∷ write-call 0 0 9 (span 0 1) start .number is BadRun
+    ∷ write-call 1 0 9 (span 0 2) start .number is Done
+    ∷ write-call 1 0 9 (span 0 3) start .number is BadRun
+    ∷ write-call 1 0 0 (span 0 2) start .number is NoRoom
+    ∷ can-skip-call 0 (span 0 8192) 1 start .number is Done
+    ∷ can-skip-call 0 (span 0 8193) 1 start .number is BadRun
     ∷ split-answer 32 (span 0 8192) .number is Done
     ∷ split-answer 32 (span 0 8193) .number is BadRun
     ∷ split-answer 32 (span 6 5) .number is BadRun
@@ -253,18 +254,18 @@ recorded-clears = refl
 
 -- What is refused gives nothing and leaves the canvas as it was.
 pub paint-refused :
-    paint-call 32 0 0 painting ≡ answer NoRoom (given (record { finished = false; pieces = []; painter = begin 2 }) painting)
+    paint-call 0 0 painting ≡ answer NoRoom (given (record { finished = false; pieces = []; painter = begin 2 }) painting)
 unfolding computing
 paint-refused = refl
 
-pub write-refused : write-call 32 1 0 0 (span 0 2) start ≡ answer NoRoom (given [] start)
+pub write-refused : write-call 1 0 0 (span 0 2) start ≡ answer NoRoom (given [] start)
 unfolding computing
 write-refused = refl
 
-pub runs-refused : visible-call 32 9 0 0 (span 31 32) nine ≡ answer NoRoom []
+pub runs-refused : visible-call 9 0 0 (span 31 32) nine ≡ answer NoRoom []
 unfolding computing
 runs-refused = refl
 
-pub skip-refused : can-skip-call 32 1 (span 0 1) 1 start ≡ answer BadRun false
+pub skip-refused : can-skip-call 1 (span 0 1) 1 start ≡ answer BadRun false
 unfolding computing
 skip-refused = refl

@@ -4,6 +4,7 @@ use mathlib.Core.Bool.{true, false}
 use mathlib.Core.List.{List, [], _∷_, map}
 use mathlib.Core.Option.{Option, none, some}
 use lib.IntN.{ℤ, pos, negℤ}
+use Rattle.sizes.specs.declared.width.Width.the-variants.{W128}
 use Rattle.rules.specs.Spans.{span}
 use Rattle.rules.specs.Boxes.{Box, box, buckets-of}
 use Rattle.rules.specs.Blends.{Blend, default-blend}
@@ -132,14 +133,14 @@ layer-piece i a b x n = record { layer = true; attribute = i; tiles = span a b; 
 
 -- what `rowlist` prints of a file's words, and with `--snap`
 abbrev pub listed : List ℕ → List Line
-listed ws = rowlist-words (usual exact) ws
+listed ws = rowlist-words (usual exact W128) ws
 
 abbrev pub listed-snapped : List ℕ → List Line
-listed-snapped ws = rowlist-words (usual snapping) ws
+listed-snapped ws = rowlist-words (usual snapping W128) ws
 
 -- what `rowlist` makes of a recording's file: the screen, its attributes, and each row's pieces, painted to its end
 abbrev pub screen-of : Recording → Screen Row
-screen-of r = rowlist-screen (usual exact) (file r) .value
+screen-of r = rowlist-screen (usual exact W128) (file r) .value
 
 abbrev pub attributes : Recording → Attrs
 attributes r = screen-of r .state .attrs

@@ -4,6 +4,7 @@ use mathlib.Core.Path.{_≡_, refl}
 use mathlib.Core.Bool.{true}
 use mathlib.Core.List.{List, [], _∷_, _++_}
 use mathlib.Core.Option.{Option·getD, none, some}
+use Rattle.sizes.specs.declared.width.Width.the-variants.{W128}
 use Rattle.rules.specs.Lists.{join}
 use Rattle.rules.specs.Spans.{span}
 use Rattle.rules.specs.Recording.{Recording, shape, sections, recording}
@@ -72,7 +73,7 @@ worked-bytes =
     ∷ 0 ∷ 0 ∷ 0 ∷ 0 ∷ 0 ∷ 0 ∷ 0 ∷ 0 ∷ 0 ∷ 0 ∷ 0 ∷ 0 ∷ 2 ∷ 0 ∷ 0 ∷ 0 ∷ 0 ∷ 0 ∷ 0 ∷ 0 ∷ 1 ∷ 0 ∷ 0 ∷ 0 ∷ 1 ∷ 0 ∷ 0 ∷ 0 ∷ 1 ∷ 0 ∷ 0 ∷ 0
     ∷ 2 ∷ 0 ∷ 0 ∷ 0 ∷ 0 ∷ 0 ∷ 0 ∷ 0 ∷ 1 ∷ 0 ∷ 0 ∷ 0 ∷ 0 ∷ 0 ∷ 0 ∷ 0 ∷ 1 ∷ 0 ∷ 0 ∷ 0 ∷ []
 
-pub worked-file : rowlist (usual exact) worked-bytes ≡ worked-lines
+pub worked-file : rowlist (usual exact W128) worked-bytes ≡ worked-lines
 unfolding computing
 worked-file = refl
 
@@ -104,6 +105,6 @@ unfolding computing
 worked-again = refl
 
 -- Painting gives each tile what plain draw order gives it.
-pub worked-picture : same-picture 32 worked-recording ≡ true
+pub worked-picture : same-picture W128 worked-recording ≡ true
 unfolding computing
 worked-picture = refl

@@ -5,3 +5,4 @@ pub mod Maps
 pub mod Bounds
 pub mod Pixmaps
 pub mod Snapping
+pub mod Widths

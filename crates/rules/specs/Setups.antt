@@ -1,5 +1,6 @@
--- What a screen is asked to be, and the frame that a reset makes of it (rule 1; T-02). A tile is 4 x 4 pixels.
+-- What a screen is asked to be, and the frame that a reset makes of it (rule 1; T-02, T-06). A tile is 4 x 4 pixels.
 use Prim.Native.Nat.{ℕ, _+_, _*_, _/_}
+use Rattle.sizes.specs.declared.width.Width.{Width}
 use Rattle.rules.specs.Boxes.{Box, box}
 use Rattle.rules.specs.Plans.{Frame}
 
@@ -8,11 +9,12 @@ pub data Mode : Type 0 where
   exact : Mode
   snapping : Mode
 
--- C and D, and how the viewport is read
+-- C and D, how the viewport is read, and how wide a bucket is
 pub record Setup : Type 0 where
   pub c : ℕ
   pub d : ℕ
   pub mode : Mode
+  pub width : Width
 
 -- the tile edge at n or before it, and the one at n or after it
 abbrev pub lowered : ℕ → ℕ
@@ -31,4 +33,4 @@ viewport-in snapping b = snapped b
 
 -- the screen holds the snapped box and no mode
 abbrev pub frame : Setup → Box → Frame
-frame q b = record { viewport = viewport-in (q .mode) b; c = q .c; d = q .d }
+frame q b = record { viewport = viewport-in (q .mode) b; c = q .c; d = q .d; width = q .width }

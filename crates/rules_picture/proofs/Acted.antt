@@ -240,7 +240,7 @@ module _ (w : ℕ) (attrs : Attrs) (t : ℕ) where
       let e : k + length (put-push-buf r .levels) ≡ suc k + length (r .levels) = rw (a .levels) (omega arith) in
       rw e at (adds-both a b)
 
-  pub ensure-adds : (n : ℕ) (r : Row) → Sound r → length (r .levels) ≤ n → Adds [] [] n r (ensure Row row-ops w n r)
+  pub ensure-adds : (n : ℕ) (r : Row) → Sound r → length (r .levels) ≤ n → Adds [] [] n r (ensure Row row-ops n r)
   ensure-adds n r s h =
       let e : n - length (r .levels) + length (r .levels) ≡ n = omega arith in
       rw e at (pushes-add (n - length (r .levels)) r s)
@@ -251,7 +251,7 @@ module _ (w : ℕ) (attrs : Attrs) (t : ℕ) where
   unfolding do-act
   act-paint n s a i r k h =
       let e = ensure-adds n r k h in
-      adds-both e (rw (e .levels) at (paint-adds s a i (ensure Row row-ops w n r) (e .sound)))
+      adds-both e (rw (e .levels) at (paint-adds s a i (ensure Row row-ops n r) (e .sound)))
 
   pub act-touch : (n : ℕ) (r : Row) → Sound r → length (r .levels) ≤ n → Adds [] [] n r (do-act Row row-ops w n touch r)
   unfolding do-act

@@ -64,7 +64,7 @@ module _ (w : ℕ) (attrs : Attrs) (t : ℕ) where
   opaque-adds pos s i id num le r k z =
       let hit = split-tile w t (t / w) s pos (from-bucket w pos (le-refl (t / w))) (from-bucket-before w pos (le-refl (suc (t / w)))) in
       let e = ensure-adds w attrs t 0 r k (omega arith) in
-      let p = parts-add i id num le (split w s) (ensure Row row-ops w 0 r) (e .sound) (e .levels) in
+      let p = parts-add i id num le (split w s) (ensure Row row-ops 0 r) (e .sound) (e .levels) in
       rw (hit .regular-one, hit .bucket-one) at (adds-both w attrs t e p)
 
   module _ (v : Box) (row : ℕ) where

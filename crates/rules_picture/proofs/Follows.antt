@@ -18,7 +18,7 @@ use Rattle.rules.specs.Inputs.{Paint, Draw, draw-segments, draw-paint, good-fil
 use Rattle.rules.specs.Attributes.{PaintAttr, LayerAttr, Attrs}
 use Rattle.rules.specs.Rows.{Row, fresh-row, row-ops}
 use Rattle.rules.specs.Painting.{paint-id, layer-id}
-use Rattle.rules.specs.Plans.{Layer, State, Act, Put, Plan, on, touch, eligible, box-of, draw-puts, with-paint, plan-fill, layer-box, touches-all, plan-push}
+use Rattle.rules.specs.Plans.{bucket, Layer, State, Act, Put, Plan, on, touch, eligible, box-of, draw-puts, with-paint, plan-fill, layer-box, touches-all, plan-push}
 use Rattle.rules.specs.Steps.{Screen, do-puts, done}
 use Rattle.rules.specs.Plain.{Told, OpenLayer, Story, touch-all, box-now, here, tell, tell-fill, tell-push, in-rows}
 use Rattle.rules.proofs.All.{never, and-left}
@@ -57,6 +57,7 @@ module _ (w : ℕ) (attrs : Attrs) (t : ℕ) (v : Box) (row : ℕ) where
 
   pub record Follows (o : Story) (s : Screen Row) : Type 0 where
     pub view : s .state .frame .viewport ≡ v
+    pub wide : bucket (s .state .frame) ≡ w
     pub next : s .state .next ≡ o .next
     pub first : 0 < o .next
     pub paints : length (s .state .attrs .paints) ≡ o .paints
@@ -76,7 +77,7 @@ module _ (w : ℕ) (attrs : Attrs) (t : ℕ) (v : Box) (row : ℕ) where
       → judge-segments (not (good-fill ps ss d)) (draw-segments ss d) ≡ Done
       → paint-id attrs (o .paints) ≡ o .next
       → Grown w attrs t v row (tell-fill w v row t ps ss d o .told) (o .next + 1) (tell-fill w v row t ps ss d o .open-layers)
-      (getD (done Row row-ops w (plan-fill ps ss d (s .state)) s .rows) row fresh-row)
+      (getD (done Row row-ops (plan-fill ps ss d (s .state)) s .rows) row fresh-row)
   unfolding done plan-fill
   fill-row pos ps ss d o s f j q =
       let own = draw-segments ss d in
@@ -90,12 +91,12 @@ module _ (w : ℕ) (attrs : Attrs) (t : ℕ) (v : Box) (row : ℕ) where
       rw (f .view, f .next, f .paints, f .opened, length-map, map-empty (o .open-layers))
       (sym (row-by-row Row row-ops w (length (o .open-layers)) row fresh-row (draw-puts e (o .paints) (o .next) (cuts v (box-now v (o .open-layers)) own)) (s .rows) (f .there)
       ∙ ap (λ (xs : List Act). do-acts Row row-ops w (length (o .open-layers)) xs (getD (s .rows) row fresh-row)) (draw-acts e (o .paints) (o .next) row (cuts v (box-now v (o .open-layers)) own)))) in
-      rw same at g
+      rw (f .wide) (rw same at g)
 
   -- .. and of one that has none
   fill-none : (ps : List Paint) (ss : List Segment) (d : Draw) (o : Story) (s : Screen Row) → Follows o s → draw-segments ss d ≡ []
       → Grown w attrs t v row (tell-fill w v row t ps ss d o .told) (o .next + 1) (tell-fill w v row t ps ss d o .open-layers)
-      (getD (done Row row-ops w (plan-fill ps ss d (s .state)) s .rows) row fresh-row)
+      (getD (done Row row-ops (plan-fill ps ss d (s .state)) s .rows) row fresh-row)
   unfolding done plan-fill cuts draw-puts do-puts
   fill-none ps ss d o s f e =
       let r = getD (s .rows) row fresh-row in
@@ -112,7 +113,7 @@ module _ (w : ℕ) (attrs : Attrs) (t : ℕ) (v : Box) (row : ℕ) where
   -- a done fill
   pub fill-follows : 0 < w → (ps : List Paint) (ss : List Segment) (d : Draw) (o : Story) (s : Screen Row) → Follows o s
       → plan-fill ps ss d (s .state) .refused ≡ Done → Leads (plan-fill ps ss d (s .state) .attrs)
-      → Follows (tell-fill w v row t ps ss d o) (done Row row-ops w (plan-fill ps ss d (s .state)) s)
+      → Follows (tell-fill w v row t ps ss d o) (done Row row-ops (plan-fill ps ss d (s .state)) s)
   unfolding done plan-fill
   fill-follows pos ps ss d o s f j l =
       let own = draw-segments ss d in
@@ -122,7 +123,7 @@ module _ (w : ℕ) (attrs : Attrs) (t : ℕ) (v : Box) (row : ℕ) where
       let rest : (length (cond (is-empty own) (st .attrs) (with-paint st (d .paint) (d .blend) (d .mask) (d .thread) []) .paints) ≡ cond (is-empty own) (o .paints) (o .paints + 1))
       × (length (cond (is-empty own) (st .attrs) (with-paint st (d .paint) (d .blend) (d .mask) (d .thread) []) .layers) ≡ o .layers)
       × Grown w attrs t v row (tell-fill w v row t ps ss d o .told) (o .next + 1) (tell-fill w v row t ps ss d o .open-layers)
-      (getD (done Row row-ops w (plan-fill ps ss d (s .state)) s .rows) row fresh-row) =
+      (getD (done Row row-ops (plan-fill ps ss d (s .state)) s .rows) row fresh-row) =
       by (is-empty own)
       (λ y. (rw y (f .paints), rw y (f .layers), fill-none ps ss d o s f (empty-list own y)))
       (λ n.
@@ -134,11 +135,12 @@ module _ (w : ℕ) (attrs : Attrs) (t : ℕ) (v : Box) (row : ℕ) where
       )) in
       record {
         view = f .view;
+        wide = f .wide;
         next = ap (λ m. m + 1) (f .next);
         first = omega arith;
         paints = rest .0;
         layers = rest .1;
         opened = f .opened ∙ sym (touched-layers (not (is-empty ks)) (o .open-layers));
-        there = rw (puts-length Row row-ops w (length (st .layers)) puts (s .rows)) (f .there);
+        there = rw (puts-length Row row-ops (bucket (st .frame)) (length (st .layers)) puts (s .rows)) (f .there);
         grown = rest .2;
       }

@@ -2,6 +2,7 @@ pub mod Cases
 pub mod Buckets
 pub mod Runs
 pub mod Newest
+pub mod Few
 pub mod SplitTile
 pub mod Shown
 pub mod Acts

@@ -45,9 +45,9 @@ rows-miss : {x : ℕ} {js : List ℕ} (k : ℕ) → k < x → Rows x js → some
 rows-miss k h no-rows = refl
 rows-miss k h (row-then {j = j} l r) = rw (ne-eqb k j (λ e. omega arith)) (rows-miss k (omega arith) r)
 
-module _ (w n : ℕ) where
+module _ (n : ℕ) where
   -- the touched rows, each once
-  pub touched-rows : (i : ℕ) (rs : List Row) → Rows i (touched Row row-ops w n i rs)
+  pub touched-rows : (i : ℕ) (rs : List Row) → Rows i (touched Row row-ops n i rs)
   unfolding touched
   touched-rows i [] = no-rows
   touched-rows i (r ∷ rs) = by (eqb (length (r .levels)) n)
@@ -55,7 +55,7 @@ module _ (w n : ℕ) where
       (λ m. rw m (rows-sooner (omega arith) (touched-rows (suc i) rs)))
 
   -- they are those that have n buffers
-  pub touched-has : (i k : ℕ) (rs : List Row) → k < length rs → some-of (eqb (i + k)) (touched Row row-ops w n i rs) ≡ eqb (length (getD rs k fresh-row .levels)) n
+  pub touched-has : (i k : ℕ) (rs : List Row) → k < length rs → some-of (eqb (i + k)) (touched Row row-ops n i rs) ≡ eqb (length (getD rs k fresh-row .levels)) n
   unfolding touched
   touched-has i k [] h = absurd (omega arith)
   touched-has i zero (r ∷ rs) h = by (eqb (length (r .levels)) n)
@@ -63,7 +63,7 @@ module _ (w n : ℕ) where
       (λ m. rw (m, add-zero i) (rows-miss i (omega arith) (touched-rows (suc i) rs)))
   touched-has i (suc k) (r ∷ rs) h =
       let e : i + suc k ≡ suc i + k = omega arith in
-      let ih : some-of (eqb (i + suc k)) (touched Row row-ops w n (suc i) rs) ≡ eqb (length (getD rs k fresh-row .levels)) n = rw e (touched-has (suc i) k rs (omega arith)) in
+      let ih : some-of (eqb (i + suc k)) (touched Row row-ops n (suc i) rs) ≡ eqb (length (getD rs k fresh-row .levels)) n = rw e (touched-has (suc i) k rs (omega arith)) in
       by (eqb (length (r .levels)) n)
       (λ y. rw (y, ne-eqb (i + suc k) i (λ q. omega arith)) ih)
       (λ m. rw m ih)
@@ -119,21 +119,21 @@ module _ (w : ℕ) (attrs : Attrs) (t : ℕ) (v : Box) (row : ℕ) where
       → judge-segments (not (clip-fits (l .layer .props .clip) ss)) (clip-segments (l .layer .props .clip) ss) ≡ Done
       → Leads w attrs t v row (with-layer (s .state) (l .layer .props))
       → Follows w attrs t v row (tell-pop w v row t (l ∷ ls) ss o)
-      (done Row row-ops w (plan-pop (layer-in l ∷ map layer-in ls) ss (touched Row row-ops w (suc (length ls)) 0 (s .rows)) (s .state)) s)
+      (done Row row-ops (plan-pop (layer-in l ∷ map layer-in ls) ss (touched Row row-ops (suc (length ls)) 0 (s .rows)) (s .state)) s)
   unfolding done plan-pop
   pop-follows ss o l ls s f e j ld =
       let st = s .state in
       let c = l .layer .props .clip in
       let r = getD (s .rows) row fresh-row in
       let ks = closers w v row t c (l .layer .bounds) ls ss in
-      let js = touched Row row-ops w (suc (length ls)) 0 (s .rows) in
+      let js = touched Row row-ops (suc (length ls)) 0 (s .rows) in
       let n = length (map layer-in ls) in
       let g : Grown w attrs t v row (o .told) (o .next) (l ∷ ls) r = rw e at (f .grown) in
       let id = ap (layer-id attrs) (sym (f .layers)) ∙ new-layer (st .attrs .layers) _ (ld .layers-more) (ld .layers) ∙ f .next in
       let h = pop-grows l ls g (f .first) n (o .layers) id ks (closers-single c (l .layer .bounds) ls ss j) (l .touched) refl in
       let has : some-of (eqb row) js ≡ l .touched =
-      ap (λ m. some-of (eqb m) js) (sym (zero-add row)) ∙ touched-has w (suc (length ls)) 0 row (s .rows) (f .there) ∙ sym (shape-inner (g .shape)) in
-      let rows : Rows 0 js = touched-rows w (suc (length ls)) 0 (s .rows) in
+      ap (λ m. some-of (eqb m) js) (sym (zero-add row)) ∙ touched-has (suc (length ls)) 0 row (s .rows) (f .there) ∙ sym (shape-inner (g .shape)) in
+      let rows : Rows 0 js = touched-rows (suc (length ls)) 0 (s .rows) in
       let puts = closing c v (l .layer .bounds) (box-now v ls) (o .layers) ss js ++ map (on pop) js in
       let acts : acts-at row puts ≡ cond (l .touched) (map (close-act w attrs t v row (o .layers)) ks) [] ++ keep (l .touched) pop [] =
       acts-both row (closing c v (l .layer .bounds) (box-now v ls) (o .layers) ss js) (map (on pop) js)
@@ -144,11 +144,12 @@ module _ (w : ℕ) (attrs : Attrs) (t : ℕ) (v : Box) (row : ℕ) where
       let deep : length (o .open-layers) ≡ suc (length ls) = ap (λ (xs : List OpenLayer). length xs) e in
       record {
         view = f .view;
+        wide = f .wide;
         next = ap (λ m. m + 1) (f .next);
         first = omega arith;
         paints = f .paints;
         layers = rw length-append (ap (λ m. m + 1) (f .layers));
         opened = refl;
         there = rw puts-length (f .there);
-        grown = rw (f .view, f .layers, deep) (rw same at h);
+        grown = rw (f .view, f .wide, f .layers, deep) (rw same at h);
       }

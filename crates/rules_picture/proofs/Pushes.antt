@@ -39,7 +39,7 @@ module _ (w : ℕ) (attrs : Attrs) (t : ℕ) (v : Box) (row : ℕ) where
   push-acts false b = refl
 
   pub push-follows : (p : Props) (o : Story) (s : Screen Row) → Follows w attrs t v row o s
-      → Follows w attrs t v row (tell-push w v row t p o) (done Row row-ops w (plan-push p (s .state)) s)
+      → Follows w attrs t v row (tell-push w v row t p o) (done Row row-ops (plan-push p (s .state)) s)
   unfolding done plan-push
   push-follows p o s f =
       let b = layer-box v (box-now v (o .open-layers)) (p .clip) in
@@ -53,13 +53,14 @@ module _ (w : ℕ) (attrs : Attrs) (t : ℕ) (v : Box) (row : ℕ) where
       ∙ ap (λ (xs : List Act). do-acts Row row-ops w (suc (length (o .open-layers))) xs (getD (s .rows) row fresh-row)) (push-acts (touches-all p b) b)) in
       record {
         view = f .view;
+        wide = f .wide;
         next = f .next;
         first = f .first;
         paints = f .paints;
         layers = f .layers;
         opened = rw (f .view, f .opened) (sym (touched-layers c (l ∷ o .open-layers)));
         there = rw (puts-length) (f .there);
-        grown = rw (f .view, f .opened, length-map) (rw same at g);
+        grown = rw (f .view, f .wide, f .opened, length-map) (rw same at g);
       }
 
   cut-single : (b : Box) (c : Bool) → Single (such (λ (k : Cut). covers (k .stretch .tiles) t) (cond c (record { row = row; stretch = solid-tiles (span-of b) } ∷ []) []))
@@ -86,7 +87,7 @@ module _ (w : ℕ) (attrs : Attrs) (t : ℕ) (v : Box) (row : ℕ) where
         open-layers = touch-all (in-rows w v row t b) (o .open-layers);
         told = o .told ++ tell w v row t false (o .paints) (length (o .open-layers)) (o .next) false (cond (in-rows w v row t b) (record { row = row; stretch = solid-tiles (span-of b) } ∷ []) []);
       })
-      (done Row row-ops w (plan-filter-in b n q (s .state)) s)
+      (done Row row-ops (plan-filter-in b n q (s .state)) s)
   unfolding done plan-filter-in filter-puts
   filter-in pos n q b o s f l =
       let st = s .state in
@@ -102,11 +103,12 @@ module _ (w : ℕ) (attrs : Attrs) (t : ℕ) (v : Box) (row : ℕ) where
       ∙ sym (row-by-row Row row-ops w (length (o .open-layers)) row fresh-row puts (s .rows) (f .there)) in
       record {
         view = f .view;
+        wide = f .wide;
         next = ap (λ m. m + 1) (f .next);
         first = omega arith;
         paints = rw length-append (ap (λ m. m + 1) (f .paints));
         layers = f .layers;
         opened = f .opened ∙ sym (touched-layers c (o .open-layers));
         there = rw puts-length (f .there);
-        grown = rw (f .paints, f .opened, length-map) (rw (cut-some b c, same) at g);
+        grown = rw (f .wide, f .paints, f .opened, length-map) (rw (cut-some b c, same) at g);
       }

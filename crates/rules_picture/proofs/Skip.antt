@@ -10,17 +10,18 @@ use lib.ListN.{length, getD, drop, replicate, length-replicate}
 use lib.Dec.{leb, ltb, eqb}
 use borrow.Author.Tests.{leb-true, leb-false, le-leb, le-ltb}
 use Rattle.rules.specs.Answers.{Done}
-use Rattle.rules.specs.Boxes.{width, rows-of, buckets-of}
+use Rattle.rules.specs.Boxes.{width, rows-of}
 use Rattle.rules.specs.Spans.{Span, covers, bad-range}
 use Rattle.rules.specs.Commands.{Command, paint-fill, layer-fill, push-buf, pop-buf, DepthFill}
 use Rattle.rules.specs.Attributes.{Attrs}
 use Rattle.rules.specs.Depth.{Summary, apart, can-skip, can-skip-answer, is-visible, tiles-of}
 use Rattle.rules.specs.Rows.{Row, fresh-row}
-use Rattle.rules.specs.Plans.{Frame, Step}
+use Rattle.rules.specs.Plans.{Frame, bucket, buckets-across, Step}
 use Rattle.rules.specs.Steps.{reset}
 use Rattle.rules.specs.Painting.{Painter, paint-id, paint-fill-runs, paint-command, paint-when, paint-step}
-use Rattle.rules.specs.Calls.{Canvas, begin-call, painter-of, no-row, can-skip-call}
+use Rattle.rules.specs.Calls.{Canvas, bucket-on, begin-call, painter-of, no-row, can-skip-call}
 use Rattle.rules.proofs.All.{All, nil, cons, all-map, never}
+use Rattle.rules.proofs.laws.Widths.{bucket-some}
 use Rattle.rules_picture.specs.Built.{Built}
 use Rattle.rules_picture.specs.Turns.{Turn, steps-of, has-finished, painted}
 use Rattle.rules_picture.specs.Skip.{FillsPainted, Skipped-visible}
@@ -144,59 +145,59 @@ module _ (w : ℕ) (attrs : Attrs) where
         ap (λ (m : ℕ). length (painter-after w attrs r n m .buckets)) e ∙ ap (λ (bs : List ℕ). length bs) (after-kept (k - f) .0) ∙ all)
 
 -- a yes is a done call's
-said-yes : (w r : ℕ) (s : Span) (id : ℕ) (k : Canvas) → can-skip-call w r s id k .value ≡ true → can-skip (getD (k .screen .rows) r fresh-row .depth) s id ≡ true
+said-yes : (r : ℕ) (s : Span) (id : ℕ) (k : Canvas) → can-skip-call r s id k .value ≡ true → can-skip (getD (k .screen .rows) r fresh-row .depth) s id ≡ true
 unfolding can-skip-call can-skip-answer
-said-yes w r s id k e = by (no-row w k r)
+said-yes r s id k e = by (no-row k r)
     (λ y. never (sym (rw y at e)))
     (λ n. by (bad-range 8192 s)
     (λ y. never (sym (rw (n, y) at e)))
     (λ m. rw (n, m) at e))
 
 -- a finished row has painted its depth fills
-pub finished-fills : (w : ℕ) (k : Canvas) (r : ℕ) → has-finished w k r ≡ true → FillsPainted w k r
+pub finished-fills : (k : Canvas) (r : ℕ) → has-finished k r ≡ true → FillsPainted k r
 unfolding has-finished
-finished-fills w k r e = let h = ended-late w (k .screen .state .attrs) (getD (k .screen .rows) r fresh-row) (painter-of w k r) e in omega arith
+finished-fills k r e = let h = ended-late (bucket-on k) (k .screen .state .attrs) (getD (k .screen .rows) r fresh-row) (painter-of k r) e in omega arith
 
 -- A row whose depth fills are painted.
-module _ (w : ℕ) (k : Canvas) (e : begin-call w k .number ≡ Done) (ts : List Turn) (r : ℕ) (there : r < length (k .screen .rows)) (fp : FillsPainted w (painted w ts k .canvas) r) where
-  stands-at : painter-of w (painted w ts k .canvas) r
-      ≡ painter-after w (k .screen .state .attrs) (getD (k .screen .rows) r fresh-row) (buckets-of w (k .screen .state .frame .viewport)) (steps-of r (painted w ts k .log))
+module _ (k : Canvas) (e : begin-call k .number ≡ Done) (ts : List Turn) (r : ℕ) (there : r < length (k .screen .rows)) (fp : FillsPainted (painted ts k .canvas) r) where
+  stands-at : painter-of (painted ts k .canvas) r
+      ≡ painter-after (bucket-on k) (k .screen .state .attrs) (getD (k .screen .rows) r fresh-row) (buckets-across (k .screen .state .frame)) (steps-of r (painted ts k .log))
   unfolding painter-after
   stands-at =
-      let n = buckets-of w (k .screen .state .frame .viewport) in
+      let n = buckets-across (k .screen .state .frame) in
       let row = getD (k .screen .rows) r fresh-row in
       let attrs = k .screen .state .attrs in
-      let m = steps-of r (painted w ts k .log) in
-      begun-by-turns w ts k r e there .painter ∙ on-after w attrs row n 0 m ∙ ap (painter-after w attrs row n) (zero-add m)
+      let m = steps-of r (painted ts k .log) in
+      begun-by-turns ts k r e there .painter ∙ on-after (bucket-on k) attrs row n 0 m ∙ ap (painter-after (bucket-on k) attrs row n) (zero-add m)
 
   -- its words are those of the newest covering fills ..
-  pub words-painted : (b : ℕ) → b < buckets-of w (k .screen .state .frame .viewport)
-      → getD (painter-of w (painted w ts k .canvas) r .buckets) b 0 ≡ newest (paint-id (k .screen .state .attrs)) (getD (k .screen .rows) r fresh-row .fills) b
+  pub words-painted : (b : ℕ) → b < buckets-across (k .screen .state .frame)
+      → getD (painter-of (painted ts k .canvas) r .buckets) b 0 ≡ newest (paint-id (k .screen .state .attrs)) (getD (k .screen .rows) r fresh-row .fills) b
   words-painted b on =
       ap (λ (x : Painter). getD (x .buckets) b 0) stands-at
-      ∙ words-after w (k .screen .state .attrs) (getD (k .screen .rows) r fresh-row) (buckets-of w (k .screen .state .frame .viewport)) (steps-of r (painted w ts k .log)) b (rw (painted-screen w ts k e, stands-at) at fp) on
+      ∙ words-after (bucket-on k) (k .screen .state .attrs) (getD (k .screen .rows) r fresh-row) (buckets-across (k .screen .state .frame)) (steps-of r (painted ts k .log)) b (rw (painted-screen ts k e, stands-at) at fp) on
 
   -- .. and as many as the row has buckets
-  pub words-length : length (painter-of w (painted w ts k .canvas) r .buckets) ≡ buckets-of w (k .screen .state .frame .viewport)
+  pub words-length : length (painter-of (painted ts k .canvas) r .buckets) ≡ buckets-across (k .screen .state .frame)
   words-length =
       ap (λ (x : Painter). length (x .buckets)) stands-at
-      ∙ length-after w (k .screen .state .attrs) (getD (k .screen .rows) r fresh-row) (buckets-of w (k .screen .state .frame .viewport)) (steps-of r (painted w ts k .log)) (rw (painted-screen w ts k e, stands-at) at fp)
+      ∙ length-after (bucket-on k) (k .screen .state .attrs) (getD (k .screen .rows) r fresh-row) (buckets-across (k .screen .state .frame)) (steps-of r (painted ts k .log)) (rw (painted-screen ts k e, stands-at) at fp)
 
 -- A yes of can_skip: the bucket of each tile of the span, if the row has it, is visible; ..
-pub skip-tile : (w : ℕ) → 0 < w → (f : Frame) (xs : List Step) (k : Canvas) → Built w xs (reset fresh-row f) (k .screen) → begin-call w k .number ≡ Done
-    → (ts : List Turn) (r : ℕ) → r < rows-of (f .viewport) → FillsPainted w (painted w ts k .canvas) r
-    → (s : Span) (id : ℕ) → can-skip-call w r s id (painted w ts k .canvas) .value ≡ true
-    → (t : ℕ) → covers s t ≡ true → t / w < buckets-of w (f .viewport)
-    → is-visible id (getD (painter-of w (painted w ts k .canvas) r .buckets) (t / w) 0) ≡ true
-skip-tile w pos f xs k b e ts r h fp s id can t c on =
-    let (v, there) = built-on w pos f xs (k .screen) b r h in
-    let bucket : t / w < buckets-of w (k .screen .state .frame .viewport) = rw v on in
+pub skip-tile : (f : Frame) (xs : List Step) (k : Canvas) → Built xs (reset fresh-row f) (k .screen) → begin-call k .number ≡ Done
+    → (ts : List Turn) (r : ℕ) → r < rows-of (f .viewport) → FillsPainted (painted ts k .canvas) r
+    → (s : Span) (id : ℕ) → can-skip-call r s id (painted ts k .canvas) .value ≡ true
+    → (t : ℕ) → covers s t ≡ true → t / bucket f < buckets-across f
+    → is-visible id (getD (painter-of (painted ts k .canvas) r .buckets) (t / bucket f) 0) ≡ true
+skip-tile f xs k b e ts r h fp s id can t c on =
+    let (v, there) = built-on f xs (k .screen) b r h in
+    let near : t / bucket f < buckets-across (k .screen .state .frame) = rw v on in
     let row = getD (k .screen .rows) r fresh-row in
-    let y : can-skip (row .depth) s id ≡ true = rw (painted-screen w ts k e) at (said-yes w r s id (painted w ts k .canvas) can) in
-    ap (is-visible id) (words-painted w k e ts r there fp (t / w) bucket)
-    ∙ skip-newest w (k .screen .state .attrs) pos row (built-summed w pos f xs (k .screen) b r h) s id y t c
+    let y : can-skip (row .depth) s id ≡ true = rw (painted-screen ts k e) at (said-yes r s id (painted ts k .canvas) can) in
+    ap (is-visible id) (words-painted k e ts r there fp (t / bucket f) near)
+    ∙ skip-newest (bucket f) (k .screen .state .attrs) (bucket-some (f .width)) row (built-summed f xs (k .screen) b r h) s id y t c
 
 -- .. so it is for the tiles of the screen
-pub skip : (w : ℕ) → 0 < w → Skipped-visible w
-skip w pos f xs k b e ts r h fp s id can t c on =
-    skip-tile w pos f xs k b e ts r h fp s id can t c (touched-end w pos t (width (f .viewport) / 4) on)
+pub skip : Skipped-visible
+skip f xs k b e ts r h fp s id can t c on =
+    skip-tile f xs k b e ts r h fp s id can t c (touched-end (bucket f) (bucket-some (f .width)) t (width (f .viewport) / 4) on)

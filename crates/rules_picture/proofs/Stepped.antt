@@ -13,7 +13,7 @@ use Rattle.rules.specs.Boxes.{Box}
 use Rattle.rules.specs.Segments.{Segment}
 use Rattle.rules.specs.Inputs.{Filter, good-filter, draw-segments}
 use Rattle.rules.specs.Attributes.{PaintAttr, LayerAttr, Attrs}
-use Rattle.rules.specs.Rows.{Row, row-ops}
+use Rattle.rules.specs.Rows.{Row, RowOps, row-ops}
 use Rattle.rules.specs.Plans.{Layer, State, Step, a-fill, a-push, a-pop, a-filter, Plan, box-of, filter-box, draws-nothing, plan-fill, plan-push, plan-pop, plan-filter-in, plan-filter, plan, still}
 use Rattle.rules.specs.Steps.{Screen, do-puts, done, refusal, perform, touched, call}
 use Rattle.rules.specs.Plain.{Story, OpenLayer, box-now, tell-pop, tell-filter, tell-step}
@@ -23,15 +23,22 @@ use Rattle.rules_picture.proofs.Pushes.{push-follows, filter-in}
 use Rattle.rules_picture.proofs.Pops.{pop-follows}
 
 -- a done call carries its plan out
-pub call-done : (w : ℕ) (x : Step) (s : Screen Row) → call Row row-ops w x s .number ≡ Done
-    → (plan x (touched Row row-ops w (length (s .state .layers)) 0 (s .rows)) (s .state) .refused ≡ Done)
-    × (call Row row-ops w x s .value ≡ done Row row-ops w (plan x (touched Row row-ops w (length (s .state .layers)) 0 (s .rows)) (s .state)) s)
+pub call-done : (x : Step) (s : Screen Row) → call Row row-ops x s .number ≡ Done
+    → (plan x (touched Row row-ops (length (s .state .layers)) 0 (s .rows)) (s .state) .refused ≡ Done)
+    × (call Row row-ops x s .value ≡ done Row row-ops (plan x (touched Row row-ops (length (s .state .layers)) 0 (s .rows)) (s .state)) s)
 unfolding call perform refusal
-call-done w x s e =
-    let p = plan x (touched Row row-ops w (length (s .state .layers)) 0 (s .rows)) (s .state) in
-    let n = refusal Row row-ops w p (done Row row-ops w p s) in
+call-done x s e =
+    let p = plan x (touched Row row-ops (length (s .state .layers)) 0 (s .rows)) (s .state) in
+    let n = refusal Row row-ops p (done Row row-ops p s) in
     let q : n ≡ Done = by (eqb n Done) (λ y. eqb-true n Done y) (λ z. rw z at e) in
     (by (eqb (p .refused) Done) (λ y. eqb-true (p .refused) Done y) (λ z. rw z at q), rw (eq-eqb n Done q))
+
+-- a call, done or refused, keeps the frame, and so the width
+pub call-frame : {R : Type 0} (ops : RowOps R) (x : Step) (s : Screen R) → call R ops x s .value .state .frame ≡ s .state .frame
+unfolding call perform done
+call-frame {R} ops x s =
+    let p = plan x (touched R ops (length (s .state .layers)) 0 (s .rows)) (s .state) in
+    by (eqb (refusal R ops p (done R ops p s)) Done) (λ y. rw y) (λ n. rw n)
 
 -- the plan of a filter by what it draws in the box b
 filter-none : (n : ℕ) (q : Filter) (s : State) → (good-filter q && leb n 4096) ≡ true → draws-nothing q (filter-box (s .frame .viewport) (box-of s) q) ≡ true → plan-filter n q s ≡ still Done s
@@ -48,14 +55,14 @@ unfolding plan-filter
 filter-bad n q s z = rw z
 
 module _ (w : ℕ) (attrs : Attrs) (t : ℕ) (v : Box) (row : ℕ) where
-  still-follows : (o : Story) (s : Screen Row) → Follows w attrs t v row o s → Follows w attrs t v row o (done Row row-ops w (still Done (s .state)) s)
+  still-follows : (o : Story) (s : Screen Row) → Follows w attrs t v row o s → Follows w attrs t v row o (done Row row-ops (still Done (s .state)) s)
   unfolding done do-puts
   still-follows o s f =
-      record { view = f .view; next = f .next; first = f .first; paints = f .paints; layers = f .layers; opened = f .opened; there = f .there; grown = f .grown }
+      record { view = f .view; wide = f .wide; next = f .next; first = f .first; paints = f .paints; layers = f .layers; opened = f .opened; there = f .there; grown = f .grown }
 
   pub filter-follows : 0 < w → (n : ℕ) (q : Filter) (o : Story) (s : Screen Row) → Follows w attrs t v row o s
       → plan-filter n q (s .state) .refused ≡ Done → Leads w attrs t v row (plan-filter n q (s .state) .attrs)
-      → Follows w attrs t v row (tell-filter w v row t q o) (done Row row-ops w (plan-filter n q (s .state)) s)
+      → Follows w attrs t v row (tell-filter w v row t q o) (done Row row-ops (plan-filter n q (s .state)) s)
   filter-follows pos n q o s f j l =
       let b = filter-box v (box-now v (o .open-layers)) q in
       let e : filter-box (s .state .frame .viewport) (box-of (s .state)) q ≡ b = rw (f .view, f .opened) in
@@ -69,18 +76,18 @@ module _ (w : ℕ) (attrs : Attrs) (t : ℕ) (v : Box) (row : ℕ) where
       (λ z. let k : _≡_ {A = ℕ} BadRecord Done = sym (filter-bad n q (s .state) z) ∙ j in absurd (omega arith))
 
   pop-any : (ss : List Segment) (o : Story) (ds : List OpenLayer) (s : Screen Row) → Follows w attrs t v row o s → o .open-layers ≡ ds → (ms : List Layer) → ms ≡ map layer-in ds
-      → plan-pop ms ss (touched Row row-ops w (length ms) 0 (s .rows)) (s .state) .refused ≡ Done
-      → Leads w attrs t v row (plan-pop ms ss (touched Row row-ops w (length ms) 0 (s .rows)) (s .state) .attrs)
-      → Follows w attrs t v row (tell-pop w v row t ds ss o) (done Row row-ops w (plan-pop ms ss (touched Row row-ops w (length ms) 0 (s .rows)) (s .state)) s)
+      → plan-pop ms ss (touched Row row-ops (length ms) 0 (s .rows)) (s .state) .refused ≡ Done
+      → Leads w attrs t v row (plan-pop ms ss (touched Row row-ops (length ms) 0 (s .rows)) (s .state) .attrs)
+      → Follows w attrs t v row (tell-pop w v row t ds ss o) (done Row row-ops (plan-pop ms ss (touched Row row-ops (length ms) 0 (s .rows)) (s .state)) s)
   unfolding plan-pop
   pop-any ss o [] s f e ms m j l = let k : _≡_ {A = ℕ} NoLayer Done = rw m at j in absurd (omega arith)
   pop-any ss o (d ∷ ds) s f e ms m j l = rw (m, length-map) (pop-follows w attrs t v row ss o d ds s f e (rw m at j) (rw m at l))
 
   -- any done step: the row holds afterwards what plain draw order has told the tile
   pub step-follows : 0 < w → (x : Step) (o : Story) (s : Screen Row) → Follows w attrs t v row o s
-      → plan x (touched Row row-ops w (length (s .state .layers)) 0 (s .rows)) (s .state) .refused ≡ Done
-      → Leads w attrs t v row (plan x (touched Row row-ops w (length (s .state .layers)) 0 (s .rows)) (s .state) .attrs)
-      → Follows w attrs t v row (tell-step w v row t x o) (done Row row-ops w (plan x (touched Row row-ops w (length (s .state .layers)) 0 (s .rows)) (s .state)) s)
+      → plan x (touched Row row-ops (length (s .state .layers)) 0 (s .rows)) (s .state) .refused ≡ Done
+      → Leads w attrs t v row (plan x (touched Row row-ops (length (s .state .layers)) 0 (s .rows)) (s .state) .attrs)
+      → Follows w attrs t v row (tell-step w v row t x o) (done Row row-ops (plan x (touched Row row-ops (length (s .state .layers)) 0 (s .rows)) (s .state)) s)
   unfolding plan tell-step
   step-follows pos (a-fill ps ss d) o s f j l = fill-follows w attrs t v row pos ps ss d o s f j l
   step-follows pos (a-push p) o s f j l = push-follows w attrs t v row p o s f

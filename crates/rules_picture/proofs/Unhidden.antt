@@ -11,14 +11,15 @@ use lib.Seq.{getD-take, getD-drop}
 use borrow.Author.Tests.{lt-ltb, eq-eqb}
 use Rattle.rules.specs.Lists.{slice}
 use Rattle.rules.specs.Answers.{Done}
-use Rattle.rules.specs.Boxes.{width, rows-of, buckets-of}
+use Rattle.rules.specs.Boxes.{width, rows-of}
 use Rattle.rules.specs.Spans.{Span, span, covers, common}
 use Rattle.rules.specs.Depth.{bucket-runs, runs-in, runs, buckets-met, tiles-of, is-visible, visible-runs}
 use Rattle.rules.specs.Rows.{fresh-row}
-use Rattle.rules.specs.Plans.{Frame, Step}
+use Rattle.rules.specs.Plans.{Frame, bucket, buckets-across, Step}
 use Rattle.rules.specs.Steps.{reset}
 use Rattle.rules.specs.Calls.{Canvas, begin-call, painter-of, can-skip-call}
 use Rattle.rules.proofs.All.{All, nil, cons}
+use Rattle.rules.proofs.laws.Widths.{bucket-some}
 use Rattle.rules_picture.specs.Built.{Built}
 use Rattle.rules_picture.specs.Turns.{Turn, painted}
 use Rattle.rules_picture.specs.Skip.{FillsPainted}
@@ -90,27 +91,30 @@ module _ (w : ℕ) (pos : 0 < w) where
           let hi : min (s .end) ((s .end + (w - 1)) / w * w) ≡ s .end = let m = le-raised w pos (s .end) ((s .end + (w - 1)) / w) (le-refl ((s .end + (w - 1)) / w)) in omega arith in
           rw (lo, hi)
 
-  -- Where can_skip says yes, in a row whose depth fills are painted, every bucket that the span meets is visible.
-  pub skip-buckets : (f : Frame) (xs : List Step) (k : Canvas) → Built w xs (reset fresh-row f) (k .screen) → begin-call w k .number ≡ Done
-      → (ts : List Turn) (r : ℕ) → r < rows-of (f .viewport) → FillsPainted w (painted w ts k .canvas) r
-      → (s : Span) (id : ℕ) → can-skip-call w r s id (painted w ts k .canvas) .value ≡ true
-      → s .first < s .end → (j : ℕ) → covers (buckets-met w s) j ≡ true → j < buckets-of w (f .viewport)
-      → is-visible id (getD (painter-of w (painted w ts k .canvas) r .buckets) j 0) ≡ true
-  skip-buckets f xs k b e ts r h fp s id can wide j c on =
-      let (l, u, q) = tile-in s j wide (covers-low (buckets-met w s) j c) (covers-high (buckets-met w s) j c) in
-      let t = max (s .first) (j * w) in
-      ap (λ (n : ℕ). is-visible id (getD (painter-of w (painted w ts k .canvas) r .buckets) n 0)) (sym q)
-      ∙ skip-tile w pos f xs k b e ts r h fp s id can t (covers-yes s t l u) (rw q on)
+-- Where can_skip says yes, in a row whose depth fills are painted, every bucket that the span meets is visible.
+pub skip-buckets : (f : Frame) (xs : List Step) (k : Canvas) → Built xs (reset fresh-row f) (k .screen) → begin-call k .number ≡ Done
+    → (ts : List Turn) (r : ℕ) → r < rows-of (f .viewport) → FillsPainted (painted ts k .canvas) r
+    → (s : Span) (id : ℕ) → can-skip-call r s id (painted ts k .canvas) .value ≡ true
+    → s .first < s .end → (j : ℕ) → covers (buckets-met (bucket f) s) j ≡ true → j < buckets-across f
+    → is-visible id (getD (painter-of (painted ts k .canvas) r .buckets) j 0) ≡ true
+skip-buckets f xs k b e ts r h fp s id can wide j c on =
+    let met = buckets-met (bucket f) s in
+    let (l, u, q) = tile-in (bucket f) (bucket-some (f .width)) s j wide (covers-low met j c) (covers-high met j c) in
+    let t = max (s .first) (j * bucket f) in
+    ap (λ (n : ℕ). is-visible id (getD (painter-of (painted ts k .canvas) r .buckets) n 0)) (sym q)
+    ∙ skip-tile f xs k b e ts r h fp s id can t (covers-yes s t l u) (rw q on)
 
-  -- .. and if the span lies on the screen, its visible runs are the whole span
-  pub skip-runs : (f : Frame) (xs : List Step) (k : Canvas) → Built w xs (reset fresh-row f) (k .screen) → begin-call w k .number ≡ Done
-      → (ts : List Turn) (r : ℕ) → r < rows-of (f .viewport) → FillsPainted w (painted w ts k .canvas) r
-      → (s : Span) (id : ℕ) → can-skip-call w r s id (painted w ts k .canvas) .value ≡ true
-      → s .first < s .end → s .end ≤ width (f .viewport) / 4
-      → visible-runs w (painter-of w (painted w ts k .canvas) r .buckets) id s ≡ s ∷ []
-  skip-runs f xs k b e ts r h fp s id can wide on =
-      let (v, there) = built-on w pos f xs (k .screen) b r h in
-      let bs = painter-of w (painted w ts k .canvas) r .buckets in
-      let l : length bs ≡ buckets-of w (f .viewport) = words-length w k e ts r there fp ∙ ap (buckets-of w) v in
-      let most : (s .end + (w - 1)) / w ≤ (width (f .viewport) / 4 + (w - 1)) / w = to-bucket w pos (let m = div-mul-le-self (s .end + (w - 1)) w in omega arith) in
-      all-visible bs id s wide (rw l most) (λ t c. skip w pos f xs k b e ts r h fp s id can t c (let m = covers-high s t c in omega arith))
+-- .. and if the span lies on the screen, its visible runs are the whole span
+pub skip-runs : (f : Frame) (xs : List Step) (k : Canvas) → Built xs (reset fresh-row f) (k .screen) → begin-call k .number ≡ Done
+    → (ts : List Turn) (r : ℕ) → r < rows-of (f .viewport) → FillsPainted (painted ts k .canvas) r
+    → (s : Span) (id : ℕ) → can-skip-call r s id (painted ts k .canvas) .value ≡ true
+    → s .first < s .end → s .end ≤ width (f .viewport) / 4
+    → visible-runs (bucket f) (painter-of (painted ts k .canvas) r .buckets) id s ≡ s ∷ []
+skip-runs f xs k b e ts r h fp s id can wide on =
+    let w = bucket f in
+    let pos = bucket-some (f .width) in
+    let (v, there) = built-on f xs (k .screen) b r h in
+    let bs = painter-of (painted ts k .canvas) r .buckets in
+    let l : length bs ≡ buckets-across f = words-length k e ts r there fp ∙ ap buckets-across v in
+    let most : (s .end + (w - 1)) / w ≤ (width (f .viewport) / 4 + (w - 1)) / w = to-bucket w pos (let m = div-mul-le-self (s .end + (w - 1)) w in omega arith) in
+    all-visible w pos bs id s wide (rw l most) (λ t c. skip f xs k b e ts r h fp s id can t c (let m = covers-high s t c in omega arith))

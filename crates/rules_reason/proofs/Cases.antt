@@ -3,6 +3,9 @@ use Prim.Native.Nat.{ℕ}
 use mathlib.Core.Path.{_≡_, refl}
 use mathlib.Core.Bool.{true, false}
 use mathlib.Core.List.{List, [], _∷_, map}
+use Rattle.sizes.specs.declared.width.Width.{Width}
+use Rattle.sizes.specs.declared.width.Width.the-variants.{W64, W128, W256}
+use Rattle.sizes.specs.Widths.{bucket-tiles}
 use Rattle.rules.specs.Recording.{Recording}
 use Rattle.rules.proofs.Picture.{walked}
 use Rattle.rules.proofs.Computing.{computing}
@@ -24,9 +27,16 @@ layer-of i = record { layer = true; attribute = i }
 abbrev asked : List Asked
 asked = draw-of 0 ∷ draw-of 1 ∷ draw-of 2 ∷ layer-of 0 ∷ []
 
--- their reasons at a row and a tile
+-- the reason of one at a row and a tile, with buckets of a width
+abbrev reason-at : Width → Recording → ℕ → ℕ → Asked → Reason
+reason-at w r row tile a = reason (bucket-tiles w) (r .viewport) row tile (walked w r .log) a
+
+-- the reasons of all four; `ask` with buckets of 32 tiles
+abbrev ask-at : Width → Recording → ℕ → ℕ → List Reason
+ask-at w r row tile = map (reason-at w r row tile) asked
+
 abbrev ask : Recording → ℕ → ℕ → List Reason
-ask r row tile = map (reason 32 (r .viewport) row tile (walked 32 r .log)) asked
+ask r row tile = ask-at W128 r row tile
 
 -- the panel hides in its bucket what came before it, and is first in the tile's list; beside that bucket all is shown
 pub panel-70 : ask panel 0 70 ≡ hidden-by 2 ∷ hidden-by 2 ∷ shown-at 0 ∷ unknown-attribute ∷ []
@@ -40,6 +50,20 @@ panel-50 = refl
 pub panel-10 : ask panel 0 10 ≡ shown-at 0 ∷ no-segment ∷ no-segment ∷ unknown-attribute ∷ []
 unfolding computing-reasons
 panel-10 = refl
+
+-- The panel's tiles are 40 to 100. With buckets of 16 tiles it hides from tile 48 on, and nothing in the bucket before; ..
+pub panel-narrow-50 : ask-at W64 panel 0 50 ≡ hidden-by 2 ∷ hidden-by 2 ∷ shown-at 0 ∷ unknown-attribute ∷ []
+unfolding computing-reasons
+panel-narrow-50 = refl
+
+pub panel-narrow-47 : ask-at W64 panel 0 47 ≡ shown-at 0 ∷ shown-at 1 ∷ shown-at 2 ∷ unknown-attribute ∷ []
+unfolding computing-reasons
+panel-narrow-47 = refl
+
+-- .. with buckets of 64 it covers none, and hides nothing
+pub panel-wide-70 : ask-at W256 panel 0 70 ≡ shown-at 0 ∷ shown-at 1 ∷ shown-at 2 ∷ unknown-attribute ∷ []
+unfolding computing-reasons
+panel-wide-70 = refl
 
 -- the inner layer's clip begins at tile 8: its draw is cut away before it; the inner layer itself is cut by the parent's box, tiles 0 to 16
 pub parent-4 : ask parent-cut 0 4 ≡ cut-away ∷ unknown-attribute ∷ unknown-attribute ∷ shown-at 0 ∷ []
@@ -71,14 +95,14 @@ last-25 = refl
 
 -- a filter fill's dest box, y 6 to 9, meets the rows 1 and 2, its tiles are 5 to 15
 pub shifted-cases :
-    map (λ (r : ℕ). reason 32 (shifted .viewport) r 5 (walked 32 shifted .log) (draw-of 0)) (0 ∷ 1 ∷ 2 ∷ 3 ∷ [])
+    map (λ (r : ℕ). reason-at W128 shifted r 5 (draw-of 0)) (0 ∷ 1 ∷ 2 ∷ 3 ∷ [])
     ≡ no-segment ∷ shown-at 0 ∷ shown-at 0 ∷ no-segment ∷ []
 unfolding computing-reasons
 shifted-cases = refl
 
 -- the screen begins at scene tile 4, the segment ends at scene tile 20
 pub left-cut-cases :
-    map (λ (t : ℕ). reason 32 (left-cut .viewport) 0 t (walked 32 left-cut .log) (draw-of 0)) (0 ∷ 15 ∷ 16 ∷ [])
+    map (λ (t : ℕ). reason-at W128 left-cut 0 t (draw-of 0)) (0 ∷ 15 ∷ 16 ∷ [])
     ≡ shown-at 0 ∷ shown-at 0 ∷ no-segment ∷ []
 unfolding computing-reasons
 left-cut-cases = refl

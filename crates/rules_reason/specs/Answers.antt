@@ -5,11 +5,10 @@ use mathlib.Core.List.{List, [], _∷_, _++_}
 use mathlib.Core.Option.{Option, none, some}
 use lib.ListN.{length}
 use lib.Dec.{leb, eqb}
-use Rattle.sizes.specs.Sizes.{bucket-tiles}
 use Rattle.rules.specs.Answers.{Done, BadForm, BadRun}
 use Rattle.rules.specs.Boxes.{Box, width, rows-of}
 use Rattle.rules.specs.Rows.{Row, row-ops, fresh-row}
-use Rattle.rules.specs.Plans.{Frame, Step}
+use Rattle.rules.specs.Plans.{Frame, bucket, Step}
 use Rattle.rules.specs.Setups.{Setup, frame}
 use Rattle.rules.specs.Recording.{Recording, shape, sections, recording}
 use Rattle.rules.specs.Lines.{refused, rowlist-screen, words-of, too-long, digits, number, line-bytes}
@@ -91,17 +90,17 @@ answer-lines why paints layers (one a) = reason-bytes (why a)
 
 -- the steps of a recording's walk from the reset to a frame
 abbrev pub history : Frame → Recording → List Step
-history f r = walk-logged Row row-ops bucket-tiles fresh-row f r .value .log
+history f r = walk-logged Row row-ops fresh-row f r .value .log
 
 -- 12: a row or a tile off the screen of the viewport v
 abbrev pub off-screen : Box → ℕ → ℕ → Bool
 off-screen v row tile = leb (rows-of v) row || leb (width v / 4) tile
 
--- the answer at a tile of the viewport v, after the steps xs
-unfoldable pub tile-answer : Box → ℕ → ℕ → List Step → Question → List ℕ
-tile-answer v row tile xs q =
-    let s = tell-steps bucket-tiles v row tile xs untold in
-    answer-lines (reason bucket-tiles v row tile xs) (s .paints) (s .layers) q
+-- the answer at a tile of a screen of the frame f, at its own width, after the steps xs
+unfoldable pub tile-answer : Frame → ℕ → ℕ → List Step → Question → List ℕ
+tile-answer f row tile xs q =
+    let s = tell-steps (bucket f) (f .viewport) row tile xs untold in
+    answer-lines (reason (bucket f) (f .viewport) row tile xs) (s .paints) (s .layers) q
 
 abbrev pub refused-bytes : ℕ → List ℕ
 refused-bytes n = line-bytes (refused n)
@@ -109,7 +108,7 @@ refused-bytes n = line-bytes (refused n)
 -- of a recording that is accepted, on a screen of the frame f
 unfoldable pub recording-answer : Frame → Recording → ℕ → ℕ → Question → List ℕ
 recording-answer f r row tile q =
-    let answer = tile-answer (f .viewport) row tile (history f r) q in
+    let answer = tile-answer f row tile (history f r) q in
     cond (off-screen (f .viewport) row tile) (refused-bytes BadRun) answer
 
 abbrev pub answer-in : Setup → Option (List (List (List ℕ))) → ℕ → ℕ → Question → List ℕ

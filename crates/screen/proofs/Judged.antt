@@ -4,8 +4,8 @@ use mathlib.Core.Bool.{Bool, true, false, _&&_}
 use Prim.Native.Nat.{ℕ, _*_}
 use lib.Dec.{eqb}
 use borrow.Author.Tests.{eq-eqb, ne-eqb}
-use Rattle.rules.specs.Boxes.{good-viewport, rows-of, buckets-of}
-use Rattle.rules.specs.Plans.{Frame}
+use Rattle.rules.specs.Boxes.{good-viewport, rows-of}
+use Rattle.rules.specs.Plans.{Frame, buckets-across}
 use Rattle.rules.specs.Walk.{good-room, good-arenas}
 use Rattle.rect.specs.Rects.{box-of}
 use Rattle.screen.specs.declared.Screen.{Screen}
@@ -53,23 +53,23 @@ module _ (f : Frame) (l : Lengths) where
     pub rows : n ≡ rows-of (f .viewport)
 
   module _ (n : ℕ) (g : Rows n) where
-    all-arenas : good-arenas 32 f (arenas l)
-        ≡ (good-rooms n (f .c) (f .d) (l .render) (l .fills) && eqb (l .depth) (n * buckets-of 32 (f .viewport)))
+    all-arenas : good-arenas f (arenas l)
+        ≡ (good-rooms n (f .c) (f .d) (l .render) (l .fills) && eqb (l .depth) (n * buckets-across f))
     all-arenas = rw (g .rows) (with-depth (good-room (f .c) && good-room (f .d)) _ _ _)
 
     pub reset-bad-rooms : good-rooms n (f .c) (f .d) (l .render) (l .fills) ≡ false → 1 ≡ judged-reset f l
     unfolding judged-reset
     reset-bad-rooms h = rw (g .view, all-arenas, h)
 
-    module _ (b : ℕ) (e : b ≡ buckets-of 32 (f .viewport)) (r : good-rooms n (f .c) (f .d) (l .render) (l .fills) ≡ true) where
+    module _ (b : ℕ) (e : b ≡ buckets-across f) (r : good-rooms n (f .c) (f .d) (l .render) (l .fills) ≡ true) where
       pub reset-bad-depth : (l .depth ≡ n * b → ⊥) → 1 ≡ judged-reset f l
       unfolding judged-reset
       reset-bad-depth h = rw (g .view, all-arenas, r, ne-eqb _ _ (rw e at h))
 
-      pub reset-arenas : l .depth ≡ n * b → good-arenas 32 f (arenas l) ≡ true
+      pub reset-arenas : l .depth ≡ n * b → good-arenas f (arenas l) ≡ true
       reset-arenas h = all-arenas ∙ rw (r, eq-eqb _ _ (rw e at h))
 
-    module _ (a : good-arenas 32 f (arenas l) ≡ true) where
+    module _ (a : good-arenas f (arenas l) ≡ true) where
       pub reset-bad-rows : (l .rows ≡ n * 54 → ⊥) → 4 ≡ judged-reset f l
       unfolding judged-reset
       reset-bad-rows h = rw (g .view, a, rw (g .rows) at (ne-eqb _ _ h))

@@ -7,6 +7,8 @@ use native.Mathlib.Omega.{arith}
 use lib.ListN.{length, replicate, length-replicate}
 use lib.Dec.{leb, ltb, eqb}
 use borrow.Author.Tests.{leb-true, ltb-false, eqb-true, eq-eqb, ne-eqb, le-leb}
+use Rattle.sizes.specs.declared.width.Width.{Width}
+use Rattle.sizes.specs.Widths.{bucket-tiles}
 use Rattle.rules.specs.Lists.{is-empty}
 use Rattle.rules.specs.Boxes.{Box, width, height, by-4, bounded, whole, rows-of, buckets-of, good-box, good-viewport}
 use Rattle.rules.specs.Attributes.{attrs-full}
@@ -14,6 +16,7 @@ use Rattle.rules.specs.Plans as plans
 use Rattle.rules.specs.Plans.{Frame, Plan, clip-box}
 use Rattle.rules.specs.Steps.{reset-state}
 use Rattle.rules.specs.Walk.{good-room}
+use Rattle.rules.proofs.laws.Widths.{each}
 use Rattle.rect.specs.declared.Rect.{Rect}
 use Rattle.rect.specs.Rects.{box-of, same-box}
 use Rattle.rect.proofs.Boxes.{View, view}
@@ -37,8 +40,8 @@ module _ (v : Box) (g : good-viewport v ≡ true) where
   pub few-rows : rows-of v ≤ 512
   few-rows = omega (arith, view v g .high)
 
-  pub few-buckets : buckets-of 32 v ≤ 32
-  few-buckets = omega (arith, view v g .wide)
+  pub few-buckets : (w : Width) → buckets-of (bucket-tiles w) v ≤ 64
+  few-buckets w = each (λ w. buckets-of w v ≤ 64) (omega (arith, view v g .wide)) (omega (arith, view v g .wide)) (omega (arith, view v g .wide)) w
 
 pub record Bounds (s : Screen) : Type 0 where
   pub some-id : 1 ≤ s .«next_draw_id»

@@ -7,8 +7,8 @@ use native.Mathlib.Omega.{arith}
 use lib.Dec.{eqb}
 use borrow.Author.Tests.{eqb-true, not-false}
 use Rattle.rules.specs.Answers.{first-of}
-use Rattle.rules.specs.Boxes.{good-viewport, rows-of, buckets-of}
-use Rattle.rules.specs.Plans.{Frame}
+use Rattle.rules.specs.Boxes.{good-viewport, rows-of}
+use Rattle.rules.specs.Plans.{Frame, buckets-across}
 use Rattle.rules.specs.Walk.{good-room, good-arenas}
 use Rattle.rect.specs.Rects.{box-of}
 use Rattle.screen.specs.declared.Screen.{Screen}
@@ -19,8 +19,8 @@ use Rattle.rules.proofs.All.{and-left, and-right}
 use Rattle.screen.proofs.Laws.{Room, room, fresh-good}
 use Rattle.screen.proofs.Judged.{good}
 
--- no test said yes
-none-said : (x y z : Bool) → first-of ((x, 2) ∷ (y, 1) ∷ (z, 4) ∷ []) ≡ 0 → (x ≡ false) × (y ≡ false) × (z ≡ false)
+-- no test of a judge said yes
+pub none-said : (x y z : Bool) → first-of ((x, 2) ∷ (y, 1) ∷ (z, 4) ∷ []) ≡ 0 → (x ≡ false) × (y ≡ false) × (z ≡ false)
 none-said true y z h = absurd (omega arith)
 none-said false true z h = absurd (omega arith)
 none-said false false true h = absurd (omega arith)
@@ -63,22 +63,28 @@ module _ (s : Screen) (rows render fills : ℕ) where
         screen = and-right t (good-screen s) l;
       }
 
--- after a done reset a building step finds nothing wrong with the screen
 module _ (f : Frame) (l : Lengths) where
-  pub reset-passes : judged-reset f l ≡ 0 → judged (fresh-screen f) (l .rows) (l .render) (l .fills) ≡ 0
+  -- each test of a reset that is judged 0
+  pub reset-says : judged-reset f l ≡ 0 → (good-viewport (f .viewport) ≡ true) × (good-arenas f (arenas l) ≡ true) × (good-tables (rows-of (f .viewport)) l ≡ true)
   unfolding judged-reset
+  reset-says h =
+      let all = none-said (not (good-viewport (f .viewport))) (not (good-arenas f (arenas l))) (not (good-tables (rows-of (f .viewport)) l)) h in
+      (not-false _ (all .0), not-false _ (all .1), not-false _ (all .2))
+
+  -- after a done reset a building step finds nothing wrong with the screen
+  pub reset-passes : judged-reset f l ≡ 0 → judged (fresh-screen f) (l .rows) (l .render) (l .fills) ≡ 0
   reset-passes h =
       let n = rows-of (f .viewport) in
       let a = good-room (f .c) && good-room (f .d) in
       let re = eqb (l .render) (n * (4 * f .c)) in
       let fi = eqb (l .fills) (n * (2 * f .d)) in
-      let de = eqb (l .depth) (n * buckets-of 32 (f .viewport)) in
+      let de = eqb (l .depth) (n * buckets-across f) in
       let ro = eqb (l .rows) (n * 54) in
       let pa = eqb (l .painting) (n * 2) in
-      let all = none-said (not (good-viewport (f .viewport))) (not (good-arenas 32 f (arenas l))) (not (good-tables n l)) h in
-      let g : (a && (re && fi && de)) ≡ true = not-false _ (all .1) in
+      let all = reset-says h in
+      let g : (a && (re && fi && de)) ≡ true = all .1 in
       let k : (re && fi) ≡ true = and-left (re && fi) de (and-right a (re && fi && de) g) in
-      let m : (ro && pa && good-fixed l) ≡ true = not-false _ (all .2) in
+      let m : (ro && pa && good-fixed l) ≡ true = all .2 in
       let w : ro ≡ true = and-left ro pa (and-left (ro && pa) (good-fixed l) m) in
       let rooms : (a && re && fi) ≡ true = rw (and-left a (re && fi && de) g) k in
-      sym (good (fresh-screen f) (l .rows) (l .render) (l .fills) n refl (not-false _ (all .0)) rooms (eqb-true _ _ w) (fresh-good f))
+      sym (good (fresh-screen f) (l .rows) (l .render) (l .fills) n refl (all .0) rooms (eqb-true _ _ w) (fresh-good f))

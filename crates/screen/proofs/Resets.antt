@@ -42,9 +42,9 @@ module _ (q : Setup) (v : Rect) where
   pub bad-box : (l : ScreenLent) → viewport.Bad ≡ seen (frame q v .viewport) → answer 2 l ≡ reset-to (frame q v) l
   bad-box l e = refused (frame q v) l 2 (reset-bad-viewport (frame q v) _ (bad-seen _ e)) (λ z. omega arith)
 
-  module _ (s : Rect) (e : viewport.Good s ≡ seen (frame q v .viewport)) (x : Screen) (h : x ≡ fresh-screen (record { viewport = box-of s; c = q .c; d = q .d })) where
+  module _ (s : Rect) (e : viewport.Good s ≡ seen (frame q v .viewport)) (x : Screen) (h : x ≡ fresh-screen (record { viewport = box-of s; c = q .c; d = q .d; width = q .width })) where
     pub begun : x ≡ fresh-screen (frame q v)
-    begun = h ∙ ap (λ (r : Rect). fresh-screen (record { viewport = box-of r; c = q .c; d = q .d })) (good-seen _ s e .1)
+    begun = h ∙ ap (λ (r : Rect). fresh-screen (record { viewport = box-of r; c = q .c; d = q .d; width = q .width })) (good-seen _ s e .1)
 
     pub begun-good : good-viewport (box-of (x .viewport)) ≡ true
     begun-good = rw begun (good-seen _ s e .0)

@@ -3,7 +3,7 @@ use Prim.Native.Nat.{ℕ, _*_}
 use mathlib.Core.Bool.{Bool, _&&_, not}
 use mathlib.Core.List.{[], _∷_}
 use lib.Dec.{eqb}
-use Rattle.sizes.specs.Sizes.{bucket-tiles, row-size, open-layer-table, opacity-count, paint-attr-table, layer-attr-table, filter-paint-table}
+use Rattle.sizes.specs.Sizes.{row-size, open-layer-table, opacity-count, paint-attr-table, layer-attr-table, filter-paint-table}
 use Rattle.rules.specs.Answers.{first-of, BadArena, BadViewport, BadRecord}
 use Rattle.rules.specs.Boxes.{good-viewport, rows-of}
 use Rattle.rules.specs.Plans.{Frame}
@@ -48,6 +48,6 @@ unfoldable pub judged-reset : Frame → Lengths → ℕ
 judged-reset f l =
     first-of
     ((not (good-viewport (f .viewport)), BadViewport)
-    ∷ (not (good-arenas bucket-tiles f (arenas l)), BadArena)
+    ∷ (not (good-arenas f (arenas l)), BadArena)
     ∷ (not (good-tables (rows-of (f .viewport)) l), BadRecord)
     ∷ [])

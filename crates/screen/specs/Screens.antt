@@ -18,7 +18,7 @@ use Rattle.screen.specs.declared.Setup.{Setup}
 
 -- what a screen is asked to be
 abbrev pub setup-of : Setup → rule.Setup
-setup-of q = record { c = q .c; d = q .d; mode = mode-of (q .mode) }
+setup-of q = record { c = q .c; d = q .d; mode = mode-of (q .mode); width = q .width }
 
 -- what a reset of it fixes
 abbrev pub frame : Setup → Rect → Frame
@@ -26,7 +26,7 @@ frame q v = rule.frame (setup-of q) (box-of v)
 
 -- what a screen has of that
 abbrev pub frame-of : Screen → Frame
-frame-of s = record { viewport = box-of (s .viewport); c = s .c; d = s .d }
+frame-of s = record { viewport = box-of (s .viewport); c = s .c; d = s .d; width = s .width }
 
 abbrev pub in-tiles : Box → Bool
 in-tiles b = by-4 (b .x0) && by-4 (b .y0) && by-4 (b .x1) && by-4 (b .y1)
@@ -93,6 +93,7 @@ screen-in f b next paints layers filters deep begun =
       «filter_paints» = filters;
       layers = deep;
       painting = begun;
+      width = f .width;
     }
 
 -- the screen that a done plan leaves

@@ -3,7 +3,8 @@ ghost use mathlib.Core.Bool.{true};
 ghost use mathlib.Core.Path.{_≡_};
 ghost use Prim.Native.Nat.{_≤_};
 ghost use lib.IntN.{pos};
-ghost use Rattle.sizes.specs.Sizes.{bucket-tiles, most-rows};
+ghost use Rattle.sizes.specs.Sizes.{most-rows};
+ghost use Rattle.sizes.specs.Widths.{bucket-tiles};
 ghost use Rattle.rules.specs.Answers.{answer};
 ghost use Rattle.rules.specs.Boxes.{good-viewport, rows-of, buckets-of};
 ghost use Rattle.rules.specs.Walk.{good-room};
@@ -28,7 +29,7 @@ use sizes::answers::BAD_ARENA;
 use sizes::answers::BAD_RECORD;
 use sizes::answers::BAD_VIEWPORT;
 use sizes::answers::DONE;
-use span::Width;
+use sizes::width::Width;
 
 pub struct Screen {
     pub viewport: Rect,
@@ -41,13 +42,16 @@ pub struct Screen {
     pub filter_paints: u32,
     pub layers: u32,
     pub painting: bool,
+    pub width: Width,
 }
 
-// What a screen is asked to be, besides its viewport: room for C render commands and D depth fills in each row, and how the viewport is read.
+// What a screen is asked to be, besides its viewport: room for C render commands and D depth fills in each row, how the viewport is read,
+// and how wide a depth bucket is.
 pub struct Setup {
     pub c: u32,
     pub d: u32,
     pub mode: Mode,
+    pub width: Width,
 }
 
 // What a call gives: its number, and the screen afterwards.
@@ -126,10 +130,10 @@ impl Screen {
     }
 
     pub fn buckets(self) -> usize
-        ensures { λ r. ⌜ r ≡ buckets-of bucket-tiles (box-of (self .viewport)) ⌝ }
+        ensures { λ r. ⌜ r ≡ buckets-of (bucket-tiles (self .width)) (box-of (self .viewport)) ⌝ }
     {
         let viewport = self.viewport;
-        let width = Width::W128;
+        let width = self.width;
         width.above(viewport.width() / 4) as usize
     }
 
@@ -230,8 +234,8 @@ pub fn clear_floats(words: &mut [f32])
 }
 
 // A screen with nothing on it.
-pub fn fresh(viewport: Rect, c: u32, d: u32) -> Screen
-    ensures { λ r. ⌜ r ≡ fresh-screen (record { viewport = box-of viewport; c = c; d = d }) ⌝ }
+pub fn fresh(viewport: Rect, c: u32, d: u32, width: Width) -> Screen
+    ensures { λ r. ⌜ r ≡ fresh-screen (record { viewport = box-of viewport; c = c; d = d; width = width }) ⌝ }
 {
     Screen {
         viewport,
@@ -244,6 +248,7 @@ pub fn fresh(viewport: Rect, c: u32, d: u32) -> Screen
         filter_paints: 0,
         layers: 0,
         painting: false,
+        width,
     }
 }
 
@@ -318,7 +323,8 @@ pub fn reset(
             screen,
         };
     };
-    let begun = fresh(seen, setup.c, setup.d);
+    let width = setup.width;
+    let begun = fresh(seen, setup.c, setup.d, width);
     let lent = Lengths {
         render: render.len(),
         fills: fills.len(),

@@ -1,17 +1,19 @@
 -- Every size, limit, table length and place of a field, once, as definitions and contracts name it. `src/lib.rt` has the same for code.
 use Prim.Native.Nat.{ℕ, _+_, _*_, _/_}
+use Rattle.sizes.specs.declared.width.Width.the-variants.{W64}
+use Rattle.sizes.specs.Widths.{bucket-tiles}
 
--- tiles in a depth bucket
-abbrev pub bucket-tiles : ℕ
-bucket-tiles = 32
+-- tiles in a depth bucket of the narrowest width
+abbrev pub narrowest : ℕ
+narrowest = bucket-tiles W64
 
 -- tile numbers and row numbers are below this, the end of a span is at most this
 abbrev pub tile-end : ℕ
 tile-end = 8192
 
--- the same for buckets
+-- the same for buckets, at any width
 abbrev pub bucket-end : ℕ
-bucket-end = tile-end / bucket-tiles
+bucket-end = tile-end / narrowest
 
 -- alpha values of one tile
 abbrev pub tile-alphas : ℕ
@@ -27,9 +29,9 @@ most-height = 2048
 abbrev pub most-rows : ℕ
 most-rows = 512
 
--- runs in a row of the widest viewport
+-- runs in a row of the widest viewport, at any width
 abbrev pub most-runs : ℕ
-most-runs = 16
+most-runs = most-width / 4 / narrowest / 2
 
 -- C and D: commands and depth fills that a row has room for
 abbrev pub most-room : ℕ
@@ -127,14 +129,14 @@ line-table = line-size * (most-attrs + most-attrs)
 
 -- a host's words of a screen's numbers
 abbrev pub state-size : ℕ
-state-size = 16
+state-size = 17
 
 -- The programs' screens: rows, buckets in a row, and C and D; their tables.
 abbrev pub program-rows : ℕ
 program-rows = 32
 
 abbrev pub program-buckets : ℕ
-program-buckets = 32
+program-buckets = most-width / 4 / narrowest
 
 abbrev pub program-room : ℕ
 program-room = 64

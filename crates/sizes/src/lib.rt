@@ -1,33 +1,32 @@
-// Every size, limit, table length and place of a field, once, for code; `specs/Sizes` has the same for contracts, and `tied` ties the two. `answers` has the answer numbers.
+// Every size, limit, table length and place of a field, once, for code; `specs/Sizes` has the same for contracts, and `tied` ties the two. `answers` has the answer numbers, `width` a bucket's widths.
 pub mod answers;
+pub mod width;
 
 ghost use mathlib.Core.Path.{_≡_};
 ghost use mathlib.Core.List.{[], _∷_};
-ghost use Rattle.sizes.specs.Sizes.{bucket-tiles, tile-end, bucket-end, tile-alphas, most-width, most-height, most-rows, most-runs, most-room, most-layers, most-attrs, most-filters, thread-end, handle-end, last-id, most-records, file-bytes};
+ghost use Rattle.sizes.specs.Sizes.{narrowest, tile-end, bucket-end, tile-alphas, most-width, most-height, most-rows, most-runs, most-room, most-layers, most-attrs, most-filters, thread-end, handle-end, last-id, most-records, file-bytes};
 ghost use Rattle.sizes.specs.Sizes.{renders-at, depths-at, first-at, end-at, largest-at, levels-at, level-at, row-size, open-layer-size, open-layer-table, paint-attr-size, paint-attr-table, layer-attr-size, layer-attr-table, filter-paint-size, filter-paint-table, opacity-count, line-size, line-table, state-size};
 ghost use Rattle.sizes.specs.Sizes.{program-rows, program-buckets, program-room, program-render, program-fills, program-depth, program-records, program-painting};
 
-// Tiles in a depth bucket of 128 pixels; the same as a length.
-pub const BUCKET: u32 = 32;
+// Tiles in a depth bucket of the narrowest width.
+pub const NARROWEST: usize = 16;
 
-pub const BUCKET_TILES: usize = BUCKET as usize;
-
-// Tile numbers and row numbers are below TILE_END, the end of a span is at most TILE_END; the same for buckets.
+// Tile numbers and row numbers are below TILE_END, the end of a span is at most TILE_END; the same for buckets, at any width.
 pub const TILE_END: u32 = 8192;
 
-pub const BUCKET_END: usize = TILE_END as usize / BUCKET_TILES;
+pub const BUCKET_END: usize = TILE_END as usize / NARROWEST;
 
 // Alpha values of one tile.
 pub const TILE_ALPHAS: u32 = 16;
 
-// A viewport's width and height in pixels, its rows, and the runs in its widest row.
+// A viewport's width and height in pixels, its rows, and the runs in its widest row at any width.
 pub const MOST_WIDTH: u32 = 4096;
 
 pub const MOST_HEIGHT: u32 = 2048;
 
 pub const MOST_ROWS: usize = 512;
 
-pub const MOST_RUNS: usize = 16;
+pub const MOST_RUNS: usize = MOST_WIDTH as usize / 4 / NARROWEST / 2;
 
 // C and D; layers open at once; attributes of paints and of layers; paints of filter fills.
 pub const MOST_ROOM: u32 = 1024;
@@ -97,12 +96,12 @@ pub const OPACITY_BASE: usize = MOST_LAYERS as usize;
 pub const OPACITIES: usize = OPACITY_BASE + MOST_ATTRS as usize;
 
 // A host's words of a screen's numbers.
-pub const STATE: usize = 16;
+pub const STATE: usize = 17;
 
 // The programs' screens: rows, buckets in a row, C and D; a row's render and fill words; their tables.
 pub const PROGRAM_ROWS: usize = 32;
 
-pub const PROGRAM_BUCKETS: usize = 32;
+pub const PROGRAM_BUCKETS: usize = MOST_WIDTH as usize / 4 / NARROWEST;
 
 pub const PROGRAM_ROOM: u32 = 64;
 
@@ -122,10 +121,10 @@ pub const PROGRAM_PAINTING: usize = PROGRAM_ROWS * 2;
 
 // The limits of what is drawn.
 fn tied_limits() -> [usize; 17]
-    ensures { λ r. ⌜ r ≡ bucket-tiles ∷ tile-end ∷ bucket-end ∷ tile-alphas ∷ most-width ∷ most-height ∷ most-rows ∷ most-runs ∷ most-room ∷ most-layers ∷ most-attrs ∷ most-filters ∷ thread-end ∷ handle-end ∷ last-id ∷ most-records ∷ file-bytes ∷ [] ⌝ }
+    ensures { λ r. ⌜ r ≡ narrowest ∷ tile-end ∷ bucket-end ∷ tile-alphas ∷ most-width ∷ most-height ∷ most-rows ∷ most-runs ∷ most-room ∷ most-layers ∷ most-attrs ∷ most-filters ∷ thread-end ∷ handle-end ∷ last-id ∷ most-records ∷ file-bytes ∷ [] ⌝ }
 {
     [
-        BUCKET as usize,
+        NARROWEST,
         TILE_END as usize,
         BUCKET_END,
         TILE_ALPHAS as usize,

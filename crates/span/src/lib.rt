@@ -5,9 +5,10 @@ ghost use Rattle.rules.specs.Spans.{span, hull, meeting, moved, cut-to};
 ghost use Rattle.rules.specs.Depth.{tiles-of};
 ghost use mathlib.Core.Option.{some};
 ghost use Rattle.sizes.specs.Sizes.{tile-end};
+ghost use Rattle.sizes.specs.Widths.{bucket-tiles};
 ghost use Rattle.span.specs.Spans.{tiles, buckets, meeting-of, alpha, Moves, stretch, cut-of};
-ghost use Rattle.span.specs.Widths.{wide};
 use sizes::TILE_ALPHAS;
+use sizes::width::Width;
 
 // From a first tile to an end tile, which is not among them. Laid out as in C: a host lends slices of it.
 #[repr(C)]
@@ -20,13 +21,6 @@ pub struct TileSpan {
 pub struct BucketRange {
     pub first: u32,
     pub end: u32,
-}
-
-// How wide a depth bucket is: 64, 128 or 256 pixels, which are 16, 32 or 64 tiles.
-pub enum Width {
-    W64,
-    W128,
-    W256,
 }
 
 // What two spans have in common.
@@ -138,60 +132,11 @@ impl TileSpan {
     }
 }
 
-// The one place that knows how many tiles a bucket has. Each arm has its own constant, so that it is compiled to a shift.
-impl Width {
-    // The tiles of one bucket.
-    pub fn tiles(self) -> u32
-        ensures { λ r. ⌜ r ≡ wide self ⌝ }
-    {
-        match self {
-            Width::W64 => 16,
-            Width::W128 => 32,
-            Width::W256 => 64,
-        }
-    }
-
-    // The bucket of a tile.
-    pub fn below(self, tile: u32) -> u32
-        ensures { λ r. ⌜ r ≡ tile / wide self ⌝ }
-    {
-        match self {
-            Width::W64 => tile / 16,
-            Width::W128 => tile / 32,
-            Width::W256 => tile / 64,
-        }
-    }
-
-    // The first bucket that starts no earlier than a tile. No width in pixels has more tiles than it asks.
-    pub fn above(self, tile: u32) -> u32
-        requires { ⌜ tile ≤ 1073741823 ⌝ }
-        ensures { λ r. ⌜ r ≡ (tile + (wide self - 1)) / wide self ⌝ }
-    {
-        match self {
-            Width::W64 => (tile + 15) / 16,
-            Width::W128 => (tile + 31) / 32,
-            Width::W256 => (tile + 63) / 64,
-        }
-    }
-
-    // The first tile of a bucket.
-    pub fn times(self, bucket: u32) -> u32
-        requires { ⌜ bucket ≤ tile-end ⌝ }
-        ensures { λ r. ⌜ r ≡ bucket * wide self ⌝ }
-    {
-        match self {
-            Width::W64 => bucket * 16,
-            Width::W128 => bucket * 32,
-            Width::W256 => bucket * 64,
-        }
-    }
-}
-
 impl BucketRange {
     // The tiles of the buckets.
     pub fn span(self, width: Width) -> TileSpan
         requires { ⌜ (self .first ≤ tile-end) × (self .end ≤ tile-end) ⌝ }
-        ensures { λ r. ⌜ tiles r ≡ tiles-of (wide width) (buckets self) ⌝ }
+        ensures { λ r. ⌜ tiles r ≡ tiles-of (bucket-tiles width) (buckets self) ⌝ }
     {
         TileSpan {
             first: width.times(self.first),

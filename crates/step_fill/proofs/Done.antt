@@ -74,16 +74,16 @@ own-and-tests r x h = go (eqb r Done) refl h
     go true e k = (eqb-true r 0 e, k)
     go false e k = absurd (eqb-false r 0 e k)
 
-tests : (p : Plan) (t : steps.Screen Words) → refusal Words word-ops 32 p t ≡ 0
+tests : (p : Plan) (t : steps.Screen Words) → refusal Words word-ops p t ≡ 0
     → (p .refused ≡ 0) × (ltb 1048577 (p .next) ≡ false) × (attrs-full (p .attrs) ≡ false)
-    × (passes Words word-ops 32 (word 0) (t .state .frame .c) (p .puts) (t .rows) ≡ false) × (passes Words word-ops 32 (word 1) (t .state .frame .d) (p .puts) (t .rows) ≡ false)
+    × (passes Words word-ops (word 0) (t .state .frame .c) (p .puts) (t .rows) ≡ false) × (passes Words word-ops (word 1) (t .state .frame .d) (p .puts) (t .rows) ≡ false)
 unfolding refusal
 tests p t h =
     let deep = ltb 16 (length (p .layers)) in
     let ids = ltb 1048577 (p .next) in
     let full = attrs-full (p .attrs) in
-    let row = passes Words word-ops 32 (word 0) (t .state .frame .c) (p .puts) (t .rows) in
-    let fills = passes Words word-ops 32 (word 1) (t .state .frame .d) (p .puts) (t .rows) in
+    let row = passes Words word-ops (word 0) (t .state .frame .c) (p .puts) (t .rows) in
+    let fills = passes Words word-ops (word 1) (t .state .frame .d) (p .puts) (t .rows) in
     let a = own-and-tests (p .refused) (first-of ((deep, 6) ∷ (ids, 8) ∷ (full, 9) ∷ (row, 10) ∷ (fills, 11) ∷ [])) h in
     let b = none-of-five deep ids full row fills (a .1) in
     (a .0, b .0, b .1, b .2, b .3)
@@ -100,14 +100,14 @@ pub record Zero (l : FillLent) (ps ss : List ℕ) (d : Draw) : Type 0 where
 module _ (l : FillLent) (ps ss : List ℕ) (d : Draw) where
   parts : fill-number l ps ss d ≡ 0 → (first-of-lent l ps ss ≡ 0)
       × (good-rows (frame-of (l .screen)) (l .screen .layers) (fill-plan (l .screen) ps ss d .puts) (screen-at (state-of (l .screen)) (l .words) .rows) ≡ true)
-      × (refusal Words word-ops 32 (fill-plan (l .screen) ps ss d) (done Words word-ops 32 (fill-plan (l .screen) ps ss d) (screen-at (state-of (l .screen)) (l .words))) ≡ 0)
+      × (refusal Words word-ops (fill-plan (l .screen) ps ss d) (done Words word-ops (fill-plan (l .screen) ps ss d) (screen-at (state-of (l .screen)) (l .words))) ≡ 0)
   unfolding fill-number step-number
   parts h =
       let p = fill-plan (l .screen) ps ss d in
       let t = screen-at (state-of (l .screen)) (l .words) in
-      said-no (first-of-lent l ps ss) (good-rows (frame-of (l .screen)) (l .screen .layers) (p .puts) (t .rows)) (refusal Words word-ops 32 p (done Words word-ops 32 p t)) h
+      said-no (first-of-lent l ps ss) (good-rows (frame-of (l .screen)) (l .screen .layers) (p .puts) (t .rows)) (refusal Words word-ops p (done Words word-ops p t)) h
 
-  done-frame : done Words word-ops 32 (fill-plan (l .screen) ps ss d) (screen-at (state-of (l .screen)) (l .words)) .state .frame ≡ frame-of (l .screen)
+  done-frame : done Words word-ops (fill-plan (l .screen) ps ss d) (screen-at (state-of (l .screen)) (l .words)) .state .frame ≡ frame-of (l .screen)
   unfolding done
   done-frame = state-frame (l .screen)
 
@@ -122,7 +122,7 @@ module _ (l : FillLent) (ps ss : List ℕ) (d : Draw) where
   pub zero-says : fill-number l ps ss d ≡ 0 → Zero l ps ss d
   zero-says h =
       let a = parts h in
-      let t = tests (fill-plan (l .screen) ps ss d) (done Words word-ops 32 (fill-plan (l .screen) ps ss d) (screen-at (state-of (l .screen)) (l .words))) (a .2) in
+      let t = tests (fill-plan (l .screen) ps ss d) (done Words word-ops (fill-plan (l .screen) ps ss d) (screen-at (state-of (l .screen)) (l .words))) (a .2) in
       let q = good-own (t .0) in
       let g = draw-facts ps ss d q in
       let e : judge-segments false (segs.segs ss (d .start) (d .end - d .start)) ≡ 0 = sym (refused-are (l .screen) ps ss d g q) ∙ t .0 in
@@ -189,7 +189,7 @@ module _ (l : FillLent) (ps ss : List ℕ) (d : Draw) (z : Zero l ps ss d) where
         let e : l .screen .«paint_attrs» + 0 ≡ l .screen .«paint_attrs» = omega arith in
         screen-by ∙ rw (attrs-same (l .screen) ps ss d good u, paint-count (l .screen), layer-attr-count (l .screen), filter-count (l .screen), e)
 
-    words-empty : lay (done Words word-ops 32 (fill-plan (l .screen) ps ss d) (screen-at (state-of (l .screen)) (l .words)) .rows) ≡ l .words
+    words-empty : lay (done Words word-ops (fill-plan (l .screen) ps ss d) (screen-at (state-of (l .screen)) (l .words)) .rows) ≡ l .words
     unfolding draw-puts do-puts
     words-empty =
         rw (rows-are (l .screen) ps ss d good (l .words) fine, listed.segs-end ss (d .start) (d .end) (omega arith))

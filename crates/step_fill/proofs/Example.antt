@@ -3,6 +3,7 @@ use mathlib.Core.Path.{_≡_, refl}
 use mathlib.Core.List.{List, [], _∷_}
 use Prim.Native.Nat.{ℕ}
 use lib.ListN.{replicate}
+use Rattle.sizes.specs.declared.width.Width.the-variants.{W128}
 use Rattle.rules.specs.Spans.{meeting, cut-to}
 use Rattle.rules.specs.Split.{split}
 use Rattle.rules.specs.Commands.{command-words, depth-words}
@@ -24,9 +25,9 @@ use Rattle.step_fill.specs.Fills.{paints, FillLent, lent, first-number, 
 abbrev viewport : Rect
 viewport = record { x0 = 0; y0 = 0; x1 = 256; y1 = 8 }
 
--- two rows, room for c commands and 64 depth fills in each
+-- two rows, room for c commands and 64 depth fills in each, buckets of 128 pixels
 abbrev fresh : ℕ → List ℕ → FillLent
-fresh c render = lent (fresh-screen (record { viewport = box-of viewport; c = c; d = 64 })) (words (replicate 108 0) render (replicate 256 0)) (replicate 8192 0)
+fresh c render = lent (fresh-screen (record { viewport = box-of viewport; c = c; d = 64; width = W128 })) (words (replicate 108 0) render (replicate 256 0)) (replicate 8192 0)
 
 abbrev blank : FillLent
 blank = fresh 64 (replicate 512 0)

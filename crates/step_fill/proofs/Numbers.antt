@@ -135,7 +135,7 @@ module _ (l : FillLent) (ps ss : List ℕ) (d : Draw) where
 
   -- the rules' refusal
   abbrev pub rules-number : ℕ
-  rules-number = refusal Words word-ops 32 (fill-plan (l .screen) ps ss d) (done Words word-ops 32 (fill-plan (l .screen) ps ss d) (screen-at (state-of (l .screen)) (l .words)))
+  rules-number = refusal Words word-ops (fill-plan (l .screen) ps ss d) (done Words word-ops (fill-plan (l .screen) ps ss d) (screen-at (state-of (l .screen)) (l .words)))
 
   pub by-first : {n : ℕ} → n ≡ first-of-lent l ps ss → (n ≡ 0 → ⊥) → n ≡ fill-number l ps ss d
   unfolding fill-number step-number
@@ -225,15 +225,15 @@ module _ (l : FillLent) (ps ss : List ℕ) (d : Draw) where
 
             -- the tally's verdict is the rules' last two tests
             last-tests : verdict (tally-cuts (job-of (l .screen) ps d) (l .words .state) none-yet (cuts-of (job-of (l .screen) ps d) ss (d .start) (d .end)))
-                ≡ cond (passes Words word-ops 32 (word 0) (l .screen .c) (puts-of (job-of (l .screen) ps d) (cuts-of (job-of (l .screen) ps d) ss (d .start) (d .end))) (filling.done (job-of (l .screen) ps d) (puts-of (job-of (l .screen) ps d) (cuts-of (job-of (l .screen) ps d) ss (d .start) (d .end))) (rows-at (frame-of (l .screen)) (l .words)))) 10
-                (cond (passes Words word-ops 32 (word 1) (l .screen .d) (puts-of (job-of (l .screen) ps d) (cuts-of (job-of (l .screen) ps d) ss (d .start) (d .end))) (filling.done (job-of (l .screen) ps d) (puts-of (job-of (l .screen) ps d) (cuts-of (job-of (l .screen) ps d) ss (d .start) (d .end))) (rows-at (frame-of (l .screen)) (l .words)))) 11 0)
+                ≡ cond (passes Words word-ops (word 0) (l .screen .c) (puts-of (job-of (l .screen) ps d) (cuts-of (job-of (l .screen) ps d) ss (d .start) (d .end))) (filling.done (job-of (l .screen) ps d) (puts-of (job-of (l .screen) ps d) (cuts-of (job-of (l .screen) ps d) ss (d .start) (d .end))) (rows-at (frame-of (l .screen)) (l .words)))) 10
+                (cond (passes Words word-ops (word 1) (l .screen .d) (puts-of (job-of (l .screen) ps d) (cuts-of (job-of (l .screen) ps d) ss (d .start) (d .end))) (filling.done (job-of (l .screen) ps d) (puts-of (job-of (l .screen) ps d) (cuts-of (job-of (l .screen) ps d) ss (d .start) (d .end))) (rows-at (frame-of (l .screen)) (l .words)))) 11 0)
             last-tests =
                 verdict-is (job-of (l .screen) ps d) (box-of (l .screen .viewport)) (rows-of (box-of (l .screen .viewport))) (l .words) (rowed .layers) long
                 (few-rows (box-of (l .screen .viewport)) (passing .view)) (all-landed rowed (segs.segs ss (d .start) (d .end - d .start)) all-good)
                 (rising (segs.origin (job-of (l .screen) ps d .scene)) (segs.bounds (job-of (l .screen) ps d .scene)) (segs.segs ss (d .start) (d .end - d .start)) (listed.judged (segs.segs ss (d .start) (d .end - d .start)) e .order))
                 ∙ rw (sym good-are ∙ records)
 
-            done-c : done Words word-ops 32 (fill-plan (l .screen) ps ss d) (screen-at (state-of (l .screen)) (l .words)) .state .frame ≡ frame-of (l .screen)
+            done-c : done Words word-ops (fill-plan (l .screen) ps ss d) (screen-at (state-of (l .screen)) (l .words)) .state .frame ≡ frame-of (l .screen)
             unfolding done
             done-c = state-frame (l .screen)
 

@@ -82,7 +82,7 @@ module _ (s : Screen) (ps ss : List ℕ) (d : Draw) where
         rw (none-open s, paint-count s, own-are, clip-of s (o .screen), state-frame s, state-next s)
         (ap (draw-puts (job-of s ps d .eligible) (s .«paint_attrs») (s .«next_draw_id»)) (same-cuts s ps d (segs.segs ss (d .start) (d .end - d .start))))
 
-    pub rows-are : (w : Words) → Passing s → done Words word-ops 32 (fill-plan s ps ss d) (screen-at (state-of s) w) .rows
+    pub rows-are : (w : Words) → Passing s → done Words word-ops (fill-plan s ps ss d) (screen-at (state-of s) w) .rows
         ≡ filling.done (job-of s ps d) (puts-of (job-of s ps d) (cuts-of (job-of s ps d) ss (d .start) (d .end))) (rows-at (frame-of s) w)
     unfolding done
     rows-are w o = rw (plan-layers, layer-count s, puts-are o, state-frame s)

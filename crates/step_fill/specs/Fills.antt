@@ -5,7 +5,7 @@ use mathlib.Core.Bool.{Bool, true, _&&_, cond}
 use mathlib.Core.List.{List, [], _∷_}
 use lib.Dec.{eqb}
 use lib.ListN.{getD, length, drop}
-use Rattle.sizes.specs.Sizes.{bucket-tiles, paint-attr-table}
+use Rattle.sizes.specs.Sizes.{paint-attr-table}
 use Rattle.rules.specs.Lists.{join}
 use Rattle.rules.specs.Answers.{Answer, settle, Done, BadRecord}
 use Rattle.rules.specs.Boxes.{Box, good-viewport}
@@ -25,7 +25,6 @@ use Rattle.screen.specs.Screens.{frame-of, state-of, screen-after, good-screen}
 use Rattle.screen.specs.Judging.{judged}
 use Rattle.segments.specs.declared.Scene.{Scene}
 use Rattle.segments.specs.Segs.{segs-of}
-use Rattle.span.specs.declared.Width.the-variants.{W128}
 use Rattle.step_fill_rows.specs.declared.Job.{Job}
 use Rattle.step_fill.specs.declared.Draw.{Draw}
 
@@ -65,7 +64,7 @@ job-of s ps d =
       eligible = eligible (eqb (s .layers) 0) (draw-paint (paints-of ps) (draw-of d)) (draw-of d);
       attr = s .«paint_attrs»;
       id = s .«next_draw_id»;
-      width = W128;
+      width = s .width;
     }
 
 -- a screen that is judged: its numbers are good
@@ -112,7 +111,7 @@ unfoldable pub fill-done : FillLent → List ℕ → List ℕ → Draw → FillL
 fill-done l ps ss d =
     let p = fill-plan (l .screen) ps ss d in
     let n = l .screen .«paint_attrs» in
-    lent (screen-after (l .screen) p) (lay (done Words word-ops bucket-tiles p (screen-at (state-of (l .screen)) (l .words)) .rows))
+    lent (screen-after (l .screen) p) (lay (done Words word-ops p (screen-at (state-of (l .screen)) (l .words)) .rows))
     (words-at (l .paint-attrs) (8 * n) (join paint-attr-words (drop n (p .attrs .paints))))
 
 -- a fill: what is refused alters nothing

@@ -14,7 +14,6 @@ use sizes::answers::BAD_RECORD;
 use sizes::answers::DONE;
 use sizes::answers::FULL_ATTRS;
 use sizes::answers::IDS;
-use span::Width;
 use step_fill_judge::judge_list;
 use step_fill_rows::Job;
 use step_fill_rows::fill_rows;
@@ -107,6 +106,7 @@ fn job_of(screen: Screen, paints: &[u32], draw: Draw) -> Job
     let viewport = screen.viewport;
     let clip = screen.clip_bbox;
     let scene = scene_of(viewport, clip);
+    let width = screen.width;
     Job {
         scene,
         c: screen.c,
@@ -115,7 +115,7 @@ fn job_of(screen: Screen, paints: &[u32], draw: Draw) -> Job
         eligible: is_eligible(screen.layers, paints, draw),
         attr: screen.paint_attrs,
         id: screen.next_draw_id,
-        width: Width::W128,
+        width,
     }
 }
 
@@ -197,16 +197,27 @@ fn judge_fill(
     n
 }
 
-// The screen after a fill: one id more, and `more` attributes.
+// The screen after a fill: one id more, and `more` attributes. Field by field: a changed copy takes more instructions in every fill.
 fn taken(screen: Screen, more: u32) -> Screen
     requires { ⌜ (screen .«next_draw_id» ≤ last-id) × (screen .«paint_attrs» ≤ most-attrs) × (more ≤ 1) ⌝ }
     ensures { λ r. ⌜ r ≡ counted screen (screen .«next_draw_id» + 1) (screen .«paint_attrs» + more) (screen .«layer_attrs») (screen .«filter_paints») ⌝ }
 {
-    let mut next = screen;
-    next.next_draw_id = screen.next_draw_id + 1;
-    next.paint_attrs = screen.paint_attrs + more;
-    next.painting = false;
-    next
+    let viewport = screen.viewport;
+    let clip_bbox = screen.clip_bbox;
+    let width = screen.width;
+    Screen {
+        viewport,
+        clip_bbox,
+        c: screen.c,
+        d: screen.d,
+        next_draw_id: screen.next_draw_id + 1,
+        paint_attrs: screen.paint_attrs + more,
+        layer_attrs: screen.layer_attrs,
+        filter_paints: screen.filter_paints,
+        layers: screen.layers,
+        painting: false,
+        width,
+    }
 }
 
 // Rules 3 to 7.

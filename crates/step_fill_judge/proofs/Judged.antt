@@ -16,7 +16,7 @@ use Rattle.rules.specs.Steps.{passes}
 use Rattle.rules.proofs.All.{All, nil, cons, both, all-map, all-join, every-all, none-of}
 use Rattle.rules.proofs.laws.Maps.{ActOk, paints, splits, follows-act}
 use Rattle.rules.proofs.laws.Changes.{change-length, change-same, change-else}
-use Rattle.span.specs.Widths.{wide}
+use Rattle.sizes.specs.Widths.{bucket-tiles}
 use Rattle.row.specs.Words.{Words, word, word-ops, Room}
 use Rattle.row_screen.specs.Arena.{nowhere, sizes, cut, Long}
 use Rattle.row_screen.proofs.Laws.{cut-length, cut-at, at-state, at-render, at-fills}
@@ -75,7 +75,7 @@ module _ (j : Job) (n : ℕ) (rows : List ℕ) (m : j .layers ≤ 16) where
     turn-counts : drawn-counts j k (known t (record-at rows (k .row)) (k .row)) ≡ count (getD (change (draws j (k .stretch .tiles) (k .stretch .alpha)) (k .row) us) (k .row) nowhere)
     turn-counts =
         ap (drawn-counts j k) (o .knows (k .row) h (f .0))
-        ∙ sym (follows-act (counted (wide (j .width))) (j .layers) m (act-ok (j .eligible) (j .attr) (j .id) k (k .stretch .alpha)) (getD us (k .row) nowhere) (f .1) .0)
+        ∙ sym (follows-act counted (bucket-tiles (j .width)) (j .layers) m (act-ok (j .eligible) (j .attr) (j .id) k (k .stretch .alpha)) (getD us (k .row) nowhere) (f .1) .0)
         ∙ ap count (sym after-act)
 
     turn-is : tallied j (record-at rows (k .row)) t k ≡ tally-of j t (k .row) (count (getD (change (draws j (k .stretch .tiles) (k .stretch .alpha)) (k .row) us) (k .row) nowhere))
@@ -116,6 +116,10 @@ module _ (j : Job) (n : ℕ) (rows : List ℕ) (m : j .layers ≤ 16) where
         ap (λ (u : Tally). u .deep) e ∙ g .1 ∙ or-assoc (t .deep) (ltb (j .d) (word 1 (getD vs (k .row) nowhere))) (running j (word 1) (j .d) (puts-of j ks) vs),
       )
 
+-- the frame of a job's screen
+abbrev frame-at : Job → Box → Frame
+frame-at j v = record { viewport = v; c = j .c; d = j .d; width = j .width }
+
 -- rows of words
 module _ (j : Job) (v : Box) (n : ℕ) (w : Words) (m : j .layers ≤ 16) (l : Long (sizes (j .c) (j .d)) n w) where
   state-is : (x : ℕ) → x < n → getD (cut (sizes (j .c) (j .d)) n w) x nowhere .state ≡ record-at (w .state) x
@@ -126,9 +130,9 @@ module _ (j : Job) (v : Box) (n : ℕ) (w : Words) (m : j .layers ≤ 16) (l : L
   good-there f o zero (r ∷ rs) h = refl
   good-there f o (suc i) (r ∷ rs) h = good-there f o i rs (omega arith)
 
-  good-here : (x : ℕ) → x < n → good-at (record { viewport = v; c = j .c; d = j .d }) (j .layers) x (cut (sizes (j .c) (j .d)) n w) ≡ good-row (j .c) (j .d) (j .layers) (record-at (w .state) x)
+  good-here : (x : ℕ) → x < n → good-at (frame-at j v) (j .layers) x (cut (sizes (j .c) (j .d)) n w) ≡ good-row (j .c) (j .d) (j .layers) (record-at (w .state) x)
   good-here x h =
-      good-there (record { viewport = v; c = j .c; d = j .d }) (j .layers) x (cut (sizes (j .c) (j .d)) n w) (rw (cut-length (sizes (j .c) (j .d)) n w) h)
+      good-there (frame-at j v) (j .layers) x (cut (sizes (j .c) (j .d)) n w) (rw (cut-length (sizes (j .c) (j .d)) n w) h)
       ∙ ap (good-row (j .c) (j .d) (j .layers)) (state-is x h)
 
   if-both : (a b : Bool) (t : Tally) → cond a (cond b (some t) none) none ≡ cond (a && b) (some t) none
@@ -137,19 +141,19 @@ module _ (j : Job) (v : Box) (n : ℕ) (w : Words) (m : j .layers ≤ 16) (l : L
 
   -- whatever the order: 4 exactly if a record is bad
   pub tally-is : (t : Tally) {ks : List Cut} → All (λ (k : Cut). k .row < n) ks
-      → tally-cuts j (w .state) t ks ≡ cond (good-rows (record { viewport = v; c = j .c; d = j .d }) (j .layers) (puts-of j ks) (cut (sizes (j .c) (j .d)) n w)) (some (run j (w .state) t ks)) none
+      → tally-cuts j (w .state) t ks ≡ cond (good-rows (frame-at j v) (j .layers) (puts-of j ks) (cut (sizes (j .c) (j .d)) n w)) (some (run j (w .state) t ks)) none
   unfolding tally-cuts good-rows draw-puts
   tally-is t nil = refl
   tally-is t (cons {x = k} {xs = ks} h a) =
       rw (tally-is (tallied j (record-at (w .state) (k .row)) t k) a, ← good-here (k .row) h)
-      (if-both (good-at (record { viewport = v; c = j .c; d = j .d }) (j .layers) (k .row) (cut (sizes (j .c) (j .d)) n w))
-      (every (λ (p : Put). good-at (record { viewport = v; c = j .c; d = j .d }) (j .layers) (p .row) (cut (sizes (j .c) (j .d)) n w)) (puts-of j ks))
+      (if-both (good-at (frame-at j v) (j .layers) (k .row) (cut (sizes (j .c) (j .d)) n w))
+      (every (λ (p : Put). good-at (frame-at j v) (j .layers) (p .row) (cut (sizes (j .c) (j .d)) n w)) (puts-of j ks))
       (run j (w .state) (tallied j (record-at (w .state) (k .row)) t k) ks))
 
   -- 4 first, then what the flags say
   pub verdict-any : {ks : List Cut} → All (λ (k : Cut). k .row < n) ks
-      → verdict (tally-cuts j (w .state) none-yet ks) ≡ cond (good-rows (record { viewport = v; c = j .c; d = j .d }) (j .layers) (puts-of j ks) (cut (sizes (j .c) (j .d)) n w)) (flags (run j (w .state) none-yet ks)) 4
-  verdict-any {ks} a = ap verdict (tally-is none-yet a) ∙ either (good-rows (record { viewport = v; c = j .c; d = j .d }) (j .layers) (puts-of j ks) (cut (sizes (j .c) (j .d)) n w)) (run j (w .state) none-yet ks)
+      → verdict (tally-cuts j (w .state) none-yet ks) ≡ cond (good-rows (frame-at j v) (j .layers) (puts-of j ks) (cut (sizes (j .c) (j .d)) n w)) (flags (run j (w .state) none-yet ks)) 4
+  verdict-any {ks} a = ap verdict (tally-is none-yet a) ∙ either (good-rows (frame-at j v) (j .layers) (puts-of j ks) (cut (sizes (j .c) (j .d)) n w)) (run j (w .state) none-yet ks)
     where
       either : (b : Bool) (t : Tally) → verdict (cond b (some t) none) ≡ cond b (flags t) 4
       either true t = refl
@@ -165,11 +169,11 @@ module _ (j : Job) (v : Box) (n : ℕ) (w : Words) (m : j .layers ≤ 16) (l : L
         levels = omega (arith, s .levels, m, ap (λ (y : List ℕ). getD y 5 0) (state-is x h));
       }
 
-  all-fine : {ks : List Cut} → All (λ (k : Cut). k .row < n) ks → good-rows (record { viewport = v; c = j .c; d = j .d }) (j .layers) (puts-of j ks) (cut (sizes (j .c) (j .d)) n w) ≡ true → All (Fine n (cut (sizes (j .c) (j .d)) n w)) ks
+  all-fine : {ks : List Cut} → All (λ (k : Cut). k .row < n) ks → good-rows (frame-at j v) (j .layers) (puts-of j ks) (cut (sizes (j .c) (j .d)) n w) ≡ true → All (Fine n (cut (sizes (j .c) (j .d)) n w)) ks
   unfolding good-rows draw-puts
   all-fine nil e = nil
   all-fine (cons {x = k} {xs = ks} h a) e =
-      let b = both (good-at (record { viewport = v; c = j .c; d = j .d }) (j .layers) (k .row) (cut (sizes (j .c) (j .d)) n w)) (every (λ (p : Put). good-at (record { viewport = v; c = j .c; d = j .d }) (j .layers) (p .row) (cut (sizes (j .c) (j .d)) n w)) (puts-of j ks)) e in
+      let b = both (good-at (frame-at j v) (j .layers) (k .row) (cut (sizes (j .c) (j .d)) n w)) (every (λ (p : Put). good-at (frame-at j v) (j .layers) (p .row) (cut (sizes (j .c) (j .d)) n w)) (puts-of j ks)) e in
       cons (h, sane-at (k .row) h (sym (good-here (k .row) h) ∙ b .0)) (all-fine a (b .1))
 
   puts-sane : (us : List Words) {ks : List Cut} → All (Fine n us) ks → All (SaneAt us) (puts-of j ks)
@@ -187,27 +191,27 @@ module _ (j : Job) (v : Box) (n : ℕ) (w : Words) (m : j .layers ≤ 16) (l : L
       }
 
   module _ (q : n ≤ 512) {ks : List Cut} (a : All (λ (k : Cut). k .row < n) ks) (r : Rising 0 ks)
-      (g : good-rows (record { viewport = v; c = j .c; d = j .d }) (j .layers) (puts-of j ks) (cut (sizes (j .c) (j .d)) n w) ≡ true) where
+      (g : good-rows (frame-at j v) (j .layers) (puts-of j ks) (cut (sizes (j .c) (j .d)) n w) ≡ true) where
     fine : All (Fine n (cut (sizes (j .c) (j .d)) n w)) ks
     fine = all-fine a g
 
     both-flags : (run j (w .state) none-yet ks .full ≡ running j (word 0) (j .c) (puts-of j ks) (cut (sizes (j .c) (j .d)) n w)) × (run j (w .state) none-yet ks .deep ≡ running j (word 1) (j .d) (puts-of j ks) (cut (sizes (j .c) (j .d)) n w))
     both-flags = goes j n (w .state) m ks none-yet (cut (sizes (j .c) (j .d)) n w) 0 (cut-length (sizes (j .c) (j .d)) n w) r fine (first-knows q)
 
-    full-is : run j (w .state) none-yet ks .full ≡ passes Words word-ops (wide (j .width)) (word 0) (j .c) (puts-of j ks) (done j (puts-of j ks) (cut (sizes (j .c) (j .d)) n w))
+    full-is : run j (w .state) none-yet ks .full ≡ passes Words word-ops (word 0) (j .c) (puts-of j ks) (done j (puts-of j ks) (cut (sizes (j .c) (j .d)) n w))
     full-is =
         both-flags .0 ∙ sym (runs j m (word 0) (j .c) (λ u u′ s. s .commands) (puts-of j ks) (cut (sizes (j .c) (j .d)) n w) (puts-sane (cut (sizes (j .c) (j .d)) n w) fine))
         ∙ sym (passes-are j m (word 0) (j .c) refl (puts-of j ks) (done j (puts-of j ks) (cut (sizes (j .c) (j .d)) n w)))
 
-    deep-is : run j (w .state) none-yet ks .deep ≡ passes Words word-ops (wide (j .width)) (word 1) (j .d) (puts-of j ks) (done j (puts-of j ks) (cut (sizes (j .c) (j .d)) n w))
+    deep-is : run j (w .state) none-yet ks .deep ≡ passes Words word-ops (word 1) (j .d) (puts-of j ks) (done j (puts-of j ks) (cut (sizes (j .c) (j .d)) n w))
     deep-is =
         both-flags .1 ∙ sym (runs j m (word 1) (j .d) (λ u u′ s. s .depths) (puts-of j ks) (cut (sizes (j .c) (j .d)) n w) (puts-sane (cut (sizes (j .c) (j .d)) n w) fine))
         ∙ sym (passes-are j m (word 1) (j .d) refl (puts-of j ks) (done j (puts-of j ks) (cut (sizes (j .c) (j .d)) n w)))
 
     -- the flags are the rules' tests on the rows after
     pub flags-are : flags (run j (w .state) none-yet ks)
-        ≡ cond (passes Words word-ops (wide (j .width)) (word 0) (j .c) (puts-of j ks) (done j (puts-of j ks) (cut (sizes (j .c) (j .d)) n w))) 10
-        (cond (passes Words word-ops (wide (j .width)) (word 1) (j .d) (puts-of j ks) (done j (puts-of j ks) (cut (sizes (j .c) (j .d)) n w))) 11 0)
+        ≡ cond (passes Words word-ops (word 0) (j .c) (puts-of j ks) (done j (puts-of j ks) (cut (sizes (j .c) (j .d)) n w))) 10
+        (cond (passes Words word-ops (word 1) (j .d) (puts-of j ks) (done j (puts-of j ks) (cut (sizes (j .c) (j .d)) n w))) 11 0)
     flags-are = rw (full-is, deep-is)
 
     -- a row within its room
@@ -234,8 +238,8 @@ module _ (j : Job) (v : Box) (n : ℕ) (w : Words) (m : j .layers ≤ 16) (l : L
 
     -- what is not refused has room
     pub roomy-judged : j .c ≤ 1024 → j .d ≤ 1024
-        → passes Words word-ops (wide (j .width)) (word 0) (j .c) (puts-of j ks) (done j (puts-of j ks) (cut (sizes (j .c) (j .d)) n w)) ≡ false
-        → passes Words word-ops (wide (j .width)) (word 1) (j .d) (puts-of j ks) (done j (puts-of j ks) (cut (sizes (j .c) (j .d)) n w)) ≡ false
+        → passes Words word-ops (word 0) (j .c) (puts-of j ks) (done j (puts-of j ks) (cut (sizes (j .c) (j .d)) n w)) ≡ false
+        → passes Words word-ops (word 1) (j .d) (puts-of j ks) (done j (puts-of j ks) (cut (sizes (j .c) (j .d)) n w)) ≡ false
         → Roomy (puts-of j ks) (cut (sizes (j .c) (j .d)) n w) (done j (puts-of j ks) (cut (sizes (j .c) (j .d)) n w))
     roomy-judged c d e f =
         roomy-by (done j (puts-of j ks) (cut (sizes (j .c) (j .d)) n w)) c d fine
@@ -245,17 +249,17 @@ module _ (j : Job) (v : Box) (n : ℕ) (w : Words) (m : j .layers ≤ 16) (l : L
   -- the law: on an ordered list the verdict is 4 for a bad record, then the rules' 10 and 11
   pub verdict-is : n ≤ 512 → {ks : List Cut} → All (λ (k : Cut). k .row < n) ks → Rising 0 ks
       → verdict (tally-cuts j (w .state) none-yet ks)
-      ≡ cond (good-rows (record { viewport = v; c = j .c; d = j .d }) (j .layers) (puts-of j ks) (cut (sizes (j .c) (j .d)) n w))
-      (cond (passes Words word-ops (wide (j .width)) (word 0) (j .c) (puts-of j ks) (done j (puts-of j ks) (cut (sizes (j .c) (j .d)) n w))) 10
-      (cond (passes Words word-ops (wide (j .width)) (word 1) (j .d) (puts-of j ks) (done j (puts-of j ks) (cut (sizes (j .c) (j .d)) n w))) 11 0))
+      ≡ cond (good-rows (frame-at j v) (j .layers) (puts-of j ks) (cut (sizes (j .c) (j .d)) n w))
+      (cond (passes Words word-ops (word 0) (j .c) (puts-of j ks) (done j (puts-of j ks) (cut (sizes (j .c) (j .d)) n w))) 10
+      (cond (passes Words word-ops (word 1) (j .d) (puts-of j ks) (done j (puts-of j ks) (cut (sizes (j .c) (j .d)) n w))) 11 0))
       4
-  verdict-is q {ks} a r = verdict-any a ∙ go (good-rows (record { viewport = v; c = j .c; d = j .d }) (j .layers) (puts-of j ks) (cut (sizes (j .c) (j .d)) n w)) refl
+  verdict-is q {ks} a r = verdict-any a ∙ go (good-rows (frame-at j v) (j .layers) (puts-of j ks) (cut (sizes (j .c) (j .d)) n w)) refl
     where
-      go : (b : Bool) → good-rows (record { viewport = v; c = j .c; d = j .d }) (j .layers) (puts-of j ks) (cut (sizes (j .c) (j .d)) n w) ≡ b
+      go : (b : Bool) → good-rows (frame-at j v) (j .layers) (puts-of j ks) (cut (sizes (j .c) (j .d)) n w) ≡ b
           → cond b (flags (run j (w .state) none-yet ks)) 4
           ≡ cond b
-          (cond (passes Words word-ops (wide (j .width)) (word 0) (j .c) (puts-of j ks) (done j (puts-of j ks) (cut (sizes (j .c) (j .d)) n w))) 10
-          (cond (passes Words word-ops (wide (j .width)) (word 1) (j .d) (puts-of j ks) (done j (puts-of j ks) (cut (sizes (j .c) (j .d)) n w))) 11 0))
+          (cond (passes Words word-ops (word 0) (j .c) (puts-of j ks) (done j (puts-of j ks) (cut (sizes (j .c) (j .d)) n w))) 10
+          (cond (passes Words word-ops (word 1) (j .d) (puts-of j ks) (done j (puts-of j ks) (cut (sizes (j .c) (j .d)) n w))) 11 0))
           4
       go true e = flags-are q a r e
       go false e = refl

@@ -3,7 +3,7 @@ use mathlib.Core.Path.{_≡_, refl, ap, _∙_}
 use mathlib.Core.Bool.{Bool, true, false, _||_, cond}
 use mathlib.Core.List.{List, [], _∷_, _++_, foldl}
 use mathlib.Core.Option.{Option, none, some}
-use Prim.Native.Nat.{ℕ, zero, suc, _+_, _-_, _*_, _/_, _≤_, _<_}
+use Prim.Native.Nat.{ℕ, zero, suc, _+_, _-_, _*_, _/_, _%_, _≤_, _<_}
 use native.Mathlib.Nat.{mul-le-mul-right, mul-lt-mul-of-pos-right}
 use native.Mathlib.Omega.{arith}
 use lib.Dec.{leb, ltb, eqb}
@@ -16,7 +16,9 @@ use Rattle.rules.specs.Boxes.{Box}
 use Rattle.rules.specs.Segments.{Segment, good-segment, Cut, localised, on-row, stretch-of, cut-in}
 use Rattle.rules.specs.Plans.{draw-act}
 use Rattle.rules.specs.Steps.{do-act, put-part, ensure}
-use Rattle.span.specs.Widths.{wide}
+use Rattle.rules.proofs.laws.Widths.{bucket-some, raised-off, lowered-off}
+use Rattle.sizes.specs.declared.width.Width.{Width}
+use Rattle.sizes.specs.Widths.{bucket-tiles}
 use Rattle.row_counts.specs.Counts.{Counts, counts, count-ops}
 use Rattle.step_fill_rows.specs.declared.Job.{Job}
 use Rattle.row_judge.specs.Building.{good-row}
@@ -58,14 +60,14 @@ pushes-add (suc j) k =
 
 -- one act on counts: the layers that are lacking, and what the stretch adds
 module _ (v n i id : ℕ) (s : Span) (k : Counts) where
-  layered : ensure Counts count-ops v n k ≡ counts (k .renders + (n - k .levels)) (k .depths) (k .levels + (n - k .levels))
+  layered : ensure Counts count-ops n k ≡ counts (k .renders + (n - k .levels)) (k .depths) (k .levels + (n - k .levels))
   layered = pushes-add (n - k .levels) k
 
-  one-command : (a : Option ℕ) → counts (ensure Counts count-ops v n k .renders + 1) (ensure Counts count-ops v n k .depths) (ensure Counts count-ops v n k .levels)
+  one-command : (a : Option ℕ) → counts (ensure Counts count-ops n k .renders + 1) (ensure Counts count-ops n k .depths) (ensure Counts count-ops n k .levels)
       ≡ counts (k .renders + (n - k .levels) + 1) (k .depths + 0) (k .levels + (n - k .levels))
   one-command a = let z : k .depths ≡ k .depths + 0 = omega arith in rw layered (ap (λ (d : ℕ). counts (k .renders + (n - k .levels) + 1) d (k .levels + (n - k .levels))) z)
 
-  split-parts : foldl (put-part Counts count-ops v i id) (ensure Counts count-ops v n k) (split v s)
+  split-parts : foldl (put-part Counts count-ops v i id) (ensure Counts count-ops n k) (split v s)
       ≡ counts (k .renders + (n - k .levels) + regulars (split v s)) (k .depths + deeps (split v s)) (k .levels + (n - k .levels))
   split-parts = rw layered (parts-add v i id (split v s) (counts (k .renders + (n - k .levels)) (k .depths) (k .levels + (n - k .levels))))
 
@@ -113,8 +115,10 @@ module _ (v : ℕ) (s : Span) where
     pub found-one : b ≤ a → added v true s none ≡ counts 1 0 0
     found-one h = added-one (rw (← e₁, ← e₂) (mul-le-mul-right v h))
 
-    pub found-more : 0 < v → a < b → added v true s none ≡ counts (edge-count (s .first) (a * v) + edge-count (b * v) (s .end)) 1 0
-    found-more pos h = rw (e₁, e₂) (added-more (rw (← e₁, ← e₂) (mul-lt-mul-of-pos-right h pos)))
+pub found-more : (w : Width) (s : Span) (a b : ℕ) → a ≡ (s .first + (bucket-tiles w - 1)) / bucket-tiles w → b ≡ s .end / bucket-tiles w → a < b
+    → added (bucket-tiles w) true s none ≡ counts (edge-count 0 (s .first % bucket-tiles w) + edge-count 0 (s .end % bucket-tiles w)) 1 0
+found-more w s a b e₁ e₂ h =
+    added-more (bucket-tiles w) s (rw (← e₁, ← e₂) (mul-lt-mul-of-pos-right h (bucket-some w))) ∙ rw (raised-off w (s .first), lowered-off w (s .end))
 
 pub edge-small : (a b : ℕ) → edge-count a b ≤ 1
 edge-small a b = go (ltb a b)
@@ -176,7 +180,7 @@ module _ (j : Job) (s : List ℕ) (t : Tally) where
     unfolding tallied
     turned =
         let l : c .levels + (j .layers - c .levels) ≡ j .layers = omega arith in
-        rw (← e, counts-drawn (wide (j .width)) (j .layers) (j .attr) (j .id) (k .stretch .tiles) c (j .eligible) (k .stretch .alpha), l)
+        rw (← e, counts-drawn (bucket-tiles (j .width)) (j .layers) (j .attr) (j .id) (k .stretch .tiles) c (j .eligible) (k .stretch .alpha), l)
 
   -- the counts at hand stay small
   fits-turned : (k : Cut) (i : ℕ) → Fits j i t → j .c ≤ 1024 → j .d ≤ 1024 → j .layers ≤ 16 → good-row (j .c) (j .d) (j .layers) s ≡ true → Fits j (i + 1) (tallied j s t k)
@@ -185,8 +189,8 @@ module _ (j : Job) (s : List ℕ) (t : Tally) where
       rw (← turned k (known t s (k .row)) refl (o .0))
       (record {
         levels = omega arith;
-        renders = omega (arith, o .1, few-commands (wide (j .width)) (j .eligible) (k .stretch .tiles) (k .stretch .alpha));
-        depths = omega (arith, o .2, few-depths (wide (j .width)) (j .eligible) (k .stretch .tiles) (k .stretch .alpha));
+        renders = omega (arith, o .1, few-commands (bucket-tiles (j .width)) (j .eligible) (k .stretch .tiles) (k .stretch .alpha));
+        depths = omega (arith, o .2, few-depths (bucket-tiles (j .width)) (j .eligible) (k .stretch .tiles) (k .stretch .alpha));
       })
 
 -- one cut segment, and then more

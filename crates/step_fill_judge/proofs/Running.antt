@@ -12,7 +12,7 @@ use Rattle.rules.specs.Plans.{Put}
 use Rattle.rules.specs.Steps.{do-puts, row-passes, passes}
 use Rattle.rules.proofs.All.{All, cons, never, neither, all-map}
 use Rattle.rules.proofs.laws.Changes.{change-at, puts-on, untouched}
-use Rattle.span.specs.Widths.{wide}
+use Rattle.sizes.specs.Widths.{bucket-tiles}
 use Rattle.row.specs.Words.{Words, word-ops, Grown}
 use Rattle.row_acts.specs.Acts.{acted}
 use Rattle.row_acts.proofs.Laws.{acted-sound}
@@ -29,7 +29,7 @@ full-at f c rs x = ltb c (f (getD rs x nowhere))
 -- some row's count passes c after its put, as the puts run
 abbrev pub running : Job → (Words → ℕ) → ℕ → List Put → List Words → Bool
 running j f c [] rs = false
-running j f c (p ∷ ps) rs = full-at f c (change (acted (wide (j .width)) (j .layers) (p .act)) (p .row) rs) (p .row) || running j f c ps (change (acted (wide (j .width)) (j .layers) (p .act)) (p .row) rs)
+running j f c (p ∷ ps) rs = full-at f c (change (acted (bucket-tiles (j .width)) (j .layers) (p .act)) (p .row) rs) (p .row) || running j f c ps (change (acted (bucket-tiles (j .width)) (j .layers) (p .act)) (p .row) rs)
 
 -- each row that is put on has a record that can be counted
 abbrev pub SaneAt : List Words → Put → Type 0
@@ -44,10 +44,10 @@ same-or true false false h = h refl
 same-or false true false h = h refl
 
 -- a put anywhere leaves a record that can be counted so
-pub sane-after : (j : Job) (p : Put) (rs : List Words) (x : ℕ) → j .layers ≤ 16 → Sane (getD rs x nowhere) → Sane (getD (change (acted (wide (j .width)) (j .layers) (p .act)) (p .row) rs) x nowhere)
+pub sane-after : (j : Job) (p : Put) (rs : List Words) (x : ℕ) → j .layers ≤ 16 → Sane (getD rs x nowhere) → Sane (getD (change (acted (bucket-tiles (j .width)) (j .layers) (p .act)) (p .row) rs) x nowhere)
 sane-after j p rs x m s =
-    change-at Sane (acted (wide (j .width)) (j .layers) (p .act)) (p .row) x rs nowhere s
-    (let t = acted-sound (wide (j .width)) (j .layers) (getD rs x nowhere) (s .state) (s .levels) m (p .act) in record { state = t .grown .state ∙ s .state; levels = t .levels })
+    change-at Sane (acted (bucket-tiles (j .width)) (j .layers) (p .act)) (p .row) x rs nowhere s
+    (let t = acted-sound (bucket-tiles (j .width)) (j .layers) (getD rs x nowhere) (s .state) (s .levels) m (p .act) in record { state = t .grown .state ∙ s .state; levels = t .levels })
 
 module _ (j : Job) (m : j .layers ≤ 16) (f : Words → ℕ) (c : ℕ) where
   not-full : (x : ℕ) (ts : List Words) (ps : List Put) → puts-on x ps ≡ true → some-of (λ (p : Put). full-at f c ts (p .row)) ps ≡ false → full-at f c ts x ≡ false
@@ -70,27 +70,27 @@ module _ (j : Job) (m : j .layers ≤ 16) (f : Words → ℕ) (c : ℕ) where
         let a = not-full x (done j ps us) ps e y in
         let g = done-sound j m ps us x (s .state) (s .levels) in
         a ∙ sym (le-ltb c (f (getD us x nowhere)) (omega (arith, ltb-false c (f (getD (done j ps us) x nowhere)) a, up _ _ (g .grown))))
-    still x ps us s false e y = ap (λ (w : Words). ltb c (f w)) (untouched Words word-ops (wide (j .width)) (j .layers) x nowhere ps us e)
+    still x ps us s false e y = ap (λ (w : Words). ltb c (f w)) (untouched Words word-ops (bucket-tiles (j .width)) (j .layers) x nowhere ps us e)
 
     pub runs : (ps : List Put) (rs : List Words) → All (SaneAt rs) ps → some-of (λ (p : Put). full-at f c (done j ps rs) (p .row)) ps ≡ running j f c ps rs
     unfolding do-puts
     runs [] rs a = refl
     runs (p ∷ ps) rs (cons s a) =
-        let us = change (acted (wide (j .width)) (j .layers) (p .act)) (p .row) rs in
-        let rest = runs ps (change (acted (wide (j .width)) (j .layers) (p .act)) (p .row) rs) (all-map (λ q t. sane-after j p rs (q .row) m t) a) in
+        let us = change (acted (bucket-tiles (j .width)) (j .layers) (p .act)) (p .row) rs in
+        let rest = runs ps (change (acted (bucket-tiles (j .width)) (j .layers) (p .act)) (p .row) rs) (all-map (λ q t. sane-after j p rs (q .row) m t) a) in
         rw (← rest)
         (same-or (full-at f c (done j ps us) (p .row)) (full-at f c us (p .row)) (some-of (λ (q : Put). full-at f c (done j ps us) (q .row)) ps)
         (λ y. still (p .row) ps us (sane-after j p rs (p .row) m s) (puts-on (p .row) ps) refl y))
 
   module _ (z : f nowhere ≡ 0) where
-    row-full : (i : ℕ) (rs : List Words) → row-passes Words word-ops (wide (j .width)) f c i rs ≡ full-at f c rs i
+    row-full : (i : ℕ) (rs : List Words) → row-passes Words word-ops f c i rs ≡ full-at f c rs i
     row-full zero [] = rw z (sym (le-ltb c 0 (omega arith)))
     row-full (suc i) [] = rw z (sym (le-ltb c 0 (omega arith)))
     row-full zero (r ∷ rs) = refl
     row-full (suc i) (r ∷ rs) = row-full i rs
 
     -- the rules' test, row by row
-    pub passes-are : (ps : List Put) (rs : List Words) → passes Words word-ops (wide (j .width)) f c ps rs ≡ some-of (λ (p : Put). full-at f c rs (p .row)) ps
+    pub passes-are : (ps : List Put) (rs : List Words) → passes Words word-ops f c ps rs ≡ some-of (λ (p : Put). full-at f c rs (p .row)) ps
     unfolding passes
     passes-are [] rs = refl
     passes-are (p ∷ ps) rs = rw (row-full (p .row) rs, passes-are ps rs)

@@ -13,7 +13,7 @@ use Rattle.rules.specs.Spans.{Span}
 use Rattle.rules.specs.Segments.{Cut, cut-in}
 use Rattle.rules.specs.Plans.{draw-act}
 use Rattle.rules.specs.Steps.{do-act}
-use Rattle.span.specs.Widths.{wide}
+use Rattle.sizes.specs.Widths.{bucket-tiles}
 use Rattle.row_counts.specs.Counts as count
 use Rattle.row_counts.specs.Counts.{counts, count-ops}
 use Rattle.row_judge.specs.Building.{good-row}
@@ -49,7 +49,7 @@ known t s r = cond (eqb (t .row) r) (counts (t .renders) (t .depths) (t .levels)
 
 -- a cut segment's act, on counts
 abbrev pub drawn-counts : Job → Cut → count.Counts → count.Counts
-drawn-counts j k c = do-act count.Counts count-ops (wide (j .width)) (j .layers) (draw-act (j .eligible) (j .attr) (j .id) (k .stretch .tiles) (k .stretch .alpha)) c
+drawn-counts j k c = do-act count.Counts count-ops (bucket-tiles (j .width)) (j .layers) (draw-act (j .eligible) (j .attr) (j .id) (k .stretch .tiles) (k .stretch .alpha)) c
 
 abbrev pub tally-of : Job → Tally → ℕ → count.Counts → Tally
 tally-of j t r c =
@@ -110,7 +110,7 @@ limits-of j = limits (j .c) (j .d) (j .layers) 0
 
 -- what it adds in a job
 abbrev pub job-adds : Job → Span → Option ℕ → count.Counts
-job-adds j s a = added (wide (j .width)) (j .eligible) s a
+job-adds j s a = added (bucket-tiles (j .width)) (j .eligible) s a
 
 -- one more stretch on the row at hand
 unfoldable pub stretched : Job → Hand → Span → Option ℕ → Hand

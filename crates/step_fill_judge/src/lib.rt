@@ -12,9 +12,9 @@ use segments::place;
 use segments::segment_at;
 use sizes::answers::BAD_ORDER;
 use sizes::answers::BAD_RECORD;
+use sizes::width::Width;
 use span::Alpha;
 use span::Stretch;
-use span::Width;
 use step_fill_rows::Job;
 ghost use mathlib.Core.Path.{_≡_};
 ghost use mathlib.Core.Bool.{true, false};
@@ -23,7 +23,7 @@ ghost use lib.ListN.{length};
 ghost use Rattle.sizes.specs.Sizes.{tile-end};
 ghost use Rattle.rules.specs.Segments.{cut-in, good-segment, judge-segments};
 ghost use Rattle.span.specs.Spans.{tiles, alpha};
-ghost use Rattle.span.specs.Widths.{wide};
+ghost use Rattle.sizes.specs.Widths.{bucket-tiles};
 ghost use Rattle.row_counts.specs.Counts.{counts};
 ghost use Rattle.segments.specs.Segs.{segs, segment-of, origin, bounds};
 ghost use Rattle.row_screen.specs.Arena.{count-rows};
@@ -39,7 +39,7 @@ fn edge(first: u32, end: u32) -> usize
 // What a stretch becomes, on a row that has its layers.
 fn added_by(eligible: bool, stretch: Stretch, width: Width) -> Counts
     requires { ⌜ (stretch .tiles .first ≤ tile-end) × (stretch .tiles .«end» ≤ tile-end) ⌝ }
-    ensures { λ r. ⌜ counts (r .renders) (r .depths) 0 ≡ added (wide width) eligible (tiles (stretch .tiles)) (alpha (stretch .alpha)) ⌝ }
+    ensures { λ r. ⌜ counts (r .renders) (r .depths) 0 ≡ added (bucket-tiles width) eligible (tiles (stretch .tiles)) (alpha (stretch .alpha)) ⌝ }
 {
     let alpha = stretch.alpha;
     let tiles = stretch.tiles;
@@ -58,9 +58,9 @@ fn added_by(eligible: bool, stretch: Stretch, width: Width) -> Counts
                         depths: 0,
                     };
                 }
+                // A piece on each side where the stretch is not at a bucket's edge.
                 return Counts {
-                    renders: edge(tiles.first, width.times(low))
-                        + edge(width.times(high), tiles.end),
+                    renders: edge(0, width.within(tiles.first)) + edge(0, width.within(tiles.end)),
                     depths: 1,
                 };
             }

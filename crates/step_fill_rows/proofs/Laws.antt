@@ -14,7 +14,7 @@ use Rattle.rules.proofs.laws.Changes.{change-same, change-at, puts-append}
 use Rattle.rules.specs.Spans.{Span}
 use Rattle.rules.specs.Commands.{paint-fill}
 use Rattle.rules.proofs.All.{never}
-use Rattle.span.specs.Widths.{wide}
+use Rattle.sizes.specs.Widths.{bucket-tiles}
 use Rattle.row.specs.Words.{Words, words, word, put-command, word-ops, Room, Grown}
 use Rattle.row.proofs.Laws.{room-first, grown-refl}
 use Rattle.row_acts.specs.Acts.{ensured, acted, drawn}
@@ -41,7 +41,7 @@ module _ (v n : ℕ) (s : Span) (i id : ℕ) (w : Words) (h : word 5 w ≡ n) wh
 
 -- drawing grows a row that has room for it
 pub draws-grow : (j : Job) (s : Span) (a : Option ℕ) (w : Words) → j .layers ≤ 16 → Room w (draws j s a w) → Grown w (draws j s a w)
-draws-grow j s a w m r = drawn-sound (wide (j .width)) (j .layers) (j .attr) (j .id) s w (r .state) (r .levels) m (j .eligible) a .grown
+draws-grow j s a w m r = drawn-sound (bucket-tiles (j .width)) (j .layers) (j .attr) (j .id) s w (r .state) (r .levels) m (j .eligible) a .grown
 
 -- one segment
 module _ (j : Job) (g : Segment) (rs : List Words) where
@@ -96,18 +96,18 @@ puts-join j (k ∷ ks) ls = ap (λ (t : List Put). on (draw-act (j .eligible) (j
 
 module _ (j : Job) (m : j .layers ≤ 16) where
   done-append : (ps qs : List Put) (rs : List Words) → done j (ps ++ qs) rs ≡ done j qs (done j ps rs)
-  done-append ps qs rs = puts-append Words word-ops (wide (j .width)) (j .layers) ps qs rs
+  done-append ps qs rs = puts-append Words word-ops (bucket-tiles (j .width)) (j .layers) ps qs rs
 
   -- a row that is sound stays so through any puts
   pub done-sound : (ps : List Put) (rs : List Words) (x : ℕ) → length (getD rs x nowhere .state) ≡ 54 → word 5 (getD rs x nowhere) ≤ 16 → Sound (getD rs x nowhere) (getD (done j ps rs) x nowhere)
   unfolding do-puts
   done-sound [] rs x l k = record { grown = grown-refl (getD rs x nowhere); levels = k }
   done-sound (p ∷ ps) rs x l k =
-      let f : Words → Words = acted (wide (j .width)) (j .layers) (p .act) in
+      let f : Words → Words = acted (bucket-tiles (j .width)) (j .layers) (p .act) in
       let s : Sound (getD rs x nowhere) (getD (change f (p .row) rs) x nowhere) =
       change-at (λ (u : Words). Sound (getD rs x nowhere) u) f (p .row) x rs nowhere
       (record { grown = grown-refl (getD rs x nowhere); levels = k })
-      (acted-sound (wide (j .width)) (j .layers) (getD rs x nowhere) l k m (p .act)) in
+      (acted-sound (bucket-tiles (j .width)) (j .layers) (getD rs x nowhere) l k m (p .act)) in
       sound-trans s (done-sound ps (change f (p .row) rs) x (s .grown .state ∙ l) (s .levels))
 
   -- room for all puts is room for the first, and after them for the rest

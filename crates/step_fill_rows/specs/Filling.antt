@@ -11,7 +11,7 @@ use Rattle.rules.specs.Spans.{Span}
 use Rattle.rules.specs.Segments.{Cut, cut-in, good-segment}
 use Rattle.rules.specs.Plans.{Put, draw-puts}
 use Rattle.rules.specs.Steps.{do-puts}
-use Rattle.span.specs.Widths.{wide}
+use Rattle.sizes.specs.Widths.{bucket-tiles}
 use Rattle.row.specs.Words.{Words, word-ops, Room}
 use Rattle.row_acts.specs.Acts.{drawn}
 use Rattle.row_screen.specs.Arena.{nowhere, sizes, cut, Arenas}
@@ -20,7 +20,7 @@ use Rattle.step_fill_rows.specs.declared.Job.{Job}
 
 -- rules 5 to 7 on one row
 abbrev pub draws : Job → Span → Option ℕ → Words → Words
-draws j s a w = drawn (wide (j .width)) (j .layers) (j .eligible) s a (j .attr) (j .id) w
+draws j s a w = drawn (bucket-tiles (j .width)) (j .layers) (j .eligible) s a (j .attr) (j .id) w
 
 -- rule 6: a stretch with alpha index a becomes one command; e says that the draw is eligible
 abbrev pub unsplit : Bool → Option ℕ → Bool
@@ -40,7 +40,7 @@ abbrev pub puts : Job → List ℕ → ℕ → ℕ → List Put
 puts j ws i k = puts-of j (join (cut-in (origin (j .scene)) (bounds (j .scene))) (segs ws i k))
 
 abbrev pub done : Job → List Put → List Words → List Words
-done j ps rs = do-puts Words word-ops (wide (j .width)) (j .layers) ps rs
+done j ps rs = do-puts Words word-ops (bucket-tiles (j .width)) (j .layers) ps rs
 
 -- each row that is put on has room for what the whole makes of it
 pub data Roomy : List Put → List Words → List Words → Type 0 where

@@ -15,6 +15,7 @@ use Rattle.cmd.specs.Attrs.{put-paint, put-filter}
 use Rattle.row.specs.Words.{Words}
 use Rattle.row.specs.Cmds.{Short}
 use Rattle.row_screen.specs.Arena.{lay}
+use Rattle.sizes.specs.Widths.{bucket-tiles}
 use Rattle.row_acts.specs.Acts.{acted}
 use Rattle.rect.specs.declared.Rect.{Rect}
 use Rattle.rect.specs.Rects.{box-of}
@@ -55,7 +56,7 @@ module _ {g : FilterGiven} {s : Screen} {w : Words} {ps : List ℕ} {fs : List �
   bottom = bottom-small g s w (able .zero) b (q .bounds)
 
   pub rows-needs : (t : Span) → t ≡ span-of (box-of b)
-      → Short t × OnRows s (s .layers) (acted 32 (s .layers) (paint t none (s .«paint_attrs»))) (b .y0 / 4) ((b .y1 + 3) / 4) w
+      → Short t × OnRows s (s .layers) (acted (bucket-tiles (s .width)) (s .layers) (paint t none (s .«paint_attrs»))) (b .y0 / 4) ((b .y1 + 3) / 4) w
   rows-needs t = paint-asked g s w ps fs (q .number) draws b t (q .bounds)
 
   pub counts-needs : (1 ≤ 1) × (s .«next_draw_id» ≤ 1048577) × (s .«paint_attrs» ≤ 1024) × (s .«filter_paints» ≤ 256)
@@ -63,7 +64,7 @@ module _ {g : FilterGiven} {s : Screen} {w : Words} {ps : List ℕ} {fs : List �
 
   pub leaves : (x : Screen) (ws : Words) (t : Span) → t ≡ span-of (box-of b)
       → x ≡ counted s (s .«next_draw_id» + 1) (s .«paint_attrs» + 1) (s .«layer_attrs») (s .«filter_paints» + 1)
-      → ws ≡ lay (each (acted 32 (s .layers) (paint t none (s .«paint_attrs»))) (range (b .y0 / 4) ((b .y1 + 3) / 4)) (rows-at (frame-of s) w))
+      → ws ≡ lay (each (acted (bucket-tiles (s .width)) (s .layers) (paint t none (s .«paint_attrs»))) (range (b .y0 / 4) ((b .y1 + 3) / 4)) (rows-at (frame-of s) w))
       → lent x ws (put-paint ps (s .«paint_attrs») (attrs-of s (g .count))) (put-filter fs (s .«filter_paints») (paint-from (g .placement .dest) (g .placement .«source_x») (g .placement .«source_y») (Option·getD (g .pixmap) 0))) ≡ after g (lent s w ps fs)
   leaves x ws t = after-drawn g s w ps fs able draws x ws t b (q .bounds)
 

@@ -28,6 +28,7 @@ use Rattle.row.specs.Words.{Words, word-ops}
 use Rattle.row.specs.Cmds.{Short}
 use Rattle.row_screen.specs.Arena.{sizes, lay}
 use Rattle.row_screen.proofs.Laws.{lay-cut}
+use Rattle.sizes.specs.Widths.{bucket-tiles}
 use Rattle.row_acts.specs.Acts.{acted}
 use Rattle.row_judge.specs.Building.{Whole, rows-at, screen-at, good-rows, step-number}
 use Rattle.rect.specs.declared.Rect.{Rect}
@@ -156,7 +157,7 @@ module _ (g : FilterGiven) (s : Screen) (w : Words) (ps : List ℕ) (fs : List �
     whole = passed-whole s w fit
 
     module _ (e : length ps ≡ 8192) (f : length fs ≡ 1024) where
-      either-way : plan-of g s .refused ≡ 4 → (t : Bool) → 4 ≡ cond t (refusal Words word-ops 32 (plan-of g s) (done Words word-ops 32 (plan-of g s) (screen-at (state-of s) w))) 4
+      either-way : plan-of g s .refused ≡ 4 → (t : Bool) → 4 ≡ cond t (refusal Words word-ops (plan-of g s) (done Words word-ops (plan-of g s) (screen-at (state-of s) w))) 4
       unfolding refusal
       either-way r true = rw r
       either-way r false = refl
@@ -174,7 +175,7 @@ module _ (g : FilterGiven) (s : Screen) (w : Words) (ps : List ℕ) (fs : List �
       number-is x b m r q n =
           rw (z, eq-eqb _ _ e, eq-eqb _ _ f)
           (band-step s w whole (own-act g s) x b m (plan-of g s) r q
-          (λ t. rw n (paint-adds (s .layers) (span-of (own-box g s)) (s .«paint_attrs») (bounds s (fit .screen) .deep))))
+          (λ t. rw n (paint-adds _ (s .layers) (span-of (own-box g s)) (s .«paint_attrs») (bounds s (fit .screen) .deep))))
 
       module _ (h : good-given g ≡ true) where
         pub nothing-number : draws-nothing (filter-of g) (own-box g s) ≡ true → 0 ≡ filter-number g (lent s w ps fs)
@@ -329,7 +330,7 @@ pub record Free (g : FilterGiven) (s : Screen) (w : Words) : Type 0 where
   pub id : s .«next_draw_id» < 1048577
   pub attr : s .«paint_attrs» < 1024
   pub paint : s .«filter_paints» < 256
-  pub on : OnRows s (s .layers) (acted 32 (s .layers) (own-act g s)) (own-box g s .y0 / 4) ((own-box g s .y1 + 3) / 4) w
+  pub on : OnRows s (s .layers) (acted (bucket-tiles (s .width)) (s .layers) (own-act g s)) (own-box g s .y0 / 4) ((own-box g s .y1 + 3) / 4) w
 
 module _ (g : FilterGiven) (s : Screen) (w : Words) (ps : List ℕ) (fs : List ℤ) (q : filter-number g (lent s w ps fs) ≡ 0) where
   not-zero : {n : ℕ} → suc n ≡ filter-number g (lent s w ps fs) → ⊥
@@ -360,7 +361,7 @@ module _ (g : FilterGiven) (s : Screen) (w : Words) (ps : List ℕ) (fs : List �
           paint = m;
           on =
               band-room s w (passed-whole s w f) (own-act g s) (own-box g s .y0 / 4) ((own-box g s .y1 + 3) / 4) (run-within g s (f .screen) (f .view)) (s .layers) c
-              c (paint-adds (s .layers) (span-of (own-box g s)) (s .«paint_attrs») c) t;
+              c (paint-adds _ (s .layers) (span-of (own-box g s)) (s .«paint_attrs») c) t;
         }
 
     -- the box's tiles
@@ -392,7 +393,7 @@ module _ (g : FilterGiven) (s : Screen) (w : Words) (ps : List ℕ) (fs : List �
   still-screen : screen-after s (still 0 (state-of s)) ≡ counted s (s .«next_draw_id») (s .«paint_attrs») (s .«layer_attrs») (s .«filter_paints»)
   still-screen = same-layers s ok-screen (still 0 (state-of s)) refl ∙ rw (next-is s, paint-count s, layer-attr-count s, filter-count s)
 
-  still-rows : done Words word-ops 32 (still 0 (state-of s)) (screen-at (state-of s) w) .rows ≡ rows-at (frame-of s) w
+  still-rows : done Words word-ops (still 0 (state-of s)) (screen-at (state-of s) w) .rows ≡ rows-at (frame-of s) w
   unfolding done do-puts
   still-rows = rw (frame-is s)
 
@@ -423,12 +424,12 @@ module _ (g : FilterGiven) (s : Screen) (w : Words) (ps : List ℕ) (fs : List �
     drawn-screen : screen-after s drawn ≡ counted s (s .«next_draw_id» + 1) (s .«paint_attrs» + 1) (s .«layer_attrs») (s .«filter_paints» + 1)
     drawn-screen = same-layers s ok-screen drawn same-open ∙ rw (drawn-next s ok-screen g, drawn-paints s ok-screen g, drawn-layers s ok-screen g, drawn-filters s ok-screen g)
 
-    drawn-rows : done Words word-ops 32 drawn (screen-at (state-of s) w) .rows
-        ≡ each (acted 32 (s .layers) (own-act g s)) (range (own-box g s .y0 / 4) ((own-box g s .y1 + 3) / 4)) (rows-at (frame-of s) w)
+    drawn-rows : done Words word-ops drawn (screen-at (state-of s) w) .rows
+        ≡ each (acted (bucket-tiles (s .width)) (s .layers) (own-act g s)) (range (own-box g s .y0 / 4) ((own-box g s .y1 + 3) / 4)) (rows-at (frame-of s) w)
     unfolding done
     drawn-rows =
         rw (drawn-open s ok-screen g, drawn-puts s ok-screen g, frame-is s)
-        (puts-each (s .layers) (own-act g s) (range (own-box g s .y0 / 4) ((own-box g s .y1 + 3) / 4)) (rows-at (frame-of s) w))
+        (puts-each _ (s .layers) (own-act g s) (range (own-box g s .y0 / 4) ((own-box g s .y1 + 3) / 4)) (rows-at (frame-of s) w))
 
     drawn-attr : join paint-attr-words (drop (s .«paint_attrs») (drawn .attrs .paints))
         ≡ (g .count + s .«filter_paints») ∷ 0 ∷ 3 ∷ 0 ∷ s .«next_draw_id» ∷ 0 ∷ s .viewport .x0 ∷ s .viewport .y0 ∷ []
@@ -442,7 +443,7 @@ module _ (g : FilterGiven) (s : Screen) (w : Words) (ps : List ℕ) (fs : List �
 
     pub after-drawn : (x : Screen) (ws : Words) (t : Span) (b : Rect) → box-of b ≡ own-box g s → t ≡ span-of (box-of b)
         → x ≡ counted s (s .«next_draw_id» + 1) (s .«paint_attrs» + 1) (s .«layer_attrs») (s .«filter_paints» + 1)
-        → ws ≡ lay (each (acted 32 (s .layers) (paint t none (s .«paint_attrs»))) (range (b .y0 / 4) ((b .y1 + 3) / 4)) (rows-at (frame-of s) w))
+        → ws ≡ lay (each (acted (bucket-tiles (s .width)) (s .layers) (paint t none (s .«paint_attrs»))) (range (b .y0 / 4) ((b .y1 + 3) / 4)) (rows-at (frame-of s) w))
         → lent x ws (put-paint ps (s .«paint_attrs») (attrs-of s (g .count))) (put-filter fs (s .«filter_paints») (paint-from (g .placement .dest) (g .placement .«source_x») (g .placement .«source_y») (Option·getD (g .pixmap) 0))) ≡ after g (lent s w ps fs)
     unfolding after
     after-drawn x ws t b e f h i =
@@ -466,7 +467,7 @@ told-by g s b t e h = sym (ap (λ (x : Box). draws-nothing (filter-of g) x) e) �
 -- what painting its rows asks
 pub paint-asked : (g : FilterGiven) (s : Screen) (w : Words) (ps : List ℕ) (fs : List ℤ) (q : filter-number g (lent s w ps fs) ≡ 0) (d : draws-nothing (filter-of g) (own-box g s) ≡ false)
     (b : Rect) (t : Span) → box-of b ≡ own-box g s → t ≡ span-of (box-of b)
-    → Short t × OnRows s (s .layers) (acted 32 (s .layers) (paint t none (s .«paint_attrs»))) (b .y0 / 4) ((b .y1 + 3) / 4) w
+    → Short t × OnRows s (s .layers) (acted (bucket-tiles (s .width)) (s .layers) (paint t none (s .«paint_attrs»))) (b .y0 / 4) ((b .y1 + 3) / 4) w
 paint-asked g s w ps fs q d b t e f =
     let z = ready g s w ps fs q .zero in
     rw (f ∙ ap span-of e, top-is g s w z b e, bottom-is g s w z b e) (short g s w ps fs q d, free g s w ps fs q d .on)

@@ -7,7 +7,7 @@ use mathlib.Core.Option.{Option, none, some}
 use lib.ListN.{length, drop}
 use lib.Dec.{leb, eqb}
 use lib.IntN.{ℤ, pos, subℕ}
-use Rattle.sizes.specs.Sizes.{bucket-tiles, most-records, paint-attr-table, filter-paint-table}
+use Rattle.sizes.specs.Sizes.{most-records, paint-attr-table, filter-paint-table}
 use Rattle.rules.specs.Lists.{join}
 use Rattle.rules.specs.Answers.{Answer, Done, BadRecord, settle}
 use Rattle.rules.specs.Boxes.{Box}
@@ -107,7 +107,7 @@ unfoldable pub after : FilterGiven → FilterLent → FilterLent
 after g l =
     let s = l .screen in
     let p = plan-of g s in
-    lent (screen-after s p) (lay (done Words word-ops bucket-tiles p (screen-at (state-of s) (l .words)) .rows))
+    lent (screen-after s p) (lay (done Words word-ops p (screen-at (state-of s) (l .words)) .rows))
     (words-at (l .paint-attrs) (8 * s .«paint_attrs») (join paint-attr-words (drop (s .«paint_attrs») (p .attrs .paints))))
     (words-at (l .filter-paints) (4 * s .«filter_paints») (join filter-paint-words (drop (s .«filter_paints») (p .attrs .filters))))
 

@@ -8,6 +8,7 @@ use native.Mathlib.Omega.{arith}
 use lib.Dec.{leb, ltb, eqb}
 use lib.ListN.{length}
 use borrow.Author.Tests.{eqb-true, eqb-false, ltb-true, ltb-false}
+use Rattle.sizes.specs.Widths.{bucket-tiles}
 use Rattle.rules.specs.Lists.{some-of, every, join, range, slice}
 use Rattle.rules.specs.Boxes.{Box, box, rows-of, rows-in, span-of, scene-tiles}
 use Rattle.rules.specs.Spans.{Span}
@@ -201,9 +202,9 @@ module _ {s : code.Screen} {t ws : List ℕ} {w : Words} (j : Judged s t ws w) w
       plain-requires =
           (seen .whole, b-bottom, rw span-is short-span, rw (a-is, b-is) (ready-fill (ready .rows) (ready .room) (tiles p) none (s .«layer_attrs»)))
 
-      pub plain-done : {rs : List Words} → rs ≡ done-puts (s .layers - 1) (map (on (close (tiles p) none (s .«layer_attrs»))) (touched-in (s .layers) (rows-at (frame-of s) w) (range a b))) (rows-at (frame-of s) w)
-          → rs ≡ done-puts (s .layers - 1) (closing-puts s t ws w) (rows-at (frame-of s) w)
-      plain-done h = h ∙ rw (a-is, b-is, span-is) (ap (λ (ps : List Put). done-puts (s .layers - 1) ps (rows-at (frame-of s) w)) (sym (plain-puts no-clip)))
+      pub plain-done : {rs : List Words} → rs ≡ done-puts (bucket-tiles (s .width)) (s .layers - 1) (map (on (close (tiles p) none (s .«layer_attrs»))) (touched-in (s .layers) (rows-at (frame-of s) w) (range a b))) (rows-at (frame-of s) w)
+          → rs ≡ done-puts (bucket-tiles (s .width)) (s .layers - 1) (closing-puts s t ws w) (rows-at (frame-of s) w)
+      plain-done h = h ∙ rw (a-is, b-is, span-is) (ap (λ (ps : List Put). done-puts (bucket-tiles (s .width)) (s .layers - 1) ps (rows-at (frame-of s) w)) (sym (plain-puts no-clip)))
 
     module _ (f : y .flag ≡ 0 → ⊥) {x z : ℕ} (ex : x ≡ y .start) (ez : z ≡ y .«end») (q : Rect) (p : box-of q ≡ clip-box (box-of (s .viewport)) (layers-in t (s .layers - 1)))
         (d : Scene) (k : SceneOf (box-of (s .viewport)) (box-of q) d) where
@@ -219,7 +220,7 @@ module _ {s : code.Screen} {t ws : List ℕ} {w : Words} (j : Judged s t ws w) w
       scene-is : SceneOf (box-of (s .viewport)) (clip-box (box-of (s .viewport)) (layers-in t (s .layers - 1))) d
       scene-is = rw p at k
 
-      clip-room : Roomy (s .layers - 1) (close-puts (s .«layer_attrs») xs (ks a-clip d scene-is)) (rows-at (frame-of s) w)
+      clip-room : Roomy (bucket-tiles (s .width)) (s .layers - 1) (close-puts (s .«layer_attrs») xs (ks a-clip d scene-is)) (rows-at (frame-of s) w)
       clip-room = rw (scene-puts a-clip d scene-is) at (ready-puts (ready .rows) (ready .room) (s .layers - 1))
 
       pub clip-requires : Clips (frame-of s) (s .layers) (s .«layer_attrs») ws x z d a b w
@@ -236,19 +237,19 @@ module _ {s : code.Screen} {t ws : List ℕ} {w : Words} (j : Judged s t ws w) w
             room = clip-room;
           })
 
-      pub clip-done : {rs : List Words} → rs ≡ done-puts (s .layers - 1) (clip-puts (s .«layer_attrs») (touched-in (s .layers) (rows-at (frame-of s) w) (range a b)) d (segs ws x (z - x))) (rows-at (frame-of s) w)
-          → rs ≡ done-puts (s .layers - 1) (closing-puts s t ws w) (rows-at (frame-of s) w)
-      clip-done h = h ∙ rw (a-is, b-is, start-is, end-is) (ap (λ (ps : List Put). done-puts (s .layers - 1) ps (rows-at (frame-of s) w)) (sym (scene-puts a-clip d scene-is)))
+      pub clip-done : {rs : List Words} → rs ≡ done-puts (bucket-tiles (s .width)) (s .layers - 1) (clip-puts (s .«layer_attrs») (touched-in (s .layers) (rows-at (frame-of s) w) (range a b)) d (segs ws x (z - x))) (rows-at (frame-of s) w)
+          → rs ≡ done-puts (bucket-tiles (s .width)) (s .layers - 1) (closing-puts s t ws w) (rows-at (frame-of s) w)
+      clip-done h = h ∙ rw (a-is, b-is, start-is, end-is) (ap (λ (ps : List Put). done-puts (bucket-tiles (s .width)) (s .layers - 1) ps (rows-at (frame-of s) w)) (sym (scene-puts a-clip d scene-is)))
 
     -- the PopBufs
-    module _ (u : Words) (o : Whole (frame-of s) u) (h : rows-at (frame-of s) u ≡ done-puts (s .layers - 1) (closing-puts s t ws w) (rows-at (frame-of s) w)) where
+    module _ (u : Words) (o : Whole (frame-of s) u) (h : rows-at (frame-of s) u ≡ done-puts (bucket-tiles (s .width)) (s .layers - 1) (closing-puts s t ws w) (rows-at (frame-of s) w)) where
       pub pop-requires : Each Poppable (rows-at (frame-of s) u) (touched-in (s .layers) (rows-at (frame-of s) u) (range a b))
       pop-requires = rw (a-is, b-is) (ready-pop (ready .rows) (ready .room) (s .layers - 1) u o h)
 
-      plan-rows : done Words word-ops 32 (pop-plan s (lent w t [] []) ws) (screen-at (state-in s t) w) .rows ≡ done-puts (s .layers - 1) (closing-puts s t ws w ++ map (on pop) xs) (rows-at (frame-of s) w)
+      plan-rows : done Words word-ops (pop-plan s (lent w t [] []) ws) (screen-at (state-in s t) w) .rows ≡ done-puts (bucket-tiles (s .width)) (s .layers - 1) (closing-puts s t ws w ++ map (on pop) xs) (rows-at (frame-of s) w)
       unfolding done
       plan-rows = rw (plan-is s (lent w t [] []) ws (j .some) seen, layers-length t (s .layers - 1))
 
-      pub pop-done : (v : Words) → Whole (frame-of s) v → rows-at (frame-of s) v ≡ done-puts (s .layers - 1) (map (on pop) (touched-in (s .layers) (rows-at (frame-of s) u) (range a b))) (rows-at (frame-of s) u)
+      pub pop-done : (v : Words) → Whole (frame-of s) v → rows-at (frame-of s) v ≡ done-puts (bucket-tiles (s .width)) (s .layers - 1) (map (on pop) (touched-in (s .layers) (rows-at (frame-of s) u) (range a b))) (rows-at (frame-of s) u)
           → v ≡ words-after s t ws w
       pop-done v i g = closed-words (ready .rows) (ready .room) (s .layers - 1) u o h v i (rw (a-is, b-is) at g) ∙ ap lay (sym plan-rows)

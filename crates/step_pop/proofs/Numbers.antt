@@ -8,6 +8,7 @@ use native.Mathlib.Omega.{arith}
 use lib.Dec.{leb, ltb, eqb}
 use lib.ListN.{length, getD, length-append}
 use borrow.Author.Tests.{eq-eqb, ne-eqb, eqb-true, eqb-false, le-ltb, lt-ltb, le-leb, lt-leb, ltb-true, ltb-false, leb-true, leb-false}
+use Rattle.sizes.specs.Widths.{bucket-tiles}
 use Rattle.rules.specs.Lists.{some-of, join, slice, range}
 use Rattle.rules.specs.Answers.{first-of}
 use Rattle.rules.specs.Boxes.{Box, width, height, rows-of, rows-in, span-of, good-viewport, scene-tiles}
@@ -15,7 +16,7 @@ use Rattle.rules.specs.Spans.{Span}
 use Rattle.rules.specs.Segments.{Segment, good-segment, ordered, judge-segments, Cut, cut-in, cuts}
 use Rattle.rules.specs.Inputs.{Clip}
 use Rattle.rules.specs.Attributes.{attrs-full}
-use Rattle.rules.specs.Plans.{Frame, Layer, State, Act, close, pop, Put, on, Plan, clip-box, clip-segments, clip-fits, close-puts, closing, with-layer, plan-pop}
+use Rattle.rules.specs.Plans.{Frame, bucket, Layer, State, Act, close, pop, Put, on, Plan, clip-box, clip-segments, clip-fits, close-puts, closing, with-layer, plan-pop}
 use Rattle.rules.specs.Steps.{Screen, do-puts, done, passes, refusal}
 use Rattle.rules.specs.Walk.{good-room}
 use Rattle.rules.proofs.All.{All, nil, cons, all-map, all-mapped, all-over, both, never}
@@ -166,11 +167,11 @@ or-end false = refl
 
 module _ (p : Plan) (scr : Screen Words) (next a : ℕ) (few : length (p .layers) ≤ 16) (e : p .next ≡ next + 1) (q : attrs-full (p .attrs) ≡ leb 1024 a) where
   abbrev rows-after : List Words
-  rows-after = done-puts (length (p .layers)) (p .puts) (scr .rows)
+  rows-after = done-puts (bucket (scr .state .frame)) (length (p .layers)) (p .puts) (scr .rows)
 
   late-of : (good full : Bool)
-      → (good ≡ true → p .refused ≡ 0 → passes Words word-ops 32 (word 0) (scr .state .frame .c) (p .puts) rows-after ≡ full)
-      → (good ≡ true → p .refused ≡ 0 → passes Words word-ops 32 (word 1) (scr .state .frame .d) (p .puts) rows-after ≡ false)
+      → (good ≡ true → p .refused ≡ 0 → passes Words word-ops (word 0) (scr .state .frame .c) (p .puts) rows-after ≡ full)
+      → (good ≡ true → p .refused ≡ 0 → passes Words word-ops (word 1) (scr .state .frame .d) (p .puts) rows-after ≡ false)
       → step-number 0 good p scr ≡ late good (p .refused) next a full
   unfolding step-number refusal done late
   late-of false full f g = refl
@@ -178,8 +179,8 @@ module _ (p : Plan) (scr : Screen Words) (next a : ℕ) (few : length (p .layers
     where
       go : (b : Bool) → eqb (p .refused) 0 ≡ b
           → cond b (first-of ((ltb 16 (length (p .layers)), 6) ∷ (ltb 1048577 (p .next), 8) ∷ (attrs-full (p .attrs), 9)
-          ∷ (passes Words word-ops 32 (word 0) (scr .state .frame .c) (p .puts) rows-after, 10)
-          ∷ (passes Words word-ops 32 (word 1) (scr .state .frame .d) (p .puts) rows-after, 11) ∷ [])) (p .refused)
+          ∷ (passes Words word-ops (word 0) (scr .state .frame .c) (p .puts) rows-after, 10)
+          ∷ (passes Words word-ops (word 1) (scr .state .frame .d) (p .puts) rows-after, 11) ∷ [])) (p .refused)
           ≡ cond b (first-of ((ltb 1048576 next, 8) ∷ (leb 1024 a, 9) ∷ (full, 10) ∷ [])) (p .refused)
       go true i =
           let z = eqb-true (p .refused) 0 i in
@@ -230,8 +231,8 @@ module _ (s : code.Screen) (l : PopLent) (ws : List ℕ) (low : 1 ≤ s .layers)
   few-left = rw (layers-length (l .layers) (s .layers - 1)) (omega (arith, o .bounds .deep))
 
   number-late : (full : Bool)
-      → (good ≡ true → listed ≡ 0 → passes Words word-ops 32 (word 0) (s .c) puts (done-puts (length (layers-in (l .layers) (s .layers - 1))) puts rs) ≡ full)
-      → (good ≡ true → listed ≡ 0 → passes Words word-ops 32 (word 1) (s .d) puts (done-puts (length (layers-in (l .layers) (s .layers - 1))) puts rs) ≡ false)
+      → (good ≡ true → listed ≡ 0 → passes Words word-ops (word 0) (s .c) puts (done-puts (bucket-tiles (s .width)) (length (layers-in (l .layers) (s .layers - 1))) puts rs) ≡ full)
+      → (good ≡ true → listed ≡ 0 → passes Words word-ops (word 1) (s .d) puts (done-puts (bucket-tiles (s .width)) (length (layers-in (l .layers) (s .layers - 1))) puts rs) ≡ false)
       → late good listed (s .«next_draw_id») (s .«layer_attrs») full ≡ number-after s l ws 0
   unfolding number-after
   number-late full f h =

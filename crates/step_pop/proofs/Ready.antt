@@ -13,7 +13,7 @@ use Rattle.rules.specs.Boxes.{rows-of}
 use Rattle.rules.specs.Spans.{Span}
 use Rattle.rules.specs.Commands.{layer-fill}
 use Rattle.rules.specs.Segments.{Segment, Cut, ordered}
-use Rattle.rules.specs.Plans.{Frame, Act, close, pop, Put, on, close-puts}
+use Rattle.rules.specs.Plans.{Frame, bucket, Act, close, pop, Put, on, close-puts}
 use Rattle.rules.specs.Steps.{do-puts, passes}
 use Rattle.rules.proofs.All.{All, nil, cons, all-map, all-both, every-all, none-of, both}
 use Rattle.rules.proofs.laws.Changes.{puts-append, puts-length}
@@ -132,8 +132,8 @@ module _ {f : Frame} {n a b : ℕ} {ps : List Put} {w : Words} (v : Closeable f 
   row-low : (x : ℕ) → x < length rs → x < rows-of (f .viewport)
   row-low x h = rw (rows-count (v .whole)) at h
 
-  after : (m x : ℕ) → Closed (count-on x ps) (row-of rs x) (row-of (done-puts m ps rs) x)
-  after m x = closes-row m ps rs (v .closes) (records (v .whole)) x
+  after : (m x : ℕ) → Closed (count-on x ps) (row-of rs x) (row-of (done-puts (bucket f) m ps rs) x)
+  after m x = closes-row (bucket f) m ps rs (v .closes) (records (v .whole)) x
 
   -- one PopBuf for each
   once : (t : Act) → All (λ (x : ℕ). count-on x (map (on t) xs) ≡ 1) xs
@@ -141,16 +141,16 @@ module _ {f : Frame} {n a b : ℕ} {ps : List Put} {w : Words} (v : Closeable f 
 
   module _ (m : ℕ) where
     abbrev final : List Words
-    final = done-puts m (ps ++ map (on pop) (touched-in n (rows-at f w) (range a b))) (rows-at f w)
+    final = done-puts (bucket f) m (ps ++ map (on pop) (touched-in n (rows-at f w) (range a b))) (rows-at f w)
 
     last : (x : ℕ) → count-on x (map (on pop) xs) ≡ 1 → Fine (f .c) (f .d) n (row-of rs x)
         → (word 0 (row-of final x) ≡ word 0 (row-of rs x) + count-on x ps + 1) × (word 1 (row-of final x) ≡ word 1 (row-of rs x))
     last x one g =
         let c = after m x in
         let r = records (v .whole) in
-        let p : Popped (count-on x (map (on pop) xs)) (row-of (done-puts m ps rs) x) (row-of (done-puts m (map (on pop) xs) (done-puts m ps rs)) x) =
-        pops-row m xs (done-puts m ps rs) (rw (puts-length Words word-ops 32 m ps rs) inside) (closes-records m ps rs (v .closes) r) x (omega (arith, one, c .levels, g .level, v .low)) in
-        rw (puts-append Words word-ops 32 m ps (map (on pop) xs) rs)
+        let p : Popped (count-on x (map (on pop) xs)) (row-of (done-puts (bucket f) m ps rs) x) (row-of (done-puts (bucket f) m (map (on pop) xs) (done-puts (bucket f) m ps rs)) x) =
+        pops-row (bucket f) m xs (done-puts (bucket f) m ps rs) (rw (puts-length Words word-ops (bucket f) m ps rs) inside) (closes-records (bucket f) m ps rs (v .closes) r) x (omega (arith, one, c .levels, g .level, v .low)) in
+        rw (puts-append Words word-ops (bucket f) m ps (map (on pop) xs) rs)
         (omega (arith, p .renders, c .renders, one), p .depths ∙ c .depths)
 
     lasts : All (λ (x : ℕ). (word 0 (row-of final x) ≡ word 0 (row-of rs x) + count-on x ps + 1) × (word 1 (row-of final x) ≡ word 1 (row-of rs x))) xs
@@ -158,14 +158,14 @@ module _ {f : Frame} {n a b : ℕ} {ps : List Put} {w : Words} (v : Closeable f 
         all-map (λ (x : ℕ) (p : (count-on x (map (on pop) xs) ≡ 1) × Fine (f .c) (f .d) n (row-of rs x)). last x (p .0) (p .1)) (all-both (once pop) (v .fine))
 
     -- answer 10
-    pub full-is : passes Words word-ops 32 (word 0) (f .c) (ps ++ map (on pop) (touched-in n (rows-at f w) (range a b))) final ≡ some-of (full-test f ps w) xs
+    pub full-is : passes Words word-ops (word 0) (f .c) (ps ++ map (on pop) (touched-in n (rows-at f w) (range a b))) final ≡ some-of (full-test f ps w) xs
     full-is =
         passes-touched (word 0) refl (f .c) pop xs final ps (v .found)
         ∙ some-equal (λ (x : ℕ). ltb (f .c) (word 0 (row-of final x))) (full-test f ps w)
         (all-map (λ (x : ℕ) (p : (word 0 (row-of final x) ≡ word 0 (row-of rs x) + count-on x ps + 1) × (word 1 (row-of final x) ≡ word 1 (row-of rs x))). ap (ltb (f .c)) (p .0)) lasts)
 
     -- answer 11 is never given
-    pub deep-is : passes Words word-ops 32 (word 1) (f .d) (ps ++ map (on pop) (touched-in n (rows-at f w) (range a b))) final ≡ false
+    pub deep-is : passes Words word-ops (word 1) (f .d) (ps ++ map (on pop) (touched-in n (rows-at f w) (range a b))) final ≡ false
     deep-is =
         passes-touched (word 1) refl (f .d) pop xs final ps (v .found)
         ∙ some-none (λ (x : ℕ). ltb (f .d) (word 1 (row-of final x)))
@@ -202,15 +202,15 @@ module _ {f : Frame} {n a b : ℕ} {ps : List Put} {w : Words} (v : Closeable f 
         facts
 
     -- room for all the closing puts
-    pub ready-puts : (m : ℕ) → Roomy m ps rs
+    pub ready-puts : (m : ℕ) → Roomy (bucket f) m ps rs
     ready-puts m =
         all-map
         (λ (q : Put) (e : some-of (eqb (q .row)) xs ≡ true). let p = at-found facts (q .row) e in
-        room-by (v .whole) (q .row) (row-low (q .row) (p .0)) (row-of (done-puts m ps rs) (q .row)) (omega (arith, p .1 .level, v .deep))
+        room-by (v .whole) (q .row) (row-low (q .row) (p .0)) (row-of (done-puts (bucket f) m ps rs) (q .row)) (omega (arith, p .1 .level, v .deep))
         (omega (arith, after m (q .row) .renders, p .2)) (omega (arith, after m (q .row) .depths, p .1 .depths)))
         (v .found)
 
-    module _ (m : ℕ) (u : Words) (o : Whole f u) (e : rows-at f u ≡ done-puts m ps (rows-at f w)) where
+    module _ (m : ℕ) (u : Words) (o : Whole f u) (e : rows-at f u ≡ done-puts (bucket f) m ps (rows-at f w)) where
       level-same : (x : ℕ) → word 5 (row-of (rows-at f u) x) ≡ word 5 (row-of rs x)
       level-same x = rw e (after m x .levels)
 
@@ -228,10 +228,10 @@ module _ {f : Frame} {n a b : ℕ} {ps : List Put} {w : Words} (v : Closeable f 
           facts)
 
       -- and the words are the rules' rows
-      pub closed-words : (t : Words) → Whole f t → rows-at f t ≡ done-puts m (map (on pop) (touched-in n (rows-at f u) (range a b))) (rows-at f u)
-          → t ≡ lay (done-puts m (ps ++ map (on pop) (touched-in n (rows-at f w) (range a b))) (rows-at f w))
+      pub closed-words : (t : Words) → Whole f t → rows-at f t ≡ done-puts (bucket f) m (map (on pop) (touched-in n (rows-at f u) (range a b))) (rows-at f u)
+          → t ≡ lay (done-puts (bucket f) m (ps ++ map (on pop) (touched-in n (rows-at f w) (range a b))) (rows-at f w))
       closed-words t q g =
           sym (lay-cut (sizes (f .c) (f .d)) (rows-of (f .viewport)) t (q .long))
           ∙ ap lay
-          (g ∙ ap (λ (is : List ℕ). done-puts m (map (on pop) is) (rows-at f u)) same-rows ∙ ap (done-puts m (map (on pop) xs)) e
-          ∙ sym (puts-append Words word-ops 32 m ps (map (on pop) xs) rs))
+          (g ∙ ap (λ (is : List ℕ). done-puts (bucket f) m (map (on pop) is) (rows-at f u)) same-rows ∙ ap (done-puts (bucket f) m (map (on pop) xs)) e
+          ∙ sym (puts-append Words word-ops (bucket f) m ps (map (on pop) xs) rs))

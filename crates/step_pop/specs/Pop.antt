@@ -7,7 +7,7 @@ use mathlib.Core.List.{List, [], _∷_, _++_}
 use lib.ListN.{length, getD, set, drop}
 use lib.Dec.{leb, ltb, eqb}
 use lib.Ieee.{Float, nan}
-use Rattle.sizes.specs.Sizes.{bucket-tiles, most-layers, most-attrs, last-id, open-layer-size, open-layer-table, opacity-count, layer-attr-table}
+use Rattle.sizes.specs.Sizes.{most-layers, most-attrs, last-id, open-layer-size, open-layer-table, opacity-count, layer-attr-table}
 use Rattle.rules.specs.Lists.{join}
 use Rattle.rules.specs.Answers.{first-of, Done, BadRecord, Ids, FullAttrs, FullRow}
 use Rattle.rules.specs.Boxes.{Box, rows-in}
@@ -111,7 +111,7 @@ module _ (s : Screen) (l : PopLent) (ws : List ℕ) where
   -- done: the rows of the plan, the layer's words and its opacity 0, its opacity copied
   abbrev pub lent-after : PopLent
   lent-after =
-      lent (lay (done Words word-ops bucket-tiles pop-plan (screen-at (state-in s (l .layers)) (l .words)) .rows))
+      lent (lay (done Words word-ops pop-plan (screen-at (state-in s (l .layers)) (l .words)) .rows))
       (words-at (l .layers) (open-layer-size * (s .layers - 1)) no-words)
       (set (set (l .opacities) (most-layers + s .«layer_attrs») (getD (l .opacities) (s .layers - 1) nan)) (s .layers - 1) float-0)
       (words-at (l .attrs) (6 * s .«layer_attrs») new-words)
@@ -137,7 +137,7 @@ closing-puts s t ws w =
 
 -- the rows' words after it
 abbrev pub words-after : Screen → List ℕ → List ℕ → Words → Words
-words-after s t ws w = lay (done Words word-ops bucket-tiles (pop-plan s (lent w t [] []) ws) (screen-at (state-in s t) w) .rows)
+words-after s t ws w = lay (done Words word-ops (pop-plan s (lent w t [] []) ws) (screen-at (state-in s t) w) .rows)
 
 -- the six words of the layer's attribute: blend, mask, id, thread, NaN pattern
 abbrev pub attr-words : Screen → List ℕ → List ℕ

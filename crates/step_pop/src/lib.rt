@@ -39,6 +39,7 @@ ghost use Prim.Native.Nat.{_+_, _-_, _*_, _/_, _≤_, _<_};
 ghost use lib.ListN.{length};
 ghost use lib.Dec.{eqb};
 ghost use Rattle.sizes.specs.Sizes.{most-layers, most-attrs, open-layer-table, opacity-count, layer-attr-table};
+ghost use Rattle.sizes.specs.Widths.{bucket-tiles};
 ghost use Rattle.rules.specs.Lists.{join, range, every};
 ghost use Rattle.rules.specs.Boxes.{rows-of};
 ghost use Rattle.rules.specs.Segments.{cut-in, good-segment, judge-segments};
@@ -249,7 +250,8 @@ fn close_rows(
 )
     requires { ⌜ Judged screen (now layers) (now list) (words (now rows) (now render) (now fills)) ⌝ }
     ensures { λ _. ⌜ rows-at (frame-of screen) (words (now (rows .exit)) (now (render .exit)) (now (fills .exit)))
-        ≡ done-puts (screen .layers - 1) (closing-puts screen (now (layers .entry)) (now (list .entry)) (words (now (rows .entry)) (now (render .entry)) (now (fills .entry)))) (rows-at (frame-of screen) (words (now (rows .entry)) (now (render .entry)) (now (fills .entry)))) ⌝ }
+        ≡ done-puts (bucket-tiles (screen .width)) (screen .layers - 1) (closing-puts screen (now (layers .entry)) (now (list .entry)) (words (now (rows .entry)) (now (render .entry)) (now (fills .entry))))
+        (rows-at (frame-of screen) (words (now (rows .entry)) (now (render .entry)) (now (fills .entry)))) ⌝ }
 {
     let viewport = screen.viewport;
     let layer = open_layer(layers, screen.layers - 1);

@@ -11,7 +11,7 @@ use Rattle.rules.specs.Lists.{some-of, every, join, change, range}
 use Rattle.rules.specs.Boxes.{Box, rows-of}
 use Rattle.rules.specs.Segments.{Segment, good-segment, Cut, cut-in}
 use Rattle.rules.specs.Commands.{layer-fill}
-use Rattle.rules.specs.Plans.{Frame, Act, close, Put, on, close-puts}
+use Rattle.rules.specs.Plans.{Frame, bucket, Act, close, Put, on, close-puts}
 use Rattle.rules.specs.Steps.{do-act, do-puts}
 use Rattle.rules.proofs.All.{All, nil, cons, head, never}
 use Rattle.rules.proofs.laws.Changes.{change-same, puts-append}
@@ -40,17 +40,17 @@ pub placed-short : (s : Scene) (g : Segment) (k : Cut) → good-segment g ≡ tr
 placed-short s g k t o e = let l = landed (origin s) (bounds s) g k t o e in (omega (arith, l .order, l .ends), l .ends)
 
 -- the puts of one segment, whose cut is cs
-module _ (m i : ℕ) (xs : List ℕ) (rs : List Words) (cs : List Cut) where
-  pub one-none : [] ≡ cs → done-puts m (close-puts i xs cs) rs ≡ rs
+module _ (v m i : ℕ) (xs : List ℕ) (rs : List Words) (cs : List Cut) where
+  pub one-none : [] ≡ cs → done-puts v m (close-puts i xs cs) rs ≡ rs
   unfolding do-puts close-puts
   one-none e = rw (← e)
 
   module _ (k : Cut) (e : k ∷ [] ≡ cs) where
-    pub one-out : some-of (eqb (k .row)) xs ≡ false → done-puts m (close-puts i xs cs) rs ≡ rs
+    pub one-out : some-of (eqb (k .row)) xs ≡ false → done-puts v m (close-puts i xs cs) rs ≡ rs
     unfolding do-puts close-puts
     one-out h = rw (← e, h)
 
-    pub one-in : some-of (eqb (k .row)) xs ≡ true → done-puts m (close-puts i xs cs) rs ≡ change (put-command (layer-fill (k .stretch .tiles) (k .stretch .alpha) i)) (k .row) rs
+    pub one-in : some-of (eqb (k .row)) xs ≡ true → done-puts v m (close-puts i xs cs) rs ≡ change (put-command (layer-fill (k .stretch .tiles) (k .stretch .alpha) i)) (k .row) rs
     unfolding do-puts do-act close-puts
     one-in h = rw (← e, h)
 
@@ -58,7 +58,7 @@ module _ (m i : ℕ) (xs : List ℕ) (rs : List Words) (cs : List Cut) where
     unfolding close-puts
     puts-in h = rw (← e, h)
 
-    pub one-fillable : some-of (eqb (k .row)) xs ≡ true → k .row < length rs → Roomy m (close-puts i xs cs) rs → Fillable (k .stretch .tiles) (k .stretch .alpha) i (row-of rs (k .row))
+    pub one-fillable : some-of (eqb (k .row)) xs ≡ true → k .row < length rs → Roomy v m (close-puts i xs cs) rs → Fillable (k .stretch .tiles) (k .stretch .alpha) i (row-of rs (k .row))
     one-fillable h g a =
         let f = put-command (layer-fill (k .stretch .tiles) (k .stretch .alpha) i) in
         let p : All (λ (p : Put). Room (row-of rs (p .row)) (row-of (change (put-command (layer-fill (k .stretch .tiles) (k .stretch .alpha) i)) (k .row) rs) (p .row))) (on (close (k .stretch .tiles) (k .stretch .alpha) i) (k .row) ∷ []) = rw (one-in h, puts-in h) at a in
@@ -95,14 +95,14 @@ module _ (i : ℕ) (xs : List ℕ) where
 -- the loop over the segments from start to j, at segment i, on its way from the words w₀
 pub record Clipping (f : Frame) (n k : ℕ) (ws : List ℕ) (start j : ℕ) (e : Scene) (a b : ℕ) (w₀ : Words) (i : ℕ) (w : Words) : Type 0 where
   pub rest : Clips f n k ws i j e a b w
-  pub all : done-puts (n - 1) (clip-puts k (touched-in n (rows-at f w) (range a b)) e (segs ws i (j - i))) (rows-at f w)
-      ≡ done-puts (n - 1) (clip-puts k (touched-in n (rows-at f w₀) (range a b)) e (segs ws start (j - start))) (rows-at f w₀)
+  pub all : done-puts (bucket f) (n - 1) (clip-puts k (touched-in n (rows-at f w) (range a b)) e (segs ws i (j - i))) (rows-at f w)
+      ≡ done-puts (bucket f) (n - 1) (clip-puts k (touched-in n (rows-at f w₀) (range a b)) e (segs ws start (j - start))) (rows-at f w₀)
 
 pub clipping-start : {f : Frame} {n k : ℕ} {ws : List ℕ} {i j : ℕ} {e : Scene} {a b : ℕ} {w : Words} → Clips f n k ws i j e a b w → Clipping f n k ws i j e a b w i w
 clipping-start r = record { rest = r; all = refl }
 
 module _ {f : Frame} {n k : ℕ} {ws : List ℕ} {start j : ℕ} {e : Scene} {a b : ℕ} {w₀ : Words} {i : ℕ} {w : Words} (v : Clipping f n k ws start j e a b w₀ i w) where
-  pub clipping-done : j ≤ i → rows-at f w ≡ done-puts (n - 1) (clip-puts k (touched-in n (rows-at f w₀) (range a b)) e (segs ws start (j - start))) (rows-at f w₀)
+  pub clipping-done : j ≤ i → rows-at f w ≡ done-puts (bucket f) (n - 1) (clip-puts k (touched-in n (rows-at f w₀) (range a b)) e (segs ws start (j - start))) (rows-at f w₀)
   unfolding do-puts close-puts
   clipping-done h = rw (segs-end ws i j h) at (v .all)
 
@@ -122,26 +122,26 @@ module _ {f : Frame} {n k : ℕ} {ws : List ℕ} {start j : ℕ} {e : Scene} {a 
     few : n - 1 ≤ 16
     few = omega (arith, v .rest .layers)
 
-    split-room : Roomy (n - 1) (one ++ more) (rows-at f w)
+    split-room : Roomy (bucket f) (n - 1) (one ++ more) (rows-at f w)
     split-room = rw split-puts at (v .rest .room)
 
     pub good-here : good-segment (seg-at ws i) ≡ true
     good-here = good-first ws i j h (v .rest .good)
 
-    pub room-here : Roomy (n - 1) one (rows-at f w)
-    room-here = room-one (n - 1) few one more (rows-at f w) split-room
+    pub room-here : Roomy (bucket f) (n - 1) one (rows-at f w)
+    room-here = room-one (bucket f) (n - 1) few one more (rows-at f w) split-room
 
     -- a LayerFill leaves the levels
-    same-touched : touched-in n (done-puts (n - 1) one (rows-at f w)) (range a b) ≡ xs
+    same-touched : touched-in n (done-puts (bucket f) (n - 1) one (rows-at f w)) (range a b) ≡ xs
     same-touched =
-        touched-same n (rows-at f w) (done-puts (n - 1) one (rows-at f w))
+        touched-same n (rows-at f w) (done-puts (bucket f) (n - 1) one (rows-at f w))
         (λ (x : ℕ).
-        closes-row (n - 1) one (rows-at f w)
+        closes-row (bucket f) (n - 1) one (rows-at f w)
         (close-all k xs (length (rows-at f w)) (touched-inside (v .rest .whole) a b n (v .rest .bottom)) (cut-in (origin e) (bounds e) (seg-at ws i)))
         (records (v .rest .whole)) x .levels)
         (range a b)
 
-    pub clipping-on : (u : Words) → Whole f u → rows-at f u ≡ done-puts (n - 1) one (rows-at f w) → Clipping f n k ws start j e a b w₀ (i + 1) u
+    pub clipping-on : (u : Words) → Whole f u → rows-at f u ≡ done-puts (bucket f) (n - 1) one (rows-at f w) → Clipping f n k ws start j e a b w₀ (i + 1) u
     clipping-on u o p =
         let t : touched-in n (rows-at f u) (range a b) ≡ xs = rw p same-touched in
         record {
@@ -154,9 +154,9 @@ module _ {f : Frame} {n k : ℕ} {ws : List ℕ} {start j : ℕ} {e : Scene} {a 
                 before = omega arith;
                 within = v .rest .within;
                 good = good-rest ws i j h (v .rest .good);
-                room = rw (t, p) (room-more (n - 1) few one more (rows-at f w) split-room);
+                room = rw (t, p) (room-more (bucket f) (n - 1) few one more (rows-at f w) split-room);
               };
-          all = rw (t, p) (sym (puts-append Words word-ops 32 (n - 1) one more (rows-at f w)) ∙ (rw split-puts at (v .all)));
+          all = rw (t, p) (sym (puts-append Words word-ops (bucket f) (n - 1) one more (rows-at f w)) ∙ (rw split-puts at (v .all)));
         }
 
 -- counting, with n layers open

@@ -118,31 +118,31 @@ pub record Close (l : ℕ) (p : Put) : Type 0 where
   pub row : p .row < l
   pub act : Closing (p .act)
 
-module _ (m : ℕ) where
+module _ (v m : ℕ) where
   act-close : {t : Act} → Closing t → (r x : ℕ) (rs : List Words) → r < length rs → Records rs
-      → Closed (cond (eqb r x) 1 0) (row-of rs x) (row-of (change (acted 32 m t) r rs) x)
+      → Closed (cond (eqb r x) 1 0) (row-of rs x) (row-of (change (acted v m t) r rs) x)
   unfolding do-act
   act-close (closing {s} {a} {i}) r x rs h l = one-close r x rs h l (layer-fill s a i)
 
-  pub close-records : {t : Act} → Closing t → (r : ℕ) (rs : List Words) → r < length rs → Records rs → Records (change (acted 32 m t) r rs)
+  pub close-records : {t : Act} → Closing t → (r : ℕ) (rs : List Words) → r < length rs → Records rs → Records (change (acted v m t) r rs)
   close-records {t} k r rs h l x g =
-      act-close k r x rs h l .state ∙ l x (rw (change-length (acted 32 m t) r rs) at g)
+      act-close k r x rs h l .state ∙ l x (rw (change-length (acted v m t) r rs) at g)
 
-  pub closes-row : (ps : List Put) (rs : List Words) → All (Close (length rs)) ps → Records rs → (x : ℕ) → Closed (count-on x ps) (row-of rs x) (row-of (done-puts m ps rs) x)
+  pub closes-row : (ps : List Put) (rs : List Words) → All (Close (length rs)) ps → Records rs → (x : ℕ) → Closed (count-on x ps) (row-of rs x) (row-of (done-puts v m ps rs) x)
   unfolding do-puts count-on
   closes-row [] rs nil l x = closed-none (row-of rs x)
   closes-row (p ∷ ps) rs (cons q qs) l x =
       closed-more (cond (eqb (p .row) x) 1 0) (count-on x ps) (act-close (q .act) (p .row) x rs (q .row) l)
-      (closes-row ps (change (acted 32 m (p .act)) (p .row) rs) (rw (change-length (acted 32 m (p .act)) (p .row) rs) qs) (close-records (q .act) (p .row) rs (q .row) l) x)
+      (closes-row ps (change (acted v m (p .act)) (p .row) rs) (rw (change-length (acted v m (p .act)) (p .row) rs) qs) (close-records (q .act) (p .row) rs (q .row) l) x)
 
-  pub closes-records : (ps : List Put) (rs : List Words) → All (Close (length rs)) ps → Records rs → Records (done-puts m ps rs)
+  pub closes-records : (ps : List Put) (rs : List Words) → All (Close (length rs)) ps → Records rs → Records (done-puts v m ps rs)
   unfolding do-puts
   closes-records [] rs nil l = l
   closes-records (p ∷ ps) rs (cons q qs) l =
-      closes-records ps (change (acted 32 m (p .act)) (p .row) rs) (rw (change-length (acted 32 m (p .act)) (p .row) rs) qs) (close-records (q .act) (p .row) rs (q .row) l)
+      closes-records ps (change (acted v m (p .act)) (p .row) rs) (rw (change-length (acted v m (p .act)) (p .row) rs) qs) (close-records (q .act) (p .row) rs (q .row) l)
 
   -- one row popped; levels of other rows stay
-  pop-records : (r : ℕ) (rs : List Words) → r < length rs → Records rs → Records (change (acted 32 m pop) r rs)
+  pop-records : (r : ℕ) (rs : List Words) → r < length rs → Records rs → Records (change (acted v m pop) r rs)
   unfolding do-act
   pop-records r rs h l x g = go (eqb r x) refl
     where
@@ -154,18 +154,18 @@ module _ (m : ℕ) where
       go false e = rw (change-else end-buf r x rs nowhere (eqb-false r x e)) (l x k)
 
   act-pop : (r x : ℕ) (rs : List Words) → r < length rs → Records rs → cond (eqb r x) 1 0 ≤ word 5 (row-of rs x)
-      → Popped (cond (eqb r x) 1 0) (row-of rs x) (row-of (change (acted 32 m pop) r rs) x)
+      → Popped (cond (eqb r x) 1 0) (row-of rs x) (row-of (change (acted v m pop) r rs) x)
   unfolding do-act
   act-pop r x rs h l g = one-pop r x rs h l g
 
   pub pops-row : (is : List ℕ) (rs : List Words) → All (λ (r : ℕ). r < length rs) is → Records rs → (x : ℕ) → count-on x (map (on pop) is) ≤ word 5 (row-of rs x)
-      → Popped (count-on x (map (on pop) is)) (row-of rs x) (row-of (done-puts m (map (on pop) is) rs) x)
+      → Popped (count-on x (map (on pop) is)) (row-of rs x) (row-of (done-puts v m (map (on pop) is) rs) x)
   unfolding do-puts count-on
   pops-row [] rs nil l x g = popped-none (row-of rs x)
   pops-row (r ∷ is) rs (cons q qs) l x g =
-      let p : Popped (cond (eqb r x) 1 0) (row-of rs x) (row-of (change (acted 32 m pop) r rs) x) = act-pop r x rs q l (omega (arith, g)) in
+      let p : Popped (cond (eqb r x) 1 0) (row-of rs x) (row-of (change (acted v m pop) r rs) x) = act-pop r x rs q l (omega (arith, g)) in
       popped-more (cond (eqb r x) 1 0) (count-on x (map (on pop) is)) p
-      (pops-row is (change (acted 32 m pop) r rs) (rw (change-length (acted 32 m pop) r rs) qs) (pop-records r rs q l) x (omega (arith, g, p .levels)))
+      (pops-row is (change (acted v m pop) r rs) (rw (change-length (acted v m pop) r rs) qs) (pop-records r rs q l) x (omega (arith, g, p .levels)))
 
 -- a row among touched rows is put on once
 or-false : (b : Bool) → (b || false) ≡ b
@@ -265,19 +265,19 @@ module _ (g : ℕ → Bool) where
 
 -- a count that passes c on a row
 module _ (count : Words → ℕ) (z : count nowhere ≡ 0) (c : ℕ) where
-  row-passes-is : (i : ℕ) (rs : List Words) → row-passes Words word-ops 32 count c i rs ≡ ltb c (count (row-of rs i))
+  row-passes-is : (i : ℕ) (rs : List Words) → row-passes Words word-ops count c i rs ≡ ltb c (count (row-of rs i))
   row-passes-is i [] = rw z (sym (le-ltb c 0 (omega arith)))
   row-passes-is zero (r ∷ rs) = refl
   row-passes-is (suc i) (r ∷ rs) = row-passes-is i rs
 
-  passes-is : (ps : List Put) (rs : List Words) → passes Words word-ops 32 count c ps rs ≡ some-of (λ (p : Put). ltb c (count (row-of rs (p .row)))) ps
+  passes-is : (ps : List Put) (rs : List Words) → passes Words word-ops count c ps rs ≡ some-of (λ (p : Put). ltb c (count (row-of rs (p .row)))) ps
   unfolding passes
   passes-is [] rs = refl
   passes-is (p ∷ ps) rs = rw (row-passes-is (p .row) rs, passes-is ps rs)
 
   -- puts in touched rows, and one more in each
   pub passes-touched : (t : Act) (xs : List ℕ) (rs : List Words) (ps : List Put) → All (λ (p : Put). some-of (eqb (p .row)) xs ≡ true) ps
-      → passes Words word-ops 32 count c (ps ++ map (on t) xs) rs ≡ some-of (λ (x : ℕ). ltb c (count (row-of rs x))) xs
+      → passes Words word-ops count c (ps ++ map (on t) xs) rs ≡ some-of (λ (x : ℕ). ltb c (count (row-of rs x))) xs
   passes-touched t xs rs ps a =
       passes-is (ps ++ map (on t) xs) rs
       ∙ some-append (λ (p : Put). ltb c (count (row-of rs (p .row)))) ps (map (on t) xs)

@@ -110,21 +110,21 @@ module _ {cs ds rows : ℕ} {w : Words} (o : Arenas cs ds rows w) (n r : ℕ) (i
     out-here : touched-in n (cut (sizes cs ds) rows w) (r ∷ []) ≡ []
     out-here = not-here n (cut (sizes cs ds) rows w) r (λ (e : word 5 (row-of (cut (sizes cs ds) rows w) r) ≡ n). h (sym level ∙ e))
 
-    pub act-other : (m : ℕ) (t : Act) → cut (sizes cs ds) rows w ≡ done-puts m (map (on t) (touched-in n (cut (sizes cs ds) rows w) (r ∷ []))) (cut (sizes cs ds) rows w)
+    pub act-other : (v m : ℕ) (t : Act) → cut (sizes cs ds) rows w ≡ done-puts v m (map (on t) (touched-in n (cut (sizes cs ds) rows w) (r ∷ []))) (cut (sizes cs ds) rows w)
     unfolding do-puts
-    act-other m t = rw out-here
+    act-other v m t = rw out-here
 
   module _ (h : getD (w .state) (r * 54 + 5) 0 ≡ n) where
     in-here : touched-in n (cut (sizes cs ds) rows w) (r ∷ []) ≡ r ∷ []
     in-here = is-here n (cut (sizes cs ds) rows w) r (level ∙ h)
 
-    pub close-here : (m : ℕ) (s : Span) (j : ℕ) → change (put-command (layer-fill s none j)) r (cut (sizes cs ds) rows w) ≡ done-puts m (map (on (close s none j)) (touched-in n (cut (sizes cs ds) rows w) (r ∷ []))) (cut (sizes cs ds) rows w)
+    pub close-here : (v m : ℕ) (s : Span) (j : ℕ) → change (put-command (layer-fill s none j)) r (cut (sizes cs ds) rows w) ≡ done-puts v m (map (on (close s none j)) (touched-in n (cut (sizes cs ds) rows w) (r ∷ []))) (cut (sizes cs ds) rows w)
     unfolding do-puts do-act
-    close-here m s j = rw in-here
+    close-here v m s j = rw in-here
 
-    pub pop-here : (m : ℕ) → change end-buf r (cut (sizes cs ds) rows w) ≡ done-puts m (map (on pop) (touched-in n (cut (sizes cs ds) rows w) (r ∷ []))) (cut (sizes cs ds) rows w)
+    pub pop-here : (v m : ℕ) → change end-buf r (cut (sizes cs ds) rows w) ≡ done-puts v m (map (on pop) (touched-in n (cut (sizes cs ds) rows w) (r ∷ []))) (cut (sizes cs ds) rows w)
     unfolding do-puts do-act
-    pop-here m = rw in-here
+    pop-here v m = rw in-here
 
     pub each-here : (P : Words → Type 0) → Each P (cut (sizes cs ds) rows w) (touched-in n (cut (sizes cs ds) rows w) (r ∷ [])) → P (row-of (cut (sizes cs ds) rows w) r)
     each-here P a = let b : All (λ (x : ℕ). P (row-of (cut (sizes cs ds) rows w) x)) (r ∷ []) = rw in-here at a in head b
@@ -215,13 +215,13 @@ module _ {cs ds rows : ℕ} {w : Words} (o : Arenas cs ds rows w) (a b n : ℕ) 
     touched-depths h = rw record-is (at-found (pops-shallow cs ds n (cut (sizes cs ds) rows w) (range a b) h) k g .0)
 
 -- what closing by a cut segment asks
-pub clip-here : {cs ds rows : ℕ} {w : Words} (o : Arenas cs ds rows w) (a b n m i : ℕ) (e : Scene) (g : Segment) (k : Cut) → b ≤ rows → good-segment g ≡ true → Starts (origin e) (bounds e)
+pub clip-here : {cs ds rows : ℕ} {w : Words} (o : Arenas cs ds rows w) (a b n v m i : ℕ) (e : Scene) (g : Segment) (k : Cut) → b ≤ rows → good-segment g ≡ true → Starts (origin e) (bounds e)
     → k ∷ [] ≡ cut-in (origin e) (bounds e) g → some-of (eqb (k .row)) (touched-in n (cut (sizes cs ds) rows w) (range a b)) ≡ true
-    → Roomy m (close-puts i (touched-in n (cut (sizes cs ds) rows w) (range a b)) (cut-in (origin e) (bounds e) g)) (cut (sizes cs ds) rows w)
+    → Roomy v m (close-puts i (touched-in n (cut (sizes cs ds) rows w) (range a b)) (cut-in (origin e) (bounds e) g)) (cut (sizes cs ds) rows w)
     → Arenas cs ds rows w × (k .row < rows) × Short (k .stretch .tiles) × Fillable (k .stretch .tiles) (k .stretch .alpha) i (row-of (cut (sizes cs ds) rows w) (k .row))
-clip-here {cs} {ds} {rows} {w} o a b n m i e g k h t s p q r = (
+clip-here {cs} {ds} {rows} {w} o a b n v m i e g k h t s p q r = (
   o,
   touched-row o a b n h (k .row) q,
   placed-short e g k t s p,
-  one-fillable m i (touched-in n (cut (sizes cs ds) rows w) (range a b)) (cut (sizes cs ds) rows w) (cut-in (origin e) (bounds e) g) k p q (at-found (touched-inside o a b n h) (k .row) q) r,
+  one-fillable v m i (touched-in n (cut (sizes cs ds) rows w) (range a b)) (cut (sizes cs ds) rows w) (cut-in (origin e) (bounds e) g) k p q (at-found (touched-inside o a b n h) (k .row) q) r,
 )

@@ -68,32 +68,32 @@ pub long-after : {cs ds rows : ℕ} {w : Words} (x y z : List ℕ) → Arenas cs
 long-after x y z o p q r =
     record { rows = o .rows; c = o .c; d = o .d; long = record { state = p ∙ o .long .state; render = q ∙ o .long .render; fills = r ∙ o .long .fills } }
 
-module _ (m : ℕ) (h : m ≤ 16) where
+module _ (v m : ℕ) (h : m ≤ 16) where
   -- a row that is sound stays so through any puts
-  pub done-sound : (ps : List Put) (rs : List Words) (x : ℕ) → length (row-of rs x .state) ≡ 54 → word 5 (row-of rs x) ≤ 16 → Sound (row-of rs x) (row-of (done-puts m ps rs) x)
+  pub done-sound : (ps : List Put) (rs : List Words) (x : ℕ) → length (row-of rs x .state) ≡ 54 → word 5 (row-of rs x) ≤ 16 → Sound (row-of rs x) (row-of (done-puts v m ps rs) x)
   unfolding do-puts
   done-sound [] rs x l k = record { grown = grown-refl (row-of rs x); levels = k }
   done-sound (p ∷ ps) rs x l k =
-      let f : Words → Words = acted 32 m (p .act) in
+      let f : Words → Words = acted v m (p .act) in
       let s : Sound (row-of rs x) (row-of (change f (p .row) rs) x) =
       change-at (λ (u : Words). Sound (row-of rs x) u) f (p .row) x rs nowhere
       (record { grown = grown-refl (row-of rs x); levels = k })
-      (acted-sound 32 m (row-of rs x) l k h (p .act)) in
+      (acted-sound v m (row-of rs x) l k h (p .act)) in
       sound-trans s (done-sound ps (change f (p .row) rs) x (s .grown .state ∙ l) (s .levels))
 
   -- room for all puts is room for the first, and after them for the rest
-  pub room-one : (ps qs : List Put) (rs : List Words) → Roomy m (ps ++ qs) rs → Roomy m ps rs
+  pub room-one : (ps qs : List Put) (rs : List Words) → Roomy v m (ps ++ qs) rs → Roomy v m ps rs
   room-one ps qs rs a =
       all-map
-      (λ (p : Put) (r : Room (row-of rs (p .row)) (row-of (done-puts m (ps ++ qs) rs) (p .row))).
+      (λ (p : Put) (r : Room (row-of rs (p .row)) (row-of (done-puts v m (ps ++ qs) rs) (p .row))).
       let s = done-sound ps rs (p .row) (r .state) (r .levels) in
-      let t = done-sound qs (done-puts m ps rs) (p .row) (s .grown .state ∙ r .state) (s .levels) in
-      room-first (t .grown) (rw (puts-append Words word-ops 32 m ps qs rs) at r))
+      let t = done-sound qs (done-puts v m ps rs) (p .row) (s .grown .state ∙ r .state) (s .levels) in
+      room-first (t .grown) (rw (puts-append Words word-ops v m ps qs rs) at r))
       (all-first ps qs a)
 
-  pub room-more : (ps qs : List Put) (rs : List Words) → Roomy m (ps ++ qs) rs → Roomy m qs (done-puts m ps rs)
+  pub room-more : (ps qs : List Put) (rs : List Words) → Roomy v m (ps ++ qs) rs → Roomy v m qs (done-puts v m ps rs)
   room-more ps qs rs a =
       all-map
-      (λ (p : Put) (r : Room (row-of rs (p .row)) (row-of (done-puts m (ps ++ qs) rs) (p .row))).
-      room-after (done-sound ps rs (p .row) (r .state) (r .levels)) (rw (puts-append Words word-ops 32 m ps qs rs) at r))
+      (λ (p : Put) (r : Room (row-of rs (p .row)) (row-of (done-puts v m (ps ++ qs) rs) (p .row))).
+      room-after (done-sound ps rs (p .row) (r .state) (r .levels)) (rw (puts-append Words word-ops v m ps qs rs) at r))
       (all-rest ps qs a)

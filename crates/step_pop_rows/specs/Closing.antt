@@ -6,14 +6,14 @@ use mathlib.Core.List.{List, [], _∷_, _++_}
 use mathlib.Core.Option.{Option}
 use lib.ListN.{length, getD}
 use lib.Dec.{leb, ltb, eqb}
-use Rattle.sizes.specs.Sizes.{bucket-tiles, tile-end, most-layers, most-room, row-size, renders-at, depths-at, levels-at, level-at}
+use Rattle.sizes.specs.Sizes.{tile-end, most-layers, most-room, row-size, renders-at, depths-at, levels-at, level-at}
 use Rattle.rules.specs.Lists.{every, some-of, keep, join, range}
 use Rattle.rules.specs.Answers.{Done, BadRecord, FullRow}
 use Rattle.rules.specs.Boxes.{rows-of}
 use Rattle.rules.specs.Spans.{Span}
 use Rattle.rules.specs.Segments.{Segment, good-segment, Cut, cut-in}
 use Rattle.rules.specs.Commands.{layer-fill}
-use Rattle.rules.specs.Plans.{Frame, Put, close-puts}
+use Rattle.rules.specs.Plans.{Frame, bucket, Put, close-puts}
 use Rattle.rules.specs.Steps.{do-puts}
 use Rattle.rules.proofs.All.{All}
 use Rattle.row.specs.Words.{Words, word, word-ops, put-command, end-buf, Room, Ends}
@@ -72,13 +72,13 @@ runs-full c touched rs next m (k ∷ ks) =
     cond (some-of (eqb (k .row)) touched) (ltb c (more + 1) || runs-full c touched rs (k .row + 1) more ks)
     (runs-full c touched rs next m ks)
 
--- puts, done without limits; m layers are open afterwards
-abbrev pub done-puts : ℕ → List Put → List Words → List Words
-done-puts m ps rs = do-puts Words word-ops bucket-tiles m ps rs
+-- puts, done without limits; a bucket has v tiles, and m layers are open afterwards
+abbrev pub done-puts : ℕ → ℕ → List Put → List Words → List Words
+done-puts v m ps rs = do-puts Words word-ops v m ps rs
 
 -- each row that is put on has room for what all the puts make of it
-abbrev pub Roomy : ℕ → List Put → List Words → Type 0
-Roomy m ps rs = All (λ (p : Put). Room (row-of rs (p .row)) (row-of (done-puts m ps rs) (p .row))) ps
+abbrev pub Roomy : ℕ → ℕ → List Put → List Words → Type 0
+Roomy v m ps rs = All (λ (p : Put). Room (row-of rs (p .row)) (row-of (done-puts v m ps rs) (p .row))) ps
 
 -- a row with room for a LayerFill, and one with a level to end and room for its PopBuf
 abbrev pub Fillable : Span → Option ℕ → ℕ → Words → Type 0
@@ -108,7 +108,7 @@ pub record Clips (f : Frame) (n k : ℕ) (ws : List ℕ) (i j : ℕ) (e : Scene)
   pub before : i ≤ j
   pub within : 5 * j ≤ length ws
   pub good : every good-segment (segs ws i (j - i)) ≡ true
-  pub room : Roomy (n - 1) (clip-puts k (touched-in n (rows-at f w) (range a b)) e (segs ws i (j - i))) (rows-at f w)
+  pub room : Roomy (bucket f) (n - 1) (clip-puts k (touched-in n (rows-at f w) (range a b)) e (segs ws i (j - i))) (rows-at f w)
 
 -- what its rows have room for: each touched one gets a PopBuf
 abbrev pub pop-limits : Screen → Limits

@@ -34,6 +34,7 @@ ghost use mathlib.Core.Option.{none};
 ghost use Prim.Native.Nat.{_+_, _-_, _*_, _≤_, _<_};
 ghost use lib.ListN.{length};
 ghost use Rattle.sizes.specs.Sizes.{most-layers, most-rows, row-size};
+ghost use Rattle.sizes.specs.Widths.{bucket-tiles};
 ghost use Rattle.rules.specs.Lists.{change, join, range, every};
 ghost use Rattle.rules.specs.Answers.{FullRow};
 ghost use Rattle.rules.specs.Boxes.{rows-of};
@@ -278,7 +279,7 @@ fn close_span(
     requires { ⌜ Whole (frame-of screen) (words (now rows) (now render) (now fills)) × (r < rows-of (box-of (screen .viewport))) × Short (tiles span)
         × Each (Fillable (tiles span) none (screen .«layer_attrs»)) (rows-at (frame-of screen) (words (now rows) (now render) (now fills))) (touched-in (screen .layers) (rows-at (frame-of screen) (words (now rows) (now render) (now fills))) (r ∷ [])) ⌝ }
     ensures { λ _. ⌜ rows-at (frame-of screen) (words (now (rows .exit)) (now (render .exit)) (now (fills .exit)))
-        ≡ done-puts (screen .layers - 1) (map (on (close (tiles span) none (screen .«layer_attrs»))) (touched-in (screen .layers) (rows-at (frame-of screen) (words (now (rows .entry)) (now (render .entry)) (now (fills .entry)))) (r ∷ []))) (rows-at (frame-of screen) (words (now (rows .entry)) (now (render .entry)) (now (fills .entry)))) ⌝ }
+        ≡ done-puts (bucket-tiles (screen .width)) (screen .layers - 1) (map (on (close (tiles span) none (screen .«layer_attrs»))) (touched-in (screen .layers) (rows-at (frame-of screen) (words (now (rows .entry)) (now (render .entry)) (now (fills .entry)))) (r ∷ []))) (rows-at (frame-of screen) (words (now (rows .entry)) (now (render .entry)) (now (fills .entry)))) ⌝ }
 {
     let x = r * ROW;
     if rows[x + LEVELS] != screen.layers {
@@ -305,7 +306,7 @@ pub fn close_spans(
     requires { ⌜ Whole (frame-of screen) (words (now rows) (now render) (now fills)) × (b ≤ rows-of (box-of (screen .viewport))) × Short (tiles span)
         × Each (Fillable (tiles span) none (screen .«layer_attrs»)) (rows-at (frame-of screen) (words (now rows) (now render) (now fills))) (touched-in (screen .layers) (rows-at (frame-of screen) (words (now rows) (now render) (now fills))) (range a b)) ⌝ }
     ensures { λ _. ⌜ rows-at (frame-of screen) (words (now (rows .exit)) (now (render .exit)) (now (fills .exit)))
-        ≡ done-puts (screen .layers - 1) (map (on (close (tiles span) none (screen .«layer_attrs»))) (touched-in (screen .layers) (rows-at (frame-of screen) (words (now (rows .entry)) (now (render .entry)) (now (fills .entry)))) (range a b))) (rows-at (frame-of screen) (words (now (rows .entry)) (now (render .entry)) (now (fills .entry)))) ⌝ }
+        ≡ done-puts (bucket-tiles (screen .width)) (screen .layers - 1) (map (on (close (tiles span) none (screen .«layer_attrs»))) (touched-in (screen .layers) (rows-at (frame-of screen) (words (now (rows .entry)) (now (render .entry)) (now (fills .entry)))) (range a b))) (rows-at (frame-of screen) (words (now (rows .entry)) (now (render .entry)) (now (fills .entry)))) ⌝ }
 {
     let mut r = a;
     while r < b {
@@ -319,7 +320,7 @@ fn pop_row(screen: Screen, rows: &mut [u32], render: &mut [u32], fills: &mut [u3
     requires { ⌜ Whole (frame-of screen) (words (now rows) (now render) (now fills)) × (r < rows-of (box-of (screen .viewport)))
         × Each Poppable (rows-at (frame-of screen) (words (now rows) (now render) (now fills))) (touched-in (screen .layers) (rows-at (frame-of screen) (words (now rows) (now render) (now fills))) (r ∷ [])) ⌝ }
     ensures { λ _. ⌜ rows-at (frame-of screen) (words (now (rows .exit)) (now (render .exit)) (now (fills .exit)))
-        ≡ done-puts (screen .layers - 1) (map (on pop) (touched-in (screen .layers) (rows-at (frame-of screen) (words (now (rows .entry)) (now (render .entry)) (now (fills .entry)))) (r ∷ []))) (rows-at (frame-of screen) (words (now (rows .entry)) (now (render .entry)) (now (fills .entry)))) ⌝ }
+        ≡ done-puts (bucket-tiles (screen .width)) (screen .layers - 1) (map (on pop) (touched-in (screen .layers) (rows-at (frame-of screen) (words (now (rows .entry)) (now (render .entry)) (now (fills .entry)))) (r ∷ []))) (rows-at (frame-of screen) (words (now (rows .entry)) (now (render .entry)) (now (fills .entry)))) ⌝ }
 {
     let x = r * ROW;
     if rows[x + LEVELS] != screen.layers {
@@ -340,7 +341,7 @@ pub fn pop_rows(
     requires { ⌜ Whole (frame-of screen) (words (now rows) (now render) (now fills)) × (b ≤ rows-of (box-of (screen .viewport)))
         × Each Poppable (rows-at (frame-of screen) (words (now rows) (now render) (now fills))) (touched-in (screen .layers) (rows-at (frame-of screen) (words (now rows) (now render) (now fills))) (range a b)) ⌝ }
     ensures { λ _. ⌜ rows-at (frame-of screen) (words (now (rows .exit)) (now (render .exit)) (now (fills .exit)))
-        ≡ done-puts (screen .layers - 1) (map (on pop) (touched-in (screen .layers) (rows-at (frame-of screen) (words (now (rows .entry)) (now (render .entry)) (now (fills .entry)))) (range a b))) (rows-at (frame-of screen) (words (now (rows .entry)) (now (render .entry)) (now (fills .entry)))) ⌝ }
+        ≡ done-puts (bucket-tiles (screen .width)) (screen .layers - 1) (map (on pop) (touched-in (screen .layers) (rows-at (frame-of screen) (words (now (rows .entry)) (now (render .entry)) (now (fills .entry)))) (range a b))) (rows-at (frame-of screen) (words (now (rows .entry)) (now (render .entry)) (now (fills .entry)))) ⌝ }
 {
     let mut r = a;
     while r < b {
@@ -362,9 +363,9 @@ fn close_segment(
     b: usize,
 )
     requires { ⌜ Whole (frame-of screen) (words (now rows) (now render) (now fills)) × (b ≤ rows-of (box-of (screen .viewport))) × (5 * i + 5 ≤ length (now list)) × (good-segment (seg-at (now list) i) ≡ true) × Starts (origin scene) (bounds scene)
-        × Roomy (screen .layers - 1) (close-puts (screen .«layer_attrs») (touched-in (screen .layers) (rows-at (frame-of screen) (words (now rows) (now render) (now fills))) (range a b)) (cut-in (origin scene) (bounds scene) (seg-at (now list) i))) (rows-at (frame-of screen) (words (now rows) (now render) (now fills))) ⌝ }
+        × Roomy (bucket-tiles (screen .width)) (screen .layers - 1) (close-puts (screen .«layer_attrs») (touched-in (screen .layers) (rows-at (frame-of screen) (words (now rows) (now render) (now fills))) (range a b)) (cut-in (origin scene) (bounds scene) (seg-at (now list) i))) (rows-at (frame-of screen) (words (now rows) (now render) (now fills))) ⌝ }
     ensures { λ _. ⌜ rows-at (frame-of screen) (words (now (rows .exit)) (now (render .exit)) (now (fills .exit)))
-        ≡ done-puts (screen .layers - 1) (close-puts (screen .«layer_attrs») (touched-in (screen .layers) (rows-at (frame-of screen) (words (now (rows .entry)) (now (render .entry)) (now (fills .entry)))) (range a b)) (cut-in (origin scene) (bounds scene) (seg-at (now (list .entry)) i))) (rows-at (frame-of screen) (words (now (rows .entry)) (now (render .entry)) (now (fills .entry)))) ⌝ }
+        ≡ done-puts (bucket-tiles (screen .width)) (screen .layers - 1) (close-puts (screen .«layer_attrs») (touched-in (screen .layers) (rows-at (frame-of screen) (words (now (rows .entry)) (now (render .entry)) (now (fills .entry)))) (range a b)) (cut-in (origin scene) (bounds scene) (seg-at (now (list .entry)) i))) (rows-at (frame-of screen) (words (now (rows .entry)) (now (render .entry)) (now (fills .entry)))) ⌝ }
 {
     let placed = place(segment_at(list, i), scene);
     match placed {
@@ -401,7 +402,7 @@ pub fn close_segments(
 )
     requires { ⌜ Clips (frame-of screen) (screen .layers) (screen .«layer_attrs») (now list) start «end» scene a b (words (now rows) (now render) (now fills)) ⌝ }
     ensures { λ _. ⌜ rows-at (frame-of screen) (words (now (rows .exit)) (now (render .exit)) (now (fills .exit)))
-        ≡ done-puts (screen .layers - 1) (clip-puts (screen .«layer_attrs») (touched-in (screen .layers) (rows-at (frame-of screen) (words (now (rows .entry)) (now (render .entry)) (now (fills .entry)))) (range a b)) scene (segs (now (list .entry)) start («end» - start))) (rows-at (frame-of screen) (words (now (rows .entry)) (now (render .entry)) (now (fills .entry)))) ⌝ }
+        ≡ done-puts (bucket-tiles (screen .width)) (screen .layers - 1) (clip-puts (screen .«layer_attrs») (touched-in (screen .layers) (rows-at (frame-of screen) (words (now (rows .entry)) (now (render .entry)) (now (fills .entry)))) (range a b)) scene (segs (now (list .entry)) start («end» - start))) (rows-at (frame-of screen) (words (now (rows .entry)) (now (render .entry)) (now (fills .entry)))) ⌝ }
 {
     let mut i = start;
     while i < end {

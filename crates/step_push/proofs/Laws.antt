@@ -23,6 +23,7 @@ use Rattle.rules.proofs.All.{both}
 use Rattle.cmd.specs.Attrs.{words-at}
 use Rattle.row.specs.Words.{Words, word-ops}
 use Rattle.row_screen.specs.Arena.{lay}
+use Rattle.sizes.specs.Widths.{bucket-tiles}
 use Rattle.row_acts.specs.Acts.{acted}
 use Rattle.row_judge.specs.Building.{Whole, rows-at, screen-at, good-rows, step-number}
 use Rattle.rect.specs.declared.Rect.{Rect}
@@ -88,8 +89,8 @@ module _ (p : LayerProps) (s : Screen) (g : good-screen s ≡ true) where
   unfolding plan-push
   plan-fine h = rw h
 
-  plan-adds : length (plan-of p s .layers) ≤ 16 → Adding (s .layers) (acted 32 (length (plan-of p s .layers)) touch)
-  plan-adds h = rw plan-deep (touch-adds (s .layers) (omega (arith, plan-deep)))
+  plan-adds : length (plan-of p s .layers) ≤ 16 → Adding (s .layers) (acted (bucket-tiles (s .width)) (length (plan-of p s .layers)) touch)
+  plan-adds h = rw plan-deep (touch-adds _ (s .layers) (omega (arith, plan-deep)))
 
 -- the box lies on the screen, and so do the rows
 own-bottom : (v b : Box) (o : Option rule.Clip) (h : ℕ) → b .y1 ≤ h → layer-box v b o .y1 ≤ h
@@ -134,7 +135,7 @@ module _ (p : LayerProps) (s : Screen) (w : Words) (ls : List ℕ) (os : List Fl
     whole = passed-whole s w fit
 
     module _ (e : length ls ≡ 256) (f : length os ≡ 1040) where
-      either-way : plan-of p s .refused ≡ 4 → (g : Bool) → 4 ≡ cond g (refusal Words word-ops 32 (plan-of p s) (done Words word-ops 32 (plan-of p s) (screen-at (state-of s) w))) 4
+      either-way : plan-of p s .refused ≡ 4 → (g : Bool) → 4 ≡ cond g (refusal Words word-ops (plan-of p s) (done Words word-ops (plan-of p s) (screen-at (state-of s) w))) 4
       unfolding refusal
       either-way r true = rw r
       either-way r false = refl
@@ -227,7 +228,7 @@ pub record PushReady (p : LayerProps) (s : Screen) (w : Words) (ls : List ℕ) (
   pub layers : length ls ≡ 256
   pub opacities : length os ≡ 1040
   pub free : s .layers < 16
-  pub on : OnRows s (s .layers + 1) (acted 32 (s .layers + 1) touch) (own-run p s .a) (own-run p s .b) w
+  pub on : OnRows s (s .layers + 1) (acted (bucket-tiles (s .width)) (s .layers + 1) touch) (own-run p s .a) (own-run p s .b) w
 
 module _ (p : LayerProps) (s : Screen) (w : Words) (ls : List ℕ) (os : List Float) (q : push-number p (lent s w ls os) ≡ 0) where
   not-zero : {n : ℕ} → suc n ≡ push-number p (lent s w ls os) → ⊥
@@ -251,7 +252,7 @@ module _ (p : LayerProps) (s : Screen) (w : Words) (ls : List ℕ) (os : List Fl
         free = m;
         on =
             band-room s w (passed-whole s w f) touch (own-run p s .a) (own-run p s .b) (run-within p s (f .screen) (f .view)) (s .layers + 1) (omega arith)
-            (omega arith) (touch-adds (s .layers) (omega arith)) t;
+            (omega arith) (touch-adds _ (s .layers) (omega arith)) t;
       }
 
 -- what it leaves
@@ -267,12 +268,12 @@ module _ (p : LayerProps) (s : Screen) (w : Words) (ls : List ℕ) (os : List Fl
   unfolding screen-after
   screen-is = rw (plan-deep p s ok-screen, plan-layers p s ok-screen, ← e, plan-next p s ok-screen, plan-counts .0, plan-counts .1, plan-counts .2)
 
-  rows-are : done Words word-ops 32 (plan-of p s) (screen-at (state-of s) w) .rows ≡ each (acted 32 (s .layers + 1) touch) (range (own-run p s .a) (own-run p s .b)) (rows-at (frame-of s) w)
+  rows-are : done Words word-ops (plan-of p s) (screen-at (state-of s) w) .rows ≡ each (acted (bucket-tiles (s .width)) (s .layers + 1) touch) (range (own-run p s .a) (own-run p s .b)) (rows-at (frame-of s) w)
   unfolding done
-  rows-are = rw (plan-deep p s ok-screen, plan-puts p s ok-screen, frame-is s) (puts-each (s .layers + 1) touch (range (own-run p s .a) (own-run p s .b)) (rows-at (frame-of s) w))
+  rows-are = rw (plan-deep p s ok-screen, plan-puts p s ok-screen, frame-is s) (puts-each _ (s .layers + 1) touch (range (own-run p s .a) (own-run p s .b)) (rows-at (frame-of s) w))
 
   pub after-is : (x : Screen) (ws : Words) (r : Run) → x ≡ on-layer s b → r ≡ touch-run (p .blend .compose) (box-of b)
-      → ws ≡ lay (each (acted 32 (s .layers + 1) touch) (range (r .a) (r .b)) (rows-at (frame-of s) w))
+      → ws ≡ lay (each (acted (bucket-tiles (s .width)) (s .layers + 1) touch) (range (r .a) (r .b)) (rows-at (frame-of s) w))
       → lent x ws (words-at ls (16 * s .layers) (layer-words (layer-of p b) (p .nan))) (set os (s .layers) (p .opacity)) ≡ after p (lent s w ls os)
   unfolding after
   after-is x ws r f g h =

@@ -5,7 +5,7 @@ use mathlib.Core.List.{List, [], _∷_}
 use lib.ListN.{length, set}
 use lib.Dec.{eqb}
 use lib.Ieee.{Float}
-use Rattle.sizes.specs.Sizes.{bucket-tiles, open-layer-size, open-layer-table, opacity-count}
+use Rattle.sizes.specs.Sizes.{open-layer-size, open-layer-table, opacity-count}
 use Rattle.rules.specs.Answers.{Answer, Done, BadRecord, settle}
 use Rattle.rules.specs.Boxes.{Box, empty-box}
 use Rattle.rules.specs.Blends.{destructive}
@@ -59,7 +59,7 @@ top-words (l ∷ ls) nan = layer-words l nan
 unfoldable pub after : LayerProps → PushLent → PushLent
 after p l =
     let s = l .screen in
-    lent (screen-after s (plan-of p s)) (lay (done Words word-ops bucket-tiles (plan-of p s) (screen-at (state-of s) (l .words)) .rows))
+    lent (screen-after s (plan-of p s)) (lay (done Words word-ops (plan-of p s) (screen-at (state-of s) (l .words)) .rows))
     (words-at (l .layers) (open-layer-size * s .layers) (top-words (plan-of p s .layers) (p .nan))) (set (l .opacities) (s .layers) (p .opacity))
 
 -- what is refused alters nothing

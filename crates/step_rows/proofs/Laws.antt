@@ -2,7 +2,6 @@
 use mathlib.Core.Path.{_≡_, refl, sym, ap, _∙_}
 use mathlib.Core.Bool.{Bool, true, false}
 use mathlib.Core.List.{List, [], _∷_, map}
-use mathlib.Core.Option.{none}
 use Prim.Native.Nat.{ℕ, zero, suc, _+_, _-_, _*_, _≤_, _<_}
 use native.Mathlib.Omega.{arith}
 use lib.Dec.{eqb}
@@ -10,20 +9,23 @@ use lib.ListN.{length, getD}
 use borrow.Author.Tests.{eqb-true, eqb-false}
 use Rattle.rules.specs.Lists.{change, count-from, range}
 use Rattle.rules.specs.Boxes.{rows-of}
-use Rattle.rules.specs.Spans.{Span}
-use Rattle.rules.specs.Plans.{Act, paint, touch, on}
+use Rattle.rules.specs.Commands.{Command}
+use Rattle.rules.specs.Plans.{Act, on}
 use Rattle.rules.specs.Steps.{do-act, do-puts}
 use Rattle.rules.proofs.laws.Changes.{change-length, change-same, change-else}
-use Rattle.row.specs.Words.{Words, words, word-ops, Room, Grown}
+use Rattle.row.specs.Words.{Words, words, put-command, word-ops, Room, Grown}
+use Rattle.row.proofs.Laws.{room-first}
 use Rattle.row_screen.specs.Arena.{nowhere, sizes, cut, lay, Long}
 use Rattle.row_screen.proofs.Laws.{lay-cut}
-use Rattle.row_acts.specs.Acts.{acted, ensured, drawn}
-use Rattle.row_acts.proofs.Laws.{acted-sound, touch-is, paint-is}
+use Rattle.row_acts.specs.Acts.{acted, ensured}
+use Rattle.row_acts.proofs.Laws.{Sound, ensured-sound, cmd-sound, acted-sound}
 use Rattle.rect.specs.Rects.{box-of}
 use Rattle.screen.specs.declared.Screen.{Screen}
 use Rattle.row_judge.specs.Building.{rows-at}
 use Rattle.screen.specs.Screens.{frame-of}
-use Rattle.step_rows.specs.Band.{each, OnRow, OnRows}
+use Rattle.step_rows.specs.declared.Act.{Act as RunAct}
+use Rattle.step_rows.specs.declared.Act.the-variants.{Touch, Paint}
+use Rattle.step_rows.specs.Band.{each, act-of, act-on, OnRow, OnRows}
 
 module _ (f : Words → Words) where
   pub each-length : (rs : List ℕ) (ws : List Words) → length (each f rs ws) ≡ length ws
@@ -49,10 +51,10 @@ module _ (f : Words → Words) where
       by false e more = let q : r ≡ x → ⊥ = eqb-false r x e in more q ∙ ap f (change-else f r x ws nowhere q)
 
 -- the rules' puts of one act on a run of rows
-pub puts-each : (n : ℕ) (a : Act) (rs : List ℕ) (ws : List Words) → do-puts Words word-ops 32 n (map (on a) rs) ws ≡ each (acted 32 n a) rs ws
+pub puts-each : (v n : ℕ) (a : Act) (rs : List ℕ) (ws : List Words) → do-puts Words word-ops v n (map (on a) rs) ws ≡ each (acted v n a) rs ws
 unfolding do-puts each
-puts-each n a [] ws = refl
-puts-each n a (r ∷ rs) ws = puts-each n a rs (change (acted 32 n a) r ws)
+puts-each v n a [] ws = refl
+puts-each v n a (r ∷ rs) ws = puts-each v n a rs (change (acted v n a) r ws)
 
 -- a loop over the rows a to b, at row r
 pub record Banding (s : Screen) (n : ℕ) (f : Words → Words) (a b : ℕ) (w₀ : Words) (r : ℕ) (w : Words) : Type 0 where
@@ -96,8 +98,8 @@ module _ {s : Screen} {n : ℕ} {f : Words → Words} {a b : ℕ} {w₀ : Words}
       }
 
 -- an act grows a row that has room for it
-pub act-grows : (n : ℕ) (a : Act) (w : Words) → n ≤ 16 → Room w (acted 32 n a w) → Grown w (acted 32 n a w)
-act-grows n a w m r = acted-sound 32 n w (r .state) (r .levels) m a .grown
+pub act-grows : (v n : ℕ) (a : Act) (w : Words) → n ≤ 16 → Room w (acted v n a w) → Grown w (acted v n a w)
+act-grows v n a w m r = acted-sound v n w (r .state) (r .levels) m a .grown
 
 -- the words that come back from a call are as many
 pub long-after : (s : Screen) (w : Words) (x y z : List ℕ) → Long (sizes (s .c) (s .d)) (rows-of (box-of (s .viewport))) w
@@ -105,10 +107,14 @@ pub long-after : (s : Screen) (w : Words) (x y z : List ℕ) → Long (sizes (s 
     → Long (sizes (s .c) (s .d)) (rows-of (box-of (s .viewport))) (words x y z)
 long-after s w x y z l p q r = record { state = p ∙ l .state; render = q ∙ l .render; fills = r ∙ l .fills }
 
--- an act on one row, by its cases
-module _ (n : ℕ) (w : Words) where
-  pub touch-room : Room w (acted 32 n touch w) → Room w (ensured n w)
-  touch-room r = rw (touch-is 32 n w) at r
+-- an act of a run is the rules' act at any width
+pub act-on-is : (v n : ℕ) (a : RunAct) (w : Words) → acted v n (act-of a) w ≡ act-on n a w
+unfolding do-act
+act-on-is v n Touch w = refl
+act-on-is v n (Paint s i) w = refl
 
-  pub paint-room : (t : Span) (i : ℕ) → Room w (acted 32 n (paint t none i) w) → Room w (drawn 32 n false t none i 0 w)
-  paint-room t i r = rw (paint-is 32 n w t i 0) at r
+-- a row with room for a command after its layers has room for its layers
+pub layers-room : (n : ℕ) (c : Command) (w : Words) → n ≤ 16 → Room w (put-command c (ensured n w)) → Room w (ensured n w)
+layers-room n c w m r =
+    let s : Sound w (ensured n w) = ensured-sound n w m (r .state) (r .levels) in
+    room-first (cmd-sound (ensured n w) (s .grown .state ∙ r .state) (s .levels) c .grown) r

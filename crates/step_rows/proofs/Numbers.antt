@@ -8,6 +8,7 @@ use native.Mathlib.Omega.{arith}
 use lib.Dec.{ltb, eqb}
 use lib.ListN.{length, getD}
 use borrow.Author.Tests.{ltb-false, le-ltb, eqb-true, eqb-false}
+use Rattle.sizes.specs.Widths.{bucket-tiles}
 use Rattle.rules.specs.Lists.{every, some-of, count-from, range, times}
 use Rattle.rules.specs.Answers.{first-of}
 use Rattle.rules.specs.Boxes.{rows-of}
@@ -73,7 +74,7 @@ good-get s n i [] h = absurd (omega arith)
 good-get s n zero (w ∷ ws) h = refl
 good-get s n (suc i) (w ∷ ws) h = good-get s n i ws (omega arith)
 
-passes-get : (j n i : ℕ) (ws : List Words) → i < length ws → row-passes Words word-ops 32 (word j) n i ws ≡ ltb n (word j (getD ws i nowhere))
+passes-get : (j n i : ℕ) (ws : List Words) → i < length ws → row-passes Words word-ops (word j) n i ws ≡ ltb n (word j (getD ws i nowhere))
 passes-get j n i [] h = absurd (omega arith)
 passes-get j n zero (w ∷ ws) h = refl
 passes-get j n (suc i) (w ∷ ws) h = passes-get j n i ws (omega arith)
@@ -130,19 +131,19 @@ module _ (s : Screen) (w : Words) (o : Whole (frame-of s) w) where
         in-after : i < length (each f (range x b) (rows-at (frame-of s) w))
         in-after = rw (each-length f (range x b) (rows-at (frame-of s) w)) (in-rows i (omega arith))
 
-        one-full : row-passes Words word-ops 32 (word 0) (s .c) i (each f (range x b) (rows-at (frame-of s) w)) ≡ is-full (s .c) n (record-at (w .state) i)
+        one-full : row-passes Words word-ops (word 0) (s .c) i (each f (range x b) (rows-at (frame-of s) w)) ≡ is-full (s .c) n (record-at (w .state) i)
         one-full = passes-get 0 (s .c) i (each f (range x b) (rows-at (frame-of s) w)) in-after ∙ rw (row-after, row-adds .renders, row-is i (omega arith))
 
-        one-deep : row-passes Words word-ops 32 (word 1) (s .d) i (each f (range x b) (rows-at (frame-of s) w)) ≡ false
+        one-deep : row-passes Words word-ops (word 1) (s .d) i (each f (range x b) (rows-at (frame-of s) w)) ≡ false
         one-deep = passes-get 1 (s .d) i (each f (range x b) (rows-at (frame-of s) w)) in-after ∙ rw (row-after, row-adds .depths, row-is i (omega arith)) (le-ltb _ _ (facts .depths))
 
-      full-is : (a : Act) → passes Words word-ops 32 (word 0) (s .c) (map (on a) (range x b)) (each f (range x b) (rows-at (frame-of s) w)) ≡ some-of (λ (r : ℕ). is-full (s .c) n (record-at (w .state) r)) (range x b)
+      full-is : (a : Act) → passes Words word-ops (word 0) (s .c) (map (on a) (range x b)) (each f (range x b) (rows-at (frame-of s) w)) ≡ some-of (λ (r : ℕ). is-full (s .c) n (record-at (w .state) r)) (range x b)
       unfolding passes
-      full-is a = some-map (on a) (λ (p : Put). row-passes Words word-ops 32 (word 0) (s .c) (p .row) (each f (range x b) (rows-at (frame-of s) w))) (range x b) ∙ some-same (in-run one-full)
+      full-is a = some-map (on a) (λ (p : Put). row-passes Words word-ops (word 0) (s .c) (p .row) (each f (range x b) (rows-at (frame-of s) w))) (range x b) ∙ some-same (in-run one-full)
 
-      deep-is : (a : Act) → passes Words word-ops 32 (word 1) (s .d) (map (on a) (range x b)) (each f (range x b) (rows-at (frame-of s) w)) ≡ false
+      deep-is : (a : Act) → passes Words word-ops (word 1) (s .d) (map (on a) (range x b)) (each f (range x b) (rows-at (frame-of s) w)) ≡ false
       unfolding passes
-      deep-is a = some-map (on a) (λ (p : Put). row-passes Words word-ops 32 (word 1) (s .d) (p .row) (each f (range x b) (rows-at (frame-of s) w))) (range x b) ∙ some-none (in-run one-deep)
+      deep-is a = some-map (on a) (λ (p : Put). row-passes Words word-ops (word 1) (s .d) (p .row) (each f (range x b) (rows-at (frame-of s) w))) (range x b) ∙ some-none (in-run one-deep)
 
 -- a step's number where the run's is k: 4 for a row's record before 6, 8 and 9, and 10 after them
 unfoldable pub band-answer : ℕ → Plan → ℕ
@@ -173,9 +174,9 @@ module _ (s : Screen) (w : Words) (o : Whole (frame-of s) w) (a : Act) (x b : �
   abbrev pub run-number : ℕ
   run-number = band-number (s .c) (s .d) (s .layers) (w .state) (range x b)
 
-  module _ (p : Plan) (fine : p .refused ≡ 0) (puts : p .puts ≡ map (on a) (range x b)) (ad : length (p .layers) ≤ 16 → Adding (s .layers) (acted 32 (length (p .layers)) a)) where
+  module _ (p : Plan) (fine : p .refused ≡ 0) (puts : p .puts ≡ map (on a) (range x b)) (ad : length (p .layers) ≤ 16 → Adding (s .layers) (acted (bucket-tiles (s .width)) (length (p .layers)) a)) where
     refused : good-run ≡ true → (deep : Bool) → ltb 16 (length (p .layers)) ≡ deep
-        → refusal Words word-ops 32 p (done Words word-ops 32 p (screen-at (state-of s) w))
+        → refusal Words word-ops p (done Words word-ops p (screen-at (state-of s) w))
         ≡ cond (eqb (told true full-run) 4) 4
         (first-of ((deep, 6) ∷ (ltb 1048577 (p .next), 8) ∷ (attrs-full (p .attrs), 9) ∷ (eqb (told true full-run) 10, 10) ∷ []))
     unfolding refusal done state-of
@@ -186,14 +187,14 @@ module _ (s : Screen) (w : Words) (o : Whole (frame-of s) w) (a : Act) (x b : �
           fine,
           e,
           puts,
-          puts-each (length (p .layers)) a (range x b) (rows-at (frame-of s) w),
-          full-is s w o x b m (s .layers) (acted 32 (length (p .layers)) a) (ad few) g a,
-          deep-is s w o x b m (s .layers) (acted 32 (length (p .layers)) a) (ad few) g a,
+          puts-each (bucket-tiles (s .width)) (length (p .layers)) a (range x b) (rows-at (frame-of s) w),
+          full-is s w o x b m (s .layers) (acted (bucket-tiles (s .width)) (length (p .layers)) a) (ad few) g a,
+          deep-is s w o x b m (s .layers) (acted (bucket-tiles (s .width)) (length (p .layers)) a) (ad few) g a,
         )
         (then-full full-run (ltb 1048577 (p .next)) (attrs-full (p .attrs)))
 
     numbered : (g : Bool) → good-run ≡ g
-        → cond g (refusal Words word-ops 32 p (done Words word-ops 32 p (screen-at (state-of s) w))) 4 ≡ band-answer (told g full-run) p
+        → cond g (refusal Words word-ops p (done Words word-ops p (screen-at (state-of s) w))) 4 ≡ band-answer (told g full-run) p
     unfolding band-answer
     numbered true e = refused e (ltb 16 (length (p .layers))) refl
     numbered false e = refl
@@ -201,13 +202,13 @@ module _ (s : Screen) (w : Words) (o : Whole (frame-of s) w) (a : Act) (x b : �
     pub band-step : step-number 0 (good-rows (frame-of s) (s .layers) (p .puts) (rows-at (frame-of s) w)) p (screen-at (state-of s) w) ≡ band-answer run-number p
     unfolding step-number band-number rows-told
     band-step =
-        ap (λ (g : Bool). cond g (refusal Words word-ops 32 p (done Words word-ops 32 p (screen-at (state-of s) w))) 4)
+        ap (λ (g : Bool). cond g (refusal Words word-ops p (done Words word-ops p (screen-at (state-of s) w))) 4)
         (ap (λ (ps : List Put). good-rows (frame-of s) (s .layers) ps (rows-at (frame-of s) w)) puts ∙ good-is s w o x b m (s .layers) a)
         ∙ numbered good-run refl
 
   -- where the number is 0, each row has room
-  module _ (n : ℕ) (few : n ≤ 16) (layers : s .layers ≤ 16) (ad : Adding (s .layers) (acted 32 n a)) where
-    room-of : (g f : Bool) → good-run ≡ g → full-run ≡ f → told g f ≡ 0 → OnRows s n (acted 32 n a) x b w
+  module _ (n : ℕ) (few : n ≤ 16) (layers : s .layers ≤ 16) (ad : Adding (s .layers) (acted (bucket-tiles (s .width)) n a)) where
+    room-of : (g f : Bool) → good-run ≡ g → full-run ≡ f → told g f ≡ 0 → OnRows s n (acted (bucket-tiles (s .width)) n a) x b w
     room-of true true p q z = absurd (omega arith)
     room-of false f p q z = absurd (omega arith)
     room-of true false p q z =
@@ -218,22 +219,22 @@ module _ (s : Screen) (w : Words) (o : Whole (frame-of s) w) (a : Act) (x b : �
           room = λ i g k.
               let h : i < rows-of (box-of (s .viewport)) = omega arith in
               let e = row-is s w o i h in
-              let t : word 0 (acted 32 n a (getD (rows-at (frame-of s) w) i nowhere)) ≡ getD (record-at (w .state) i) 0 0 + (s .layers + 1 - getD (record-at (w .state) i) 5 0) =
-              rw e at (row-adds s w o x b m (s .layers) (acted 32 n a) ad p i g k .renders) in
-              let v : word 1 (acted 32 n a (getD (rows-at (frame-of s) w) i nowhere)) ≡ getD (record-at (w .state) i) 1 0 = rw e at (row-adds s w o x b m (s .layers) (acted 32 n a) ad p i g k .depths) in
-              let c = facts s w o x b m (s .layers) (acted 32 n a) ad p i g k in
+              let t : word 0 (acted (bucket-tiles (s .width)) n a (getD (rows-at (frame-of s) w) i nowhere)) ≡ getD (record-at (w .state) i) 0 0 + (s .layers + 1 - getD (record-at (w .state) i) 5 0) =
+              rw e at (row-adds s w o x b m (s .layers) (acted (bucket-tiles (s .width)) n a) ad p i g k .renders) in
+              let v : word 1 (acted (bucket-tiles (s .width)) n a (getD (rows-at (frame-of s) w) i nowhere)) ≡ getD (record-at (w .state) i) 1 0 = rw e at (row-adds s w o x b m (s .layers) (acted (bucket-tiles (s .width)) n a) ad p i g k .depths) in
+              let c = facts s w o x b m (s .layers) (acted (bucket-tiles (s .width)) n a) ad p i g k in
               let u = ltb-false (s .c) (getD (record-at (w .state) i) 0 0 + (s .layers + 1 - getD (record-at (w .state) i) 5 0)) (all-run x (b - x) (none-of (λ (r : ℕ). is-full (s .c) (s .layers) (record-at (w .state) r)) (range x b) q) i g (omega arith)) in
               record {
                 state = row-state s w o i h;
                 render = omega (arith, row-render s w o i h, o .c);
                 fills = omega (arith, row-fills s w o i h, o .d);
-                levels = omega (arith, row-levels s w o x b m (s .layers) (acted 32 n a) ad p i g k);
+                levels = omega (arith, row-levels s w o x b m (s .layers) (acted (bucket-tiles (s .width)) n a) ad p i g k);
                 commands = omega (arith, row-render s w o i h, t, u);
                 depths = omega (arith, row-fills s w o i h, v, c .depths);
               };
         }
 
-    pub band-room : run-number ≡ 0 → OnRows s n (acted 32 n a) x b w
+    pub band-room : run-number ≡ 0 → OnRows s n (acted (bucket-tiles (s .width)) n a) x b w
     unfolding band-number rows-told
     band-room z = room-of good-run full-run refl refl z
 
@@ -245,16 +246,16 @@ layers-count (suc j) w l h =
     let r = layers-count j (put-buf w) (buf-grown w l g .state ∙ l) (omega (arith, buf-levels w l g)) in
     (r .0 ∙ omega (arith, buf-renders w l g), r .1 ∙ buf-depths w l g)
 
-pub touch-adds : (n : ℕ) → n + 1 ≤ 16 → Adding n (acted 32 (n + 1) touch)
-touch-adds n h w l k =
+pub touch-adds : (v n : ℕ) → n + 1 ≤ 16 → Adding n (acted v (n + 1) touch)
+touch-adds v n h w l k =
     let r = layers-count (n + 1 - word 5 w) w l (omega arith) in
-    record { renders = ap (word 0) (touch-is 32 (n + 1) w) ∙ r .0; depths = ap (word 1) (touch-is 32 (n + 1) w) ∙ r .1 }
+    record { renders = ap (word 0) (touch-is v (n + 1) w) ∙ r .0; depths = ap (word 1) (touch-is v (n + 1) w) ∙ r .1 }
 
 -- a fill, with the layers that were open
-pub paint-adds : (n : ℕ) (t : Span) (i : ℕ) → n ≤ 16 → Adding n (acted 32 n (paint t none i))
-paint-adds n t i h w l k =
+pub paint-adds : (v n : ℕ) (t : Span) (i : ℕ) → n ≤ 16 → Adding n (acted v n (paint t none i))
+paint-adds v n t i h w l k =
     let r = layers-count (n - word 5 w) w l (omega arith) in
-    let e = paint-is 32 n w t i 0 ∙ drawn-plain 32 n t i 0 w in
+    let e = paint-is v n w t i 0 ∙ drawn-plain v n t i 0 w in
     let q = ensured-sound n w h l (omega arith) in
     record {
       renders = ap (word 0) e ∙ cmd-renders (ensured n w) (q .grown .state ∙ l) (paint-fill t none i) ∙ omega (arith, r .0);

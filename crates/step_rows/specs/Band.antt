@@ -9,9 +9,11 @@ use Rattle.sizes.specs.Sizes.{most-layers, renders-at, levels-at}
 use Rattle.rules.specs.Lists.{change}
 use Rattle.rules.specs.Answers.{Done}
 use Rattle.rules.specs.Boxes.{rows-of}
-use Rattle.row.specs.Words.{Words, Room}
+use Rattle.rules.specs.Commands.{paint-fill}
+use Rattle.row.specs.Words.{Words, put-command, Room}
 use Rattle.row.specs.Cmds.{Short}
 use Rattle.row_screen.specs.Arena.{nowhere}
+use Rattle.row_acts.specs.Acts.{ensured}
 use Rattle.row_judge.specs.Building.{rows-at, Whole, good-row}
 use Rattle.row_room.specs.Room.{record-at, rows-told}
 use Rattle.rect.specs.Rects.{box-of}
@@ -40,6 +42,11 @@ each f (r ∷ rs) ws = each f rs (change f r ws)
 abbrev pub act-of : Act → Plans.Act
 act-of Touch = touch
 act-of (Paint s i) = paint (tiles s) none i
+
+-- the act on one row's words, with n layers open: no depth fill, so that it is the same at each width
+abbrev pub act-on : ℕ → Act → Words → Words
+act-on n Touch w = ensured n w
+act-on n (Paint s i) w = put-command (paint-fill (tiles s) none i) (ensured n w)
 
 abbrev pub ShortAct : Act → Type 0
 ShortAct Touch = Unit

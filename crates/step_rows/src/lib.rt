@@ -1,20 +1,21 @@
 // A run of rows, a to b: judged, and the same act done on each. Parts: each has a `requires`, which the steps have judged.
 ghost use mathlib.Core.Path.{_≡_};
-ghost use mathlib.Core.Bool.{false};
 ghost use mathlib.Core.Option.{none};
 ghost use Prim.Native.Nat.{_≤_, _*_};
 ghost use lib.ListN.{length};
-ghost use Rattle.sizes.specs.Sizes.{bucket-tiles, most-layers, most-room, most-rows, row-size};
+ghost use Rattle.sizes.specs.Sizes.{most-layers, most-room, most-rows, row-size};
+ghost use Rattle.sizes.specs.Widths.{bucket-tiles};
 ghost use Rattle.rules.specs.Lists.{range, change};
+ghost use Rattle.rules.specs.Commands.{paint-fill};
 ghost use Rattle.rules.specs.Plans.{touch, paint};
 ghost use Rattle.span.specs.Spans.{tiles};
-ghost use Rattle.row.specs.Words.{words, Room};
+ghost use Rattle.row.specs.Words.{words, put-command, Room};
 ghost use Rattle.row.specs.Cmds.{Short};
 ghost use Rattle.row_screen.specs.Arena.{lay};
-ghost use Rattle.row_acts.specs.Acts.{acted, drawn};
+ghost use Rattle.row_acts.specs.Acts.{ensured, acted};
 ghost use Rattle.row_judge.specs.Building.{rows-at};
 ghost use Rattle.screen.specs.Screens.{frame-of};
-ghost use Rattle.step_rows.specs.Band.{band-number, act-of, ShortAct, OnRow, OnRows, each};
+ghost use Rattle.step_rows.specs.Band.{band-number, act-of, act-on, ShortAct, OnRow, OnRows, each};
 use row::push_paint;
 use row_acts::ensure_row_layers;
 use row_room::Limits;
@@ -69,8 +70,8 @@ fn push_plain(
     span: TileSpan,
     attrs_idx: u32,
 )
-    requires { ⌜ Short (tiles span) × (n ≤ most-layers) × Room (words (now state) (now render) (now fills)) (drawn bucket-tiles n false (tiles span) none «attrs_idx» 0 (words (now state) (now render) (now fills))) ⌝ }
-    ensures { λ _. ⌜ words (now (state .exit)) (now (render .exit)) (now (fills .exit)) ≡ drawn bucket-tiles n false (tiles span) none «attrs_idx» 0 (words (now (state .entry)) (now (render .entry)) (now (fills .entry))) ⌝ }
+    requires { ⌜ Short (tiles span) × (n ≤ most-layers) × Room (words (now state) (now render) (now fills)) (put-command (paint-fill (tiles span) none «attrs_idx») (ensured n (words (now state) (now render) (now fills)))) ⌝ }
+    ensures { λ _. ⌜ words (now (state .exit)) (now (render .exit)) (now (fills .exit)) ≡ put-command (paint-fill (tiles span) none «attrs_idx») (ensured n (words (now (state .entry)) (now (render .entry)) (now (fills .entry)))) ⌝ }
 {
     ensure_row_layers(state, render, fills, n);
     push_paint(state, render, fills, span, Alpha::Solid, attrs_idx);
@@ -78,8 +79,8 @@ fn push_plain(
 
 // An act on one row's words.
 fn do_act(state: &mut [u32], render: &mut [u32], fills: &mut [u32], n: u32, act: Act)
-    requires { ⌜ ShortAct act × (n ≤ most-layers) × Room (words (now state) (now render) (now fills)) (acted bucket-tiles n (act-of act) (words (now state) (now render) (now fills))) ⌝ }
-    ensures { λ _. ⌜ words (now (state .exit)) (now (render .exit)) (now (fills .exit)) ≡ acted bucket-tiles n (act-of act) (words (now (state .entry)) (now (render .entry)) (now (fills .entry))) ⌝ }
+    requires { ⌜ ShortAct act × (n ≤ most-layers) × Room (words (now state) (now render) (now fills)) (act-on n act (words (now state) (now render) (now fills))) ⌝ }
+    ensures { λ _. ⌜ words (now (state .exit)) (now (render .exit)) (now (fills .exit)) ≡ act-on n act (words (now (state .entry)) (now (render .entry)) (now (fills .entry))) ⌝ }
 {
     match act {
         Act::Touch => {
@@ -101,8 +102,8 @@ fn on_row(
     n: u32,
     act: Act,
 )
-    requires { ⌜ ShortAct act × OnRow screen n (acted bucket-tiles n (act-of act)) r (words (now rows) (now render) (now fills)) ⌝ }
-    ensures { λ _. ⌜ rows-at (frame-of screen) (words (now (rows .exit)) (now (render .exit)) (now (fills .exit))) ≡ change (acted bucket-tiles n (act-of act)) r (rows-at (frame-of screen) (words (now (rows .entry)) (now (render .entry)) (now (fills .entry)))) ⌝ }
+    requires { ⌜ ShortAct act × OnRow screen n (acted (bucket-tiles (screen .width)) n (act-of act)) r (words (now rows) (now render) (now fills)) ⌝ }
+    ensures { λ _. ⌜ rows-at (frame-of screen) (words (now (rows .exit)) (now (render .exit)) (now (fills .exit))) ≡ change (acted (bucket-tiles (screen .width)) n (act-of act)) r (rows-at (frame-of screen) (words (now (rows .entry)) (now (render .entry)) (now (fills .entry)))) ⌝ }
 {
     let p = place_of(screen.c, screen.d, r);
     let x0 = p.x0;
@@ -131,8 +132,8 @@ fn on_rows(
     n: u32,
     act: Act,
 )
-    requires { ⌜ ShortAct act × OnRows screen n (acted bucket-tiles n (act-of act)) a b (words (now rows) (now render) (now fills)) ⌝ }
-    ensures { λ _. ⌜ words (now (rows .exit)) (now (render .exit)) (now (fills .exit)) ≡ lay (each (acted bucket-tiles n (act-of act)) (range a b) (rows-at (frame-of screen) (words (now (rows .entry)) (now (render .entry)) (now (fills .entry))))) ⌝ }
+    requires { ⌜ ShortAct act × OnRows screen n (acted (bucket-tiles (screen .width)) n (act-of act)) a b (words (now rows) (now render) (now fills)) ⌝ }
+    ensures { λ _. ⌜ words (now (rows .exit)) (now (render .exit)) (now (fills .exit)) ≡ lay (each (acted (bucket-tiles (screen .width)) n (act-of act)) (range a b) (rows-at (frame-of screen) (words (now (rows .entry)) (now (render .entry)) (now (fills .entry))))) ⌝ }
 {
     let mut r = a;
     while r < b {
@@ -151,8 +152,8 @@ pub fn touch_rows(
     b: usize,
     n: u32,
 )
-    requires { ⌜ OnRows screen n (acted bucket-tiles n touch) a b (words (now rows) (now render) (now fills)) ⌝ }
-    ensures { λ _. ⌜ words (now (rows .exit)) (now (render .exit)) (now (fills .exit)) ≡ lay (each (acted bucket-tiles n touch) (range a b) (rows-at (frame-of screen) (words (now (rows .entry)) (now (render .entry)) (now (fills .entry))))) ⌝ }
+    requires { ⌜ OnRows screen n (acted (bucket-tiles (screen .width)) n touch) a b (words (now rows) (now render) (now fills)) ⌝ }
+    ensures { λ _. ⌜ words (now (rows .exit)) (now (render .exit)) (now (fills .exit)) ≡ lay (each (acted (bucket-tiles (screen .width)) n touch) (range a b) (rows-at (frame-of screen) (words (now (rows .entry)) (now (render .entry)) (now (fills .entry))))) ⌝ }
 {
     on_rows(screen, rows, render, fills, a, b, n, Act::Touch);
 }
@@ -169,8 +170,8 @@ pub fn paint_rows(
     span: TileSpan,
     attrs_idx: u32,
 )
-    requires { ⌜ Short (tiles span) × OnRows screen n (acted bucket-tiles n (paint (tiles span) none «attrs_idx»)) a b (words (now rows) (now render) (now fills)) ⌝ }
-    ensures { λ _. ⌜ words (now (rows .exit)) (now (render .exit)) (now (fills .exit)) ≡ lay (each (acted bucket-tiles n (paint (tiles span) none «attrs_idx»)) (range a b) (rows-at (frame-of screen) (words (now (rows .entry)) (now (render .entry)) (now (fills .entry))))) ⌝ }
+    requires { ⌜ Short (tiles span) × OnRows screen n (acted (bucket-tiles (screen .width)) n (paint (tiles span) none «attrs_idx»)) a b (words (now rows) (now render) (now fills)) ⌝ }
+    ensures { λ _. ⌜ words (now (rows .exit)) (now (render .exit)) (now (fills .exit)) ≡ lay (each (acted (bucket-tiles (screen .width)) n (paint (tiles span) none «attrs_idx»)) (range a b) (rows-at (frame-of screen) (words (now (rows .entry)) (now (render .entry)) (now (fills .entry))))) ⌝ }
 {
     let act = Act::Paint { span, attrs_idx };
     on_rows(screen, rows, render, fills, a, b, n, act);

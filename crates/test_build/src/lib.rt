@@ -7,6 +7,7 @@ use screen::reset;
 use screen_layers::Clip;
 use screen_layers::LayerClip;
 use screen_layers::LayerProps;
+use sizes::answers::BAD_VIEWPORT;
 use step_fill::Draw;
 use step_fill::fill;
 use step_filter::Pixmap;
@@ -17,6 +18,7 @@ use step_push::push_layer;
 use test_words::Turn;
 use test_words::after;
 use test_words::box_at;
+use test_words::lens::Asked;
 use test_words::lens::setup_of;
 use test_words::put;
 use test_words::wide;
@@ -200,6 +202,44 @@ pub fn do_filter(
     )
 }
 
+// A box, C, D, mode, width. A width that is none is refused by 2.
+fn do_reset(
+    call: &[u32],
+    screen: Screen,
+    render: &mut [u32],
+    fills: &mut [u32],
+    depth: &mut [u32],
+    rows: &mut [u32],
+    painting: &mut [u32],
+    layers: &mut [u32],
+    opacities: &mut [f32],
+    paint_attrs: &mut [u32],
+    layer_attrs: &mut [u32],
+    filter_paints: &mut [i32],
+) -> Built {
+    let Asked::Good(setup) = setup_of(call) else {
+        return Built {
+            number: BAD_VIEWPORT,
+            screen,
+        };
+    };
+    reset(
+        screen,
+        box_at(call, 1),
+        setup,
+        render,
+        fills,
+        depth,
+        rows,
+        painting,
+        layers,
+        opacities,
+        paint_attrs,
+        layer_attrs,
+        filter_paints,
+    )
+}
+
 // Kinds 0 to 4: reset, fill, push, pop, filter fill.
 pub fn build_step(
     call: &[u32],
@@ -216,10 +256,9 @@ pub fn build_step(
     filter_paints: &mut [i32],
 ) -> Built {
     match word(call, 0) {
-        0 => reset(
+        0 => do_reset(
+            call,
             screen,
-            box_at(call, 1),
-            setup_of(call),
             render,
             fills,
             depth,

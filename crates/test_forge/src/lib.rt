@@ -20,7 +20,7 @@ fn with_edge(b: Rect, i: u32, x: u32) -> Rect {
 }
 
 // Number i of a screen: the viewport's four, the clip box's four, C, D, next id, the counts of paint and layer attributes, filter
-// paints and open layers, whether painting has begun.
+// paints and open layers, whether painting has begun. The width is set by a reset alone.
 pub fn with_number(screen: Screen, i: u32, x: u32) -> Screen {
     let mut next = screen;
     match i {
@@ -59,6 +59,7 @@ fn numbers(screen: Screen) -> [u32; STATE] {
     let v = screen.viewport;
     let c = screen.clip_bbox;
     let painting = if screen.painting { 1 } else { 0 };
+    let width = screen.width;
     [
         v.x0,
         v.y0,
@@ -76,6 +77,7 @@ fn numbers(screen: Screen) -> [u32; STATE] {
         screen.filter_paints,
         screen.layers,
         painting,
+        width.tiles(),
     ]
 }
 

@@ -15,9 +15,11 @@ use depth::split::split_opaque_span;
 use depth::state::DepthState;
 use depth::state::Skip;
 use sizes::answers::DONE;
+use sizes::width::ReadWidth;
+use sizes::width::Width;
+use sizes::width::read_width;
 use span::BucketRange;
 use span::TileSpan;
-use span::Width;
 ghost use mathlib.Core.Path.{_≡_};
 ghost use Prim.Native.Nat.{_+_, _^_, _≤_, _<_};
 ghost use lib.ListN.{length};
@@ -72,26 +74,34 @@ fn split_words(split: Split) -> [u32; 11]
     }
 }
 
+// A width that is none is refused, which is stored as a mark in place of the number of parts.
 fn replay_split(s: &[u8], at: usize) -> Seen
     requires { ⌜ at ≤ 2 ^ 61 ⌝ }
 {
-    let words = 1 + 3 * (word(s, at + 2) as usize);
-    let list = split_words(split_opaque_span(tiles_at(s, at), Width::W128));
+    let n = word(s, at + 3);
+    let ReadWidth::Good(width) = read_width(word(s, at)) else {
+        return Seen {
+            next: at + 4,
+            agrees: n == MARK,
+        };
+    };
+    let words = 1 + 3 * (n as usize);
+    let list = split_words(split_opaque_span(tiles_at(s, at + 1), width));
     Seen {
-        next: at + 2 + words,
-        agrees: holds(s, at + 2, words, &list),
+        next: at + 3 + words,
+        agrees: holds(s, at + 3, words, &list),
     }
 }
 
 // A question about runs, to the leaf of its kind: a span, with an id before it unless the kind is the unset one.
-fn ask(s: &[u8], kind: u32, at: usize, row: &mut [u32], list: &mut [u32]) -> Runs
+fn ask(s: &[u8], kind: u32, width: Width, at: usize, row: &mut [u32], list: &mut [u32]) -> Runs
     requires { ⌜ (1 ≤ at) × (at ≤ 2 ^ 63) ⌝ }
 {
     let id = word(s, at - 1);
     let tiles = tiles_at(s, at);
     match kind {
-        2 => unset_runs(row, tiles, list, Width::W128),
-        3 => visible_runs(row, tiles, id, list, Width::W128),
+        2 => unset_runs(row, tiles, list, width),
+        3 => visible_runs(row, tiles, id, list, width),
         _ => unset_runs_and_write(
             row,
             BucketRange {
@@ -127,12 +137,12 @@ fn span_place(kind: u32, at: usize, b: usize) -> usize
 }
 
 // Loads the row, and tells whether the leaf lists the runs that are stored.
-fn asked(s: &[u8], kind: u32, at: usize, row: &mut [u32], list: &mut [u32]) -> bool
+fn asked(s: &[u8], kind: u32, width: Width, at: usize, row: &mut [u32], list: &mut [u32]) -> bool
     requires { ⌜ (1 ≤ at) × (at ≤ 2 ^ 62) ⌝ }
 {
     let place = span_place(kind, at, row.len());
     load(s, at, row);
-    let runs = ask(s, kind, place, row, list);
+    let runs = ask(s, kind, width, place, row, list);
     listed(s, place + 2, runs, list)
 }
 
@@ -163,8 +173,8 @@ fn seen_runs(
     }
 }
 
-fn replay_runs(s: &[u8], kind: u32, at: usize) -> Seen
-    requires { ⌜ at ≤ 2 ^ 61 ⌝ }
+fn replay_runs(s: &[u8], kind: u32, width: Width, at: usize) -> Seen
+    requires { ⌜ at ≤ 2 ^ 61 + 1 ⌝ }
 {
     let b = word(s, at) as usize;
     let from = at + 1;
@@ -178,8 +188,21 @@ fn replay_runs(s: &[u8], kind: u32, at: usize) -> Seen
     let n = word(s, place + 2) as usize;
     let mut row = marks();
     let mut list = marks();
-    let same = asked(s, kind, from, &mut row[..b], &mut list);
+    let same = asked(s, kind, width, from, &mut row[..b], &mut list);
     seen_runs(s, kind, from, place + 3 + 2 * n, b, same, &row)
+}
+
+// The same after a width. What has none is no case.
+fn replay_wide(s: &[u8], kind: u32, at: usize) -> Seen
+    requires { ⌜ at ≤ 2 ^ 61 ⌝ }
+{
+    let ReadWidth::Good(width) = read_width(word(s, at)) else {
+        return Seen {
+            next: 0,
+            agrees: false,
+        };
+    };
+    replay_runs(s, kind, width, at + 1)
 }
 
 // The summary of k stored depth fills.
@@ -235,7 +258,8 @@ fn replay_one(s: &[u8], kind: u32, at: usize) -> Seen
 {
     match kind {
         1 => replay_split(s, at),
-        2 | 3 | 4 => replay_runs(s, kind, at),
+        2 | 3 => replay_wide(s, kind, at),
+        4 => replay_runs(s, kind, Width::W128, at),
         5 => replay_skip(s, at),
         _ => Seen {
             next: 0,

@@ -27,10 +27,10 @@ fn run_all(s: &[u8]) {
 }
 
 // Room for the stored file. A file that fills it may be longer, and is not replayed.
-fn buffer() -> [u8; 196608]
-    ensures { λ r. ⌜ 196608 ≡ length r ⌝ }
+fn buffer() -> [u8; 524288]
+    ensures { λ r. ⌜ 524288 ≡ length r ⌝ }
 {
-    [0; 196608]
+    [0; 524288]
 }
 
 fn main() {

@@ -3,6 +3,7 @@
 use rect::NOWHERE;
 use screen::Screen;
 use screen::fresh;
+use sizes::width::Width;
 use test_forge::forged;
 use test_forge::sum_all;
 use test_forge::with_number;
@@ -17,7 +18,7 @@ ghost use lib.ListN.{length};
 
 fn first_screen() -> Screen {
     let none = NOWHERE;
-    fresh(none, 1, 1)
+    fresh(none, 1, 1, Width::W128)
 }
 
 // How many words the call at the start of these has, 1 for what is no call.
@@ -25,7 +26,7 @@ fn size_of(rest: &[u32]) -> usize
     ensures { λ r. ⌜ 1 ≤ r ⌝ }
 {
     match word(rest, 0) {
-        0 => 8,
+        0 => 9,
         1 => {
             let paints = 4 * wide(word(rest, 8));
             10 + paints + 5 * wide(word(rest, 9 + paints))

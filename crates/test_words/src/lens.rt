@@ -11,7 +11,9 @@ use screen::Screen;
 use screen::Setup;
 use sizes::MOST_ROOM;
 use sizes::ROW;
-use span::Width;
+use sizes::width::ReadWidth;
+use sizes::width::Width;
+use sizes::width::read_width;
 ghost use mathlib.Core.Path.{_≡_};
 ghost use Prim.Native.Nat.{_≤_};
 ghost use lib.ListN.{length};
@@ -66,11 +68,12 @@ pub fn less(n: usize, short: u32, table: u32) -> usize
     n - 1
 }
 
-// What a screen of this viewport, C and D is lent of arenas and tables of these lengths.
+// What a screen of this viewport, C, D and width is lent of arenas and tables of these lengths.
 fn lens_for(
     viewport: Rect,
     c: u32,
     d: u32,
+    width: Width,
     rows: usize,
     render: usize,
     fills: usize,
@@ -80,7 +83,6 @@ fn lens_for(
     ensures { λ r. ⌜ (r .rows ≤ rows) × (r .render ≤ render) × (r .fills ≤ fills) × (r .depth ≤ depth) × (r .painting ≤ painting) ⌝ }
 {
     let count = wide(viewport.height() / 4);
-    let width = Width::W128;
     let buckets = wide(width.above(viewport.width() / 4));
     let row_render = 4 * room(c);
     let row_fills = 2 * room(d);
@@ -97,18 +99,28 @@ fn lens_for(
     }
 }
 
-// What a reset asks of the screen; 0 is the exact mode, any other word the snapping one.
-pub fn setup_of(call: &[u32]) -> Setup {
+// What a reset asks of the screen.
+pub enum Asked {
+    Bad,
+    Good(Setup),
+}
+
+// C, D, the mode, where 0 is exact and any other word snapping, and a bucket's width in pixels, which may be none.
+pub fn setup_of(call: &[u32]) -> Asked {
+    let ReadWidth::Good(width) = read_width(word(call, 8)) else {
+        return Asked::Bad;
+    };
     let mode = if word(call, 7) == 0 {
         Mode::Exact
     } else {
         Mode::Snapping
     };
-    Setup {
+    Asked::Good(Setup {
         c: word(call, 5),
         d: word(call, 6),
         mode,
-    }
+        width,
+    })
 }
 
 // The viewport that a reset makes, none if it is refused.
@@ -120,7 +132,7 @@ fn viewport_of(call: &[u32], setup: Setup) -> Rect {
     viewport
 }
 
-// A reset is lent what its own viewport, C and D need; any other call what the screen's need.
+// A reset is lent what its own viewport, C, D and width need, nothing if it has no width; any other call what the screen's need.
 pub fn lens_of(
     call: &[u32],
     screen: Screen,
@@ -133,11 +145,26 @@ pub fn lens_of(
     ensures { λ r. ⌜ (r .rows ≤ rows) × (r .render ≤ render) × (r .fills ≤ fills) × (r .depth ≤ depth) × (r .painting ≤ painting) ⌝ }
 {
     if word(call, 0) == 0 {
-        let setup = setup_of(call);
+        let Asked::Good(setup) = setup_of(call) else {
+            let none = NOWHERE;
+            return lens_for(
+                none,
+                0,
+                0,
+                Width::W128,
+                rows,
+                render,
+                fills,
+                depth,
+                painting,
+            );
+        };
+        let width = setup.width;
         return lens_for(
             viewport_of(call, setup),
             setup.c,
             setup.d,
+            width,
             rows,
             render,
             fills,
@@ -146,10 +173,12 @@ pub fn lens_of(
         );
     }
     let viewport = screen.viewport;
+    let width = screen.width;
     lens_for(
         viewport,
         screen.c,
         screen.d,
+        width,
         rows,
         render,
         fills,

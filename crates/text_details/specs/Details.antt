@@ -6,11 +6,10 @@ use mathlib.Core.Option.{Option}
 use lib.ListN.{length}
 use lib.Dec.{eqb}
 use lib.IntN.{ℤ}
-use Rattle.sizes.specs.Sizes.{bucket-tiles}
 use Rattle.rules.specs.Answers.{Done}
-use Rattle.rules.specs.Boxes.{buckets-of}
 use Rattle.rules.specs.Rows.{Row}
 use Rattle.rules.specs.Attributes.{PaintAttr, LayerAttr, FilterPaint, Attrs}
+use Rattle.rules.specs.Plans.{bucket, buckets-across}
 use Rattle.rules.specs.Setups.{Setup}
 use Rattle.rules.specs.Steps.{Screen}
 use Rattle.rules.specs.Painting.{Piece, paint-row}
@@ -59,11 +58,12 @@ unfoldable pub painted-lines : ℕ → Attrs → ℕ → ℕ → List Row → Li
 painted-lines w a n i [] = []
 painted-lines w a n i (r ∷ rs) = painted-row i (paint-row w a n r) ++ painted-lines w a n (suc i) rs
 
-abbrev pub detail-lines : ℕ → Screen Row → List Detail
-detail-lines w s =
+abbrev pub detail-lines : Screen Row → List Detail
+detail-lines s =
     let a = s .state .attrs in
-    attr-lines a ++ painted-lines w a (buckets-of w (s .state .frame .viewport)) 0 (s .rows)
+    let f = s .state .frame in
+    attr-lines a ++ painted-lines (bucket f) a (buckets-across f) 0 (s .rows)
 
 -- a file's words; a refused recording has no details
 unfoldable pub rowdump-words : Setup → List ℕ → List Detail
-rowdump-words q ws = let a = rowlist-screen q ws in cond (eqb (a .number) Done) (detail-lines bucket-tiles (a .value)) []
+rowdump-words q ws = let a = rowlist-screen q ws in cond (eqb (a .number) Done) (detail-lines (a .value)) []

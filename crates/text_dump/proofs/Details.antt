@@ -8,9 +8,9 @@ use lib.Dec.{ltb}
 use lib.ListN.{length, getD, take, drop, length-append}
 use lib.Seq.{drop-length, drop-cons}
 use borrow.Author.Tests.{le-leb, le-ltb, eq-eqb, ltb-false}
-use Rattle.rules.specs.Boxes.{rows-of, buckets-of}
+use Rattle.rules.specs.Boxes.{rows-of}
 use Rattle.rules.specs.Rows.{Row, fresh-row}
-use Rattle.rules.specs.Plans.{Frame}
+use Rattle.rules.specs.Plans.{Frame, bucket, buckets-across}
 use Rattle.rules.specs.Steps.{Screen}
 use Rattle.rules.proofs.All.{neither, all-at}
 use Rattle.screen.specs.Tables.{ScreenLent}
@@ -32,6 +32,7 @@ use Rattle.theorem_text.proofs.Rows.{Waits, row-waits}
 use Rattle.theorem_text.proofs.Played.{Ended}
 use Rattle.theorem_text.proofs.Lines.{attrs-text-few}
 use Rattle.theorem_text.proofs.Begun.{all-wait}
+use Rattle.refine_paint.proofs.Painters.{all-taken}
 use Rattle.theorem_text.proofs.Full.{row-long, theirs-text, row-written, rows-text-few}
 use Rattle.text_programs.specs.Programs.{first}
 use Rattle.text_dump.specs.Dumped.{Part, rows-dumped, details-dumped}
@@ -44,16 +45,16 @@ at-words m list = paint.lent (m .tables .rows) (m .tables .render) (m .tables .f
 abbrev pub attrs-of : ScreenLent → dumped.AttrTables
 attrs-of m = tables (m .tables .paint-attrs) (m .tables .layer-attrs) (m .tables .opacities) (m .tables .filter-paints)
 
-module _ (s : Screen Row) (fit : (i : ℕ) → Fitting 64 64 (getD (s .rows) i fresh-row)) (narrow : buckets-of 32 (s .state .frame .viewport) ≤ 32) where
+module _ (s : Screen Row) (fit : (i : ℕ) → Fitting 64 64 (getD (s .rows) i fresh-row)) (narrow : buckets-across (s .state .frame) ≤ 64) where
   -- the rules' text of the rows from row r on
   abbrev rest : ℕ → List ℕ
-  rest r = details-text (painted-lines 32 (s .state .attrs) (buckets-of 32 (s .state .frame .viewport)) r (drop r (s .rows)))
+  rest r = details-text (painted-lines (bucket (s .state .frame)) (s .state .attrs) (buckets-across (s .state .frame)) r (drop r (s .rows)))
 
   rest-none : rest (length (s .rows)) ≡ []
   unfolding painted-lines
   rest-none = rw (drop-length (s .rows))
 
-  rows-are : (k r : ℕ) → r + k ≡ length (s .rows) → (m : ScreenLent) → ((j : ℕ) → r ≤ j → j < length (s .rows) → Waits s j m) → (list : List ℕ) → 12288 ≤ length list
+  rows-are : (k r : ℕ) → r + k ≡ length (s .rows) → (m : ScreenLent) → ((j : ℕ) → r ≤ j → j < length (s .rows) → Waits s j m) → (list : List ℕ) → 12672 ≤ length list
       → (bs : List ℕ) → length (rest r) ≤ length bs
       → Says (rest r) bs (rows-dumped k r (m .screen) (attributes (m .tables .paint-attrs) (m .tables .layer-attrs)) (at-words m list) bs)
   unfolding rows-dumped
@@ -65,14 +66,14 @@ module _ (s : Screen Row) (fit : (i : ℕ) → Fitting 64 64 (getD (s .rows) i f
       let there : r < length (s .rows) = omega arith in
       let w = h r (omega arith) there in
       let f = fit r in
-      let few : length (getD (s .rows) r fresh-row .fills) + length (getD (s .rows) r fresh-row .commands) ≤ 128 = omega (arith, f .fills, f .commands) in
+      let few = f .commands in
       let t = theirs-text w few narrow list long in
       let parts : rest r ≡ t ++ rest (suc r) =
-      ap (λ (rs : List Row). details-text (painted-lines 32 (s .state .attrs) (buckets-of 32 (s .state .frame .viewport)) r rs)) (drop-cons (s .rows) r fresh-row there)
-      ∙ rows-parts 32 (s .state .attrs) (buckets-of 32 (s .state .frame .viewport)) r (getD (s .rows) r fresh-row) (drop (suc r) (s .rows)) in
+      ap (λ (rs : List Row). details-text (painted-lines (bucket (s .state .frame)) (s .state .attrs) (buckets-across (s .state .frame)) r rs)) (drop-cons (s .rows) r fresh-row there)
+      ∙ rows-parts (bucket (s .state .frame)) (s .state .attrs) (buckets-across (s .state .frame)) r (getD (s .rows) r fresh-row) (drop (suc r) (s .rows)) in
       let fits : length (t ++ rest (suc r)) ≤ length bs = rw parts at room in
       let own : length t ≤ length bs = omega (arith, fits, length-append t (rest (suc r))) in
-      let long-on : 12288 ≤ length (row-out r list m .list) = rw (row-long r m list) long in
+      let long-on : 12672 ≤ length (row-out r list m .list) = rw (row-long r m list) long in
       rw (parts, row-written w few narrow list long bs own)
       (after-says t (rest (suc r)) bs _
       (rows-are k (suc r) (omega arith) (row-at r list m) (λ j a b. row-waits (h j (omega arith) b) r list (λ q. omega arith)) (row-out r list m .list) long-on (drop (length t) (first t bs)) (room-left t (rest (suc r)) bs fits)))
@@ -85,8 +86,8 @@ module _ (f : Frame) (s : Screen Row) (kept : Kept f s) (c : f .c ≡ 64) (d : f
   fit : (i : ℕ) → Fitting 64 64 (getD (s .rows) i fresh-row)
   fit i = rw (kept .frame, c, d) at (kept .sound .rows i)
 
-  narrow : buckets-of 32 (s .state .frame .viewport) ≤ 32
-  narrow = few-buckets (s .state .frame .viewport) (kept .sound .viewport)
+  narrow : buckets-across (s .state .frame) ≤ 64
+  narrow = few-buckets (s .state .frame .viewport) (kept .sound .viewport) (s .state .frame .width)
 
   rows-few : length (s .rows) ≤ 32
   rows-few = rw (kept .sound .count, kept .frame) few-rows
@@ -119,13 +120,14 @@ module _ (f : Frame) (s : Screen Row) (kept : Kept f s) (c : f .c ≡ 64) (d : f
         rw (good, attrs-printed s (kept .sound) (λ i g. all-at (over .small .attrs) i no-layer g) b de pa, le-ltb (length bs) (length heads) h)
 
     -- The attributes and the rows: the rules' details.
-    pub details-are : length de ≡ rows-of (s .state .frame .viewport) * buckets-of 32 (s .state .frame .viewport) → length pa ≡ rows-of (s .state .frame .viewport) * 2
-        → (list : List ℕ) → 12288 ≤ length list → (bs : List ℕ) → 4417824 ≤ length bs
-        → Says (details-text (detail-lines 32 s)) bs (details-dumped (m .screen) (length (s .rows)) (attrs-of m) (at-words m list) bs)
+    pub details-are : length de ≡ rows-of (s .state .frame .viewport) * buckets-across (s .state .frame) → length pa ≡ rows-of (s .state .frame .viewport) * 2
+        → (list : List ℕ) → 12672 ≤ length list → (bs : List ℕ) → 4548896 ≤ length bs
+        → Says (details-text (detail-lines s)) bs (details-dumped (m .screen) (length (s .rows)) (attrs-of m) (at-words m list) bs)
     unfolding details-dumped begin-at
     details-are hd hp list long bs room =
         let x = attrs-text-few (s .state .attrs) (kept .sound .attrs) in
-        let y = rows-text-few (s .state .attrs) (buckets-of 32 (s .state .frame .viewport)) 0 (s .rows) narrow fit in
+        let y = rows-text-few (bucket (s .state .frame)) (s .state .attrs) (buckets-across (s .state .frame)) 0 (s .rows) narrow fit
+        (λ j. all-taken (s .state .attrs) (buckets-across (s .state .frame)) (getD (s .rows) j fresh-row) (kept .fair j)) in
         let own : length heads ≤ length bs = omega (arith, x, room) in
         let n = rows-few in
         let fits : length (heads ++ rest s fit narrow 0) ≤ length bs = rw (length-append heads (rest s fit narrow 0)) (omega (arith, x, y, n, room)) in

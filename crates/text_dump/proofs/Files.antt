@@ -10,10 +10,11 @@ use lib.ListN.{length, getD, take, drop, length-append, length-drop}
 use lib.Seq.{take-at}
 use borrow.Rule.Slice.PartMut.{putMid}
 use borrow.Author.Tests.{le-ltb, lt-ltb, leb-true, leb-false, eq-eqb, eqb-true}
+use Rattle.sizes.specs.Widths.{bucket-tiles}
 use Rattle.rules.specs.Answers.{Answer, Done, BadForm}
 use Rattle.rules.specs.Boxes.{Box, rows-of, buckets-of}
 use Rattle.rules.specs.Rows.{Row, fresh-row}
-use Rattle.rules.specs.Plans.{Frame}
+use Rattle.rules.specs.Plans.{Frame, buckets-across}
 use Rattle.rules.specs.Setups.{Setup}
 use Rattle.rules.specs.Steps.{Screen, reset}
 use Rattle.rules.specs.Lines.{rowlist-screen, rowlist-place, words-of}
@@ -21,6 +22,7 @@ use Rattle.rules.specs.Lines as rules
 use Rattle.rules.proofs.All.{never}
 use Rattle.rect.specs.Rects.{box-of}
 use Rattle.screen.specs.declared.Screen as declared
+use Rattle.screen.specs.Screens.{frame-of}
 use Rattle.screen.specs.Tables.{Tables, ScreenLent}
 use Rattle.screen.proofs.Laws.{few-buckets}
 use Rattle.file_form.specs.Words.{words-in}
@@ -34,12 +36,12 @@ use Rattle.text_file.specs.declared.FileText.{FileText}
 use Rattle.text_file.specs.Files.{FileOut, file-out, showed, refusing, size, over, Usual, words-text, refused-as-is, bytes-text}
 use Rattle.text_file.proofs.Texts.{small}
 use Rattle.refine_steps.specs.Lent.{lent-of, Holds}
-use Rattle.refine_text.proofs.Files.{Left, Leaves, words-leave, file-few}
+use Rattle.refine_text.proofs.Files.{usual-frame, Left, Leaves, words-leave, file-few}
 use Rattle.theorem_text.proofs.Small.{words-small}
 use Rattle.theorem_text.proofs.Played.{Ended, play-ended}
 use Rattle.text_programs.proofs.Laws.{Long, roomy, fixed, rowlist-shown}
 use Rattle.text_programs.specs.Programs.{rowlist-text, first}
-use Rattle.text_dump.specs.Rowdump.{recording-line, rowdump-lines, file-lines-text, rowdump-text, Printed}
+use Rattle.text_dump.specs.Rowdump.{recording-line, rowdump-lines, file-lines-text, Printed}
 use Rattle.text_dump.specs.Dumped.{Part, part, details-dumped, words-before, screen-dumped, Wide, Sized}
 use Rattle.text_dump.proofs.Parts.{mid-all, put-all}
 use Rattle.text_dump.proofs.First.{Says, first-dropped, first-long, first-two}
@@ -62,7 +64,7 @@ module _ (s : Screen Row) (t u : Tables) (ht : Long t) (hu : Long u) (x : declar
   n = rows-of v
 
   abbrev b : ℕ
-  b = buckets-of 32 v
+  b = buckets-of (bucket-tiles (l .width)) v
 
   abbrev w : ScreenLent
   w = l .words
@@ -79,20 +81,29 @@ module _ (s : Screen Row) (t u : Tables) (ht : Long t) (hu : Long u) (x : declar
   own-view : s .state .frame .viewport ≡ v
   own-view = ap (λ (f : Frame). f .viewport) (l .kept .frame)
 
-  narrow : b ≤ 32
-  narrow = rw own-view at (few-buckets (s .state .frame .viewport) (l .kept .sound .viewport))
+  narrow : b ≤ 64
+  narrow = rw own-view at (few-buckets (s .state .frame .viewport) (l .kept .sound .viewport) (l .width))
 
-  view-there : box-of (m .screen .viewport) ≡ s .state .frame .viewport
+  frame-there : frame-of (m .screen) ≡ s .state .frame
   unfolding lent-of
-  view-there = refl
+  frame-there = refl
 
   screen-there : x ≡ m .screen
   screen-there = ex ∙ l .screen ∙ ap (λ (q : ScreenLent). q .screen) (h .same)
 
-  pub view : box-of (x .viewport) ≡ v
-  view = ap (λ (q : declared.Screen). box-of (q .viewport)) screen-there ∙ view-there ∙ own-view
+  own-frame : frame-of x ≡ usual-frame v (l .width)
+  own-frame = ap frame-of screen-there ∙ frame-there ∙ l .kept .frame
 
-  few-words : n * b ≤ 1024
+  pub view : box-of (x .viewport) ≡ v
+  view = ap (λ (f : Frame). f .viewport) own-frame
+
+  wide-as : x .width ≡ l .width
+  wide-as = ap (λ (f : Frame). f .width) own-frame
+
+  across : buckets-of (bucket-tiles (x .width)) (box-of (x .viewport)) ≡ b
+  across = ap (λ (f : Frame). buckets-across f) own-frame
+
+  few-words : n * b ≤ 2048
   few-words = small n b (l .few) narrow
 
   -- the tables are wide enough for the screen
@@ -100,7 +111,7 @@ module _ (s : Screen Row) (t u : Tables) (ht : Long t) (hu : Long u) (x : declar
   wide =
       record {
         few = rw view (l .few);
-        narrow = rw view narrow;
+        narrow = rw (view, wide-as) narrow;
         rows-long = omega (arith, hu .rows);
         render-long = omega (arith, hu .render);
         fills-long = omega (arith, hu .fills);
@@ -118,7 +129,7 @@ module _ (s : Screen Row) (t u : Tables) (ht : Long t) (hu : Long u) (x : declar
   fills-back = cut-back (w .tables .fills) (t .fills) (u .fills) (n * 128) 4096 (ap (λ (q : Tables). q .fills) ue) (omega (arith, l .few)) (ht .fills) (hu .fills) ∙ ap (λ (q : ScreenLent). q .tables .fills) (h .same)
 
   depth-back : take (n * b) (u .depth) ≡ m .tables .depth
-  depth-back = cut-back (w .tables .depth) (t .depth) (u .depth) (n * b) 1024 (ap (λ (q : Tables). q .depth) ue) few-words (ht .depth) (hu .depth) ∙ ap (λ (q : ScreenLent). q .tables .depth) (h .same)
+  depth-back = cut-back (w .tables .depth) (t .depth) (u .depth) (n * b) 2048 (ap (λ (q : Tables). q .depth) ue) few-words (ht .depth) (hu .depth) ∙ ap (λ (q : ScreenLent). q .tables .depth) (h .same)
 
   painting-back : take (n * 2) (u .painting) ≡ m .tables .painting
   painting-back = cut-back (w .tables .painting) (t .painting) (u .painting) (n * 2) 64 (ap (λ (q : Tables). q .painting) ue) (omega (arith, l .few)) (ht .painting) (hu .painting) ∙ ap (λ (q : ScreenLent). q .tables .painting) (h .same)
@@ -132,11 +143,11 @@ module _ (s : Screen Row) (t u : Tables) (ht : Long t) (hu : Long u) (x : declar
   unfolding lent-of
   painting-there = refl
 
-  depth-long : length (h .depth) ≡ rows-of (s .state .frame .viewport) * buckets-of 32 (s .state .frame .viewport)
+  depth-long : length (h .depth) ≡ rows-of (s .state .frame .viewport) * buckets-across (s .state .frame)
   depth-long =
       sym (ap (λ (q : ScreenLent). length (q .tables .depth)) (h .same) ∙ ap (λ (q : List ℕ). length q) depth-there)
-      ∙ cut-long (w .tables .depth) (t .depth) (u .depth) (n * b) 1024 (ap (λ (q : Tables). q .depth) ue) few-words (ht .depth) (hu .depth)
-      ∙ sym (ap (λ (q : Box). rows-of q * buckets-of 32 q) own-view)
+      ∙ cut-long (w .tables .depth) (t .depth) (u .depth) (n * b) 2048 (ap (λ (q : Tables). q .depth) ue) few-words (ht .depth) (hu .depth)
+      ∙ sym (ap (λ (f : Frame). rows-of (f .viewport) * buckets-across f) (l .kept .frame))
 
   painting-long : length (h .painting) ≡ rows-of (s .state .frame .viewport) * 2
   painting-long =
@@ -157,20 +168,20 @@ module _ (s : Screen Row) (t u : Tables) (ht : Long t) (hu : Long u) (x : declar
   rows-there = sym (l .kept .sound .count ∙ ap rows-of own-view)
 
   -- What `screen_text` writes of them is the text of the rules' details.
-  module _ (list : List ℕ) (long : 12288 ≤ length list) (bs : List ℕ) (room : 4417824 ≤ length bs) where
+  module _ (list : List ℕ) (long : 12672 ≤ length list) (bs : List ℕ) (room : 4548896 ≤ length bs) where
     same-details : details-dumped x (rows-of (box-of (x .viewport))) attrs (words-before x (given list)) bs ≡ details-dumped (m .screen) (length (s .rows)) (attrs-of m) (at-words m list) bs
-    same-details = rw (view, same-attrs, rows-back, render-back, fills-back, depth-back, painting-back, screen-there, rows-there)
+    same-details = rw (across, view, same-attrs, rows-back, render-back, fills-back, depth-back, painting-back, screen-there, rows-there)
 
-    details : Says (details-text (detail-lines 32 s)) bs (details-dumped (m .screen) (length (s .rows)) (attrs-of m) (at-words m list) bs)
+    details : Says (details-text (detail-lines s)) bs (details-dumped (m .screen) (length (s .rows)) (attrs-of m) (at-words m list) bs)
     details =
-        details-are (record { viewport = v; c = 64; d = 64 }) s (l .kept) refl refl (l .few) ended (h .begun) (h .depth) (h .painting)
+        details-are (usual-frame v (l .width)) s (l .kept) refl refl (l .few) ended (h .begun) (h .depth) (h .painting)
         (sym (ap (λ (q : dumped.AttrTables). length (q .paints)) same-attrs) ∙ sym (hu .paint-attrs))
         (sym (ap (λ (q : dumped.AttrTables). length (q .layers)) same-attrs) ∙ sym (hu .layer-attrs))
         (sym (ap (λ (q : dumped.AttrTables). length (q .opacities)) same-attrs) ∙ sym (hu .opacities))
         (sym (ap (λ (q : dumped.AttrTables). length (q .filters)) same-attrs) ∙ sym (hu .filter-paints))
         depth-long painting-long list long bs room
 
-    pub screen-says : Says (details-text (detail-lines 32 s)) bs (screen-dumped x attrs (given list) bs)
+    pub screen-says : Says (details-text (detail-lines s)) bs (screen-dumped x attrs (given list) bs)
     unfolding screen-dumped
     screen-says =
         record {
@@ -178,17 +189,17 @@ module _ (s : Screen Row) (t u : Tables) (ht : Long t) (hu : Long u) (x : declar
           bytes = ap (λ (q : Part). q .bytes) same-details ∙ details .bytes;
         }
 
-done-lines : (a : Answer (Screen Row)) → a .number ≡ 0 → cond (eqb (a .number) Done) (detail-lines 32 (a .value)) [] ≡ detail-lines 32 (a .value)
+done-lines : (a : Answer (Screen Row)) → a .number ≡ 0 → cond (eqb (a .number) Done) (detail-lines (a .value)) [] ≡ detail-lines (a .value)
 done-lines a z = rw (eq-eqb (a .number) 0 z)
 
-dumped-lines : (q : Setup) (ws : List ℕ) → rowlist-screen q ws .number ≡ 0 → rowdump-words q ws ≡ detail-lines 32 (rowlist-screen q ws .value)
+dumped-lines : (q : Setup) (ws : List ℕ) → rowlist-screen q ws .number ≡ 0 → rowdump-words q ws ≡ detail-lines (rowlist-screen q ws .value)
 unfolding rowdump-words
 dumped-lines q ws z = done-lines (rowlist-screen q ws) z
 
 -- what a file that is not refused leaves
 pub record Accepted (q : Setup) (fs : List ℕ) (t : Tables) (o : FileOut) : Type 0 where
   pub screen : Screen Row
-  pub lines : rowdump-lines q fs ≡ detail-lines 32 screen
+  pub lines : rowdump-lines q fs ≡ detail-lines screen
   pub left : Left screen t o
   pub ended : Ended screen
 
@@ -218,7 +229,7 @@ module _ (q : Setup) (usual : Usual q) (fs : List ℕ) (byte : (i : ℕ) → get
   word-lines : length fs ≤ 65536 → eqb (length fs % 4) 0 ≡ true → rowdump-lines q fs ≡ rowdump-words q (words-in fs)
   word-lines g e = by-words g (some (words-in fs)) (rules-words fs ∙ ap (λ (x : Bool). cond x (some (words-in fs)) none) e)
 
-  refused-lines : (a : Answer (Screen Row)) → eqb (a .number) Done ≡ false → cond (eqb (a .number) Done) (detail-lines 32 (a .value)) [] ≡ []
+  refused-lines : (a : Answer (Screen Row)) → eqb (a .number) Done ≡ false → cond (eqb (a .number) Done) (detail-lines (a .value)) [] ≡ []
   refused-lines a e = rw e
 
   not-zero : (k : ℕ) → (k ≡ 0 → ⊥) → eqb k 0 ≡ false
@@ -280,7 +291,7 @@ long-of t list out p =
 
 -- The whole text of a file, where its call is refused, and where the details stand after its lines.
 module _ (q : Setup) (usual : Usual q) (fs : List ℕ) (byte : (i : ℕ) → getD fs i 0 < 256) (t : Tables) (h : Long t)
-    (bs : List ℕ) (room : 4682080 ≤ length bs) {x : FileText} {cs : List ℕ} {u : Tables} (e : file-out (showed x cs) u ≡ bytes-text fs q t bs) where
+    (bs : List ℕ) (room : 4813152 ≤ length bs) {x : FileText} {cs : List ℕ} {u : Tables} (e : file-out (showed x cs) u ≡ bytes-text fs q t bs) where
   enough : 264256 ≤ length bs
   enough = omega arith
 
@@ -310,7 +321,7 @@ module _ (q : Setup) (usual : Usual q) (fs : List ℕ) (byte : (i : ℕ) → get
     screen-wide =
         wide (a .screen) t u h hu (x .screen) (bytes-text fs q t bs) (a .left) (ap (λ (o : FileOut). o .showed .text .screen) e) (ap (λ (o : FileOut). o .tables) e) (a .ended)
 
-    pub accepted-whole : (list : List ℕ) → 13056 ≡ length list → {j m : ℕ} {d p ls ds : List ℕ}
+    pub accepted-whole : (list : List ℕ) → 12672 ≡ length list → {j m : ℕ} {d p ls ds : List ℕ}
         → part j d p ls ds ≡ screen-dumped (x .screen) (dumped.tables (u .paint-attrs) (u .layer-attrs) (u .opacities) (u .filter-paints)) (paint.lent (u .rows) (u .render) (u .fills) (u .depth) (u .painting) list) (take (m - x .bytes) (drop (x .bytes) cs))
         → j ≤ length (take (m - x .bytes) (drop (x .bytes) cs)) → m ≡ length cs → Printed (file-lines-text q fs) bs (x .bytes + j) (putMid (x .bytes) (m - x .bytes) cs ds)
     accepted-whole list long {j} {m} {d} {p} {ls} {ds} g f y =
@@ -318,7 +329,7 @@ module _ (q : Setup) (usual : Usual q) (fs : List ℕ) (byte : (i : ℕ) → get
         let rs = rowlist-text q fs in
         let few = lines-few in
         let same-rest : rest ≡ drop (length rs) (first rs bs) = rw (lines .0, lines .1) in
-        let roomy-rest : 4417824 ≤ length rest = rw (same-rest, first-dropped rs bs, length-drop) (omega (arith, few, lines .0)) in
+        let roomy-rest : 4548896 ≤ length rest = rw (same-rest, first-dropped rs bs, length-drop) (omega (arith, few, lines .0)) in
         let i : part j d p ls ds ≡ screen-dumped (x .screen) (dumped.tables (u .paint-attrs) (u .layer-attrs) (u .opacities) (u .filter-paints)) (paint.lent (u .rows) (u .render) (u .fills) (u .depth) (u .painting) list) rest = rw (y, mid-all (x .bytes) cs) at g in
         let says = screen-says (a .screen) t u h hu (x .screen) (bytes-text fs q t bs) (a .left) (ap (λ (o : FileOut). o .showed .text .screen) e) (ap (λ (o : FileOut). o .tables) e) (a .ended) list (omega arith) rest roomy-rest in
         let count : j ≡ length (details-text (rowdump-lines q fs)) = ap (λ (o : Part). o .count) i ∙ says .count ∙ rw (a .lines) in
@@ -340,11 +351,11 @@ line-first i bs room {k} {cs} w =
     let z : 0 + length (recording-line i) ≡ length (recording-line i) = omega arith in
     (moved ∙ z, ap (λ (t : Text). t .bytes) (w .is (omega (arith, moved, near))) ∙ rw z, omega arith)
 
-pub whole-text : (q : Setup) (i : ℕ) (fs bs : List ℕ) {k : ℕ} {cs : List ℕ} → k ≡ length (recording-line i) → cs ≡ first (recording-line i) bs → {j m : ℕ} {ds : List ℕ}
-    → Printed (file-lines-text q fs) (take (m - k) (drop k cs)) j ds → m ≡ length cs
-    → (k + j ≡ length (rowdump-text q i fs)) × (putMid k (m - k) cs ds ≡ first (rowdump-text q i fs) bs)
-whole-text q i fs bs {k} {cs} h e {j} {m} {ds} g y =
-    let b : ds ≡ first (file-lines-text q fs) (drop k cs) = rw (y, mid-all k cs) at (g .bytes) in (
-      rw (h, g .count) (sym (length-append (recording-line i) (file-lines-text q fs))),
-      rw (y, put-all k cs ds, b, h, e) (first-two (recording-line i) bs (file-lines-text q fs)),
+pub whole-text : (i : ℕ) (ts bs : List ℕ) {k : ℕ} {cs : List ℕ} → k ≡ length (recording-line i) → cs ≡ first (recording-line i) bs → {j m : ℕ} {ds : List ℕ}
+    → j ≡ length ts → ds ≡ first ts (take (m - k) (drop k cs)) → m ≡ length cs
+    → (k + j ≡ length (recording-line i ++ ts)) × (putMid k (m - k) cs ds ≡ first (recording-line i ++ ts) bs)
+whole-text i ts bs {k} {cs} h e {j} {m} {ds} n g y =
+    let b : ds ≡ first ts (drop k cs) = rw (y, mid-all k cs) at g in (
+      rw (h, n) (sym (length-append (recording-line i) ts)),
+      rw (y, put-all k cs ds, b, h, e) (first-two (recording-line i) bs ts),
     )

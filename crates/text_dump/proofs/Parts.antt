@@ -12,8 +12,10 @@ use lib.Seq.{take-all, drop-length}
 use borrow.Rule.Slice.PartMut.{putMid}
 use borrow.Author.Tests.{ltb-false}
 use Rattle.rules.specs.Answers.{answer, Done}
-use Rattle.rules.specs.Boxes.{rows-of, buckets-of}
+use Rattle.rules.specs.Boxes.{rows-of}
+use Rattle.rules.specs.Plans.{buckets-across}
 use Rattle.rect.specs.Rects.{box-of}
+use Rattle.screen.specs.Screens.{frame-of}
 use Rattle.screen.specs.declared.Screen.{Screen}
 use Rattle.paint_command.specs.Painting.{RowLent, lent, StepOut}
 use Rattle.paint_screen.specs.Beginning.{canvas, beginning}
@@ -103,10 +105,10 @@ module _ (s : Screen) (n : ℕ) (t : AttrTables) (l : RowLent) (bs : List ℕ) {
       rw (z, put-all (q .bytes) cs ds) (ap (after (q .bytes) cs) i ∙ rw (← e, ← b))
 
 -- the first words of larger tables
-pub small : (n b : ℕ) → n ≤ 32 → b ≤ 32 → n * b ≤ 1024
-small n b h g = mul-le-mul {n₂ = 32} {m₂ = 32} h g
+pub small : (n b : ℕ) → n ≤ 32 → b ≤ 64 → n * b ≤ 2048
+small n b h g = mul-le-mul {n₂ = 32} {m₂ = 64} h g
 
-pub screen-more : (s : Screen) (t : AttrTables) (l : RowLent) (bs : List ℕ) {n b : ℕ} → n ≡ rows-of (box-of (s .viewport)) → b ≡ buckets-of 32 (box-of (s .viewport)) → {k : ℕ} {d p ls cs : List ℕ}
+pub screen-more : (s : Screen) (t : AttrTables) (l : RowLent) (bs : List ℕ) {n b : ℕ} → n ≡ rows-of (box-of (s .viewport)) → b ≡ buckets-across (frame-of s) → {k : ℕ} {d p ls cs : List ℕ}
     → part k d p ls cs ≡ details-dumped s n t (lent (take (n * 54) (l .state)) (take (n * 256) (l .render)) (take (n * 128) (l .fills)) (take (n * b) (l .depth)) (take (n * 2) (l .painting)) (l .list)) bs
     → part k (d ++ drop (n * b) (l .depth)) (p ++ drop (n * 2) (l .painting)) ls cs ≡ screen-dumped s t l bs
 unfolding screen-dumped

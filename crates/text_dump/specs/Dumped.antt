@@ -3,10 +3,12 @@ use Prim.Native.Nat.{ℕ, zero, suc, _+_, _*_, _≤_}
 use mathlib.Core.Path.{_≡_}
 use mathlib.Core.List.{List, _++_}
 use lib.ListN.{length, take, drop}
-use Rattle.sizes.specs.Sizes.{bucket-tiles, row-size, program-rows, program-buckets, program-room, program-records, program-render, program-fills, program-depth, program-painting, open-layer-table, opacity-count, paint-attr-table, layer-attr-table, filter-paint-table}
-use Rattle.rules.specs.Boxes.{rows-of, buckets-of}
+use Rattle.sizes.specs.Sizes.{row-size, program-rows, program-buckets, program-room, program-records, program-render, program-fills, program-depth, program-painting, open-layer-table, opacity-count, paint-attr-table, layer-attr-table, filter-paint-table}
+use Rattle.rules.specs.Boxes.{rows-of}
+use Rattle.rules.specs.Plans.{buckets-across}
 use Rattle.rect.specs.Rects.{box-of}
 use Rattle.screen.specs.declared.Screen.{Screen}
+use Rattle.screen.specs.Screens.{frame-of}
 use Rattle.screen.specs.Tables as screen
 use Rattle.paint_command.specs.Painting.{RowLent, lent}
 use Rattle.paint_screen.specs.Beginning.{canvas, beginning}
@@ -45,26 +47,26 @@ details-dumped s n t l bs =
     (rows-dumped n 0 (k .screen) (attributes (t .paints) (t .layers)) (lent (l .state) (l .render) (l .fills) (k .depth) (k .painting) (l .list))
     (drop (o .answer .bytes) (o .bytes)))
 
--- in tables for 32 rows of 32 buckets: a screen's own words stand first
+-- in tables for 32 rows of 64 buckets: a screen's own words stand first
 abbrev pub words-before : Screen → RowLent → RowLent
 words-before s l =
     let n = rows-of (box-of (s .viewport)) in
-    lent (take (n * row-size) (l .state)) (take (n * (4 * program-room)) (l .render)) (take (n * (2 * program-room)) (l .fills)) (take (n * buckets-of bucket-tiles (box-of (s .viewport))) (l .depth))
+    lent (take (n * row-size) (l .state)) (take (n * (4 * program-room)) (l .render)) (take (n * (2 * program-room)) (l .fills)) (take (n * buckets-across (frame-of s)) (l .depth))
     (take (n * 2) (l .painting))
     (l .list)
 
 abbrev pub in-front : Screen → RowLent → Part → Part
 in-front s l q =
     let n = rows-of (box-of (s .viewport)) in
-    part (q .count) (q .depth ++ drop (n * buckets-of bucket-tiles (box-of (s .viewport))) (l .depth)) (q .painting ++ drop (n * 2) (l .painting)) (q .list) (q .bytes)
+    part (q .count) (q .depth ++ drop (n * buckets-across (frame-of s)) (l .depth)) (q .painting ++ drop (n * 2) (l .painting)) (q .list) (q .bytes)
 
 unfoldable pub screen-dumped : Screen → AttrTables → RowLent → List ℕ → Part
 screen-dumped s t l bs = in-front s l (details-dumped s (rows-of (box-of (s .viewport))) t (words-before s l) bs)
 
--- tables for 32 rows of 32 buckets, and a screen that has no more
+-- tables for 32 rows of 64 buckets, and a screen that has no more
 pub record Wide (s : Screen) (rows render fills depth painting : List ℕ) : Type 0 where
   pub few : rows-of (box-of (s .viewport)) ≤ program-rows
-  pub narrow : buckets-of bucket-tiles (box-of (s .viewport)) ≤ program-buckets
+  pub narrow : buckets-across (frame-of s) ≤ program-buckets
   pub rows-long : program-records ≤ length rows
   pub render-long : program-render ≤ length render
   pub fills-long : program-fills ≤ length fills
@@ -83,5 +85,5 @@ pub record Sized (t : screen.Tables) (list out : List ℕ) : Type 0 where
   pub paint-attrs : paint-attr-table ≡ length (t .paint-attrs)
   pub layer-attrs : layer-attr-table ≡ length (t .layer-attrs)
   pub filter-paints : filter-paint-table ≡ length (t .filter-paints)
-  pub pieces : 13056 ≡ length list
-  pub room : 4682080 ≤ length out
+  pub pieces : 12672 ≡ length list
+  pub room : 4813152 ≤ length out

@@ -1,7 +1,7 @@
 -- The text that `rowdump` prints of one recording: over the rules alone.
 use Prim.Native.Nat.{ℕ, _≤_}
 use mathlib.Core.Path.{_≡_}
-use mathlib.Core.Bool.{true, false}
+use mathlib.Core.Bool.{Bool, true, false, cond}
 use mathlib.Core.List.{List, [], _∷_, _++_}
 use mathlib.Core.Option.{none, some}
 use lib.ListN.{length}
@@ -9,7 +9,7 @@ use Rattle.rules.specs.Setups.{Setup}
 use Rattle.rules.specs.Lines.{words-of, too-long, digits}
 use Rattle.text_details.specs.Details.{Detail, rowdump-words}
 use Rattle.text_details.specs.Bytes.{details-text}
-use Rattle.text_programs.specs.Programs.{rowlist-text, first}
+use Rattle.text_programs.specs.Programs.{rowlist-text, no-width-text, first}
 
 -- the words "recording "
 abbrev pub recording-text : List ℕ
@@ -33,6 +33,14 @@ file-lines-text q fs = rowlist-text q fs ++ details-text (rowdump-lines q fs)
 
 abbrev pub rowdump-text : Setup → ℕ → List ℕ → List ℕ
 rowdump-text q i fs = recording-line i ++ file-lines-text q fs
+
+-- where the width asked for is none
+abbrev pub no-width-dump : ℕ → List ℕ → List ℕ
+no-width-dump i fs = recording-line i ++ no-width-text fs
+
+-- what is printed, given the text at the width asked for, and whether that is none
+abbrev pub dump-by-width : Bool → ℕ → List ℕ → List ℕ → List ℕ
+dump-by-width no-width i fs ts = cond no-width (no-width-dump i fs) ts
 
 -- the text ts was put first into the bytes bs, which held it: r is how long it is, cs are the bytes afterwards
 pub record Printed (ts bs : List ℕ) (r : ℕ) (cs : List ℕ) : Type 0 where

@@ -11,6 +11,7 @@ use text::put_byte;
 use text::put_digits;
 use text::put_text;
 use text_file::file_text;
+use text_programs::no_width_text;
 use text_programs::tables::depth_words;
 use text_programs::tables::fill_words;
 use text_programs::tables::filter_words;
@@ -34,7 +35,7 @@ ghost use Rattle.paint_screen.specs.Stepping.{attributes};
 ghost use Rattle.text_file.specs.Files.{Usual};
 ghost use Rattle.text_row.specs.Dumped.{tables};
 ghost use Rattle.text_programs.specs.Programs.{first};
-ghost use Rattle.text_dump.specs.Rowdump.{recording-line, file-lines-text, rowdump-text, Printed};
+ghost use Rattle.text_dump.specs.Rowdump.{recording-line, file-lines-text, rowdump-text, no-width-dump, Printed};
 ghost use Rattle.text_dump.specs.Dumped.{part, rows-dumped, details-dumped, screen-dumped, Wide, Sized};
 
 // The line that a recording's text begins with.
@@ -148,7 +149,7 @@ fn details_text(
     k + more
 }
 
-// The same, given tables for 32 rows of 32 buckets.
+// The same, given tables for 32 rows of 64 buckets.
 fn screen_text(
     screen: Screen,
     rows: &[u32],
@@ -249,7 +250,7 @@ fn tables_text(
 // The same, with the programs' tables.
 fn recording_text(file: &[u8], setup: Setup, out: &mut [u8]) -> usize
     requires { ⌜ Usual (setup-of setup) ⌝ }
-    requires { ⌜ 4682080 ≤ length (now out) ⌝ }
+    requires { ⌜ 4813152 ≤ length (now out) ⌝ }
     ensures { λ r. ⌜ Printed (file-lines-text (setup-of setup) (now (file .entry))) (now (out .entry)) r (now (out .exit)) ⌝ }
 {
     let mut render = render_words();
@@ -284,11 +285,22 @@ fn recording_text(file: &[u8], setup: Setup, out: &mut [u8]) -> usize
 // The text that `rowdump` prints of recording i, a file's bytes, put first; how long it is. The room is that of the longest text.
 pub fn rowdump_text(i: u64, file: &[u8], setup: Setup, out: &mut [u8]) -> usize
     requires { ⌜ Usual (setup-of setup) ⌝ }
-    requires { ⌜ 4682240 ≤ length (now out) ⌝ }
+    requires { ⌜ 4813312 ≤ length (now out) ⌝ }
     ensures { λ r. ⌜ r ≡ length (rowdump-text (setup-of setup) i (now (file .entry))) ⌝ }
     ensures { λ r. ⌜ now (out .exit) ≡ first (rowdump-text (setup-of setup) i (now (file .entry))) (now (out .entry)) ⌝ }
 {
     let k = put_recording(out, i);
     let more = recording_text(file, setup, &mut out[k..]);
+    k + more
+}
+
+// What `rowdump` prints of recording i where the width asked for is none, put first; how long it is.
+pub fn no_width_dump(i: u64, file: &[u8], out: &mut [u8]) -> usize
+    requires { ⌜ 128 ≤ length (now out) ⌝ }
+    ensures { λ r. ⌜ r ≡ length (no-width-dump i (now (file .entry))) ⌝ }
+    ensures { λ r. ⌜ now (out .exit) ≡ first (no-width-dump i (now (file .entry))) (now (out .entry)) ⌝ }
+{
+    let k = put_recording(out, i);
+    let more = no_width_text(file, &mut out[k..]);
     k + more
 }

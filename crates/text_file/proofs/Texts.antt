@@ -5,6 +5,7 @@ use mathlib.Core.List.{List}
 use Prim.Native.Nat.{ℕ, _*_, _≤_, _<_}
 use native.Mathlib.Nat.{mul-le-mul}
 use borrow.Author.Tests.{le-leb, lt-leb, eq-eqb, ne-eqb}
+use Rattle.sizes.specs.Widths.{bucket-tiles}
 use Rattle.rules.specs.Answers.{answer}
 use Rattle.rules.specs.Boxes.{Box, good-viewport, rows-of, buckets-of}
 use Rattle.rules.specs.Setups.{Setup, viewport-in}
@@ -25,7 +26,7 @@ use Rattle.text_screen.specs.declared.Listing.{Listing}
 use Rattle.text_screen.specs.Listed.{TextOut, left, listed, refused-listed}
 use Rattle.text_file.specs.declared.FileText.{FileText}
 use Rattle.text_file.specs.declared.Size.{Size}
-use Rattle.text_file.specs.Files.{nothing, Showed, showed, file-text, refusing, showing, file-out, FileOut, recording-text, viewport-of, size, size-of, cut-to, over, in-front, front-text, is-roomy, words-text}
+use Rattle.text_file.specs.Files.{nothing, Showed, showed, file-text, refusing, showing, file-out, FileOut, recording-text, frame-at, size, size-of, cut-to, over, in-front, front-text, is-roomy, words-text}
 
 module _ (n : ℕ) (s : Screen) (bs : List ℕ) {r : Listing} {cs : List ℕ} where
   pub refused-as : left r cs ≡ refused-listed n bs → showed (file-text n (r .bytes) s) cs ≡ refusing n s bs
@@ -68,7 +69,7 @@ module _ (ws : List ℕ) (q : Setup) where
 
     -- of r, the viewport that the screen has
     module _ {r : Rect} (h : viewport.Good r ≡ seen (viewport-in (q .mode) b)) where
-      held : box-of r ≡ viewport-of ws q
+      held : box-of r ≡ frame-at ws q .viewport
       held = ap box-of (good-seen _ _ h .1) ∙ ap (viewport-in (q .mode)) i
 
       is-good : good-viewport (box-of r) ≡ true
@@ -78,16 +79,16 @@ module _ (ws : List ℕ) (q : Setup) where
       unfolding size-of
       many-rows j g = rw (← e, ← held, is-good, lt-leb (rows-of (box-of r)) 32 (rw j at g))
 
-      pub good-size : {m n : ℕ} → m ≡ rows-of (box-of r) → n ≡ buckets-of 32 (box-of r) → m ≤ 32 → size 0 m n ≡ size-of ws q
+      pub good-size : {m n : ℕ} → m ≡ rows-of (box-of r) → n ≡ buckets-of (bucket-tiles (q .width)) (box-of r) → m ≤ 32 → size 0 m n ≡ size-of ws q
       unfolding size-of
       good-size j k g = rw (← e, ← held, is-good, le-leb (rows-of (box-of r)) 32 (rw j at g), j, k)
 
-      pub few : {n : ℕ} → n ≡ buckets-of 32 (box-of r) → n ≤ 32
-      few k = rw k (few-buckets (box-of r) is-good)
+      pub few : {n : ℕ} → n ≡ buckets-of (bucket-tiles (q .width)) (box-of r) → n ≤ 64
+      few k = rw k (few-buckets (box-of r) is-good (q .width))
 
 -- a file's words in larger tables
-pub small : (n b : ℕ) → n ≤ 32 → b ≤ 32 → n * b ≤ 1024
-small n b h g = mul-le-mul {n₂ = 32} {m₂ = 32} h g
+pub small : (n b : ℕ) → n ≤ 32 → b ≤ 64 → n * b ≤ 2048
+small n b h g = mul-le-mul {n₂ = 32} {m₂ = 64} h g
 
 pub front-shown : (n b : ℕ) (ws : List ℕ) (q : Setup) (t : Tables) (bs : List ℕ) {x : Showed} {u : Tables}
     → file-out x u ≡ recording-text ws q (cut-to (size 0 n b) t) bs → file-out x (over (size 0 n b) t u) ≡ front-text n b ws q t bs

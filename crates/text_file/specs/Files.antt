@@ -5,10 +5,13 @@ use mathlib.Core.Bool.{Bool, true, false, _&&_, cond}
 use mathlib.Core.List.{List, _++_}
 use lib.ListN.{length, take, drop}
 use lib.Dec.{leb, eqb}
-use Rattle.sizes.specs.Sizes.{bucket-tiles, most-attrs, file-bytes, program-rows, program-room, program-render, program-fills, program-depth, program-records, program-painting, row-size}
+use Rattle.sizes.specs.Sizes.{file-bytes, program-rows, program-room, program-render, program-fills, program-depth, program-records, program-painting, row-size}
 use Rattle.rules.specs.Answers.{Answer, Done, BadViewport, BadForm, BadRecord}
-use Rattle.rules.specs.Boxes.{Box, good-viewport, rows-of, buckets-of}
-use Rattle.rules.specs.Setups.{Setup, viewport-in}
+use Rattle.rules.specs.Lists.{is-none}
+use Rattle.rules.specs.Boxes.{good-viewport, rows-of}
+use Rattle.rules.specs.Plans.{Frame, buckets-across}
+use Rattle.rules.specs.Setups.{Setup, frame}
+use Rattle.rules.specs.Recording.{shape, sections}
 use Rattle.rules.specs.Lines as rule
 use Rattle.row.specs.Words.{Words, words}
 use Rattle.screen.specs.declared.Screen.{Screen}
@@ -71,24 +74,24 @@ unfoldable pub recording-text : List ℕ → Setup → Tables → List ℕ → F
 recording-text ws q t bs = answered (recorded ws q (lent nothing t)) bs
 
 -- The file's own size: 3 for its form, 2 for its viewport or more than 32 rows.
-abbrev pub viewport-of : List ℕ → Setup → Box
-viewport-of ws q = viewport-in (q .mode) (box-from ws 1)
+abbrev pub frame-at : List ℕ → Setup → Frame
+frame-at ws q = frame q (box-from ws 1)
 
 abbrev pub size : ℕ → ℕ → ℕ → Size
 size n r b = record { number = n; rows = r; buckets = b }
 
-abbrev pub sized-if : Bool → Box → Size
-sized-if true v = size Done (rows-of v) (buckets-of bucket-tiles v)
-sized-if false v = size BadViewport 0 0
+abbrev pub sized-if : Bool → Frame → Size
+sized-if true f = size Done (rows-of (f .viewport)) (buckets-across f)
+sized-if false f = size BadViewport 0 0
 
-abbrev pub sized : Form → Box → Size
-sized form.Bad v = size BadForm 0 0
-sized (form.Good l) v = sized-if (good-viewport v && leb (rows-of v) program-rows) v
+abbrev pub sized : Form → Frame → Size
+sized form.Bad f = size BadForm 0 0
+sized (form.Good l) f = sized-if (good-viewport (f .viewport) && leb (rows-of (f .viewport)) program-rows) f
 
 unfoldable pub size-of : List ℕ → Setup → Size
-size-of ws q = sized (form-of ws) (viewport-of ws q)
+size-of ws q = sized (form-of ws) (frame-at ws q)
 
--- The tables that the programs have are for 32 rows of 32 buckets; a file's screen has their first words.
+-- The tables that the programs have are for 32 rows of 64 buckets; a file's screen has their first words.
 abbrev pub cut-to : Size → Tables → Tables
 cut-to z t =
     tables (take (z .rows * (4 * program-room)) (t .render)) (take (z .rows * (2 * program-room)) (t .fills)) (take (z .rows * z .buckets) (t .depth)) (take (z .rows * row-size) (t .rows))
@@ -138,7 +141,7 @@ pub record Roomy (t : Tables) : Type 0 where
 -- how many words the programs' tables have at least
 abbrev pub roomy : ℕ → ℕ → ℕ → ℕ → ℕ → Bool
 roomy render fills depth rows painting =
-    leb program-render render && (leb program-fills fills && (leb most-attrs depth && (leb program-records rows && leb program-painting painting)))
+    leb program-render render && (leb program-fills fills && (leb program-depth depth && (leb program-records rows && leb program-painting painting)))
 
 abbrev pub is-roomy : Tables → Bool
 is-roomy t = roomy (length (t .render)) (length (t .fills)) (length (t .depth)) (length (t .rows)) (length (t .painting))
@@ -159,3 +162,11 @@ good-bytes n = leb n file-bytes && eqb (n % 4) 0
 -- 3 for the bytes, then what their words say
 unfoldable pub bytes-text : List ℕ → Setup → Tables → List ℕ → FileOut
 bytes-text fs q t bs = cond (good-bytes (length fs)) (words-text (words-in fs) q t bs) (refused-as-is BadForm t bs)
+
+-- the number of a file that is refused because the width asked for is none: 3 for its words' form, then 2
+unfoldable pub no-width-of : List ℕ → ℕ
+no-width-of ws = cond (is-none (sections shape ws)) BadForm BadViewport
+
+-- .. and 3 for its bytes, as the rules say
+unfoldable pub no-width-number : List ℕ → ℕ
+no-width-number fs = cond (rule.bad-form fs) BadForm BadViewport

@@ -22,6 +22,7 @@ use sizes::answers::BAD_FORM;
 use sizes::answers::BAD_RECORD;
 use sizes::answers::BAD_VIEWPORT;
 use sizes::answers::DONE;
+use sizes::width::Width;
 use text_screen::list_screen;
 use text_screen::refusal_line;
 ghost use mathlib.Core.Path.{_≡_};
@@ -31,7 +32,7 @@ ghost use Rattle.sizes.specs.Sizes.{program-rows, program-buckets};
 ghost use Rattle.screen.specs.Screens.{setup-of};
 ghost use Rattle.screen.specs.Tables.{tables};
 ghost use Rattle.row.specs.Words.{words};
-ghost use Rattle.text_file.specs.Files.{nothing, showed, file-out, refusing, showing, recording-text, size-of, front-text, words-text, Roomy, roomy, good-bytes, bytes-text};
+ghost use Rattle.text_file.specs.Files.{nothing, showed, file-out, refusing, showing, recording-text, size-of, front-text, words-text, Roomy, roomy, good-bytes, bytes-text, no-width-of, no-width-number};
 
 // number: document 01's answer. bytes: how many are written, at the start of the lent ones. screen: the screen afterwards.
 pub struct FileText {
@@ -51,7 +52,7 @@ pub struct Size {
 pub fn no_screen() -> Screen
     ensures { λ r. ⌜ r ≡ nothing ⌝ }
 {
-    fresh(NOWHERE, 1, 1)
+    fresh(NOWHERE, 1, 1, Width::W128)
 }
 
 // A refusal prints only its number.
@@ -146,7 +147,8 @@ pub fn size_of(file: &[u32], setup: Setup) -> Size
             buckets: 0,
         };
     };
-    let screen = fresh(viewport, setup.c, setup.d);
+    let width = setup.width;
+    let screen = fresh(viewport, setup.c, setup.d, width);
     let rows = screen.rows();
     if PROGRAM_ROWS < rows {
         return Size {
@@ -162,7 +164,7 @@ pub fn size_of(file: &[u32], setup: Setup) -> Size
     }
 }
 
-// A file's words in tables for 32 rows of 32 buckets: n rows of b buckets stand in their first words.
+// A file's words in tables for 32 rows of 64 buckets: n rows of b buckets stand in their first words.
 fn front_text(
     file: &[u32],
     setup: Setup,
@@ -203,7 +205,7 @@ fn front_text(
     )
 }
 
-// Tables for 32 rows of 32 buckets.
+// Tables for 32 rows of 64 buckets.
 fn is_roomy(render: usize, fills: usize, depth: usize, rows: usize, painting: usize) -> bool
     ensures { λ r. ⌜ r ≡ roomy render fills depth rows painting ⌝ }
 {
@@ -290,6 +292,28 @@ fn no_words() -> [u32; 16384]
     ensures { λ r. ⌜ 16384 ≡ length r ⌝ }
 {
     [0; 16384]
+}
+
+// A file's words where the width asked for is none: 3 for their form, then 2.
+fn no_width_of(words: &[u32]) -> u32
+    ensures { λ r. ⌜ r ≡ no-width-of (now (words .entry)) ⌝ }
+{
+    let Form::Good(_) = read_form(words) else {
+        return BAD_FORM;
+    };
+    BAD_VIEWPORT
+}
+
+// The same of a file's bytes.
+pub fn no_width_number(file: &[u8]) -> u32
+    ensures { λ r. ⌜ r ≡ no-width-number (now (file .entry)) ⌝ }
+{
+    if !is_good_bytes(file.len()) {
+        return BAD_FORM;
+    }
+    let mut words = no_words();
+    let n = words_of_bytes(file, &mut words);
+    no_width_of(&words[..n])
 }
 
 // A recording file's bytes: what `rowlist` prints of them. The tables take its screen.

@@ -1,35 +1,52 @@
 -- The programs' tables are as long as a file's call asks, so that what it writes is the rules' text. Assumes nothing.
 use mathlib.Core.Path.{_≡_, refl, sym, ap, _∙_}
 use mathlib.Core.Bool.{Bool, true, false, _&&_, cond}
-use mathlib.Core.List.{List}
+use mathlib.Core.List.{List, append-nil}
 use mathlib.Core.Option.{Option, none, some}
 use Prim.Native.Nat.{ℕ, _%_, _≤_, _<_}
 use native.Mathlib.Omega.{arith}
-use lib.ListN.{length, take}
+use lib.ListN.{length, take, drop, length-append}
 use lib.Seq.{take-at}
 use lib.Dec.{leb, eqb}
 use borrow.Author.Tests.{le-leb, le-ltb, lt-ltb, leb-true, leb-false, eq-eqb}
+use Rattle.sizes.specs.declared.width.Width.{Width}
+use Rattle.sizes.specs.declared.width.Width.the-variants.{W128}
+use Rattle.sizes.specs.declared.width.ReadWidth.{ReadWidth}
+use Rattle.sizes.specs.declared.width.ReadWidth.the-variants as read
+use Rattle.sizes.specs.Widths.{width-of, width-read}
 use Rattle.rules.specs.Answers.{BadForm}
 use Rattle.rules.specs.Setups.{Mode, Setup}
-use Rattle.rules.specs.Lines.{usual, words-of, rowlist-screen}
+use Rattle.rules.specs.Lines.{usual, words-of, rowlist-screen, refused, no-width, line-bytes}
 use Rattle.screen.specs.Judging.{good-fixed}
 use Rattle.screen.specs.Tables.{Tables, lengths}
 use Rattle.file_form.specs.Words.{words-in}
 use Rattle.file_form.proofs.Bytes.{rules-words}
+use Rattle.text_screen.specs.declared.Listing.{Listing}
+use Rattle.text_screen.specs.Listed.{TextOut, left, begun-with, written, refused-listed, text-of}
 use Rattle.text_file.specs.declared.FileText.{FileText}
-use Rattle.text_file.specs.Files.{FileOut, file-out, showed, Usual, is-roomy, refusing, refused-as-is, words-text, bytes-text}
+use Rattle.text_file.specs.Files.{FileOut, file-out, showed, Usual, is-roomy, refusing, refused-as-is, words-text, bytes-text, no-width-number}
+use Rattle.refine_text.proofs.Lengths.{line-few}
 use Rattle.refine_text.proofs.Files.{shows, file-printed, words-leave}
-use Rattle.text_programs.specs.Programs.{rowlist-number, rowlist-text, first}
+use Rattle.text_programs.specs.Programs.{rowlist-number, rowlist-text, no-width-text, Wanted, wanted, want-of, first}
 
--- what the options ask of a screen
-pub as-usual : (m : Mode) {q : Setup} → q ≡ usual m → Usual q
-as-usual m e = record { c = ap (λ (x : Setup). x .c) e; d = ap (λ (x : Setup). x .d) e }
+-- what is wanted with n pixels a bucket, as they are read
+module _ (m : Mode) (n : ℕ) {r : ReadWidth} (e : width-read r ≡ width-of n) {q : Setup} where
+  pub no-want : r ≡ read.Bad → q ≡ usual m W128 → wanted q true ≡ want-of m (width-of n)
+  no-want b h = rw (← e, b, h)
+
+  pub want-at : (w : Width) → r ≡ read.Good w → q ≡ usual m w → wanted q false ≡ want-of m (width-of n)
+  want-at w b h = rw (← e, b, h)
+
+-- .. has C = D = 64
+pub as-usual : (m : Mode) (o : Option Width) {q : Setup} {b : Bool} → wanted q b ≡ want-of m o → Usual q
+as-usual m none e = record { c = ap (λ (x : Wanted). x .setup .c) e; d = ap (λ (x : Wanted). x .setup .d) e }
+as-usual m (some w) e = record { c = ap (λ (x : Wanted). x .setup .c) e; d = ap (λ (x : Wanted). x .setup .d) e }
 
 -- the lengths of the programs' tables
 pub record Long (t : Tables) : Type 0 where
   pub render : 8192 ≡ length (t .render)
   pub fills : 4096 ≡ length (t .fills)
-  pub depth : 1024 ≡ length (t .depth)
+  pub depth : 2048 ≡ length (t .depth)
   pub rows : 1728 ≡ length (t .rows)
   pub painting : 64 ≡ length (t .painting)
   pub layers : 256 ≡ length (t .layers)
@@ -44,7 +61,7 @@ module _ (t : Tables) (h : Long t) where
       rw (
         le-leb 8192 (length (t .render)) (omega (arith, h .render)),
         le-leb 4096 (length (t .fills)) (omega (arith, h .fills)),
-        le-leb 1024 (length (t .depth)) (omega (arith, h .depth)),
+        le-leb 2048 (length (t .depth)) (omega (arith, h .depth)),
         le-leb 1728 (length (t .rows)) (omega (arith, h .rows)),
         le-leb 64 (length (t .painting)) (omega (arith, h .painting)),
       )
@@ -105,6 +122,26 @@ module _ (t : Tables) (h : Long t) where
     pub number-shown : {x : FileText} {cs : List ℕ} {v : Tables} → file-out (showed x cs) v ≡ bytes-text fs q t bs → x .number ≡ rowlist-number q fs
     number-shown e = ap (λ (o : FileOut). o .showed .text .number) e ∙ number-there
 
+-- the line where the width asked for is none
+no-width-line : (fs : List ℕ) → line-bytes (refused (no-width-number fs)) ≡ no-width-text fs
+unfolding no-width-number no-width text-of
+no-width-line fs = sym (append-nil _)
+
+pub no-width-few : (fs : List ℕ) → length (no-width-text fs) ≤ 64
+no-width-few fs = rw (← no-width-line fs) (line-few (refused (no-width-number fs)))
+
+pub no-width-shown : (fs bs : List ℕ) → 64 ≤ length bs → {n : ℕ} → n ≡ no-width-number fs → {r : Listing} {cs : List ℕ} → left r cs ≡ refused-listed n bs
+    → (r .bytes ≡ length (no-width-text fs)) × (cs ≡ first (no-width-text fs) bs)
+unfolding written
+no-width-shown fs bs room {n} h {r} {cs} e =
+    let short : length (line-bytes (refused (no-width-number fs))) ≤ 64 = line-few (refused (no-width-number fs)) in
+    let o : left r cs ≡ begun-with (line-bytes (refused (no-width-number fs))) bs = e ∙ rw (h, le-ltb (length bs) (length (line-bytes (refused (no-width-number fs)))) (omega (arith, short, room))) in
+    rw (← no-width-line fs) (ap (λ (x : TextOut). x .answer .bytes) o, ap (λ (x : TextOut). x .bytes) o)
+
 -- a text that stands first is the bytes as far as it goes
 pub first-taken : (ts bs : List ℕ) (n : ℕ) (cs : List ℕ) → n ≡ length ts → cs ≡ first ts bs → take n cs ≡ ts
 first-taken ts bs n cs h e = rw (e, h) (take-at ts _ (length ts) (omega arith))
+
+-- .. and there are as many of them
+pub first-fits : (ts bs : List ℕ) (n : ℕ) (cs : List ℕ) → n ≡ length ts → cs ≡ first ts bs → n ≤ length cs
+first-fits ts bs n cs h e = rw (e, length-append ts (drop (length ts) bs)) (omega (arith, h))

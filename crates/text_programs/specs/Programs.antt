@@ -1,12 +1,14 @@
 -- The texts that the programs print of a recording file's bytes.
 use Prim.Native.Nat.{ℕ}
-use mathlib.Core.Bool.{true, false}
+use mathlib.Core.Bool.{Bool, true, false, cond}
 use mathlib.Core.List.{List, _++_}
-use mathlib.Core.Option.{none, some}
+use mathlib.Core.Option.{Option, none, some}
 use lib.ListN.{length, drop}
+use Rattle.sizes.specs.declared.width.Width.{Width}
+use Rattle.sizes.specs.declared.width.Width.the-variants.{W128}
 use Rattle.rules.specs.Answers.{BadForm}
-use Rattle.rules.specs.Setups.{Setup}
-use Rattle.rules.specs.Lines.{too-long, words-of, rowlist-screen, rowlist}
+use Rattle.rules.specs.Setups.{Mode, Setup}
+use Rattle.rules.specs.Lines.{too-long, words-of, rowlist-screen, rowlist, no-width, usual}
 use Rattle.text_screen.specs.Listed.{text-of}
 
 -- the number that `rowlist` has of the bytes: 0, or that of its refusal
@@ -20,6 +22,26 @@ rowlist-number q fs =
 -- `rowlist`: the rules' own lines
 abbrev pub rowlist-text : Setup → List ℕ → List ℕ
 rowlist-text q fs = text-of (rowlist q fs)
+
+-- every program, where the width asked for is none: the rules' line
+abbrev pub no-width-text : List ℕ → List ℕ
+no-width-text fs = text-of (no-width fs)
+
+-- what is printed of a file's bytes, given the text at the width asked for, and whether that is none
+abbrev pub by-width : Bool → List ℕ → List ℕ → List ℕ
+by-width no-width fs ts = cond no-width (no-width-text fs) ts
+
+-- what the options want: the usual setup at the width typed, or that it is none
+pub record Wanted : Type 0 where
+  pub setup : Setup
+  pub no-width : Bool
+
+abbrev pub wanted : Setup → Bool → Wanted
+wanted q b = record { setup = q; no-width = b }
+
+abbrev pub want-of : Mode → Option Width → Wanted
+want-of m none = wanted (usual m W128) true
+want-of m (some w) = wanted (usual m w) false
 
 -- a text at the start of some bytes; what was after it stays
 abbrev pub first : List ℕ → List ℕ → List ℕ

@@ -2,13 +2,15 @@
 // asks something, the programs have seen to it.
 use screen::Setup;
 use text_file::file_text;
+use text_file::no_width_number;
 use text_screen::Listing;
+use text_screen::refusal_line;
 ghost use mathlib.Core.Path.{_≡_};
 ghost use Prim.Native.Nat.{_≤_};
 ghost use lib.ListN.{length};
 ghost use Rattle.screen.specs.Screens.{setup-of};
 ghost use Rattle.text_file.specs.Files.{Usual};
-ghost use Rattle.text_programs.specs.Programs.{rowlist-number, rowlist-text, first};
+ghost use Rattle.text_programs.specs.Programs.{rowlist-number, rowlist-text, no-width-text, first};
 
 pub mod options;
 pub mod stream;
@@ -69,6 +71,16 @@ pub fn rowlist_text(file: &[u8], setup: Setup, out: &mut [u8]) -> usize
 {
     let text = list_file(file, setup, out);
     text.bytes
+}
+
+// What the programs print of a file's bytes where the width asked for is none, put first; how long it is.
+pub fn no_width_text(file: &[u8], out: &mut [u8]) -> usize
+    requires { ⌜ 64 ≤ length (now out) ⌝ }
+    ensures { λ r. ⌜ r ≡ length (no-width-text (now (file .entry))) ⌝ }
+    ensures { λ r. ⌜ now (out .exit) ≡ first (no-width-text (now (file .entry))) (now (out .entry)) ⌝ }
+{
+    let line = refusal_line(no_width_number(file), out);
+    line.bytes
 }
 
 // failed: a read failed. count: how many bytes were read before that, or before the end.

@@ -2,54 +2,104 @@
 use rect::Mode;
 use screen::Setup;
 use sizes::PROGRAM_ROOM;
+use sizes::width::ReadWidth;
+use sizes::width::Width;
+use sizes::width::read_width;
 ghost use mathlib.Core.Path.{_≡_};
-ghost use Prim.Native.Nat.{_+_, _≤_};
+ghost use Prim.Native.Nat.{_+_, _≤_, _<_};
+ghost use Rattle.sizes.specs.Widths.{width-of};
 ghost use Rattle.rules.specs.Lines as rule;
 ghost use Rattle.rect.specs.Rects.{mode-of};
 ghost use Rattle.screen.specs.Screens.{setup-of};
 ghost use Rattle.text_file.specs.Files.{Usual};
+ghost use Rattle.text_programs.specs.Programs.{wanted, want-of};
 
-// setup: what the options ask of a screen. next: the first argument that is no option. others: how many there are from there on.
-pub struct Options {
+// What the options want of a screen. no_width: the number typed for the width is none, and every file is refused.
+pub struct Want {
     pub setup: Setup,
+    pub no_width: bool,
+}
+
+// next: the first argument that is no option. others: how many there are from there on.
+pub struct Options {
+    pub want: Want,
     pub next: usize,
     pub others: usize,
 }
 
 // C = D = 64.
-fn usual(mode: Mode) -> Setup
-    ensures { λ r. ⌜ setup-of r ≡ rule.usual (mode-of mode) ⌝ }
+fn usual(mode: Mode, width: Width) -> Setup
+    ensures { λ r. ⌜ setup-of r ≡ rule.usual (mode-of mode) width ⌝ }
 {
     Setup {
         c: PROGRAM_ROOM,
         d: PROGRAM_ROOM,
         mode,
+        width,
     }
 }
 
-// The options that the program was started with. Whatever is none ends them: what may stand there the program knows.
+// What is wanted with so many pixels a bucket.
+fn want_of(mode: Mode, pixels: u32) -> Want
+    ensures { λ r. ⌜ wanted (setup-of (r .setup)) (r .«no_width») ≡ want-of (mode-of mode) (width-of pixels) ⌝ }
+{
+    let ReadWidth::Good(width) = read_width(pixels) else {
+        return Want {
+            setup: usual(mode, Width::W128),
+            no_width: true,
+        };
+    };
+    Want {
+        setup: usual(mode, width),
+        no_width: false,
+    }
+}
+
+fn options_at(mode: Mode, pixels: u32, next: usize, others: usize) -> Options
+    ensures { λ r. ⌜ Usual (setup-of (r .want .setup)) × (r .next ≡ next) × (r .others ≡ others) ⌝ }
+{
+    Options {
+        want: want_of(mode, pixels),
+        next,
+        others,
+    }
+}
+
+// The pixels of a `--width` that stands at argument i.
+fn width_at(i: usize) -> Number
+    requires { ⌜ i < 18446744073709551615 ⌝ }
+{
+    if is_word(i, b"--width") {
+        return number_at(i + 1);
+    }
+    Number::Bad
+}
+
+// The options that the program was started with, 128 pixels a bucket without `--width`. Whatever is none ends them: what may stand there the
+// program knows.
 pub fn read_options() -> Options
-    ensures { λ r. ⌜ Usual (setup-of (r .setup)) × (r .next + r .others ≤ 18446744073709551615) ⌝ }
+    ensures { λ r. ⌜ Usual (setup-of (r .want .setup)) × (r .next + r .others ≤ 18446744073709551615) ⌝ }
 {
     let n = os::arg_count();
     let mut mode = Mode::Exact;
+    let mut pixels = 128;
     let mut i = 1;
     while i < n {
-        if !is_word(i, b"--snap") {
-            return Options {
-                setup: usual(mode),
-                next: i,
-                others: n - i,
-            };
+        if is_word(i, b"--snap") {
+            mode = Mode::Snapping;
+            i += 1;
+            continue;
         }
-        mode = Mode::Snapping;
-        i += 1;
+        if n - i < 2 {
+            return options_at(mode, pixels, i, n - i);
+        }
+        let Number::Good(p) = width_at(i) else {
+            return options_at(mode, pixels, i, n - i);
+        };
+        pixels = p;
+        i += 2;
     }
-    Options {
-        setup: usual(mode),
-        next: i,
-        others: 0,
-    }
+    options_at(mode, pixels, i, 0)
 }
 
 // An argument that is a number: decimal digits, at most 4,294,967,295.

@@ -12,7 +12,7 @@ use sizes::PROGRAM_PAINTING;
 use sizes::PROGRAM_RECORDS;
 use sizes::PROGRAM_RENDER;
 
-// Tables for 32 rows of 32 buckets.
+// Tables for 32 rows of 64 buckets.
 pub fn render_words() -> [u32; PROGRAM_RENDER]
     ensures { λ r. ⌜ program-render ≡ length r ⌝ }
 {
@@ -67,11 +67,11 @@ pub fn filter_words() -> [i32; FILTER_TABLE]
     [0; FILTER_TABLE]
 }
 
-// The pieces of a row: at most 64 depth fills and 64 commands, each at most 17 pieces of six words.
-pub fn piece_words() -> [u32; 13056]
-    ensures { λ r. ⌜ 13056 ≡ length r ⌝ }
+// The pieces of a row, six words each: at most 64 of all its depth fills together, and 32 of each of 64 commands.
+pub fn piece_words() -> [u32; 12672]
+    ensures { λ r. ⌜ 12672 ≡ length r ⌝ }
 {
-    [0; 13056]
+    [0; 12672]
 }
 
 // Room for the longest file, and one byte more.

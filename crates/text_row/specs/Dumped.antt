@@ -30,7 +30,7 @@ pub record RowOut : Type 0 where
 abbrev pub row-out : Listing → List ℕ → List ℕ → List ℕ → List ℕ → RowOut
 row-out a d p l bs = record { answer = a; depth = d; painting = p; list = l; bytes = bs }
 
--- the lines of a painted row; 14 for more than 65,536 pieces (a row has at most 2,048 steps, of at most 16 pieces each)
+-- the lines of a painted row; 14 for more than 65,536 pieces (a row has at most 2,048 steps, of at most 32 pieces each)
 unfoldable pub pieces-written : ℕ → List ℕ → ℕ → List ℕ → list.TextOut
 pieces-written r ws n bs = cond (ltb 65536 n) (left (listing NoRoom 0) bs) (written (details-text (row-lines r ws n)) bs)
 

@@ -7,6 +7,7 @@ use native.Mathlib.Nat.{zero-add}
 use native.Mathlib.Omega.{arith}
 use lib.ListN.{length, getD, take}
 use lib.Seq.{take-suc, take-length, length-take-le}
+use Rattle.sizes.specs.Widths.{bucket-tiles}
 use Rattle.rules.specs.Spans.{span}
 use Rattle.rules.specs.Boxes.{rows-of, buckets-of}
 use Rattle.rules.specs.Commands.{pop-buf, DepthFill}
@@ -86,7 +87,7 @@ module _ (k : Sizes) (n : ℕ) (w : Words) (rs : List Row) (h : (i : ℕ) → i 
 
 -- a whole screen
 pub screen-by-rules : (s : Screen) (w : Words) (rs : List Row) → length rs ≡ rows-of (box-of (s .viewport))
-    → ((i : ℕ) → i < length rs → Stands (buckets-of 32 (box-of (s .viewport))) (getD rs i fresh-row) (row-at (sizes (s .c) (s .d)) i w))
-    → screen-lines s w ≡ header (length rs) (buckets-of 32 (box-of (s .viewport))) (s .«next_draw_id» - 1) ∷ rules.row-lines 0 rs
+    → ((i : ℕ) → i < length rs → Stands (buckets-of (bucket-tiles (s .width)) (box-of (s .viewport))) (getD rs i fresh-row) (row-at (sizes (s .c) (s .d)) i w))
+    → screen-lines s w ≡ header (length rs) (buckets-of (bucket-tiles (s .width)) (box-of (s .viewport))) (s .«next_draw_id» - 1) ∷ rules.row-lines 0 rs
 unfolding screen-lines
-screen-by-rules s w rs e h = rw (← e, rows-by-rules (sizes (s .c) (s .d)) (buckets-of 32 (box-of (s .viewport))) w rs h)
+screen-by-rules s w rs e h = rw (← e, rows-by-rules (sizes (s .c) (s .d)) (buckets-of (bucket-tiles (s .width)) (box-of (s .viewport))) w rs h)

@@ -8,6 +8,7 @@ use native.Mathlib.Nat.{mul-le-mul}
 use lib.ListN.{length}
 use lib.Dec.{leb, eqb}
 use borrow.Author.Tests.{le-leb, lt-leb, ne-eqb, leb-true}
+use Rattle.sizes.specs.Widths.{bucket-tiles}
 use Rattle.rules.proofs.All.{both}
 use Rattle.row.specs.Words.{Words, word}
 use Rattle.row_screen.specs.Arena.{sizes, row-at, Arenas}
@@ -84,7 +85,7 @@ module _ (s : Screen) (w : Words) where
           long = record { state = o .row-words; render = o .render-words; fills = o .fill-words };
         })
 
-    module _ {b : ℕ} (q : b ≡ buckets-of 32 (box-of (s .viewport))) where
+    module _ {b : ℕ} (q : b ≡ buckets-of (bucket-tiles (s .width)) (box-of (s .viewport))) where
       pub by-rows : good-rows (s .c) (s .d) b w m ≡ false → 4 ≡ list-number s w
       unfolding list-number
       by-rows g = rw (e, ← p, ← q, g)
@@ -99,7 +100,7 @@ pub record Listable (s : Screen) (w : Words) : Type 0 where
   pub few : (r : ℕ) → r < rows-of (box-of (s .viewport)) → Few (s .c) (s .d) (row-at (sizes (s .c) (s .d)) r w)
   pub room : screen-room s ≤ 67141696
   pub some-id : 1 ≤ s .«next_draw_id»
-  pub few-buckets : buckets-of 32 (box-of (s .viewport)) ≤ 32
+  pub few-buckets : buckets-of (bucket-tiles (s .width)) (box-of (s .viewport)) ≤ 64
 
 none-said : (n : ℕ) (g : Bool) → cond (eqb n 0) (cond g 0 4) n ≡ 0 → (n ≡ 0) × (g ≡ true)
 none-said zero true h = (refl, refl)
@@ -111,7 +112,7 @@ module _ (s : Screen) (w : Words) where
   unfolding list-number
   listable e =
       let v = box-of (s .viewport) in
-      let all = none-said (judged s (length (w .state)) (length (w .render)) (length (w .fills))) (good-rows (s .c) (s .d) (buckets-of 32 v) w (rows-of v)) e in
+      let all = none-said (judged s (length (w .state)) (length (w .render)) (length (w .fills))) (good-rows (s .c) (s .d) (buckets-of (bucket-tiles (s .width)) v) w (rows-of v)) e in
       let o = passed s (length (w .state)) (length (w .render)) (length (w .fills)) (all .0) in
       let l = whole s w (all .0) refl in
       record {
@@ -119,5 +120,5 @@ module _ (s : Screen) (w : Words) where
         few = λ r h. row-few _ _ _ _ (below-at _ (rows-of v) (all .1) r h);
         room = omega (arith, small (rows-of v) (s .c) (s .d) (l .rows) (l .c) (l .d));
         some-id = bounds s (o .screen) .some-id;
-        few-buckets = few-buckets v (o .view);
+        few-buckets = few-buckets v (o .view) (s .width);
       }

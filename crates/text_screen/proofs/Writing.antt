@@ -8,6 +8,7 @@ use native.Mathlib.Omega.{arith}
 use lib.Dec.{ltb}
 use lib.ListN.{length}
 use borrow.Author.Tests.{lt-ltb, le-ltb, ltb-true, ltb-false, eq-eqb, ne-eqb}
+use Rattle.sizes.specs.Widths.{bucket-tiles}
 use Rattle.rules.proofs.All.{both}
 use Rattle.rules.specs.Boxes.{rows-of, buckets-of}
 use Rattle.rules.specs.Lines.{header, line-bytes}
@@ -67,8 +68,8 @@ module _ (k m n : ℕ) where
       go false p q = omega (arith, ltb-false k m p, h)
 
 -- the header, then the rows
-pub screen-written : (s : Screen) (w : Words) {m b : ℕ} {t u v : Text} → m ≡ rows-of (box-of (s .viewport)) → b ≡ buckets-of 32 (box-of (s .viewport))
+pub screen-written : (s : Screen) (w : Words) {m b : ℕ} {t u v : Text} → m ≡ rows-of (box-of (s .viewport)) → b ≡ buckets-of (bucket-tiles (s .width)) (box-of (s .viewport))
     → Wrote (line-bytes (header m b (s .«next_draw_id» - 1))) 64 t u → Wrote (text-of (rows-lines (sizes (s .c) (s .d)) b w m)) (m * row-room (s .c) (s .d)) u v
     → Wrote (text-of (screen-lines s w)) (screen-room s) t v
 unfolding screen-lines
-screen-written s w p q f g = line-then _ (rows-lines (sizes (s .c) (s .d)) (buckets-of 32 (box-of (s .viewport))) w (rows-of (box-of (s .viewport)))) (rw (p, q) at f) (rw (p, q) at g)
+screen-written s w p q f g = line-then _ (rows-lines (sizes (s .c) (s .d)) (buckets-of (bucket-tiles (s .width)) (box-of (s .viewport))) w (rows-of (box-of (s .viewport)))) (rw (p, q) at f) (rw (p, q) at g)

@@ -6,7 +6,8 @@ use mathlib.Core.List.{List, [], _∷_, _++_}
 use mathlib.Core.Option.{Option, none, some}
 use lib.ListN.{length, getD, drop}
 use lib.Dec.{leb, ltb, eqb}
-use Rattle.sizes.specs.Sizes.{bucket-tiles, row-size, renders-at, depths-at}
+use Rattle.sizes.specs.Sizes.{row-size, renders-at, depths-at}
+use Rattle.sizes.specs.Widths.{bucket-tiles}
 use Rattle.rules.specs.Lists.{join}
 use Rattle.rules.specs.Answers.{Done, BadRecord, NoRoom}
 use Rattle.rules.specs.Boxes.{rows-of, buckets-of}
@@ -50,7 +51,7 @@ rows-lines k n w m = joined (λ (r : ℕ). row-lines n r (row-at k r w)) m
 
 unfoldable pub screen-lines : Screen → Words → List Line
 screen-lines s w =
-    let n = buckets-of bucket-tiles (box-of (s .viewport)) in
+    let n = buckets-of (bucket-tiles (s .width)) (box-of (s .viewport)) in
     let m = rows-of (box-of (s .viewport)) in
     header m n (s .«next_draw_id» - 1) ∷ rows-lines (sizes (s .c) (s .d)) n w m
 
@@ -84,7 +85,7 @@ screen-room s = 64 + rows-of (box-of (s .viewport)) * row-room (s .c) (s .d)
 unfoldable pub list-number : Screen → Words → ℕ
 list-number s w =
     let first = judged s (length (w .state)) (length (w .render)) (length (w .fills)) in
-    let good = good-rows (s .c) (s .d) (buckets-of bucket-tiles (box-of (s .viewport))) w (rows-of (box-of (s .viewport))) in
+    let good = good-rows (s .c) (s .d) (buckets-of (bucket-tiles (s .width)) (box-of (s .viewport))) w (rows-of (box-of (s .viewport))) in
     cond (eqb first Done) (cond good Done BadRecord) first
 
 -- what a call leaves: its answer, and the lent bytes

@@ -10,7 +10,7 @@ use borrow.Author.Tests.{eq-eqb, eqb-true}
 use Rattle.rules.specs.Answers.{Answer, answer, settle, first-of, Done, BadForm}
 use Rattle.rules.specs.Boxes.{Box, good-viewport, rows-of}
 use Rattle.rules.specs.Rows.{Row, fresh-row, row-ops}
-use Rattle.rules.specs.Plans.{Frame, Step}
+use Rattle.rules.specs.Plans.{Frame, bucket}
 use Rattle.rules.specs.Setups.{Setup, frame}
 use Rattle.rules.specs.Steps.{Screen, reset, call}
 use Rattle.rules.specs.Recording.{Recording, shape, sections, recording, good-records, good-order}
@@ -58,67 +58,67 @@ module _ (p : Place) (old : Screen Row) (r : Recording) where
   start = reset fresh-row (frame-of p r)
 
   abbrev walk : Answer (Screen Row)
-  walk = walk-all (Screen Row) (call Row row-ops 32) r start
+  walk = walk-all (Screen Row) (call Row row-ops) r start
 
   abbrev by-judge : Bool → Answer (Screen Row)
   by-judge t = elim t [
     | true ↦ settle (walk .number) start (walk .value)
-    | false ↦ answer (judge-records 32 p r) (cond (leb (judge-records 32 p r) BadForm) old start)
+    | false ↦ answer (judge-records p r) (cond (leb (judge-records p r) BadForm) old start)
   ]
 
-  judged-walked : play-records (Screen Row) (call Row row-ops 32) (reset fresh-row) 32 p old r .number ≡ 0 → (judge-records 32 p r ≡ 0) × (walk .number ≡ 0)
+  judged-walked : play-records (Screen Row) (call Row row-ops) (reset fresh-row) p old r .number ≡ 0 → (judge-records p r ≡ 0) × (walk .number ≡ 0)
   unfolding play-records
-  judged-walked = go (eqb (judge-records 32 p r) Done) refl
+  judged-walked = go (eqb (judge-records p r) Done) refl
     where
       walked : (b : Bool) → eqb (walk .number) Done ≡ b → cond b (answer Done (walk .value)) (answer (walk .number) start) .number ≡ 0 → walk .number ≡ 0
       walked true q z = eqb-true _ _ q
       walked false q z = z
 
-      go : (t : Bool) → eqb (judge-records 32 p r) Done ≡ t → by-judge t .number ≡ 0 → (judge-records 32 p r ≡ 0) × (walk .number ≡ 0)
+      go : (t : Bool) → eqb (judge-records p r) Done ≡ t → by-judge t .number ≡ 0 → (judge-records p r ≡ 0) × (walk .number ≡ 0)
       go true e z = (eqb-true _ _ e, walked (eqb (walk .number) Done) refl z)
       go false e z = never (sym (eq-eqb _ _ z) ∙ e)
 
-  records-good : judge-records 32 p r ≡ 0 → (good-viewport (frame-of p r .viewport) ≡ true) × (good-records r ≡ true)
+  records-good : judge-records p r ≡ 0 → (good-viewport (frame-of p r .viewport) ≡ true) × (good-records r ≡ true)
   unfolding judge-records
   records-good e =
       let f = frame-of p r in
       let v = f .viewport in
-      let h = none-holds (not (good-viewport v) || ltb (p .limit) (rows-of v)) (not (good-arenas 32 f (p .arenas))) (not (good-records r)) (not (good-order r)) e in
+      let h = none-holds (not (good-viewport v) || ltb (p .limit) (rows-of v)) (not (good-arenas f (p .arenas))) (not (good-records r)) (not (good-order r)) e in
       (good-of (good-viewport v) _ (h .0), not-bad (good-records r) (h .1))
 
-  logged-done : walk .number ≡ 0 → walk-logged Row row-ops 32 fresh-row (frame-of p r) r .number ≡ 0
+  logged-done : walk .number ≡ 0 → walk-logged Row row-ops fresh-row (frame-of p r) r .number ≡ 0
   unfolding walk-logged
-  logged-done z = all-walks 32 r .at (record { screen = start; log = [] }) (unfold reset in refl) .number ∙ z
+  logged-done z = all-walks r .at (record { screen = start; log = [] }) (unfold reset in refl) .number ∙ z
 
 -- the tile's story by the engine, on a screen of the frame f
 abbrev story : Frame → Recording → ℕ → ℕ → List ℕ → Answer Telling
-story f r row tile ls = walk-all Telling (tell-at 32 (f .viewport) row tile) r (nothing-told ls)
+story f r row tile ls = walk-all Telling (tell-at (bucket f) (f .viewport) row tile) r (nothing-told ls)
 
 -- it is told to its end, and says what the rules say
 pub record Told (f : Frame) (r : Recording) (row tile : ℕ) (ls : List ℕ) : Type 0 where
   pub done : story f r row tile ls .number ≡ 0
-  pub paints : story f r row tile ls .value .paints ≡ tell-steps 32 (f .viewport) row tile (history f r) untold .paints
-  pub layers : story f r row tile ls .value .layers ≡ tell-steps 32 (f .viewport) row tile (history f r) untold .layers
-  pub reasons : (a : Asked) → reason-read a (story f r row tile ls .value .lines) (story f r row tile ls .value .paints + story f r row tile ls .value .layers) ≡ reason 32 (f .viewport) row tile (history f r) a
+  pub paints : story f r row tile ls .value .paints ≡ tell-steps (bucket f) (f .viewport) row tile (history f r) untold .paints
+  pub layers : story f r row tile ls .value .layers ≡ tell-steps (bucket f) (f .viewport) row tile (history f r) untold .layers
+  pub reasons : (a : Asked) → reason-read a (story f r row tile ls .value .lines) (story f r row tile ls .value .paints + story f r row tile ls .value .layers) ≡ reason (bucket f) (f .viewport) row tile (history f r) a
 
-told-true : (f : Frame) (r : Recording) (row tile : ℕ) (ls : List ℕ) → good-viewport (f .viewport) ≡ true → walk-logged Row row-ops 32 fresh-row f r .number ≡ 0 → Told f r row tile ls
+told-true : (f : Frame) (r : Recording) (row tile : ℕ) (ls : List ℕ) → good-viewport (f .viewport) ≡ true → walk-logged Row row-ops fresh-row f r .number ≡ 0 → Told f r row tile ls
 told-true f r row tile ls g z =
-    let t = tile-told 32 f r row tile ls g z in
-    record { done = t .0; paints = t .1 .paints; layers = t .1 .layers; reasons = reason-told 32 f r row tile ls g z }
+    let t = tile-told (bucket f) f r row tile ls g z in
+    record { done = t .0; paints = t .1 .paints; layers = t .1 .layers; reasons = reason-told (bucket f) f r row tile ls g z }
 
 -- the answer that the story gives
 abbrev pub told-answer : Telling → Question → List ℕ
 told-answer t q = answer-lines (read-by (t .lines) (t .paints + t .layers)) (t .paints) (t .layers) q
 
 answer-true : (f : Frame) (r : Recording) (row tile : ℕ) (ls : List ℕ) → Told f r row tile ls → (q : Question)
-    → told-answer (story f r row tile ls .value) q ≡ tile-answer (f .viewport) row tile (history f r) q
+    → told-answer (story f r row tile ls .value) q ≡ tile-answer f row tile (history f r) q
 unfolding tile-answer
 answer-true f r row tile ls t q =
     let s = story f r row tile ls .value in
-    let why = reason 32 (f .viewport) row tile (history f r) in
+    let why = reason (bucket f) (f .viewport) row tile (history f r) in
     same-answer (read-by (s .lines) (s .paints + s .layers)) why (t .reasons) (s .paints) (s .layers) q
     ∙ ap (λ (n : ℕ). answer-lines why n (s .layers) q) (t .paints)
-    ∙ ap (λ (n : ℕ). answer-lines why (tell-steps 32 (f .viewport) row tile (history f r) untold .paints) n q) (t .layers)
+    ∙ ap (λ (n : ℕ). answer-lines why (tell-steps (bucket f) (f .viewport) row tile (history f r) untold .paints) n q) (t .layers)
 
 -- an accepted recording's answer, and that of a recording on its screen
 done-answer : (u : Setup) (a : Answer (Screen Row)) (o : Option (List (List (List ℕ)))) (row tile : ℕ) (q : Question) → a .number ≡ 0
@@ -154,7 +154,7 @@ module _ (u : Setup) (ws : List ℕ) (accepted : rowlist-screen u ws .number ≡
         ∙ ap (λ (o : Option (List (List (List ℕ)))). answer-in u o row tile q) (good .same)
         ∙ ap (λ (x : Recording). recording-answer (frame u (x .viewport)) x row tile q) same-recording
 
-    played : play-records (Screen Row) (call Row row-ops 32) (reset fresh-row) 32 (rowlist-place u ws) (reset fresh-row nothing) r .number ≡ 0
+    played : play-records (Screen Row) (call Row row-ops) (reset fresh-row) (rowlist-place u ws) (reset fresh-row nothing) r .number ≡ 0
     played = rw (← same-recording) (by (sections shape ws) (good .same) accepted-play)
       where
         old : Screen Row
@@ -163,7 +163,7 @@ module _ (u : Setup) (ws : List ℕ) (accepted : rowlist-screen u ws .number ≡
         by-sections : Option (List (List (List ℕ))) → Answer (Screen Row)
         by-sections o = elim o [
           | none ↦ answer BadForm old
-          | some ss ↦ play-records (Screen Row) (call Row row-ops 32) (reset fresh-row) 32 (rowlist-place u ws) old (recording ss)
+          | some ss ↦ play-records (Screen Row) (call Row row-ops) (reset fresh-row) (rowlist-place u ws) old (recording ss)
         ]
 
         accepted-play : by-sections (sections shape ws) .number ≡ 0
@@ -172,7 +172,7 @@ module _ (u : Setup) (ws : List ℕ) (accepted : rowlist-screen u ws .number ≡
         by : (o : Option (List (List (List ℕ)))) → o ≡ some (sections-at l ws) → by-sections o .number ≡ 0 → by-sections (some (sections-at l ws)) .number ≡ 0
         by o s z = rw s at z
 
-    facts : (judge-records 32 (rowlist-place u ws) r ≡ 0) × (walk (rowlist-place u ws) (reset fresh-row nothing) r .number ≡ 0)
+    facts : (judge-records (rowlist-place u ws) r ≡ 0) × (walk (rowlist-place u ws) (reset fresh-row nothing) r .number ≡ 0)
     facts = judged-walked (rowlist-place u ws) (reset fresh-row nothing) r played
 
     goods : (good-viewport (f .viewport) ≡ true) × (good-records r ≡ true)
@@ -188,7 +188,7 @@ module _ (u : Setup) (ws : List ℕ) (accepted : rowlist-screen u ws .number ≡
     unfolding recording-answer
     off-there h = rw h
 
-    on-there : off-screen (f .viewport) row tile ≡ false → recording-answer f r row tile q ≡ tile-answer (f .viewport) row tile (history f r) q
+    on-there : off-screen (f .viewport) row tile ≡ false → recording-answer f r row tile q ≡ tile-answer f row tile (history f r) q
     unfolding recording-answer
     on-there h = rw h
 
@@ -200,7 +200,7 @@ module _ (u : Setup) (ws : List ℕ) (accepted : rowlist-screen u ws .number ≡
       pub off-answer : off-screen v row tile ≡ true → why-words u ws row tile q ≡ refused-bytes 12
       off-answer h = recording-there ∙ off-there (ap (λ (b : Box). off-screen b row tile) view ∙ h)
 
-      module _ (on : off-screen v row tile ≡ false) (ls : List ℕ) {n : ℕ} {t : Telling} (says : Says (walk-all Telling (tell-at 32 v row tile) r (nothing-told ls)) n t) where
+      module _ (on : off-screen v row tile ≡ false) (ls : List ℕ) {n : ℕ} {t : Telling} (says : Says (walk-all Telling (tell-at (bucket f) v row tile) r (nothing-told ls)) n t) where
         there : Says (story f r row tile ls) n t
         there = rw (← view) at says
 

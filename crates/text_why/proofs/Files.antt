@@ -34,7 +34,7 @@ not-zero k d = go (eqb k 0) refl
     go true e = absurd (d (eqb-true k 0 e))
     go false e = refl
 
-refused-lines : (a : Answer (Screen Row)) → eqb (a .number) Done ≡ false → cond (eqb (a .number) Done) (screen-lines 32 (a .value)) (refused (a .number) ∷ []) ≡ refused (a .number) ∷ []
+refused-lines : (a : Answer (Screen Row)) → eqb (a .number) Done ≡ false → cond (eqb (a .number) Done) (screen-lines (a .value)) (refused (a .number) ∷ []) ≡ refused (a .number) ∷ []
 refused-lines a e = rw e
 
 refused-answer : (u : Setup) (a : Answer (Screen Row)) (o : Option (List (List (List ℕ)))) (row tile : ℕ) (q : Question) → eqb (a .number) Done ≡ false

@@ -158,8 +158,9 @@ fn words_text(
     if is_off_screen(viewport, row, tile) {
         return put_refused(out, 0, BAD_RUN);
     }
+    let width = setup.width;
     let mut lines = [0u32; LINE_TABLE];
-    let told = tell_tile(file, l, viewport, row, tile, &mut lines);
+    let told = tell_tile(file, l, viewport, width, row, tile, &mut lines);
     if told.number != DONE {
         return put_refused(out, 0, told.number);
     }

@@ -8,6 +8,8 @@ use mathlib.Core.List.{List, [], _∷_}
 use lib.Dec.{eqb}
 use lib.ListN.{getD}
 use borrow.Author.Tests.{ne-eqb, eqb-true, eqb-false}
+use Rattle.sizes.specs.declared.width.Width.{Width}
+use Rattle.sizes.specs.declared.width.Width.the-variants.{W64, W128, W256}
 use Rattle.rules.specs.Answers.{Answer, answer, Done}
 use Rattle.rules.specs.Plans.{Frame, Step}
 use Rattle.rules.specs.Painting.{received}
@@ -17,7 +19,7 @@ use Rattle.paint_command.specs.Painting as paint
 use Rattle.rules_picture.specs.Turns.{Gave, from, said-finished}
 use Rattle.rules_picture.proofs.Cases.{by}
 use Rattle.paint_screen.specs.Rows.{skip-of-row}
-use Rattle.host_screen.specs.State.{bit}
+use Rattle.host_screen.specs.State.{bit, width-word, width-at}
 use Rattle.host_results.specs.Results.{skip-left}
 use Rattle.host.specs.Painting.{step-left}
 use Rattle.theorem_picture.specs.Turns as turns
@@ -140,10 +142,16 @@ said-yes a old e =
     let f : answer (a .number) (a .value) ≡ answer Done true = rw (n, one-bit (a .value) v) in
     f
 
+-- the word of a width stands for it
+width-read : (w : Width) → width-at (width-word w) ≡ w
+width-read W64 = refl
+width-read W128 = refl
+width-read W256 = refl
+
 clear : (l : ScreenLent) → lent.Clear l → Clear (host-of l)
 clear l k b r t id old e =
     let q = skip-on l r t id old (ap (λ (a : Answer (List ℕ)). a .number) e) in
-    k (one-bit (l .screen .painting) b) r t id (said-yes (skip-of-row (l .screen) r (l .tables .rows) t id) old (sym q ∙ e))
+    rw (width-read (l .screen .width)) (k (one-bit (l .screen .painting) b) r t id (said-yes (skip-of-row (l .screen) r (l .tables .rows) t id) old (sym q ∙ e)))
 
 -- At all hosted words.
 pub border-skip : {f : Frame} {xs : List Step} {h : Host} → Hosted f xs h → Clear h

@@ -7,6 +7,7 @@ use mathlib.Core.List.{List, [], _∷_, map}
 use mathlib.Core.Option.{Option, none, some}
 use lib.Dec.{eqb, ltb}
 use lib.ListN.{length}
+use Rattle.sizes.specs.Widths.{bucket-tiles}
 use Rattle.rules.specs.Answers.{Answer, Done, NoRoom}
 use Rattle.rules.specs.Boxes.{rows-of}
 use Rattle.rules.specs.Plans.{Frame, Step}
@@ -44,7 +45,7 @@ stepped-done s r a w e = go (eqb (number s r a w) Done) e
   where
     go : (b : Bool) → cond b (row-step s r a w) (paint.out (paint.refused (number s r a w)) (w .depth) (w .painting) (w .list)) .answer .finished ≡ true
         → cond b (row-step s r a w) (paint.out (paint.refused (number s r a w)) (w .depth) (w .painting) (w .list)) .answer .number ≡ Done
-    go true z = row-done (paint.next-step (paint.attrs-at (a .paints) (s .«paint_attrs») (a .layers) (s .«layer_attrs»)) (own s r w)) _ _ _ z
+    go true z = row-done (paint.next-step (bucket-tiles (s .width)) (paint.attrs-at (a .paints) (s .«paint_attrs») (a .layers) (s .«layer_attrs»)) (own s r w)) _ _ _ z
     go false z = never (sym z)
 
 -- a turn of picture's as a call

@@ -86,7 +86,7 @@ reset-holds v w q h a e (these l s) =
     made _ (reset-to f l) k (reached.by-reset f l (number-of _ (reset-to f l) k e))
 
 recording-holds : (file : List ℕ) (w : SetupWords) (q : Setup) (h : Host) (r : Readable file) → Asks w q → recording-at file w h .number ≡ Done → Known h
-    → Holds (frame-of (place q h) (said r)) (history 32 (place q h) (said r)) (recording-at file w h .value)
+    → Holds (frame-of (place q h) (said r)) (history (place q h) (said r)) (recording-at file w h .value)
 recording-holds file w q h r a e (nothing n) = absurd (recording-never h n w q a file e)
 recording-holds file w q h r a e (these l s) =
     let k = ap (recording-at file w) s ∙ recording-on w q a l file in

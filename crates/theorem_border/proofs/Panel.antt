@@ -7,6 +7,7 @@ use mathlib.Core.Bool.{true, false}
 use mathlib.Core.List.{List, [], _∷_}
 use mathlib.Core.Option.{none}
 use lib.ListN.{getD}
+use Rattle.rules.specs.Plans.{bucket}
 use Rattle.rules.specs.Answers.{Done}
 use Rattle.rules.specs.Painting.{Entry, received}
 use Rattle.rules.specs.Plain.{plain}
@@ -53,7 +54,7 @@ mixed-finish = refl
 
 -- Whatever painting calls are made: when the row has finished, each tile has what plain draw order gives it.
 panel-picture : (cs : List Call) → finished 0 cs (begun .value) ≡ true → (t : ℕ) → t < 128
-    → received t (from 0 (log cs (begun .value))) ≡ plain 32 (own-frame .viewport) 0 t steps
+    → received t (from 0 (log cs (begun .value))) ≡ plain (bucket own-frame) (own-frame .viewport) 0 t steps
 panel-picture cs e t on = border-picture own-frame steps (with-panel .value) panel-hosted begin-done cs 0 t (omega arith) on e
 
 -- a paint fill with attribute i on a solid tile, no layer being open
@@ -69,15 +70,15 @@ panel-paint : getD (with-panel .value .tables .paint-attrs) (8 * 1) 0 ≡ 1
 unfolding on-words computing
 panel-paint = refl
 
-plain-40 : plain 32 (own-frame .viewport) 0 40 steps ≡ drawn 1 ∷ []
+plain-40 : plain (bucket own-frame) (own-frame .viewport) 0 40 steps ≡ drawn 1 ∷ []
 unfolding on-words computing
 plain-40 = refl
 
-plain-25 : plain 32 (own-frame .viewport) 0 25 steps ≡ drawn 0 ∷ drawn 1 ∷ []
+plain-25 : plain (bucket own-frame) (own-frame .viewport) 0 25 steps ≡ drawn 0 ∷ drawn 1 ∷ []
 unfolding on-words computing
 plain-25 = refl
 
-plain-10 : plain 32 (own-frame .viewport) 0 10 steps ≡ drawn 0 ∷ []
+plain-10 : plain (bucket own-frame) (own-frame .viewport) 0 10 steps ≡ drawn 0 ∷ []
 unfolding on-words computing
 plain-10 = refl
 

@@ -11,6 +11,7 @@ use lib.Ieee.{Float}
 use lib.IntN.{ℤ}
 use lib.ListN.{length}
 use borrow.Author.Tests.{ltb-true}
+use Rattle.sizes.specs.Sizes.{state-size}
 use Rattle.rules.specs.Answers.{Answer, answer, Done, BadRecord}
 use Rattle.rules.specs.Spans.{Span}
 use Rattle.rules.specs.Inputs.{Clip}
@@ -40,7 +41,8 @@ use Rattle.host_screen.specs.declared.Held.{Held}
 use Rattle.host_screen.specs.declared.Held.the-variants as held
 use Rattle.host_screen.specs.State.{screen-words, screen-at, screen-of, before-4, refused-at, at-held, on}
 use Rattle.host_screen.specs.declared.SetupWords.{SetupWords}
-use Rattle.host_screen.specs.Asked.{asked-setup}
+use Rattle.host_screen.specs.Asked.{asked-setup, no-setup}
+use Rattle.host_screen.proofs.Asked.{no-setup-late}
 use Rattle.host_screen.proofs.Words.{read-back, written-back}
 use Rattle.host.specs.Border.{unasked, unasked-number}
 use Rattle.host.specs.Building.{tables-left, reset-in, reset-call, recording-in, recording-call, fill-left, fill-call, props, push-left, push-call, pop-left, pop-call, picture, filter-left, filter-call}
@@ -71,7 +73,7 @@ late n = go (ltb 0 n && ltb n BadRecord) refl
 
 never-done : (st : List ℕ) (f : Screen → ℕ) → refused-at st f ≡ Done → ⊥
 unfolding refused-at
-never-done st f = go (eqb (length st) 16)
+never-done st f = go (eqb (length st) state-size)
   where
     go : (b : Bool) → cond b (before-4 (f (screen-at st))) BadRecord ≡ Done → ⊥
     go true e = late (f (screen-at st)) e
@@ -112,21 +114,21 @@ holding a = answer (a .number) (host (a .value .0) (a .value .1))
 
 -- asked for no setup, a reset and a recording leave everything as it was
 module _ (w : SetupWords) (e : none ≡ asked-setup w) (h : Host) where
-  pub reset-none : (v : Rect) → reset-at v w h ≡ answer BadRecord h
+  pub reset-none : (v : Rect) → reset-at v w h ≡ answer (no-setup w) h
   unfolding reset-at
-  reset-none v = sym (ap holding (reset-unasked w e v (h .state) (h .tables)))
+  reset-none v = sym (ap holding (reset-unasked w e (no-setup w) refl v (h .state) (h .tables)))
 
-  pub recording-none : (file : List ℕ) → recording-at file w h ≡ answer (unasked-number file) h
+  pub recording-none : (file : List ℕ) → recording-at file w h ≡ answer (unasked-number file (no-setup w)) h
   unfolding recording-at
-  recording-none file = sym (ap holding (recording-unasked w e file (h .state) (h .tables) _ refl))
+  recording-none file = sym (ap holding (recording-unasked w e (no-setup w) refl file _ refl (h .state) (h .tables)))
 
-pub unasked-late : (file : List ℕ) → unasked-number file ≡ Done → ⊥
+pub unasked-late : (w : SetupWords) (file : List ℕ) → unasked-number file (no-setup w) ≡ Done → ⊥
 unfolding unasked-number
-unasked-late file = go (sections shape file)
+unasked-late w file = go (sections shape file)
   where
-    go : (o : Option (List (List (List ℕ)))) → unasked o ≡ Done → ⊥
+    go : (o : Option (List (List (List ℕ)))) → unasked o (no-setup w) ≡ Done → ⊥
     go none e = omega arith
-    go (some ss) e = omega arith
+    go (some ss) e = no-setup-late w e
 
 -- a reset and a recording in the setup q, on a screen's words
 module _ (w : SetupWords) (q : Setup) (a : Asks w q) where

@@ -5,11 +5,11 @@ use mathlib.Core.Bool.{Bool, true, _&&_, _||_, cond}
 use mathlib.Core.List.{List, [], _∷_}
 use lib.ListN.{getD}
 use lib.Dec.{eqb}
-use Rattle.sizes.specs.Sizes.{bucket-tiles}
+use Rattle.sizes.specs.Widths.{bucket-tiles}
 use Rattle.rules.specs.Answers.{Answer, answer, Done, BadForm}
 use Rattle.rules.specs.Boxes.{width, rows-of}
 use Rattle.rules.specs.Spans.{Span}
-use Rattle.rules.specs.Plans.{Frame, Step}
+use Rattle.rules.specs.Plans.{Frame, bucket, Step}
 use Rattle.rules.specs.Setups.{Setup}
 use Rattle.rules.specs.Painting.{received}
 use Rattle.rules.specs.Plain.{plain}
@@ -64,23 +64,23 @@ Demand-3 =
     (f : Frame) (xs : List Step) (h : Host) → Hosted f xs h → begin-at h .number ≡ Done
     → (cs : List Call) (r t : ℕ) → r < rows-of (f .viewport) → t < width (f .viewport) / 4
     → finished r cs (begin-at h .value) ≡ true
-    → received t (from r (log cs (begin-at h .value))) ≡ plain bucket-tiles (f .viewport) r t xs
+    → received t (from r (log cs (begin-at h .value))) ≡ plain (bucket f) (f .viewport) r t xs
 
--- Where painting goes on, by the state's last word, and `coarse_can_skip` of the tiles t of row r and an id answers 0 with the word 1: the
+-- Where painting goes on, by the state's painting word, and `coarse_can_skip` of the tiles t of row r and an id answers 0 with the word 1: the
 -- depth word of each tile's bucket lets the id through.
 abbrev pub Clear : Host → Type 0
 Clear h =
     getD (h .state) 15 0 ≡ 1 → (r : ℕ) (t : Span) (id : ℕ) (old : List ℕ)
     → skip-call r t id (h .state) (h .tables .rows) old ≡ answer Done (1 ∷ [])
     → (x : ℕ) → t .first ≤ x → x < t .end
-    → getD (part (wide (screen-at (h .state))) r (h .tables .depth)) (x / bucket-tiles) 0 ≤ id
+    → getD (part (wide (screen-at (h .state))) r (h .tables .depth)) (x / bucket-tiles (screen-at (h .state) .width)) 0 ≤ id
 
 -- What a recording leaves. Accepted: its words asked for a setup; words that are `Hosted` by the steps of its walk, and painting can begin there.
 pub record Accepted (file : List ℕ) (w : SetupWords) (h : Host) : Type 0 where
   pub setup : Setup
   pub asks : Asks w setup
   pub words : Readable file
-  pub hosted : Hosted (frame-of (place setup h) (said words)) (history bucket-tiles (place setup h) (said words)) (recording-at file w h .value)
+  pub hosted : Hosted (frame-of (place setup h) (said words)) (history (place setup h) (said words)) (recording-at file w h .value)
   pub begins : begin-at (recording-at file w h .value) .number ≡ Done
 
 -- Refused: every word as it was; or, with a number past 3, what a reset to the file's viewport leaves.

@@ -7,7 +7,7 @@ use mathlib.Core.Option.{none, some}
 use lib.Dec.{eqb}
 use lib.Ieee.{Float}
 use lib.IntN.{ℤ}
-use Rattle.sizes.specs.Sizes.{bucket-tiles, most-rows}
+use Rattle.sizes.specs.Sizes.{most-rows}
 use Rattle.rules.specs.Answers.{Answer, answer, Done}
 use Rattle.rules.specs.Spans.{Span}
 use Rattle.rules.specs.Inputs.{Clip}
@@ -147,7 +147,7 @@ place q h = record { limit = most-rows; setup = q; arenas = arenas (lengths (h .
 pub data Hosted : Frame → List Step → Host → Type 0 where
   by-reset : (v : Rect) (w : SetupWords) (q : Setup) (h : Host) → Asks w q → reset-at v w h .number ≡ Done → Hosted (frame q (box-of v)) [] (reset-at v w h .value)
   by-recording : (file : List ℕ) (w : SetupWords) (q : Setup) (h : Host) (r : Readable file) → Asks w q → recording-at file w h .number ≡ Done
-      → Hosted (frame-of (place q h) (said r)) (history bucket-tiles (place q h) (said r)) (recording-at file w h .value)
+      → Hosted (frame-of (place q h) (said r)) (history (place q h) (said r)) (recording-at file w h .value)
   by-fill : {f : Frame} {xs : List Step} {h : Host} (ps ss : List ℕ) (d : Draw) → Hosted f xs h → fill-at ps ss d h .number ≡ Done
       → Hosted f (xs ++ (fill-said ps ss d ∷ [])) (fill-at ps ss d h .value)
   by-push : {f : Frame} {xs : List Step} {h : Host} (mix compose opacity mask flag : ℕ) (clip : Clip) → Hosted f xs h

@@ -4,6 +4,7 @@ use mathlib.Core.List.{List, [], _∷_}
 use lib.ListN.{replicate}
 use lib.IntN.{pos}
 use Rattle.sizes.specs.Sizes.{most-rows, row-size, open-layer-table, opacity-count, paint-attr-table, layer-attr-table, filter-paint-table, state-size}
+use Rattle.sizes.specs.declared.width.Width.the-variants.{W128}
 use Rattle.rules.specs.Answers.{Answer}
 use Rattle.rules.specs.Plans.{Frame, Step}
 use Rattle.rules.specs.Setups.{exact, Setup, frame}
@@ -22,15 +23,15 @@ abbrev pub screen : Rect
 screen = rect 0 0 most-rows 4
 
 abbrev pub words : SetupWords
-words = record { c = 64; d = 64; mode = 0 }
+words = record { c = 64; d = 64; mode = 0; width = 128 }
 
 abbrev pub setup : Setup
-setup = record { c = 64; d = 64; mode = exact }
+setup = record { c = 64; d = 64; mode = exact; width = W128 }
 
 abbrev pub own-frame : Frame
 own-frame = frame setup (box-of screen)
 
--- 16 words of state and the ten tables, all of them 0
+-- 17 words of state and the ten tables, all of them 0
 abbrev pub blank : Host
 blank =
     host (replicate state-size 0)

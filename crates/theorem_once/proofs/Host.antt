@@ -179,12 +179,12 @@ module _ (row : ℕ) (given : Span) (id : ℕ) (state rows yes : List ℕ) where
   one-skip = once (skip-call row given id state rows yes)
 
 -- `coarse_split_opaque_span`: the parts
-module _ (given : Span) (parts : List ℕ) where
+module _ (pixels : ℕ) (given : Span) (parts : List ℕ) where
   abbrev pub Splits : ℕ → List ℕ → Type 0
-  Splits r x = answer r x ≡ split-call given parts
+  Splits r x = answer r x ≡ split-call pixels given parts
 
   pub one-split : (r q : ℕ) (x y : List ℕ) → Splits r x → Splits q y → (r ≡ q) × (x ≡ y)
-  one-split = once (split-call given parts)
+  one-split = once (split-call pixels given parts)
 
 -- `coarse_sizes`: the sizes
 module _ (viewport : Rect) (setup : SetupWords) (sizes : List ℕ) where
@@ -384,8 +384,8 @@ module _ {M : Type 1} (𝓤 : URA M) (H : Heap 𝓤) (A : Atoms 𝓤) (mem : Mem
       → (coarse-split.clauses 𝓤 H A mem run κs a .requires tt ≡ emp 𝓤)
       × (coarse-split.clauses 𝓤 H A mem run κs a .ensures tt r e
       ≡ fact 𝓤
-      (Splits (span (a .0) (a .1 .0)) (now (a .1 .1 .0)) r
-      (now (e .1 .1 .0))))
+      (Splits (a .1 .1 .0) (span (a .0) (a .1 .0)) (now (a .1 .1 .1 .0)) r
+      (now (e .1 .1 .1 .0))))
   split-source κs a r e = (refl, refl)
 
   sizes-source : (κs : Lfts (coarse-sizes.signature .lifetimes)) (a : Args coarse-sizes.signature κs) (r : ℕ) (e : AtExit coarse-sizes.ended κs)

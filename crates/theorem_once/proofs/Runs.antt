@@ -18,10 +18,11 @@ use denote.Triple.Clauses.{AtExit}
 use Rattle.rules.specs.Split.{split-answer}
 use Rattle.rules.specs.Depth.{no-depth, included, can-skip-answer, visible-answer, unset-answer}
 use Rattle.span.specs.Spans.{tiles, buckets}
-use Rattle.span.specs.Widths.{wide}
+use Rattle.sizes.specs.Sizes.{most-runs}
+use Rattle.sizes.specs.Widths.{bucket-tiles}
 use Rattle.span.specs.declared.TileSpan.{TileSpan}
 use Rattle.span.specs.declared.BucketRange.{BucketRange}
-use Rattle.span.specs.declared.Width.{Width}
+use Rattle.sizes.specs.declared.width.Width.{Width}
 use Rattle.depth.specs.declared.split.Split.{Split}
 use Rattle.depth.specs.declared.state.DepthState.{DepthState}
 use Rattle.depth.specs.declared.state.Skip.{Skip}
@@ -47,7 +48,7 @@ use Rattle.depth_forms.proofs.listed.list_visible_spans as list-call
 -- `split_opaque_span`
 module _ (span : TileSpan) (width : Width) where
   abbrev pub Splits : Split → Type 0
-  Splits r = split-of r ≡ split-answer (wide width) (tiles span)
+  Splits r = split-of r ≡ split-answer (bucket-tiles width) (tiles span)
 
   pub one-split : (r q : Split) → Splits r → Splits q → r ≡ q
   one-split r q e f = split-once r q (e ∙ sym f)
@@ -78,7 +79,7 @@ module _ (state : DepthState) (span : TileSpan) (id : ℕ) where
 -- `visible_runs`
 module _ (depth : List ℕ) (span : TileSpan) (id : ℕ) (list : List ℕ) (width : Width) where
   abbrev pub ListsVisible : Runs → List ℕ → Type 0
-  ListsVisible r l = out r l ≡ listing (visible-answer (wide width) depth id (tiles span) (length list / 2)) list
+  ListsVisible r l = out r l ≡ listing (visible-answer (bucket-tiles width) depth id (tiles span) (length list / 2)) list
 
   pub one-visible : (r q : Runs) (l m : List ℕ) → ListsVisible r l → ListsVisible q m → (r ≡ q) × (l ≡ m)
   one-visible r q l m e f = out-once r q l m (e ∙ sym f)
@@ -86,7 +87,7 @@ module _ (depth : List ℕ) (span : TileSpan) (id : ℕ) (list : List ℕ) (widt
 -- `unset_runs`
 module _ (depth : List ℕ) (span : TileSpan) (list : List ℕ) (width : Width) where
   abbrev pub ListsUnset : Runs → List ℕ → Type 0
-  ListsUnset r l = out r l ≡ listing (unset-answer (wide width) depth (tiles span) (length list / 2)) list
+  ListsUnset r l = out r l ≡ listing (unset-answer (bucket-tiles width) depth (tiles span) (length list / 2)) list
 
   pub one-unset : (r q : Runs) (l m : List ℕ) → ListsUnset r l → ListsUnset q m → (r ≡ q) × (l ≡ m)
   one-unset r q l m e f = out-once r q l m (e ∙ sym f)
@@ -114,15 +115,15 @@ spans-once r q l m h = (ap (λ (x : spans.SpansOut). record { number = x .number
 -- `forms::visible_spans`
 module _ (depth : List ℕ) (span : TileSpan) (id : ℕ) (width : Width) where
   abbrev pub ListsSpans : Visible → Type 0
-  ListsSpans r = spans.out (r .runs) (r .spans) ≡ spans.listing (visible-answer (wide width) depth id (tiles span) 16) (replicate 16 no-span)
+  ListsSpans r = spans.out (r .runs) (r .spans) ≡ spans.listing (visible-answer (bucket-tiles width) depth id (tiles span) most-runs) (replicate most-runs no-span)
 
   pub one-spans : (r q : Visible) → ListsSpans r → ListsSpans q → r ≡ q
   one-spans r q e f = let o = spans-once (r .runs) (q .runs) (r .spans) (q .spans) (e ∙ sym f) in rw (o .0, o .1)
 
 -- `forms::list_visible_spans`: the result, and every entry of the lent list
-module _ (depth : List ℕ) (span : TileSpan) (id : ℕ) (list : List TileSpan) where
+module _ (depth : List ℕ) (span : TileSpan) (id : ℕ) (list : List TileSpan) (width : Width) where
   abbrev pub ListsThere : Runs → List TileSpan → Type 0
-  ListsThere r l = spans.out r l ≡ spans.listing (visible-answer 32 depth id (tiles span) (length list)) list
+  ListsThere r l = spans.out r l ≡ spans.listing (visible-answer (bucket-tiles width) depth id (tiles span) (length list)) list
 
   pub one-listed : (r q : Runs) (l m : List TileSpan) → ListsThere r l → ListsThere q m → (r ≡ q) × (l ≡ m)
   one-listed r q l m e f = spans-once r q l m (e ∙ sym f)
@@ -181,5 +182,5 @@ module _ {M : Type 1} (𝓤 : URA M) (H : Heap 𝓤) (A : Atoms 𝓤) (mem : Mem
 
   list-source : (κs : Lfts (list-call.signature .lifetimes)) (a : Args list-call.signature κs) (r : Runs) (e : AtExit list-call.ended κs)
       → (list-call.clauses 𝓤 H A mem run κs a .requires tt ≡ emp 𝓤)
-      × (list-call.clauses 𝓤 H A mem run κs a .ensures tt r e ≡ fact 𝓤 (ListsThere (now (a .0)) (a .1 .0) (a .1 .1 .0) (now (a .1 .1 .1 .0)) r (now (e .1 .1 .1 .0))))
+      × (list-call.clauses 𝓤 H A mem run κs a .ensures tt r e ≡ fact 𝓤 (ListsThere (now (a .0)) (a .1 .0) (a .1 .1 .0) (now (a .1 .1 .1 .0)) (a .1 .1 .1 .1 .0) r (now (e .1 .1 .1 .0))))
   list-source κs a r e = (refl, refl)

@@ -14,6 +14,7 @@ use contract.Lifetimes.{Lfts}
 use denote.Ref.{now}
 use denote.Triple.Entry.{Args}
 use denote.Triple.Clauses.{AtExit}
+use Rattle.sizes.specs.Sizes.{program-rows, program-buckets}
 use Rattle.row.specs.Words.{Words, words}
 use Rattle.screen.specs.declared.Screen.{Screen}
 use Rattle.screen.specs.declared.Setup.{Setup}
@@ -135,7 +136,7 @@ module _ {M : Type 1} (𝓤 : URA M) (H : Heap 𝓤) (A : Atoms 𝓤) (mem : Mem
   -- its source has a second clause, that the numbers are small
   size-source : (κs : Lfts (size-call.signature .lifetimes)) (a : Args size-call.signature κs) (r : Size) (e : AtExit size-call.ended κs)
       → (size-call.clauses 𝓤 H A mem run κs a .requires tt ≡ emp 𝓤)
-      × (size-call.clauses 𝓤 H A mem run κs a .ensures tt r e ≡ sep 𝓤 (fact 𝓤 (Sizes (now (a .0)) (a .1 .0) r)) (fact 𝓤 ((r .rows ≤ 32) × (r .buckets ≤ 32))))
+      × (size-call.clauses 𝓤 H A mem run κs a .ensures tt r e ≡ sep 𝓤 (fact 𝓤 (Sizes (now (a .0)) (a .1 .0) r)) (fact 𝓤 ((r .rows ≤ program-rows) × (r .buckets ≤ program-buckets))))
   size-source κs a r e = (refl, refl)
 
   recording-source : (κs : Lfts (recording-call.signature .lifetimes)) (a : Args recording-call.signature κs) (r : FileText) (e : AtExit recording-call.ended κs)

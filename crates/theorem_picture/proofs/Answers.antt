@@ -35,44 +35,44 @@ module _ {f : Frame} {xs : List Step} {l : ScreenLent} (h : Stands f xs l) where
   k = h .canvas
 
   -- building steps, beginning, painting steps: the number, and what stands afterwards
-  pub step-answer : (x : Step) → call-at x l ≡ answer (step-call 32 x k .number) (canvas-words (step-call 32 x k .value))
+  pub step-answer : (x : Step) → call-at x l ≡ answer (step-call x k .number) (canvas-words (step-call x k .value))
   step-answer x = ap (call-at x) (h .same) ∙ step-words k (h .whole) x
 
   -- the building calls, lent whole records, are these steps: refused or done
   pub fill-answer : (ps ss : List ℕ) (d : Draw) → length ps % 4 ≡ 0 → length ss % 5 ≡ 0
-      → fill-at ps ss d l ≡ answer (step-call 32 (fill-said ps ss d) k .number) (canvas-words (step-call 32 (fill-said ps ss d) k .value))
+      → fill-at ps ss d l ≡ answer (step-call (fill-said ps ss d) k .number) (canvas-words (step-call (fill-said ps ss d) k .value))
   fill-answer ps ss d p s = fill-whole ps ss d l p s ∙ step-answer (fill-said ps ss d)
 
-  pub push-answer : (p : LayerProps) (q : Props) → p ≡ props-in q → push-at p l ≡ answer (step-call 32 (a-push q) k .number) (canvas-words (step-call 32 (a-push q) k .value))
+  pub push-answer : (p : LayerProps) (q : Props) → p ≡ props-in q → push-at p l ≡ answer (step-call (a-push q) k .number) (canvas-words (step-call (a-push q) k .value))
   push-answer p q e = push-steps p q e l ∙ step-answer (a-push q)
 
   pub pop-answer : (ss : List ℕ) → length ss % 5 ≡ 0
-      → pop-at ss l ≡ answer (step-call 32 (pop-said ss) k .number) (canvas-words (step-call 32 (pop-said ss) k .value))
+      → pop-at ss l ≡ answer (step-call (pop-said ss) k .number) (canvas-words (step-call (pop-said ss) k .value))
   pop-answer ss s = pop-whole ss l s ∙ step-answer (pop-said ss)
 
   pub filter-answer : (p : Placement) (m : Option ℕ) (n : ℕ)
-      → filter-at p m n l ≡ answer (step-call 32 (filter-said p m n) k .number) (canvas-words (step-call 32 (filter-said p m n) k .value))
+      → filter-at p m n l ≡ answer (step-call (filter-said p m n) k .number) (canvas-words (step-call (filter-said p m n) k .value))
   filter-answer p m n = filter-steps p m n l ∙ step-answer (filter-said p m n)
 
-  pub begin-answer : begin-at l ≡ answer (begin-call 32 k .number) (canvas-words (begin-call 32 k .value))
+  pub begin-answer : begin-at l ≡ answer (begin-call k .number) (canvas-words (begin-call k .value))
   begin-answer = ap begin-at (h .same) ∙ begin-words k (h .whole)
 
-  pub paint-answer : (i : ℕ) (list : List ℕ) → paint-out i list l ≡ given-out (paint-call 32 i (length list / 6) k) list
+  pub paint-answer : (i : ℕ) (list : List ℕ) → paint-out i list l ≡ given-out (paint-call i (length list / 6) k) list
   paint-answer i list = ap (paint-out i list) (h .same) ∙ paint-gives k (h .whole) i list
 
   -- the direct runs of row i over tiles or buckets t, and `can_skip`
-  pub unset-answer : (i : ℕ) (t : Span) (list : List ℕ) → unset-of (l .screen) i (l .tables .depth) t list ≡ listing (unset-call 32 i (length list / 2) t k) list
+  pub unset-answer : (i : ℕ) (t : Span) (list : List ℕ) → unset-of (l .screen) i (l .tables .depth) t list ≡ listing (unset-call i (length list / 2) t k) list
   unfolding lent-of
   unset-answer i t list = ap (λ (m : ScreenLent). unset-of (m .screen) i (m .tables .depth) t list) (h .same) ∙ unset-by k (h .whole) i t list
 
-  pub visible-answer : (i id : ℕ) (t : Span) (list : List ℕ) → visible-of (l .screen) i (l .tables .depth) t id list ≡ listing (visible-call 32 id i (length list / 2) t k) list
+  pub visible-answer : (i id : ℕ) (t : Span) (list : List ℕ) → visible-of (l .screen) i (l .tables .depth) t id list ≡ listing (visible-call id i (length list / 2) t k) list
   unfolding lent-of
   visible-answer i id t list = ap (λ (m : ScreenLent). visible-of (m .screen) i (m .tables .depth) t id list) (h .same) ∙ visible-by k (h .whole) i id t list
 
-  pub write-answer : (i id : ℕ) (t : Span) (list : List ℕ) → write-out i id t list l ≡ wrote-of (write-call 32 id i (length list / 2) t k) list
+  pub write-answer : (i id : ℕ) (t : Span) (list : List ℕ) → write-out i id t list l ≡ wrote-of (write-call id i (length list / 2) t k) list
   write-answer i id t list = ap (write-out i id t list) (h .same) ∙ write-gives k (h .whole) i id t list
 
-  pub skip-answer : (i : ℕ) (t : Span) (id : ℕ) → skip-of-row (l .screen) i (l .tables .rows) t id ≡ can-skip-call 32 i t id k
+  pub skip-answer : (i : ℕ) (t : Span) (id : ℕ) → skip-of-row (l .screen) i (l .tables .rows) t id ≡ can-skip-call i t id k
   unfolding lent-of
   skip-answer i t id = ap (λ (m : ScreenLent). skip-of-row (m .screen) i (m .tables .rows) t id) (h .same) ∙ skip-by k (h .whole) i t id
 
@@ -81,7 +81,7 @@ module _ {f : Frame} {xs : List Step} {l : ScreenLent} (h : Stands f xs l) where
   unfolding step-call
   refused-step x n =
       let a = step-answer x in
-      let d : (step-call 32 x k .number ≡ Done → ⊥) = λ e. n (ap (λ (b : Answer ScreenLent). b .number) a ∙ e) in
+      let d : (step-call x k .number ≡ Done → ⊥) = λ e. n (ap (λ (b : Answer ScreenLent). b .number) a ∙ e) in
       ap (λ (b : Answer ScreenLent). b .value) a
-      ∙ ap canvas-words (settle-kept (call Row row-ops 32 x (k .screen) .number) k _ (ne-eqb _ Done d))
+      ∙ ap canvas-words (settle-kept (call Row row-ops x (k .screen) .number) k _ (ne-eqb _ Done d))
       ∙ sym (h .same)

@@ -46,7 +46,7 @@ first-done : (k : ℕ) (g : Bool) (p : Plan) (s : Screen Words) → step-number 
 unfolding step-number
 first-done k g p s e = go (eqb k Done) refl e
   where
-    go : (b : Bool) → eqb k Done ≡ b → cond b (cond g (refusal Words word-ops 32 p (done Words word-ops 32 p s)) BadRecord) k ≡ Done → k ≡ Done
+    go : (b : Bool) → eqb k Done ≡ b → cond b (cond g (refusal Words word-ops p (done Words word-ops p s)) BadRecord) k ≡ Done → k ≡ Done
     go true q z = eqb-true k Done q
     go false q z = z
 

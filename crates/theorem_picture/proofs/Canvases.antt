@@ -29,7 +29,7 @@ record Held (k : Canvas) (l : ScreenLent) : Type 0 where
   whole : WholeCanvas k
   same : l ≡ canvas-words k
 
-step-held : (x : Step) → Follow Held (step-call 32 x) (call-at x)
+step-held : (x : Step) → Follow Held (step-call x) (call-at x)
 step-held x k l h =
     let q = ap (call-at x) (h .same) ∙ step-words k (h .whole) x in
     record {
@@ -41,12 +41,12 @@ module _ (ws : List ℕ) (q : Setup) (k : Canvas)
     (fit : (ss : List (List (List ℕ))) → sections shape ws ≡ some ss → good-tables (rows-of (frame q (recording ss .viewport) .viewport)) (lengths (canvas-words k .tables)) ≡ true) where
   -- the rules' call, with the arenas that are lent
   abbrev theirs : Answer Canvas
-  theirs = record-call 32 q (arenas (lengths (canvas-words k .tables))) ws k
+  theirs = record-call q (arenas (lengths (canvas-words k .tables))) ws k
 
   plays : Plays Held k (canvas-words k) theirs (recorded ws q (canvas-words k))
   unfolding record-call
   plays =
-      words-play Canvas (step-call 32) (fresh-canvas 32) Held step-held
+      words-play Canvas step-call fresh-canvas Held step-held
       (λ f l z. record { whole = fresh-whole f l z; same = reset-words f l z })
       ws q (canvas-words k) k fit
 

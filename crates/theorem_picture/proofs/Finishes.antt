@@ -9,7 +9,7 @@ use borrow.Author.Tests.{lt-leb}
 use Rattle.rules.specs.Answers.{Answer, Done}
 use Rattle.rules.specs.Boxes.{rows-of}
 use Rattle.rules.specs.Plans.{Frame, Step}
-use Rattle.rules.specs.Calls.{paints-on, Canvas, begin-call, painter-of, paint-call}
+use Rattle.rules.specs.Calls.{paints-on, Canvas, bucket-on, begin-call, painter-of, paint-call}
 use Rattle.screen.specs.Tables.{ScreenLent}
 use Rattle.paint_command.specs.Painting.{StepOut}
 use Rattle.refine_paint.specs.Canvases.{WholeCanvas}
@@ -40,10 +40,10 @@ same-turns (t ∷ ts) =
     rw (length-replicate {A = ℕ} (6 * t .room) 0, e, same-turns ts)
 
 -- a row of which nothing is left says finished, whatever the room
-says-finished : (k : Canvas) → WholeCanvas k → (r : ℕ) → r < length (k .screen .rows) → paints-on k ≡ true → has-finished 32 k r ≡ true → finished-at (canvas-words k) r ≡ true
+says-finished : (k : Canvas) → WholeCanvas k → (r : ℕ) → r < length (k .screen .rows) → paints-on k ≡ true → has-finished k r ≡ true → finished-at (canvas-words k) r ≡ true
 unfolding has-finished paint-call
 says-finished k w r h b e =
-    let f = step-ended 32 (k .screen .state .attrs) _ (painter-of 32 k r) e in
+    let f = step-ended (bucket-on k) (k .screen .state .attrs) _ (painter-of k r) e in
     ap (λ (o : StepOut). o .answer .finished) (paint-gives k w r []) ∙ rw (lt-leb (length (k .screen .rows)) r h, b, f)
 
 or-last : (a b : Bool) → b ≡ true → (a || b) ≡ true
@@ -57,19 +57,19 @@ finishes f xs l h e =
     let s = reached h in
     let k = s .canvas in
     let q = begin-answer s in
-    let d : begin-call 32 k .number ≡ Done = sym (ap (λ (a : Answer ScreenLent). a .number) q) ∙ e in
-    let v : begin-at l .value ≡ canvas-words (begin-call 32 k .value) = ap (λ (a : Answer ScreenLent). a .value) q in
-    let b = begin-call 32 k .value in
-    let us = in-order 32 (length (k .screen .rows)) b in
+    let d : begin-call k .number ≡ Done = sym (ap (λ (a : Answer ScreenLent). a .number) q) ∙ e in
+    let v : begin-at l .value ≡ canvas-words (begin-call k .value) = ap (λ (a : Answer ScreenLent). a .value) q in
+    let b = begin-call k .value in
+    let us = in-order (length (k .screen .rows)) b in
     let w = begin-whole k (s .whole) in
-    let g = begun-is 32 k d in (
+    let g = begun-is k d in (
       map lent-turn us,
       λ r there.
-          let row = built-on 32 (omega arith) f xs (k .screen) (s .built) r there .1 in
-          let same : turns 32 us b .canvas .screen ≡ k .screen = turns-screen 32 us b ∙ ap (λ (c : Canvas). c .screen) g in
-          let on : paints-on (turns 32 us b .canvas) ≡ true = turns-paints 32 us b ∙ begun-paints 32 k d in
-          let t : turned (map lent-turn us) (begin-at l .value) ≡ canvas-words (turns 32 us b .canvas) =
-          ap (turned (map lent-turn us)) v ∙ turned-words (map lent-turn us) b w ∙ ap (λ (x : List rule.Turn). canvas-words (turns 32 x b .canvas)) (same-turns us) in
+          let row = built-on f xs (k .screen) (s .built) r there .1 in
+          let same : turns us b .canvas .screen ≡ k .screen = turns-screen us b ∙ ap (λ (c : Canvas). c .screen) g in
+          let on : paints-on (turns us b .canvas) ≡ true = turns-paints us b ∙ begun-paints k d in
+          let t : turned (map lent-turn us) (begin-at l .value) ≡ canvas-words (turns us b .canvas) =
+          ap (turned (map lent-turn us)) v ∙ turned-words (map lent-turn us) b w ∙ ap (λ (x : List rule.Turn). canvas-words (turns x b .canvas)) (same-turns us) in
           or-last (said-finished r (log (map lent-turn us) (begin-at l .value))) _
-          (rw t (says-finished (turns 32 us b .canvas) (turns-whole us b w) r (rw same row) on (tiles.finishes 32 k d r row))),
+          (rw t (says-finished (turns us b .canvas) (turns-whole us b w) r (rw same row) on (tiles.finishes k d r row))),
     )

@@ -3,7 +3,6 @@ use mathlib.Core.Path.{_≡_, sym, ap, _∙_}
 use mathlib.Core.Bool.{true}
 use mathlib.Core.List.{List, [], map}
 use Prim.Native.Nat.{ℕ, _<_}
-use native.Mathlib.Omega.{arith}
 use lib.Dec.{eqb}
 use lib.ListN.{length}
 use Rattle.rules.specs.Answers.{Answer, Done}
@@ -29,32 +28,32 @@ use Rattle.theorem_picture.proofs.Answers.{begin-answer}
 use Rattle.theorem_picture.proofs.Turns.{turned-words, log-words, turns-whole}
 
 -- a step without room that says finished: nothing is left of the row
-finished-words : (k : Canvas) → WholeCanvas k → (r : ℕ) → finished-at (canvas-words k) r ≡ true → has-finished 32 k r ≡ true
+finished-words : (k : Canvas) → WholeCanvas k → (r : ℕ) → finished-at (canvas-words k) r ≡ true → has-finished k r ≡ true
 unfolding has-finished
 finished-words k w r e =
-    let f : paint-call 32 r 0 k .value .result .finished ≡ true = sym (ap (λ (o : StepOut). o .answer .finished) (paint-gives k w r [])) ∙ e in
-    by (eqb (paint-call 32 r 0 k .number) Done)
-    (λ d. sym (ap (λ (o : Painted). o .finished) (call-given 32 r 0 k d .0)) ∙ f)
-    (λ d. never (sym f ∙ call-refused 32 r 0 k d .2))
+    let f : paint-call r 0 k .value .result .finished ≡ true = sym (ap (λ (o : StepOut). o .answer .finished) (paint-gives k w r [])) ∙ e in
+    by (eqb (paint-call r 0 k .number) Done)
+    (λ d. sym (ap (λ (o : Painted). o .finished) (call-given r 0 k d .0)) ∙ f)
+    (λ d. never (sym f ∙ call-refused r 0 k d .2))
 
 -- a row that has finished at the words has finished by the rules
 finished-rules : (ts : List Turn) (k : Canvas) → WholeCanvas k → (r : ℕ) → r < length (k .painters) → finished r ts (canvas-words k) ≡ true
-    → has-finished 32 (turns 32 (map turn-of ts) k .canvas) r ≡ true
+    → has-finished (turns (map turn-of ts) k .canvas) r ≡ true
 finished-rules ts k w r h e =
     by (said-finished r (log ts (canvas-words k)))
-    (λ y. said-so 32 (map turn-of ts) k r h (rw (log-words ts k w) at y))
+    (λ y. said-so (map turn-of ts) k r h (rw (log-words ts k w) at y))
     (λ n.
     let z : finished-at (turned ts (canvas-words k)) r ≡ true = rw n at e in
-    finished-words (turns 32 (map turn-of ts) k .canvas) (turns-whole (map turn-of ts) k w) r (rw (turned-words ts k w) at z))
+    finished-words (turns (map turn-of ts) k .canvas) (turns-whole (map turn-of ts) k w) r (rw (turned-words ts k w) at z))
 
 pub picture : Demand-3
 picture f xs l h e ts r t there on fin =
     let s = reached h in
     let k = s .canvas in
     let q = begin-answer s in
-    let d : begin-call 32 k .number ≡ Done = sym (ap (λ (a : Answer ScreenLent). a .number) q) ∙ e in
-    let v : begin-at l .value ≡ canvas-words (begin-call 32 k .value) = ap (λ (a : Answer ScreenLent). a .value) q in
+    let d : begin-call k .number ≡ Done = sym (ap (λ (a : Answer ScreenLent). a .number) q) ∙ e in
+    let v : begin-at l .value ≡ canvas-words (begin-call k .value) = ap (λ (a : Answer ScreenLent). a .value) q in
     let w = begin-whole k (s .whole) in
-    let row = begun-there 32 k r d (built-on 32 (omega arith) f xs (k .screen) (s .built) r there .1) in
-    rw (v, log-words ts (begin-call 32 k .value) w)
-    (tiles.picture 32 (omega arith) f xs k (s .built) d (map turn-of ts) r t there on (finished-rules ts (begin-call 32 k .value) w r row (sym (ap (finished r ts) v) ∙ fin)))
+    let row = begun-there k r d (built-on f xs (k .screen) (s .built) r there .1) in
+    rw (v, log-words ts (begin-call k .value) w)
+    (tiles.picture f xs k (s .built) d (map turn-of ts) r t there on (finished-rules ts (begin-call k .value) w r row (sym (ap (finished r ts) v) ∙ fin)))

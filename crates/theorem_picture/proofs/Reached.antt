@@ -9,9 +9,9 @@ use borrow.Author.Tests.{eqb-true}
 use Rattle.rules.specs.Lists.{join}
 use Rattle.rules.specs.Answers.{Answer, Done}
 use Rattle.rules.specs.Spans.{Span}
-use Rattle.rules.specs.Boxes.{rows-of, buckets-of}
+use Rattle.rules.specs.Boxes.{rows-of}
 use Rattle.rules.specs.Rows.{Row, fresh-row, row-ops}
-use Rattle.rules.specs.Plans.{Frame, Step, a-fill, a-push, a-pop, a-filter}
+use Rattle.rules.specs.Plans.{Frame, buckets-across, Step, a-fill, a-push, a-pop, a-filter}
 use Rattle.rules.specs.Steps.{Screen, reset, call}
 use Rattle.rules.proofs.Words as words-of
 use Rattle.rules.specs.Walk.{good-room}
@@ -46,7 +46,7 @@ module _ (f : Frame) (l : ScreenLent) (z : judged-reset f (lengths (l .tables)) 
   rows = rows-of (f .viewport)
 
   abbrev buckets : ℕ
-  buckets = buckets-of 32 (f .viewport)
+  buckets = buckets-across f
 
   abbrev fresh : Screen Row
   fresh = reset fresh-row f
@@ -67,29 +67,29 @@ module _ (f : Frame) (l : ScreenLent) (z : judged-reset f (lengths (l .tables)) 
   unfolding reset
   count = fresh-sound f l z .count
 
-  zero-depth : zeros 0 (l .tables .depth) ≡ depth-of (blank 32 fresh)
+  zero-depth : zeros 0 (l .tables .depth) ≡ depth-of (blank fresh)
   unfolding zeros reset
   zero-depth = ap (λ (n : ℕ). replicate n 0) (depth-long ∙ ap (λ (m : ℕ). m * buckets) (sym count)) ∙ sym (blank-depth buckets (length (fresh .rows)))
 
-  zero-painting : zeros 0 (l .tables .painting) ≡ painting-of (blank 32 fresh)
+  zero-painting : zeros 0 (l .tables .painting) ≡ painting-of (blank fresh)
   unfolding zeros reset
   zero-painting = ap (λ (n : ℕ). replicate n 0) (painting-long ∙ ap (λ (m : ℕ). m * 2) (sym count)) ∙ sym (blank-painting buckets (length (fresh .rows)))
 
-  pub fresh-whole : WholeCanvas (fresh-canvas 32 f)
+  pub fresh-whole : WholeCanvas (fresh-canvas f)
   fresh-whole = reset-whole f (judged-facts f l z .0) (rooms f l z .0) (rooms f l z .1)
 
-  pub reset-words : reset-to f l .value ≡ canvas-words (fresh-canvas 32 f)
+  pub reset-words : reset-to f l .value ≡ canvas-words (fresh-canvas f)
   reset-words = ap (λ (a : Answer ScreenLent). a .value) (fresh-words f l z) ∙ rw (zero-depth, zero-painting)
 
   reset-stands : Stands f [] (reset-to f l .value)
-  reset-stands = record { canvas = fresh-canvas 32 f; whole = fresh-whole; built = no-step; same = reset-words }
+  reset-stands = record { canvas = fresh-canvas f; whole = fresh-whole; built = no-step; same = reset-words }
 
 -- a done step of the rules
-step-done : (x : Step) (k : Canvas) → step-call 32 x k .number ≡ Done
-    → (call Row row-ops 32 x (k .screen) .number ≡ Done) × (step-call 32 x k .value ≡ record { screen = call Row row-ops 32 x (k .screen) .value; begun = false; painters = k .painters })
+step-done : (x : Step) (k : Canvas) → step-call x k .number ≡ Done
+    → (call Row row-ops x (k .screen) .number ≡ Done) × (step-call x k .value ≡ record { screen = call Row row-ops x (k .screen) .value; begun = false; painters = k .painters })
 unfolding step-call
 step-done x k e =
-    let n : call Row row-ops 32 x (k .screen) .number ≡ Done = sym (settle-number (call Row row-ops 32 x (k .screen) .number) k (record { screen = call Row row-ops 32 x (k .screen) .value; begun = false; painters = k .painters })) ∙ e in
+    let n : call Row row-ops x (k .screen) .number ≡ Done = sym (settle-number (call Row row-ops x (k .screen) .number) k (record { screen = call Row row-ops x (k .screen) .value; begun = false; painters = k .painters })) ∙ e in
     (n, rw n)
 
 module _ {f : Frame} {xs : List Step} {l : ScreenLent} (h : Stands f xs l) where
@@ -101,9 +101,9 @@ module _ {f : Frame} {xs : List Step} {l : ScreenLent} (h : Stands f xs l) where
       let q = ap (call-at x) (h .same) ∙ step-words k (h .whole) x in
       let d = step-done x k (sym (ap (λ (a : Answer ScreenLent). a .number) q) ∙ e) in
       record {
-        canvas = step-call 32 x k .value;
+        canvas = step-call x k .value;
         whole = step-whole x k (h .whole);
-        built = rw (d .1) (built-append 32 (h .built) (then (d .0) no-step));
+        built = rw (d .1) (built-append (h .built) (then (d .0) no-step));
         same = ap (λ (a : Answer ScreenLent). a .value) q;
       }
 
@@ -114,7 +114,7 @@ module _ {f : Frame} {xs : List Step} {l : ScreenLent} (h : Stands f xs l) where
   begin-stands : Stands f xs (begin-at l .value)
   begin-stands =
       record {
-        canvas = begin-call 32 k .value;
+        canvas = begin-call k .value;
         whole = begin-whole k (h .whole);
         built = rw (begin-screen k (h .whole)) (h .built);
         same = ap (λ (m : ScreenLent). begin-at m .value) (h .same) ∙ ap (λ (a : Answer ScreenLent). a .value) (begin-words k (h .whole));
@@ -123,16 +123,16 @@ module _ {f : Frame} {xs : List Step} {l : ScreenLent} (h : Stands f xs l) where
   paint-stands : (i : ℕ) (list : List ℕ) → Stands f xs (paint-at i list l)
   paint-stands i list =
       record {
-        canvas = paint-call 32 i (length list / 6) k .value .canvas;
+        canvas = paint-call i (length list / 6) k .value .canvas;
         whole = paint-whole k (h .whole) i (length list / 6);
-        built = rw (call-screen 32 i (length list / 6) k) (h .built);
+        built = rw (call-screen i (length list / 6) k) (h .built);
         same = ap (paint-at i list) (h .same) ∙ paint-words k (h .whole) i list;
       }
 
   write-stands : (i id : ℕ) (t : Span) (list : List ℕ) → Stands f xs (write-at i id t list l)
   write-stands i id t list =
       record {
-        canvas = write-call 32 id i (length list / 2) t k .value .canvas;
+        canvas = write-call id i (length list / 2) t k .value .canvas;
         whole = write-whole k (h .whole) i id t (length list / 2);
         built = rw (same-screen k (h .whole) i id t (length list / 2)) (h .built);
         same = ap (write-at i id t list) (h .same) ∙ write-words k (h .whole) i id t list;

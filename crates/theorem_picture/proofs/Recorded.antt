@@ -42,7 +42,7 @@ record Logs (f : Frame) (s : Logged Row) (l : ScreenLent) : Type 0 where
   reached : Reached f (s .log) l
 
 -- each step
-step-logs : (f : Frame) (x : Step) → Follow (Logs f) (logged-call Row row-ops 32 x) (call-at x)
+step-logs : (f : Frame) (x : Step) → Follow (Logs f) (logged-call Row row-ops x) (call-at x)
 unfolding logged-call
 step-logs f x s l h =
     let a = step-refines x (s .screen) l (h .refines) in
@@ -87,14 +87,14 @@ module _ (ws : List ℕ) (r : Readable ws) (q : Setup) (l : ScreenLent) where
   walk = walk-all ScreenLent call-at (said r) (fresh .value)
 
   abbrev logged : Answer (Logged Row)
-  logged = walk-logged Row row-ops 32 fresh-row f (said r)
+  logged = walk-logged Row row-ops fresh-row f (said r)
 
   -- the walk from a done reset
   walked : fresh .number ≡ Done → Both (Logs f) logged walk
   unfolding walk-logged reset-to
   walked e =
       let z = sym (settle-number (judged-reset f (lengths (l .tables))) l _) ∙ e in
-      walk-follows (Logs f) (logged-call Row row-ops 32) call-at (step-logs f) (said r)
+      walk-follows (Logs f) (logged-call Row row-ops) call-at (step-logs f) (said r)
       (record { screen = reset fresh-row f; log = [] }) (fresh .value)
       (record { refines = reset-refines f l z .value; reached = by-reset f l e })
 
@@ -102,7 +102,7 @@ module _ (ws : List ℕ) (r : Readable ws) (q : Setup) (l : ScreenLent) where
   walked-rules : (logged .number ≡ Done → logged .value .screen .state .layers ≡ []) × Late (logged .number)
   unfolding walk-logged reset
   walked-rules =
-      let a = all-walks 32 (said r) .at (record { screen = reset fresh-row f; log = [] }) refl in
+      let a = all-walks (said r) .at (record { screen = reset fresh-row f; log = [] }) refl in
       (a .layers, a .late)
 
   -- by the answer

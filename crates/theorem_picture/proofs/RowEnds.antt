@@ -14,7 +14,7 @@ use Rattle.rules.specs.Boxes.{rows-of}
 use Rattle.rules.specs.Rows.{fresh-row}
 use Rattle.rules.specs.Plans.{Frame, Step}
 use Rattle.rules.specs.Painting.{Piece, Painted, paint-steps}
-use Rattle.rules.specs.Calls.{paints-on, Canvas, Given, painter-of, paint-call}
+use Rattle.rules.specs.Calls.{paints-on, Canvas, bucket-on, Given, painter-of, paint-call}
 use Rattle.screen.specs.Tables.{ScreenLent}
 use Rattle.refine_steps.specs.Lent.{lent-of}
 use Rattle.paint_pieces.specs.Pieces.{piece-words, laid}
@@ -38,12 +38,12 @@ use Rattle.theorem_picture.proofs.Rows.{step, at, next, Holds, one-word
 
 -- the pieces of the next n steps of row r
 abbrev pub left-of : ℕ → Canvas → ℕ → List Piece
-left-of n k r = paint-steps 32 (k .screen .state .attrs) n (getD (k .screen .rows) r fresh-row) (painter-of 32 k r)
+left-of n k r = paint-steps (bucket-on k) (k .screen .state .attrs) n (getD (k .screen .rows) r fresh-row) (painter-of k r)
 
 -- a step with room for its pieces is done
-pub room-done : (k : Canvas) (r m : ℕ) → r < length (k .screen .rows) → paints-on k ≡ true → length (next-step 32 k r .pieces) ≤ m → paint-call 32 r m k .number ≡ Done
+pub room-done : (k : Canvas) (r m : ℕ) → r < length (k .screen .rows) → paints-on k ≡ true → length (next-step k r .pieces) ≤ m → paint-call r m k .number ≡ Done
 unfolding paint-call
-room-done k r m h b e = rw (lt-leb (length (k .screen .rows)) r h, b, le-ltb m (length (next-step 32 k r .pieces)) e)
+room-done k r m h b e = rw (lt-leb (length (k .screen .rows)) r h, b, le-ltb m (length (next-step k r .pieces)) e)
 
 -- the lengths of a list with pieces laid, and of what stands after n + m pieces
 laid-long : (ps : List Piece) (ys : List ℕ) → length (laid ps ys) ≡ 6 * length ps + (length ys - 6 * length ps)
@@ -69,7 +69,7 @@ module _ (r : ℕ) (l : ScreenLent) where
     ys = next r l g .list
 
     abbrev c : Answer (Given Painted)
-    c = paint-call 32 r (length ys / 6) k
+    c = paint-call r (length ys / 6) k
 
     step-is : step r l (g .depth) (g .painting) ys ≡ given-out c ys
     step-is =
@@ -90,8 +90,8 @@ module _ (r : ℕ) (l : ScreenLent) where
         record {
           words = sym (one-words r l g) ∙ ap (paint-at r ys) (z .words) ∙ paint-words k (z .whole) r ys;
           whole = paint-whole k (z .whole) r (length ys / 6);
-          goes-on = call-paints 32 r (length ys / 6) k ∙ z .goes-on;
-          there = rw (call-screen 32 r (length ys / 6) k) (z .there);
+          goes-on = call-paints r (length ys / 6) k ∙ z .goes-on;
+          there = rw (call-screen r (length ys / 6) k) (z .there);
           holds = one-holds r l g (z .holds);
         }
 
@@ -103,52 +103,52 @@ module _ (r : ℕ) (l : ScreenLent) where
         rw step-is (left-after (g .answer .pieces) (length (c .value .result .pieces)) (g .list) (laid (c .value .result .pieces) ys) (z .holds) ∙ rw v (omega arith))
 
     -- there is room for its pieces
-    module _ (room : 6 * length (next-step 32 k r .pieces) ≤ length ys) where
+    module _ (room : 6 * length (next-step k r .pieces) ≤ length ys) where
       done : eqb (c .number) Done ≡ true
       done = eq-eqb _ _ (room-done k r (length ys / 6) (z .there) (z .goes-on) (omega arith))
 
-      given : c .value .result ≡ next-step 32 k r
-      given = call-given 32 r (length ys / 6) k done .0
+      given : c .value .result ≡ next-step k r
+      given = call-given r (length ys / 6) k done .0
 
       -- it is the last
-      end-now : (f j : ℕ) → next-step 32 k r .finished ≡ true → run (step r l) (suc f) j g .answer .finished ≡ true
+      end-now : (f j : ℕ) → next-step k r .finished ≡ true → run (step r l) (suc f) j g .answer .finished ≡ true
       unfolding run
       end-now f j e =
           let y : one-more (step r l) g .answer .finished ≡ true = one-finished ∙ ap (λ (o : Painted). o .finished) given ∙ e in
           rw (one-number, done, y)
 
       -- it is not
-      go-on : (f j : ℕ) → next-step 32 k r .finished ≡ false → run (step r l) (suc f) j g ≡ run (step r l) f (j + 1) (one-more (step r l) g)
+      go-on : (f j : ℕ) → next-step k r .finished ≡ false → run (step r l) (suc f) j g ≡ run (step r l) f (j + 1) (one-more (step r l) g)
       unfolding run
       go-on f j e =
           let y : one-more (step r l) g .answer .finished ≡ false = one-finished ∙ ap (λ (o : Painted). o .finished) given ∙ e in
           rw (one-number, done, y)
 
-      later : painter-of 32 (c .value .canvas) r ≡ next-step 32 k r .painter
-      later = call-own 32 r (length ys / 6) k (rw (z .whole .count) (z .there)) done
+      later : painter-of (c .value .canvas) r ≡ next-step k r .painter
+      later = call-own r (length ys / 6) k (rw (z .whole .count) (z .there)) done
 
   -- a step that says finished needs no room
-  few : (g : StepOut) (k : Canvas) → next-step 32 k r .finished ≡ true → 6 * length (next-step 32 k r .pieces) ≤ length (next r l g .list)
-  few g k e = rw (step-ended 32 (k .screen .state .attrs) (getD (k .screen .rows) r fresh-row) (painter-of 32 k r) e) (omega arith)
+  few : (g : StepOut) (k : Canvas) → next-step k r .finished ≡ true → 6 * length (next-step k r .pieces) ≤ length (next r l g .list)
+  few g k e = rw (step-ended (bucket-on k) (k .screen .state .attrs) (getD (k .screen .rows) r fresh-row) (painter-of k r) e) (omega arith)
 
   -- enough steps, and room for all their pieces
-  ends : (f n j : ℕ) (g : StepOut) (k : Canvas) → At g k → work k r ≤ painter-of 32 k r .steps + n → n < f → 6 * length (left-of n k r) ≤ length (next r l g .list)
+  ends : (f n j : ℕ) (g : StepOut) (k : Canvas) → At g k → work k r ≤ painter-of k r .steps + n → n < f → 6 * length (left-of n k r) ≤ length (next r l g .list)
       → run (step r l) f j g .answer .finished ≡ true
   unfolding paint-steps
   ends zero n j g k z w h room = absurd (omega arith)
   ends (suc f) zero j g k z w h room =
-      let e = late-ended 32 (k .screen .state .attrs) (getD (k .screen .rows) r fresh-row) (painter-of 32 k r) (omega arith) in
+      let e = late-ended (bucket-on k) (k .screen .state .attrs) (getD (k .screen .rows) r fresh-row) (painter-of k r) (omega arith) in
       end-now g k z (few g k e) f j e
   ends (suc f) (suc n) j g k z w h room =
-      by (next-step 32 k r .finished)
+      by (next-step k r .finished)
       (λ e. end-now g k z (few g k e) f j e)
       (λ e.
-      let o = next-step 32 k r in
-      let m : 6 * (length (o .pieces) + length (paint-steps 32 (k .screen .state .attrs) n (getD (k .screen .rows) r fresh-row) (o .painter))) ≤ length (ys g k z) = rw (← length-append) room in
+      let o = next-step k r in
+      let m : 6 * (length (o .pieces) + length (paint-steps (bucket-on k) (k .screen .state .attrs) n (getD (k .screen .rows) r fresh-row) (o .painter))) ≤ length (ys g k z) = rw (← length-append) room in
       let first : 6 * length (o .pieces) ≤ length (ys g k z) = omega arith in
-      let c = step-counts 32 (k .screen .state .attrs) (getD (k .screen .rows) r fresh-row) (painter-of 32 k r) e in
+      let c = step-counts (bucket-on k) (k .screen .state .attrs) (getD (k .screen .rows) r fresh-row) (painter-of k r) e in
       let p = later g k z first in
-      let s = call-screen 32 r (length (ys g k z) / 6) k in
+      let s = call-screen r (length (ys g k z) / 6) k in
       let v = one-left g k z in
       rw (go-on g k z first f j e)
       (ends f n (j + 1) (one-more (step r l) g) _ (on g k z) (rw (p, s) (omega arith)) (omega arith) (rw (p, s) (omega (arith, rw (given g k z first) at v)))))
@@ -175,5 +175,5 @@ row-ends {f} {xs} {l} h b r there =
     let k = s .canvas in
     let begun : k .begun ≡ true = unfold lent-of in (sym (ap (λ (m : ScreenLent). m .screen .painting) (s .same)) ∙ b) in
     let on : paints-on k ≡ true = rw (s .whole .closed begun) begun in
-    let row = built-on 32 (omega arith) f xs (k .screen) (s .built) r there .1 in
+    let row = built-on f xs (k .screen) (s .built) r there .1 in
     (6 * length (left-of (work k r) k r), λ list long. ap (λ (m : ScreenLent). row-out r list m .answer .finished) (s .same) ∙ row-ended k (s .whole) on r row list long)

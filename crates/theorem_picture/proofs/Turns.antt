@@ -16,28 +16,28 @@ use Rattle.theorem_picture.proofs.Pieces.{pieces-back}
 use Rattle.theorem_picture.proofs.Words.{paint-gives, paint-words}
 
 -- what one call gave
-gave-same : (k : Canvas) → WholeCanvas k → (t : Turn) → gave-out (t .row) (paint-out (t .row) (t .list) (canvas-words k)) ≡ gave (t .row) (paint-call 32 (t .row) (length (t .list) / 6) k)
+gave-same : (k : Canvas) → WholeCanvas k → (t : Turn) → gave-out (t .row) (paint-out (t .row) (t .list) (canvas-words k)) ≡ gave (t .row) (paint-call (t .row) (length (t .list) / 6) k)
 gave-same k w t =
-    let g = paint-call 32 (t .row) (length (t .list) / 6) k in
+    let g = paint-call (t .row) (length (t .list) / 6) k in
     ap (gave-out (t .row)) (paint-gives k w (t .row) (t .list)) ∙ rw (pieces-back (g .value .result .pieces) (t .list))
 
 -- the words afterwards, and what all calls gave
-pub turned-words : (ts : List Turn) (k : Canvas) → WholeCanvas k → turned ts (canvas-words k) ≡ canvas-words (turns 32 (map turn-of ts) k .canvas)
+pub turned-words : (ts : List Turn) (k : Canvas) → WholeCanvas k → turned ts (canvas-words k) ≡ canvas-words (turns (map turn-of ts) k .canvas)
 unfolding turned turns
 turned-words [] k w = refl
 turned-words (t ∷ ts) k w =
-    ap (turned ts) (paint-words k w (t .row) (t .list)) ∙ turned-words ts (paint-call 32 (t .row) (length (t .list) / 6) k .value .canvas) (paint-whole k w (t .row) (length (t .list) / 6))
+    ap (turned ts) (paint-words k w (t .row) (t .list)) ∙ turned-words ts (paint-call (t .row) (length (t .list) / 6) k .value .canvas) (paint-whole k w (t .row) (length (t .list) / 6))
 
-pub log-words : (ts : List Turn) (k : Canvas) → WholeCanvas k → log ts (canvas-words k) ≡ turns 32 (map turn-of ts) k .log
+pub log-words : (ts : List Turn) (k : Canvas) → WholeCanvas k → log ts (canvas-words k) ≡ turns (map turn-of ts) k .log
 unfolding log turns
 log-words [] k w = refl
 log-words (t ∷ ts) k w =
-    let j = paint-call 32 (t .row) (length (t .list) / 6) k .value .canvas in
+    let j = paint-call (t .row) (length (t .list) / 6) k .value .canvas in
     ap (λ (m : ScreenLent). gave-out (t .row) (paint-out (t .row) (t .list) (canvas-words k)) ∷ log ts m) (paint-words k w (t .row) (t .list))
     ∙ rw (gave-same k w t, log-words ts j (paint-whole k w (t .row) (length (t .list) / 6)))
 
 -- a canvas stays whole
-pub turns-whole : (ts : List rule.Turn) (k : Canvas) → WholeCanvas k → WholeCanvas (turns 32 ts k .canvas)
+pub turns-whole : (ts : List rule.Turn) (k : Canvas) → WholeCanvas k → WholeCanvas (turns ts k .canvas)
 unfolding turns
 turns-whole [] k w = w
-turns-whole (t ∷ ts) k w = turns-whole ts (paint-call 32 (t .row) (t .room) k .value .canvas) (paint-whole k w (t .row) (t .room))
+turns-whole (t ∷ ts) k w = turns-whole ts (paint-call (t .row) (t .room) k .value .canvas) (paint-whole k w (t .row) (t .room))

@@ -34,20 +34,20 @@ unfolding lent-of
 with-words s b c de pa de′ pa′ = refl
 
 -- a refused step of the rules alters nothing
-refused-same : (x : Step) (s : Screen Row) → eqb (call Row row-ops 32 x s .number) Done ≡ false → call Row row-ops 32 x s .value ≡ s
+refused-same : (x : Step) (s : Screen Row) → eqb (call Row row-ops x s .number) Done ≡ false → call Row row-ops x s .value ≡ s
 unfolding call perform
-refused-same x s = settle-kept (refusal Row row-ops 32 (planned Row row-ops 32 x s) (done Row row-ops 32 (planned Row row-ops 32 x s) s)) s (done Row row-ops 32 (planned Row row-ops 32 x s) s)
+refused-same x s = settle-kept (refusal Row row-ops (planned Row row-ops x s) (done Row row-ops (planned Row row-ops x s) s)) s (done Row row-ops (planned Row row-ops x s) s)
 
 module _ (k : Canvas) (w : WholeCanvas k) where
   -- a building step
   module _ (x : Step) where
     abbrev a : Answer (Screen Row)
-    a = call Row row-ops 32 x (k .screen)
+    a = call Row row-ops x (k .screen)
 
     abbrev after : Canvas
     after = record { screen = a .value; begun = false; painters = k .painters }
 
-    pub step-words : call-at x (canvas-words k) ≡ answer (step-call 32 x k .number) (canvas-words (step-call 32 x k .value))
+    pub step-words : call-at x (canvas-words k) ≡ answer (step-call x k .number) (canvas-words (step-call x k .value))
     unfolding step-call
     step-words = stepped x (k .screen) (w .sound) (k .begun) _ _ ∙ go (eqb (a .number) Done) refl
       where
@@ -58,20 +58,20 @@ module _ (k : Canvas) (w : WholeCanvas k) where
         go false e = rw (refused-same x (k .screen) e)
 
   -- beginning to paint
-  pub begin-screen : begin-call 32 k .value .screen ≡ k .screen
+  pub begin-screen : begin-call k .value .screen ≡ k .screen
   unfolding begin-call
   begin-screen = go (is-empty (k .screen .state .layers))
     where
-      go : (b : Bool) → settle (cond b Done Open) k (record { screen = k .screen; begun = true; painters = blank 32 (k .screen) }) .value .screen ≡ k .screen
+      go : (b : Bool) → settle (cond b Done Open) k (record { screen = k .screen; begun = true; painters = blank (k .screen) }) .value .screen ≡ k .screen
       go true = refl
       go false = refl
 
-  pub begin-words : begin-at (canvas-words k) ≡ answer (begin-call 32 k .number) (canvas-words (begin-call 32 k .value))
+  pub begin-words : begin-at (canvas-words k) ≡ answer (begin-call k .number) (canvas-words (begin-call k .value))
   unfolding begin-at
   begin-words =
-      let j = begin-call 32 k .value in
+      let j = begin-call k .value in
       ap (λ (a : Answer painter.Canvas). answer (a .number) (with-canvas (canvas-words k) (a .value .screen) (a .value .depth) (a .value .painting))) (begin-painted k w)
-      ∙ ap (answer (begin-call 32 k .number))
+      ∙ ap (answer (begin-call k .number))
       (ap (λ (s : Screen Row). with-canvas (canvas-words k) (screen-of (s .state) (j .begun)) (depth-of (j .painters)) (painting-of (j .painters))) begin-screen
       ∙ with-words (k .screen) (k .begun) (j .begun) _ _ _ _
       ∙ ap (λ (s : Screen Row). lent-of s (j .begun) (depth-of (j .painters)) (painting-of (j .painters))) (sym begin-screen))
@@ -87,21 +87,21 @@ module _ (k : Canvas) (w : WholeCanvas k) where
 
   -- a painting step
   module _ (i : ℕ) where
-    pub paint-gives : (l : List ℕ) → paint-out i l (canvas-words k) ≡ given-out (paint-call 32 i (length l / 6) k) l
+    pub paint-gives : (l : List ℕ) → paint-out i l (canvas-words k) ≡ given-out (paint-call i (length l / 6) k) l
     unfolding paint-out
     paint-gives l = step-painted k w i l
 
-    pub paint-words : (l : List ℕ) → paint-at i l (canvas-words k) ≡ canvas-words (paint-call 32 i (length l / 6) k .value .canvas)
+    pub paint-words : (l : List ℕ) → paint-at i l (canvas-words k) ≡ canvas-words (paint-call i (length l / 6) k .value .canvas)
     paint-words l =
-        let j = paint-call 32 i (length l / 6) k .value .canvas in
+        let j = paint-call i (length l / 6) k .value .canvas in
         ap (λ (o : StepOut). with-canvas (canvas-words k) (canvas-words k .screen) (o .depth) (o .painting)) (paint-gives l)
         ∙ with-screen (depth-of (j .painters)) (painting-of (j .painters))
-        ∙ rw (call-screen 32 i (length l / 6) k, call-begun 32 i (length l / 6) k)
+        ∙ rw (call-screen i (length l / 6) k, call-begun i (length l / 6) k)
 
     -- a writing run
     module _ (id : ℕ) (t : Span) (l : List ℕ) where
       abbrev g : Answer (Given (List Span))
-      g = write-call 32 id i (length l / 2) t k
+      g = write-call id i (length l / 2) t k
 
       pub write-gives : write-out i id t l (canvas-words k) ≡ wrote-of g l
       unfolding write-out lent-of

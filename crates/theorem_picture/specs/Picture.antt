@@ -3,10 +3,9 @@ use Prim.Native.Nat.{ℕ, _/_, _<_}
 use mathlib.Core.Path.{_≡_}
 use mathlib.Core.Bool.{Bool, true, _||_}
 use mathlib.Core.List.{List}
-use Rattle.sizes.specs.Sizes.{bucket-tiles}
 use Rattle.rules.specs.Answers.{Done}
 use Rattle.rules.specs.Boxes.{width, rows-of}
-use Rattle.rules.specs.Plans.{Frame, Step}
+use Rattle.rules.specs.Plans.{Frame, bucket, Step}
 use Rattle.rules.specs.Painting.{received}
 use Rattle.rules.specs.Plain.{plain}
 use Rattle.screen.specs.Tables.{ScreenLent}
@@ -28,4 +27,4 @@ Demand-3 =
     (f : Frame) (xs : List Step) (l : ScreenLent) → Reached f xs l → begin-at l .number ≡ Done
     → (ts : List Turn) (r t : ℕ) → r < rows-of (f .viewport) → t < width (f .viewport) / 4
     → finished r ts (begin-at l .value) ≡ true
-    → received t (from r (log ts (begin-at l .value))) ≡ plain bucket-tiles (f .viewport) r t xs
+    → received t (from r (log ts (begin-at l .value))) ≡ plain (bucket f) (f .viewport) r t xs

@@ -2,7 +2,6 @@
 use mathlib.Core.Path.{_≡_}
 use mathlib.Core.List.{List}
 use Prim.Native.Nat.{ℕ, _<_}
-use Rattle.sizes.specs.Sizes.{bucket-tiles}
 use Rattle.rules.specs.Answers.{Answer, Done, BadForm}
 use Rattle.rules.specs.Setups.{Setup, frame}
 use Rattle.rules.specs.Walk.{Place, frame-of}
@@ -13,7 +12,7 @@ use Rattle.theorem_picture.specs.Reached.{Reached, begin-at}
 -- accepted: words that the steps of the file's walk reach from the reset to its frame; no layer is open there, so that painting can begin
 pub record Accepted (p : Place) (ws : List ℕ) (m : ScreenLent) : Type 0 where
   pub words : Readable ws
-  pub reached : Reached (frame-of p (said words)) (history bucket-tiles p (said words)) m
+  pub reached : Reached (frame-of p (said words)) (history p (said words)) m
   pub begins : begin-at m .number ≡ Done
 
 -- refused: the words as they were; or, with a number past 3, those of the reset to the file's frame

@@ -4,11 +4,10 @@ use mathlib.Core.Path.{_≡_}
 use mathlib.Core.Bool.{Bool, true, _||_}
 use mathlib.Core.List.{List, [], _∷_}
 use lib.Dec.{eqb}
-use Rattle.sizes.specs.Sizes.{bucket-tiles}
 use Rattle.rules.specs.Lists.{every}
 use Rattle.rules.specs.Answers.{Done}
 use Rattle.rules.specs.Boxes.{width, rows-of}
-use Rattle.rules.specs.Plans.{Frame, Step}
+use Rattle.rules.specs.Plans.{Frame, bucket, Step}
 use Rattle.rules.specs.Painting.{received}
 use Rattle.rules.specs.Plain.{plain}
 use Rattle.screen.specs.Tables.{ScreenLent}
@@ -85,4 +84,4 @@ Demand-3-rows =
     (f : Frame) (xs : List Step) (l : ScreenLent) → Reached f xs l → begin-at l .number ≡ Done
     → (cs : List Call) (r t : ℕ) → r < rows-of (f .viewport) → t < width (f .viewport) / 4
     → row-finished r cs (begin-at l .value) ≡ true
-    → received t (from r (call-log cs (begin-at l .value))) ≡ plain bucket-tiles (f .viewport) r t xs
+    → received t (from r (call-log cs (begin-at l .value))) ≡ plain (bucket f) (f .viewport) r t xs

@@ -3,7 +3,7 @@ use mathlib.Core.Path.{_≡_}
 use mathlib.Core.Bool.{true}
 use Prim.Native.Nat.{ℕ, _/_, _≤_, _<_}
 use lib.ListN.{getD}
-use Rattle.sizes.specs.Sizes.{bucket-tiles}
+use Rattle.sizes.specs.Widths.{bucket-tiles}
 use Rattle.rules.specs.Answers.{answer, Done}
 use Rattle.rules.specs.Spans.{Span}
 use Rattle.screen.specs.Tables.{ScreenLent}
@@ -15,4 +15,4 @@ use Rattle.paint_screen.specs.Rows.{skip-of-row}
 abbrev pub Clear : ScreenLent → Type 0
 Clear l =
     l .screen .painting ≡ true → (r : ℕ) (t : Span) (id : ℕ) → skip-of-row (l .screen) r (l .tables .rows) t id ≡ answer Done true
-    → (x : ℕ) → t .first ≤ x → x < t .end → getD (part (wide (l .screen)) r (l .tables .depth)) (x / bucket-tiles) 0 ≤ id
+    → (x : ℕ) → t .first ≤ x → x < t .end → getD (part (wide (l .screen)) r (l .tables .depth)) (x / bucket-tiles (l .screen .width)) 0 ≤ id

@@ -1,7 +1,6 @@
 -- ScreenLent words that hold a canvas of the rules.
 use mathlib.Core.Path.{_≡_}
 use mathlib.Core.List.{List}
-use Rattle.sizes.specs.Sizes.{bucket-tiles}
 use Rattle.rules.specs.Rows.{fresh-row}
 use Rattle.rules.specs.Plans.{Frame, Step}
 use Rattle.rules.specs.Steps.{reset}
@@ -19,5 +18,5 @@ canvas-words k = lent-of (k .screen) (k .begun) (depth-of (k .painters)) (painti
 pub record Stands (f : Frame) (xs : List Step) (l : ScreenLent) : Type 0 where
   pub canvas : Canvas
   pub whole : WholeCanvas canvas
-  pub built : Built bucket-tiles xs (reset fresh-row f) (canvas .screen)
+  pub built : Built xs (reset fresh-row f) (canvas .screen)
   pub same : l ≡ canvas-words canvas

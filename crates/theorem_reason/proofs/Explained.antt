@@ -8,11 +8,11 @@ use mathlib.Core.Option.{Option, some, Option·getD}
 use lib.ListN.{replicate}
 use lib.Dec.{leb}
 use borrow.Author.Tests.{lt-leb}
-use Rattle.sizes.specs.Sizes.{bucket-tiles, line-table}
+use Rattle.sizes.specs.Sizes.{line-table}
 use Rattle.rules.specs.Answers.{Answer, Done}
 use Rattle.rules.specs.Boxes.{Box, width, rows-of, good-viewport}
 use Rattle.rules.specs.Rows.{Row, fresh-row, row-ops}
-use Rattle.rules.specs.Plans.{Frame, Step}
+use Rattle.rules.specs.Plans.{Frame, bucket, Step}
 use Rattle.rules.specs.Steps.{Screen, reset, call}
 use Rattle.rules.specs.Painting.{Entry, received}
 use Rattle.rules.specs.Plain.{plain}
@@ -68,39 +68,39 @@ module _ (ws : List ℕ) (q : Setup) (l : ScreenLent) (z : recorded ws q l .numb
   abbrev fresh : Screen Row
   fresh = reset fresh-row (frame-of p r)
 
-  rules-done : walk-all (Screen Row) (call Row row-ops 32) r fresh .number ≡ Done
+  rules-done : walk-all (Screen Row) (call Row row-ops) r fresh .number ≡ Done
   rules-done =
       sym (walk-refines r fresh (reset-to f l .value) (reset-refines f l (reset-judged r q l accepted) .value) .number) ∙ walk-done r q l accepted
 
-  logged-done : walk-logged Row row-ops 32 fresh-row (frame-of p r) r .number ≡ Done
+  logged-done : walk-logged Row row-ops fresh-row (frame-of p r) r .number ≡ Done
   unfolding walk-logged
-  logged-done = all-walks 32 r .at (record { screen = fresh; log = [] }) (unfold reset in refl) .number ∙ rules-done
+  logged-done = all-walks r .at (record { screen = fresh; log = [] }) (unfold reset in refl) .number ∙ rules-done
 
   -- its history builds its screen
-  history-built : Built 32 (history 32 p r) fresh (walk-logged Row row-ops 32 fresh-row (frame-of p r) r .value .screen)
+  history-built : Built (history p r) fresh (walk-logged Row row-ops fresh-row (frame-of p r) r .value .screen)
   unfolding walk-logged
   history-built =
-      let k = all-walks 32 r .at (record { screen = fresh; log = [] }) (unfold reset in refl) in
+      let k = all-walks r .at (record { screen = fresh; log = [] }) (unfold reset in refl) in
       rw (k .log) (k .built logged-done)
 
   module _ (row tile : ℕ) (a : Asked) where
     abbrev blank : List ℕ
     blank = replicate line-table 0
 
-    told : walk-all Telling (tell-at 32 (f .viewport) row tile) r (nothing-told blank) .number ≡ Done
-    told = tile-told 32 (frame-of p r) r row tile blank view logged-done .0
+    told : walk-all Telling (tell-at (bucket f) (f .viewport) row tile) r (nothing-told blank) .number ≡ Done
+    told = tile-told (bucket f) (frame-of p r) r row tile blank view logged-done .0
 
-    answers : explained ws q row tile a l ≡ explained-of (f .viewport) r row tile a (recorded ws q l .value)
+    answers : explained ws q row tile a l ≡ explained-of f r row tile a (recorded ws q l .value)
     unfolding explained
     answers = rw (z, s .formed)
 
     on-screen : off-screen (f .viewport) row tile ≡ false
-        → explained-of (f .viewport) r row tile a (recorded ws q l .value) ≡ explained-as Done (recorded ws q l .value) (reason 32 (f .viewport) row tile (history 32 p r) a)
+        → explained-of f r row tile a (recorded ws q l .value) ≡ explained-as Done (recorded ws q l .value) (reason (bucket f) (f .viewport) row tile (history p r) a)
     unfolding explained-of told-of
-    on-screen e = rw (e, told) (ap (explained-as Done (recorded ws q l .value)) (read.reason-told 32 (frame-of p r) r row tile blank view logged-done a))
+    on-screen e = rw (e, told) (ap (explained-as Done (recorded ws q l .value)) (read.reason-told (bucket f) (frame-of p r) r row tile blank view logged-done a))
 
     explains : off-screen (f .viewport) row tile ≡ false
-        → explained ws q row tile a l ≡ explained-as Done (recorded ws q l .value) (reason 32 (f .viewport) row tile (history 32 p r) a)
+        → explained ws q row tile a l ≡ explained-as Done (recorded ws q l .value) (reason (bucket f) (f .viewport) row tile (history p r) a)
     explains e = answers ∙ on-screen e
 
 pub explained-true : Explained-true
@@ -113,17 +113,18 @@ there-on v row tile h k = rw (lt-leb (rows-of v) row h, lt-leb (width v / 4) til
 pub explained-painted : Explained-painted
 explained-painted ws q l z r row tile h k ts fin a =
     let p = place q l in
-    let v = frame q (said r .viewport) .viewport in
-    let xs = history bucket-tiles p (said r) in
+    let f = frame q (said r .viewport) in
+    let v = f .viewport in
+    let xs = history p (said r) in
     let m = recorded-reached ws q l z in
     let parts : m .words .parts ≡ r .parts = ap (λ (o : Option (List (List (List ℕ)))). Option·getD o []) (sym (m .words .formed) ∙ r .formed) in
-    let reached = subst (λ (ss : List (List (List ℕ))). Reached (frame-of p (recording ss)) (history bucket-tiles p (recording ss)) (recorded ws q l .value)) parts (m .reached) in
+    let reached = subst (λ (ss : List (List (List ℕ))). Reached (frame-of p (recording ss)) (history p (recording ss)) (recorded ws q l .value)) parts (m .reached) in
     let same = sym (picture (frame-of p (said r)) xs (recorded ws q l .value) reached (m .begins) ts row tile h k fin) in
-    let gives : explained ws q row tile a l .reason ≡ reason bucket-tiles v row tile xs a = ap (λ (x : Explained). x .reason) (explains ws q l z r row tile a (there-on v row tile h k)) in
-    let u = walk-logged Row row-ops bucket-tiles fresh-row (frame-of p (said r)) (said r) .value .screen in
+    let gives : explained ws q row tile a l .reason ≡ reason (bucket f) v row tile xs a = ap (λ (x : Explained). x .reason) (explains ws q l z r row tile a (there-on v row tile h k)) in
+    let u = walk-logged Row row-ops fresh-row (frame-of p (said r)) (said r) .value .screen in
     let good = view ws q l z r in
     let built = history-built ws q l z r in
     record {
-      shown = λ n e. subst (λ (es : List Entry). Listed a n es) same (shown-exact bucket-tiles (frame-of p (said r)) xs u good built row tile a n .0 (sym gives ∙ e));
-      other = λ n. subst (λ (es : List Entry). Unlisted a es) same (not-shown bucket-tiles (frame-of p (said r)) xs u good built row tile a (λ m e. n m (gives ∙ e)));
+      shown = λ n e. subst (λ (es : List Entry). Listed a n es) same (shown-exact (frame-of p (said r)) xs u good built row tile a n .0 (sym gives ∙ e));
+      other = λ n. subst (λ (es : List Entry). Unlisted a es) same (not-shown (frame-of p (said r)) xs u good built row tile a (λ m e. n m (gives ∙ e)));
     }

@@ -7,9 +7,9 @@ use Rattle.theorem_reason.specs.Reasons.{Listed, Unlisted, Reason-painte
 use Rattle.theorem_reason.proofs.Reasons.{shown-exact, not-shown}
 
 pub reason-painted : Reason-painted
-reason-painted w pos f xs k g b e ts r t h on fin a =
-    let same = sym (picture w pos f xs k b e ts r t h on fin) in
+reason-painted f xs k g b e ts r t h on fin a =
+    let same = sym (picture f xs k b e ts r t h on fin) in
     record {
-      shown = λ p q. subst (λ (es : List Entry). Listed a p es) same (shown-exact w f xs (k .screen) g b r t a p .0 q);
-      other = λ n. subst (λ (es : List Entry). Unlisted a es) same (not-shown w f xs (k .screen) g b r t a n);
+      shown = λ p q. subst (λ (es : List Entry). Listed a p es) same (shown-exact f xs (k .screen) g b r t a p .0 q);
+      other = λ n. subst (λ (es : List Entry). Unlisted a es) same (not-shown f xs (k .screen) g b r t a n);
     }

@@ -16,7 +16,7 @@ use Rattle.rules.specs.Boxes.{Box, span-of, good-viewport}
 use Rattle.rules.specs.Segments.{Segment, Cut}
 use Rattle.rules.specs.Inputs.{draw-segments, draw-paint, Filter}
 use Rattle.rules.specs.Rows.{Row, fresh-row}
-use Rattle.rules.specs.Plans.{Frame, Step, a-fill, a-push, a-pop, a-filter, eligible, filter-box, draws-nothing}
+use Rattle.rules.specs.Plans.{Frame, bucket, Step, a-fill, a-push, a-pop, a-filter, eligible, filter-box, draws-nothing}
 use Rattle.rules.specs.Steps.{Screen, reset}
 use Rattle.rules.specs.Painting.{Entry}
 use Rattle.rules.specs.Plain.{Told, OpenLayer, Story, untold, box-now, here, in-rows, closers, tell, tell-pop, tell-filter, tell-step, tell-steps, shown, plain}
@@ -392,16 +392,16 @@ module _ (w : ℕ) (v : Box) (row tile : ℕ) (xs : List Step) (a : Asked) (fair
   )
 
 -- the accounts of a built screen tell what they say
-fairs : (w : ℕ) (f : Frame) (xs : List Step) (u : Screen Row) → good-viewport (f .viewport) ≡ true → Built w xs (reset fresh-row f) u
-    → (row tile : ℕ) (a : Asked) → All (Fair a) (accounts w (f .viewport) row tile xs untold)
-fairs w f xs u g b row tile a =
+fairs : (f : Frame) (xs : List Step) (u : Screen Row) → good-viewport (f .viewport) ≡ true → Built xs (reset fresh-row f) u
+    → (row tile : ℕ) (a : Asked) → All (Fair a) (accounts (bucket f) (f .viewport) row tile xs untold)
+fairs f xs u g b row tile a =
     let v = f .viewport in
-    fair a (steps-say w v row tile (even v g) (built-fits w v row tile b untold (reset-stands f) .0) (inside-none v row))
+    fair a (steps-say (bucket f) v row tile (even v g) (built-fits (bucket f) v row tile b untold (reset-stands f) .0) (inside-none v row))
 
 pub told-exact : Told-exact
-told-exact w f xs u g b row tile a =
+told-exact f xs u g b row tile a =
     let v = f .viewport in
-    own (steps-say w v row tile (even v g) (built-fits w v row tile b untold (reset-stands f) .0) (inside-none v row))
+    own (steps-say (bucket f) v row tile (even v g) (built-fits (bucket f) v row tile b untold (reset-stands f) .0) (inside-none v row))
   where
     own : {ks : List Account} {ls : List Line} → Say ks ls → All TellsOwn ks
     own said = nil
@@ -409,30 +409,30 @@ told-exact w f xs u g b row tile a =
         cons {x = k} (record { entry = record { entry = entry-of l; id = s .id; hides = s .hides }; layer = s .layer; attribute = s .attribute; told = s .told }) (own r)
 
 pub reason-true : Reason-true
-reason-true w f xs u g b row tile a =
-    let h = fairs w f xs u g b row tile a in
-    (is-first w (f .viewport) row tile xs a h, is-only w (f .viewport) row tile xs a h)
+reason-true f xs u g b row tile a =
+    let h = fairs f xs u g b row tile a in
+    (is-first (bucket f) (f .viewport) row tile xs a h, is-only (bucket f) (f .viewport) row tile xs a h)
 
 pub unknown-exact : Unknown-exact
-unknown-exact w f xs u g b row tile a = exact-unknown w (f .viewport) row tile xs a (fairs w f xs u g b row tile a)
+unknown-exact f xs u g b row tile a = exact-unknown (bucket f) (f .viewport) row tile xs a (fairs f xs u g b row tile a)
 
 pub shown-exact : Shown-exact
-shown-exact w f xs u g b row tile a = exact-shown w (f .viewport) row tile xs a (fairs w f xs u g b row tile a)
+shown-exact f xs u g b row tile a = exact-shown (bucket f) (f .viewport) row tile xs a (fairs f xs u g b row tile a)
 
 pub hidden-exact : Hidden-exact
-hidden-exact w f xs u g b row tile a = exact-hidden w (f .viewport) row tile xs a (fairs w f xs u g b row tile a)
+hidden-exact f xs u g b row tile a = exact-hidden (bucket f) (f .viewport) row tile xs a (fairs f xs u g b row tile a)
 
 -- where the reason is none of shown-at, the tile's list has no entry of the attribute
-pub not-shown : (w : ℕ) (f : Frame) (xs : List Step) (u : Screen Row) → good-viewport (f .viewport) ≡ true → Built w xs (reset fresh-row f) u
-    → (row tile : ℕ) (a : Asked) → ((p : ℕ) → reason w (f .viewport) row tile xs a ≡ shown-at p → ⊥) → Unlisted a (plain w (f .viewport) row tile xs)
-not-shown w f xs u g b row tile a n = go (where-shown w v row tile xs a h) refl
+pub not-shown : (f : Frame) (xs : List Step) (u : Screen Row) → good-viewport (f .viewport) ≡ true → Built xs (reset fresh-row f) u
+    → (row tile : ℕ) (a : Asked) → ((p : ℕ) → reason (bucket f) (f .viewport) row tile xs a ≡ shown-at p → ⊥) → Unlisted a (plain (bucket f) (f .viewport) row tile xs)
+not-shown f xs u g b row tile a n = go (where-shown (bucket f) v row tile xs a h) refl
   where
     v : Box
     v = f .viewport
 
-    h : All (Fair a) (accounts w (f .viewport) row tile xs untold)
-    h = fairs w f xs u g b row tile a
+    h : All (Fair a) (accounts (bucket f) (f .viewport) row tile xs untold)
+    h = fairs f xs u g b row tile a
 
-    go : (o : Option ℕ) → where-shown w (f .viewport) row tile xs a h ≡ o → Unlisted a (plain w (f .viewport) row tile xs)
-    go none e = is-unlisted w (f .viewport) row tile xs a h e
-    go (some p) e = absurd (n p (exact-shown w (f .viewport) row tile xs a h p .1 (is-listed w (f .viewport) row tile xs a h p e)))
+    go : (o : Option ℕ) → where-shown (bucket f) (f .viewport) row tile xs a h ≡ o → Unlisted a (plain (bucket f) (f .viewport) row tile xs)
+    go none e = is-unlisted (bucket f) (f .viewport) row tile xs a h e
+    go (some p) e = absurd (n p (exact-shown (bucket f) (f .viewport) row tile xs a h p .1 (is-listed (bucket f) (f .viewport) row tile xs a h p e)))

@@ -3,9 +3,9 @@ use Prim.Native.Nat.{ℕ, _/_, _<_}
 use mathlib.Core.Path.{_≡_}
 use mathlib.Core.Bool.{true, false}
 use mathlib.Core.List.{List}
-use Rattle.sizes.specs.Sizes.{bucket-tiles}
 use Rattle.rules.specs.Answers.{Done}
 use Rattle.rules.specs.Boxes.{width, rows-of}
+use Rattle.rules.specs.Plans.{bucket}
 use Rattle.rules.specs.Setups.{Setup, frame}
 use Rattle.rules.specs.Painting.{received}
 use Rattle.rules_reason.specs.Reasons.{Asked, reason}
@@ -27,7 +27,7 @@ abbrev pub Explained-true : Type 0
 Explained-true =
     (ws : List ℕ) (q : Setup) (l : ScreenLent) → recorded ws q l .number ≡ Done → (r : Readable ws)
     → (row tile : ℕ) → off-screen (frame q (said r .viewport) .viewport) row tile ≡ false → (a : Asked)
-    → explained ws q row tile a l ≡ explained-as Done (recorded ws q l .value) (reason bucket-tiles (frame q (said r .viewport) .viewport) row tile (history bucket-tiles (place q l) (said r)) a)
+    → explained ws q row tile a l ≡ explained-as Done (recorded ws q l .value) (reason (bucket (frame q (said r .viewport))) (frame q (said r .viewport) .viewport) row tile (history (place q l) (said r)) a)
 
 -- .. and where that screen is painted, by any calls, until the row has finished, the tile has received what the call's reason says
 abbrev pub Explained-painted : Type 0

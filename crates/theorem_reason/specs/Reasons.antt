@@ -1,5 +1,5 @@
 -- What a reason says (T-01), and the theorems about it: the one that is given holds, none before it in the order does, and no other is the first.
--- At w tiles a bucket, for tile and row of a screen that done steps built from its reset.
+-- At the screen's own width, for tile and row of a screen that done steps built from its reset.
 use Prim.Native.Nat.{ℕ, suc, _/_, _≤_, _<_}
 use mathlib.Core.Path.{_≡_}
 use mathlib.Core.Logic.{_↔_}
@@ -9,7 +9,7 @@ use Rattle.rules.specs.Lists.{keep}
 use Rattle.rules.specs.Answers.{Done}
 use Rattle.rules.specs.Boxes.{Box, width, rows-of, good-viewport}
 use Rattle.rules.specs.Rows.{Row, fresh-row}
-use Rattle.rules.specs.Plans.{Frame, Step}
+use Rattle.rules.specs.Plans.{Frame, bucket, Step}
 use Rattle.rules.specs.Steps.{Screen, reset}
 use Rattle.rules.specs.Painting.{Entry, received}
 use Rattle.rules.specs.Plain.{Told, Story, untold, tell-steps, plain}
@@ -96,11 +96,11 @@ pub record First (w : ℕ) (v : Box) (row tile : ℕ) (xs : List Step) (a : Aske
   pub holds : Holds w v row tile xs a r
   pub earlier : (s : Reason) → rank s < rank r → Holds w v row tile xs a s → ⊥
 
--- what is told of any screen built from its reset by done steps xs, for any row and tile and any asked attribute
+-- what is told, at its own width, of any screen built from its reset by done steps xs, for any row and tile and any asked attribute
 abbrev pub Of-built : (ℕ → Box → ℕ → ℕ → List Step → Asked → Type 0) → Type 0
 Of-built P =
-    (w : ℕ) (f : Frame) (xs : List Step) (u : Screen Row) → good-viewport (f .viewport) ≡ true → Built w xs (reset fresh-row f) u
-    → (row tile : ℕ) (a : Asked) → P w (f .viewport) row tile xs a
+    (f : Frame) (xs : List Step) (u : Screen Row) → good-viewport (f .viewport) ≡ true → Built xs (reset fresh-row f) u
+    → (row tile : ℕ) (a : Asked) → P (bucket f) (f .viewport) row tile xs a
 
 -- an account tells one entry, of its own attribute, exactly if it is covered, kept and touched
 pub record TellsOwn (k : Account) : Type 0 where
@@ -136,7 +136,7 @@ pub record Painted (a : Asked) (r : Reason) (es : List Entry) : Type 0 where
 
 abbrev pub Reason-painted : Type 0
 Reason-painted =
-    (w : ℕ) → 0 < w → (f : Frame) (xs : List Step) (k : Canvas) → good-viewport (f .viewport) ≡ true → Built w xs (reset fresh-row f) (k .screen) → begin-call w k .number ≡ Done
+    (f : Frame) (xs : List Step) (k : Canvas) → good-viewport (f .viewport) ≡ true → Built xs (reset fresh-row f) (k .screen) → begin-call k .number ≡ Done
     → (ts : List Turn) (r t : ℕ) → r < rows-of (f .viewport) → t < width (f .viewport) / 4
-    → has-finished w (painted w ts k .canvas) r ≡ true
-    → (a : Asked) → Painted a (reason w (f .viewport) r t xs a) (received t (from r (painted w ts k .log)))
+    → has-finished (painted ts k .canvas) r ≡ true
+    → (a : Asked) → Painted a (reason (bucket f) (f .viewport) r t xs a) (received t (from r (painted ts k .log)))

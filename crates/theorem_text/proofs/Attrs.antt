@@ -14,13 +14,12 @@ use lib.Ieee.{Float, nan, isNan, nanBits, ne, binary32, ofBits, toBits}
 use lib.Ieee.Bits.{nanBits-is, toBits-ofBits}
 use lib.Ieee.Compare.{differs-from-itself}
 use Rattle.rules.specs.Lists.{join}
-use Rattle.rules.specs.Boxes.{buckets-of}
 use Rattle.rules.specs.Rows.{Row}
 use Rattle.rules.specs.Painting.{paint-row}
 use Rattle.rules.specs.Blends.{default-blend}
 use Rattle.rules.specs.Attributes.{PaintAttr, LayerAttr, FilterPaint, Attrs}
 use Rattle.screen.specs.Attributes.{paint-attr-words}
-use Rattle.rules.specs.Plans.{Layer}
+use Rattle.rules.specs.Plans.{bucket, buckets-across, Layer}
 use Rattle.rules.specs.Steps.{Screen}
 use Rattle.text_details.specs.Details.{Detail, paint-attributes, layer-attributes, filter-paints, paint-attr-line, layer-attr-line, filter-paint-line, attr-lines, painted-row, painted-lines, detail-lines}
 use Rattle.screen.specs.Tables.{float-0}
@@ -197,8 +196,8 @@ attrs-printed s o small b de pa =
     ∙ ap (λ (t : List ℕ). details-text (paint-attributes (length (a .paints)) ∷ map paint-attr-line (a .paints)) ++ t) (join-append detail-bytes (layer-attributes (length (a .layers)) ∷ map layer-attr-line (a .layers)) _)))
 
 -- The text of the rules' details: that of the attributes, then that of each row, in their order.
-pub details-parts : (s : Screen Row) → details-text (detail-lines 32 s)
-    ≡ details-text (attr-lines (s .state .attrs)) ++ details-text (painted-lines 32 (s .state .attrs) (buckets-of 32 (s .state .frame .viewport)) 0 (s .rows))
+pub details-parts : (s : Screen Row) → details-text (detail-lines s)
+    ≡ details-text (attr-lines (s .state .attrs)) ++ details-text (painted-lines (bucket (s .state .frame)) (s .state .attrs) (buckets-across (s .state .frame)) 0 (s .rows))
 details-parts s = join-append detail-bytes (attr-lines (s .state .attrs)) _
 
 pub rows-parts : (w : ℕ) (a : Attrs) (n i : ℕ) (r : Row) (rs : List Row)

@@ -7,9 +7,9 @@ use lib.Dec.{eqb}
 use lib.ListN.{length, replicate, length-replicate}
 use borrow.Author.Tests.{eq-eqb}
 use Rattle.rules.specs.Answers.{Answer, answer, Done}
-use Rattle.rules.specs.Boxes.{Box, rows-of, buckets-of}
+use Rattle.rules.specs.Boxes.{Box, rows-of}
 use Rattle.rules.specs.Rows.{Row}
-use Rattle.rules.specs.Plans.{Layer}
+use Rattle.rules.specs.Plans.{buckets-across, Layer}
 use Rattle.rules.specs.Steps.{Screen}
 use Rattle.rules.specs.Painting.{Painter, begin}
 use Rattle.rules.specs.Calls.{Canvas, blank, begin-call}
@@ -33,14 +33,14 @@ module _ (s : Screen Row) (sound : Sound s) (fair : FairRows s) (closed : s .sta
   v = s .state .frame .viewport
 
   abbrev n : ℕ
-  n = buckets-of 32 v
+  n = buckets-across (s .state .frame)
 
   -- the canvas before painting begins
   abbrev k : Canvas
-  k = record { screen = s; begun = false; painters = blank 32 s }
+  k = record { screen = s; begun = false; painters = blank s }
 
   abbrev on : Canvas
-  on = record { screen = s; begun = true; painters = blank 32 s }
+  on = record { screen = s; begun = true; painters = blank s }
 
   whole : WholeCanvas k
   whole =
@@ -53,7 +53,7 @@ module _ (s : Screen Row) (sound : Sound s) (fair : FairRows s) (closed : s .sta
         going = λ e i h. never (sym e);
       }
 
-  done : begin-call 32 k .number ≡ Done
+  done : begin-call k .number ≡ Done
   unfolding begin-call
   done = rw closed
 
@@ -74,13 +74,13 @@ module _ (s : Screen Row) (sound : Sound s) (fair : FairRows s) (closed : s .sta
     -- .. and leaves words at which each row waits
     pub all-wait : (r : ℕ) → r < length (s .rows) → Waits s r (begin-at (lent-of s b de pa) .value)
     all-wait r h =
-        let c = begun-is 32 k done in
+        let c = begun-is k done in
         record {
-          canvas = begin-call 32 k .value;
+          canvas = begin-call k .value;
           whole = begin-whole k whole;
           screen = ap (λ (x : Canvas). x .screen) c;
-          goes-on = begun-paints 32 k done;
+          goes-on = begun-paints k done;
           there = rw c h;
-          fresh = begun-painter 32 k r done h ∙ rw c;
+          fresh = begun-painter k r done h ∙ rw c;
           same = ap (λ (a : Answer ScreenLent). a .value) begun-words ∙ on-words ∙ ap canvas-words (sym c);
         }

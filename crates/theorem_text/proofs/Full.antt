@@ -1,5 +1,5 @@
--- A row that waits is painted to its end by one call of `paint_row` into a list of 12,288 words: it has at most 64 depth fills and 64 commands, of at most
--- 16 pieces each. So `row_text` writes the rules' text of it wherever that fits. Assumes nothing.
+-- A row that waits is painted to its end by one call of `paint_row` into a list of 12,672 words: it has at most 64 buckets and 64 commands, and gives at most
+-- one piece for each bucket and 32 for each command. So `row_text` writes the rules' text of it wherever that fits. Assumes nothing.
 use mathlib.Core.Path.{_≡_, refl, sym, ap, _∙_}
 use mathlib.Core.Bool.{Bool, true, false, cond}
 use mathlib.Core.List.{List, [], _∷_, _++_}
@@ -11,13 +11,15 @@ use lib.ListN.{length, getD, take, drop, length-append, length-drop, length-repl
 use lib.Seq.{length-take-le}
 use borrow.Author.Tests.{le-ltb, ltb-false}
 use Rattle.rules.specs.Answers.{Done}
-use Rattle.rules.specs.Boxes.{buckets-of}
 use Rattle.rules.specs.Rows.{Row, fresh-row}
+use Rattle.rules.specs.Commands.{DepthFill}
 use Rattle.rules.specs.Attributes.{Attrs}
+use Rattle.rules.specs.Plans.{bucket, buckets-across}
 use Rattle.rules.specs.Steps.{Screen}
 use Rattle.rules.specs.Painting as rules
-use Rattle.rules.specs.Painting.{Piece, Painter, begin, paint-row}
-use Rattle.rules.specs.Calls.{Canvas, painter-of}
+use Rattle.rules.specs.Painting.{Piece, Painter, begin, paint-id, paint-row}
+use Rattle.rules.specs.Calls.{Canvas, bucket-on, painter-of}
+use Rattle.rules.proofs.All.{All}
 use Rattle.screen.specs.declared.Screen as declared
 use Rattle.screen.specs.Tables.{ScreenLent}
 use Rattle.paint_command.specs.Painting as paint
@@ -31,15 +33,16 @@ use Rattle.text_details.specs.Bytes.{details-text}
 use Rattle.text_row.specs.Dumped.{with-text, row-dumped}
 use Rattle.refine_steps.specs.Sound.{Fitting}
 use Rattle.refine_paint.specs.Canvases.{given-out}
+use Rattle.refine_paint.proofs.Painters.{all-taken}
 use Rattle.rules_picture.specs.Turns.{next-step}
 use Rattle.rules_picture.proofs.Finishes.{work}
+use Rattle.rules_picture.proofs.Few.{step-few, steps-few, row-few}
 use Rattle.theorem_picture.specs.Standing.{canvas-words}
 use Rattle.theorem_picture.specs.Turns.{pieces-in}
 use Rattle.theorem_picture.specs.Rows.{row-out}
 use Rattle.theorem_picture.proofs.Words.{paint-gives}
 use Rattle.theorem_picture.proofs.Rows.{step, next, Holds, one-holds, row-number}
 use Rattle.theorem_picture.proofs.RowEnds.{left-of, room-done, row-ended}
-use Rattle.theorem_text.proofs.Few.{step-few, steps-few, row-few}
 use Rattle.theorem_text.proofs.Lines.{row-text-few}
 use Rattle.theorem_text.proofs.Attrs.{rows-parts}
 use Rattle.theorem_text.proofs.Rows.{many, row-gave, Waits, waiting-printed}
@@ -84,46 +87,53 @@ module _ (i : ℕ) (l : ScreenLent) where
   unfolding row-out row-painted
   row-long list = run-long most 0 (standing (l .tables .depth) (l .tables .painting) list) (omega arith)
 
--- The call on a row that waits says finished, is not refused, and lists at most 2,048 pieces.
+-- The call on a row that waits says finished, is not refused, and lists at most 2,112 pieces.
 pub record Whole (o : StepOut) : Type 0 where
   pub number : o .answer .number ≡ 0
   pub finished : o .answer .finished ≡ true
-  pub pieces : o .answer .pieces ≤ 2048
+  pub pieces : o .answer .pieces ≤ 2112
 
-module _ {s : Screen Row} {r : ℕ} {m : ScreenLent} (h : Waits s r m) (few : length (getD (s .rows) r fresh-row .fills) + length (getD (s .rows) r fresh-row .commands) ≤ 128)
-    (narrow : buckets-of 32 (s .state .frame .viewport) ≤ 32) (list : List ℕ) (long : 12288 ≤ length list) where
+module _ {s : Screen Row} {r : ℕ} {m : ScreenLent} (h : Waits s r m) (few : length (getD (s .rows) r fresh-row .commands) ≤ 64)
+    (narrow : buckets-across (s .state .frame) ≤ 64) (list : List ℕ) (long : 12672 ≤ length list) where
   abbrev k : Canvas
   k = h .canvas
 
-  wide : length (painter-of 32 k r .buckets) ≤ 32
-  wide = rw (h .fresh, h .screen, length-replicate {A = ℕ} (buckets-of 32 (s .state .frame .viewport)) 0) narrow
+  abbrev row : Row
+  row = getD (k .screen .rows) r fresh-row
 
-  busy : work k r ≤ 128
+  wide : length (painter-of k r .buckets) ≤ 64
+  wide = rw (h .fresh, h .screen, length-replicate {A = ℕ} (buckets-across (s .state .frame)) 0) narrow
+
+  busy : length (row .commands) ≤ 64
   busy = rw (h .screen) few
+
+  -- each of its depth fills has an id that a draw took
+  taken : All (λ (f : DepthFill). 1 ≤ paint-id (k .screen .state .attrs) (f .attribute)) (row .fills)
+  taken = all-taken (k .screen .state .attrs) (buckets-across (k .screen .state .frame)) row (h .whole .fair r)
 
   ended-there : row-out r list (canvas-words k) .answer .finished ≡ true
   ended-there =
       row-ended k (h .whole) (h .goes-on) r (h .there) list
-      (omega (arith, steps-few (k .screen .state .attrs) (work k r) (getD (k .screen .rows) r fresh-row) (painter-of 32 k r) wide, busy, long))
+      (omega (arith, steps-few (bucket-on k) (k .screen .state .attrs) (work k r) row (painter-of k r) wide taken, wide, busy, long))
 
   started-there : row-out r list (canvas-words k) .answer .number ≡ 0
   started-there =
       row-number r (canvas-words k) list ∙ ap (λ (o : StepOut). o .answer .number) (paint-gives k (h .whole) r list)
-      ∙ room-done k r (length list / 6) (h .there) (h .goes-on) (omega (arith, step-few (k .screen .state .attrs) (getD (k .screen .rows) r fresh-row) (painter-of 32 k r) wide .pieces, long))
+      ∙ room-done k r (length list / 6) (h .there) (h .goes-on) (omega (arith, step-few (bucket-on k) (k .screen .state .attrs) row (painter-of k r) wide .pieces, long))
 
-  few-there : row-out r list (canvas-words k) .answer .pieces ≤ 2048
+  few-there : row-out r list (canvas-words k) .answer .pieces ≤ 2112
   few-there =
       let o = row-out r list (canvas-words k) in
       let e = ap (λ (ps : List Piece). length ps) (row-gave k (h .whole) r (h .there) (h .fresh) list ended-there) in
-      let n : buckets-of 32 (k .screen .state .frame .viewport) ≤ 32 = rw (h .screen) narrow in
-      omega (arith, many (o .answer .pieces) (o .list), e, row-few (k .screen .state .attrs) (buckets-of 32 (k .screen .state .frame .viewport)) (getD (k .screen .rows) r fresh-row) n, busy)
+      let n : buckets-across (k .screen .state .frame) ≤ 64 = rw (h .screen) narrow in
+      omega (arith, many (o .answer .pieces) (o .list), e, row-few (bucket-on k) (k .screen .state .attrs) (buckets-across (k .screen .state .frame)) row n taken, n, busy)
 
   pub row-whole : Whole (row-out r list m)
   row-whole = rw (h .same) (record { number = started-there; finished = ended-there; pieces = few-there })
 
   -- the rules' text of the row
   abbrev pub theirs-text : List ℕ
-  theirs-text = details-text (detail.painted-row r (paint-row 32 (s .state .attrs) (buckets-of 32 (s .state .frame .viewport)) (getD (s .rows) r fresh-row)))
+  theirs-text = details-text (detail.painted-row r (paint-row (bucket (s .state .frame)) (s .state .attrs) (buckets-across (s .state .frame)) (getD (s .rows) r fresh-row)))
 
   -- `row_text` writes it wherever it fits
   pub row-written : (bs : List ℕ) → length theirs-text ≤ length bs
@@ -136,10 +146,11 @@ module _ {s : Screen Row} {r : ℕ} {m : ScreenLent} (h : Waits s r m) (few : le
       waiting-printed h list bs (row-whole .number) (row-whole .finished) (omega (arith, row-whole .pieces))
       ∙ rw (le-ltb (length bs) (length theirs-text) fits)
 
--- What a file's screen prints of its rows has at most 131,136 bytes a row.
-pub rows-text-few : (a : Attrs) (n i : ℕ) (rs : List Row) → n ≤ 32 → ((j : ℕ) → Fitting 64 64 (getD rs j fresh-row)) → length (details-text (detail.painted-lines 32 a n i rs)) ≤ length rs * 131136
+-- What a file's screen prints of its rows has at most 135,232 bytes a row.
+pub rows-text-few : (w : ℕ) (a : Attrs) (n i : ℕ) (rs : List Row) → n ≤ 64 → ((j : ℕ) → Fitting 64 64 (getD rs j fresh-row))
+    → ((j : ℕ) → All (λ (f : DepthFill). 1 ≤ paint-id a (f .attribute)) (getD rs j fresh-row .fills)) → length (details-text (detail.painted-lines w a n i rs)) ≤ length rs * 135232
 unfolding detail.painted-lines
-rows-text-few a n i [] h f = omega arith
-rows-text-few a n i (r ∷ rs) h f =
-    let t = ap (λ (ts : List ℕ). length ts) (rows-parts 32 a n i r rs) ∙ length-append (details-text (detail.painted-row i (paint-row 32 a n r))) (details-text (detail.painted-lines 32 a n (suc i) rs)) in
-    omega (arith, t, row-text-few i (paint-row 32 a n r), row-few a n r h, f 0 .commands, f 0 .fills, rows-text-few a n (suc i) rs h (λ j. f (suc j)))
+rows-text-few w a n i [] h f g = omega arith
+rows-text-few w a n i (r ∷ rs) h f g =
+    let t = ap (λ (ts : List ℕ). length ts) (rows-parts w a n i r rs) ∙ length-append (details-text (detail.painted-row i (paint-row w a n r))) (details-text (detail.painted-lines w a n (suc i) rs)) in
+    omega (arith, t, row-text-few i (paint-row w a n r), row-few w a n r h (g 0), f 0 .commands, rows-text-few w a n (suc i) rs h (λ j. f (suc j)) (λ j. g (suc j)))

@@ -29,21 +29,21 @@ module _ (p : Place) (old : Screen Row) (ss : List (List (List ℕ))) (words : A
   start = reset fresh-row (frame-of p r)
 
   abbrev walk : Answer (Screen Row)
-  walk = walk-all (Screen Row) (call Row row-ops 32) r start
+  walk = walk-all (Screen Row) (call Row row-ops) r start
 
   -- every layer that the walk opens it closes
   walk-ended : walk .number ≡ Done → Ended (walk .value)
   unfolding reset
   walk-ended e =
-      let w = all-walks 32 r .at (record { screen = start; log = [] }) refl in
+      let w = all-walks r .at (record { screen = start; log = [] }) refl in
       record {
         closed = sym (ap (λ (s : Screen Row). s .state .layers) (w .screen)) ∙ w .layers (w .number ∙ e);
         small = walk-small ss words .kept start (record { layers = nil; attrs = nil });
       }
 
-  records-ended : play-records (Screen Row) (call Row row-ops 32) (reset fresh-row) 32 p old r .number ≡ 0 → Ended (play-records (Screen Row) (call Row row-ops 32) (reset fresh-row) 32 p old r .value)
+  records-ended : play-records (Screen Row) (call Row row-ops) (reset fresh-row) p old r .number ≡ 0 → Ended (play-records (Screen Row) (call Row row-ops) (reset fresh-row) p old r .value)
   unfolding play-records
-  records-ended = go (eqb (judge-records 32 p r) Done) refl
+  records-ended = go (eqb (judge-records p r) Done) refl
     where
       walked : (b : Bool) → eqb (walk .number) Done ≡ b → cond b (answer Done (walk .value)) (answer (walk .number) start) .number ≡ 0
           → Ended (cond b (answer Done (walk .value)) (answer (walk .number) start) .value)
@@ -53,22 +53,22 @@ module _ (p : Place) (old : Screen Row) (ss : List (List (List ℕ))) (words : A
       by-judge : Bool → Answer (Screen Row)
       by-judge t = elim t [
         | true ↦ settle (walk .number) start (walk .value)
-        | false ↦ answer (judge-records 32 p r) (cond (leb (judge-records 32 p r) BadForm) old start)
+        | false ↦ answer (judge-records p r) (cond (leb (judge-records p r) BadForm) old start)
       ]
 
-      go : (t : Bool) → eqb (judge-records 32 p r) Done ≡ t → by-judge t .number ≡ 0 → Ended (by-judge t .value)
+      go : (t : Bool) → eqb (judge-records p r) Done ≡ t → by-judge t .number ≡ 0 → Ended (by-judge t .value)
       go true e z = walked (eqb (walk .number) Done) refl z
       go false e z = never (sym (eq-eqb _ _ z) ∙ e)
 
-pub play-ended : (p : Place) (old : Screen Row) (ws : List ℕ) → All Word ws → play (Screen Row) (call Row row-ops 32) (reset fresh-row) 32 p old ws .number ≡ 0
-    → Ended (play (Screen Row) (call Row row-ops 32) (reset fresh-row) 32 p old ws .value)
+pub play-ended : (p : Place) (old : Screen Row) (ws : List ℕ) → All Word ws → play (Screen Row) (call Row row-ops) (reset fresh-row) p old ws .number ≡ 0
+    → Ended (play (Screen Row) (call Row row-ops) (reset fresh-row) p old ws .value)
 unfolding play
 play-ended p old ws words = go (sections shape ws) refl
   where
     played : Option (List (List (List ℕ))) → Answer (Screen Row)
     played o = elim o [
       | none ↦ answer BadForm old
-      | some qs ↦ play-records (Screen Row) (call Row row-ops 32) (reset fresh-row) 32 p old (recording qs)
+      | some qs ↦ play-records (Screen Row) (call Row row-ops) (reset fresh-row) p old (recording qs)
     ]
 
     go : (o : Option (List (List (List ℕ)))) → sections shape ws ≡ o → played o .number ≡ 0 → Ended (played o .value)

@@ -11,12 +11,12 @@ use lib.Seq.{getD-drop, drop-drop}
 use borrow.Author.Tests.{le-leb, lt-leb, leb-true, leb-false, le-ltb, eq-eqb, eqb-true}
 use Rattle.rules.specs.Lists.{every}
 use Rattle.rules.specs.Answers.{Answer, Done}
-use Rattle.rules.specs.Boxes.{rows-of, buckets-of}
-use Rattle.rules.specs.Plans.{Frame, Step}
+use Rattle.rules.specs.Boxes.{rows-of}
+use Rattle.rules.specs.Plans.{Frame, bucket, buckets-across, Step}
 use Rattle.rules.specs.Steps.{Screen}
 use Rattle.rules.specs.Rows.{Row, fresh-row}
 use Rattle.rules.specs.Painting.{Piece, Painted, begin, paint-steps, paint-row}
-use Rattle.rules.specs.Calls.{Canvas, paints-on, painter-of, begin-call, paint-call}
+use Rattle.rules.specs.Calls.{Canvas, paints-on, bucket-on, painter-of, begin-call, paint-call}
 use Rattle.text_details.specs.Details.{Detail, painted, piece-line, painted-row}
 use Rattle.screen.specs.Tables.{ScreenLent}
 use Rattle.paint_command.specs.Painting as paint
@@ -95,7 +95,7 @@ lines-same r n ws = rw (many n ws, pieces-same n ws)
 sub-zero : (n : ℕ) → n - 0 ≡ n
 sub-zero n = omega arith
 
-module _ (k : Canvas) (w : WholeCanvas k) (r : ℕ) (there : r < length (k .screen .rows)) (fresh : painter-of 32 k r ≡ begin (buckets-of 32 (k .screen .state .frame .viewport)))
+module _ (k : Canvas) (w : WholeCanvas k) (r : ℕ) (there : r < length (k .screen .rows)) (fresh : painter-of k r ≡ begin (buckets-across (k .screen .state .frame)))
     (list : List ℕ) where
   abbrev l : ScreenLent
   l = canvas-words k
@@ -105,7 +105,7 @@ module _ (k : Canvas) (w : WholeCanvas k) (r : ℕ) (there : r < length (k .scre
 
   -- what the rules paint of the row
   abbrev pub theirs : List Piece
-  theirs = paint-row 32 (k .screen .state .attrs) (buckets-of 32 (k .screen .state .frame .viewport)) (getD (k .screen .rows) r fresh-row)
+  theirs = paint-row (bucket-on k) (k .screen .state .attrs) (buckets-across (k .screen .state .frame)) (getD (k .screen .rows) r fresh-row)
 
   -- a call of `paint_row` that says finished has listed the rules' pieces
   pub row-gave : o .answer .finished ≡ true → pieces-in (o .answer .pieces) (o .list) ≡ theirs
@@ -113,17 +113,17 @@ module _ (k : Canvas) (w : WholeCanvas k) (r : ℕ) (there : r < length (k .scre
   row-gave f =
       let z = row-turns r l list in
       let ts = map turn-of (z .turns) in
-      let t = turns 32 ts k in
-      let p = begin (buckets-of 32 (k .screen .state .frame .viewport)) in
+      let t = turns ts k in
+      let p = begin (buckets-across (k .screen .state .frame)) in
       let row = getD (k .screen .rows) r fresh-row in
       let same = log-words (z .turns) k w in
       let in-place : r < length (k .painters) = rw (w .count) there in
-      let a = by-turns 32 ts k (k .screen) r p refl in-place fresh in
-      let said = said-so 32 ts k r in-place (sym (ap (λ (gs : List Gave). said-finished r gs) same) ∙ z .said ∙ f) in
-      let fin = sym (ap (λ (x : Painted). x .finished) (next-at 32 (t .canvas) (k .screen) r _ (turns-screen 32 ts k) (a .painter))) ∙ said in
+      let a = by-turns ts k (k .screen) r p refl in-place fresh in
+      let said = said-so ts k r in-place (sym (ap (λ (gs : List Gave). said-finished r gs) same) ∙ z .said ∙ f) in
+      let fin = sym (ap (λ (x : Painted). x .finished) (next-at (t .canvas) (k .screen) r _ (turns-screen ts k) (a .painter))) ∙ said in
       sym (z .pieces) ∙ ap (λ (gs : List Gave). from r gs) same ∙ a .pieces
-      ∙ all-given 32 (k .screen .state .attrs) (steps-of r (t .log)) row p fin
-      ∙ ap (λ (n : ℕ). paint-steps 32 (k .screen .state .attrs) n row p) (sub-zero (length (row .fills) + length (row .commands)))
+      ∙ all-given (bucket-on k) (k .screen .state .attrs) (steps-of r (t .log)) row p fin
+      ∙ ap (λ (n : ℕ). paint-steps (bucket-on k) (k .screen .state .attrs) n row p) (sub-zero (length (row .fills) + length (row .commands)))
 
   -- The text that `row_text` writes then is that of the rules' own lines.
   pub row-printed : (bs : List ℕ) → o .answer .number ≡ 0 → o .answer .finished ≡ true → o .answer .pieces ≤ 65536
@@ -143,18 +143,18 @@ pub record Waits (s : Screen Row) (r : ℕ) (m : ScreenLent) : Type 0 where
   pub screen : canvas .screen ≡ s
   pub goes-on : paints-on canvas ≡ true
   pub there : r < length (canvas .screen .rows)
-  pub fresh : painter-of 32 canvas r ≡ begin (buckets-of 32 (canvas .screen .state .frame .viewport))
+  pub fresh : painter-of canvas r ≡ begin (buckets-across (canvas .screen .state .frame))
   pub same : m ≡ canvas-words canvas
 
 -- steps of another row leave it there
 others : (i r : ℕ) → (i ≡ r → ⊥) → (ts : List Turn) → every (λ (t : Turn). eqb (t .row) i) ts ≡ true → (k : Canvas)
-    → painter-of 32 (turns 32 (map turn-of ts) k .canvas) r ≡ painter-of 32 k r
+    → painter-of (turns (map turn-of ts) k .canvas) r ≡ painter-of k r
 unfolding turns
 others i r d [] e k = refl
 others i r d (t ∷ ts) e k =
-    let g = paint-call 32 (t .row) (length (t .list) / 6) k in
+    let g = paint-call (t .row) (length (t .list) / 6) k in
     let o : t .row ≡ r → ⊥ = λ q. d (sym (eqb-true (t .row) i (and-left _ _ e)) ∙ q) in
-    others i r d ts (and-right (eqb (t .row) i) _ e) (g .value .canvas) ∙ call-other 32 (t .row) (length (t .list) / 6) k r o
+    others i r d ts (and-right (eqb (t .row) i) _ e) (g .value .canvas) ∙ call-other (t .row) (length (t .list) / 6) k r o
 
 -- Once painting has begun at reached words, every row does, ..
 pub begin-waits : {f : Frame} {xs : List Step} {l : ScreenLent} (h : Reached f xs l) → begin-at l .number ≡ Done → (r : ℕ) → r < rows-of (f .viewport)
@@ -163,16 +163,16 @@ begin-waits {f} {xs} {l} h e r there =
     let s = reached h in
     let k = s .canvas in
     let words = ap begin-at (s .same) ∙ begin-words k (s .whole) in
-    let d : begin-call 32 k .number ≡ Done = sym (ap (λ (a : Answer ScreenLent). a .number) words) ∙ e in
-    let row = built-on 32 (omega arith) f xs (k .screen) (s .built) r there .1 in
-    let p : begin-call 32 k .value .screen ≡ k .screen = ap (λ (c : Canvas). c .screen) (begun-is 32 k d) in
+    let d : begin-call k .number ≡ Done = sym (ap (λ (a : Answer ScreenLent). a .number) words) ∙ e in
+    let row = built-on f xs (k .screen) (s .built) r there .1 in
+    let p : begin-call k .value .screen ≡ k .screen = ap (λ (c : Canvas). c .screen) (begun-is k d) in
     record {
-      canvas = begin-call 32 k .value;
+      canvas = begin-call k .value;
       whole = begin-whole k (s .whole);
       screen = p;
-      goes-on = begun-paints 32 k d;
+      goes-on = begun-paints k d;
       there = rw p row;
-      fresh = begun-painter 32 k r d row ∙ rw p;
+      fresh = begun-painter k r d row ∙ rw p;
       same = ap (λ (a : Answer ScreenLent). a .value) words;
     }
 
@@ -182,12 +182,12 @@ row-waits {s} {r} {m} h i list d =
     let z = row-turns i m list in
     let k = h .canvas in
     let ts = map turn-of (z .turns) in
-    let p = turns-screen 32 ts k in
+    let p = turns-screen ts k in
     record {
-      canvas = turns 32 ts k .canvas;
+      canvas = turns ts k .canvas;
       whole = turns-whole ts k (h .whole);
       screen = p ∙ h .screen;
-      goes-on = turns-paints 32 ts k ∙ h .goes-on;
+      goes-on = turns-paints ts k ∙ h .goes-on;
       there = rw p (h .there);
       fresh = others i r d (z .turns) (z .own) k ∙ h .fresh ∙ rw p;
       same = sym (z .words) ∙ ap (turned (z .turns)) (h .same) ∙ turned-words (z .turns) k (h .whole);
@@ -200,7 +200,7 @@ pub waiting-printed : {s : Screen Row} {r : ℕ} {m : ScreenLent} (h : Waits s r
     (paint.lent (m .tables .rows) (m .tables .render) (m .tables .fills) (m .tables .depth) (m .tables .painting) list)
     bs
     ≡ with-text (row-out r list m)
-    (written (details-text (painted-row r (paint-row 32 (s .state .attrs) (buckets-of 32 (s .state .frame .viewport)) (getD (s .rows) r fresh-row)))) bs)
+    (written (details-text (painted-row r (paint-row (bucket (s .state .frame)) (s .state .attrs) (buckets-across (s .state .frame)) (getD (s .rows) r fresh-row)))) bs)
 waiting-printed {s} {r} {m} h list bs z f g =
     let q = h .same in
     rw (q, ← h .screen) (row-printed (h .canvas) (h .whole) r (h .there) (h .fresh) list bs (rw q at z) (rw q at f) (rw q at g))

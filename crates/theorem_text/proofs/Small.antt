@@ -124,21 +124,21 @@ module _ (s : State) (ol : All (λ (l : Layer). Word (l .props .opacity)) (s .la
   plan-small (a-pop ss) h js = pop-small (s .layers) ol ss js
   plan-small (a-filter n f) h js = filter-small n f
 
-step-small : (x : Step) → SmallStep x → Keeps Opacities (call Row row-ops 32 x)
+step-small : (x : Step) → SmallStep x → Keeps Opacities (call Row row-ops x)
 unfolding call perform done
 step-small x h =
     record {
       kept = λ s o.
-          let p = planned Row row-ops 32 x s in
-          go s o p (plan-small (s .state) (o .layers) (o .attrs) x h _) (refusal Row row-ops 32 p (done Row row-ops 32 p s)) (eqb (refusal Row row-ops 32 p (done Row row-ops 32 p s)) Done);
+          let p = planned Row row-ops x s in
+          go s o p (plan-small (s .state) (o .layers) (o .attrs) x h _) (refusal Row row-ops p (done Row row-ops p s)) (eqb (refusal Row row-ops p (done Row row-ops p s)) Done);
     }
   where
-    go : (s : Screen Row) → Opacities s → (p : Plan) → Planned p → (n : ℕ) (b : Bool) → Opacities (cond b (answer Done (done Row row-ops 32 p s)) (answer n s) .value)
+    go : (s : Screen Row) → Opacities s → (p : Plan) → Planned p → (n : ℕ) (b : Bool) → Opacities (cond b (answer Done (done Row row-ops p s)) (answer n s) .value)
     go s o p q n true = record { layers = q .layers; attrs = q .attrs }
     go s o p q n false = o
 
 -- The walk of a file whose words are words leaves opacities that are words.
-pub walk-small : (ss : List (List (List ℕ))) → All (All (All Word)) ss → Keeps Opacities (walk-all (Screen Row) (call Row row-ops 32) (recording ss))
+pub walk-small : (ss : List (List (List ℕ))) → All (All (All Word)) ss → Keeps Opacities (walk-all (Screen Row) (call Row row-ops) (recording ss))
 walk-small ss a =
     let r = recording ss in
     walk-keeps-by SmallLayer r (layers-small ss a) (λ d. step-small (a-fill (r .paints) (r .segments) d) tt) (λ y h. step-small (a-push (props-of y)) h)

@@ -7,11 +7,14 @@ use mathlib.Core.List.{List, []}
 use lib.ListN.{length, getD}
 use lib.Dec.{leb}
 use borrow.Author.Tests.{leb-false}
-use Rattle.sizes.specs.Sizes.{bucket-tiles, most-layers}
+use Rattle.sizes.specs.Sizes.{most-layers, line-table}
+use Rattle.sizes.specs.declared.width.Width.{Width}
+use Rattle.sizes.specs.Widths.{bucket-tiles}
 use Rattle.rules.specs.Answers.{Answer}
 use Rattle.rules.specs.Boxes.{Box, width, whole, rows-of, good-viewport}
 use Rattle.rules.specs.Plans.{Step}
 use Rattle.rules.specs.Walk.{walk-all, walk-nodes, walk-layer}
+use Rattle.rules.proofs.laws.Widths.{bucket-some, bucket-most}
 use Rattle.rect.specs.declared.Rect.{Rect}
 use Rattle.rect.specs.Rects.{box-of, Small}
 use Rattle.rect.proofs.Boxes.{view, small-viewport}
@@ -23,7 +26,6 @@ use Rattle.file_nodes.proofs.Places.{node-count}
 use Rattle.tile_steps.specs.declared.Spot.{Spot}
 use Rattle.tile_steps.specs.declared.Within.{Within}
 use Rattle.tile_steps.specs.declared.Tale.{Tale}
-use Rattle.sizes.specs.Sizes.{line-table}
 use Rattle.tile_steps.specs.Telling.{Telling, tell-at}
 use Rattle.tile_steps.specs.Places.{Spotted, Bounded, Holds, Says}
 use Rattle.tile_walk.specs.Ready.{TaleReady}
@@ -33,8 +35,8 @@ neither : (a b : Bool) → (a || b) ≡ false → (a ≡ false) × (b ≡ false)
 neither true b e = let z : _≡_ {A = ℕ} 0 1 = cc in absurd (omega arith)
 neither false b e = (refl, e)
 
-abbrev pub spot-at : Rect → ℕ → ℕ → Spot
-spot-at v row tile = record { viewport = v; row = row; tile = tile; width = bucket-tiles }
+abbrev pub spot-at : Rect → Width → ℕ → ℕ → Spot
+spot-at v w row tile = record { viewport = v; row = row; tile = tile; width = bucket-tiles w }
 
 abbrev pub outermost : Rect → Within
 outermost clip = record { clip = clip; «open» = 0 }
@@ -43,8 +45,8 @@ abbrev pub beginning : Tale
 beginning = record { next = 1; paints = 0; layers = 0; filters = 0; levels = 0 }
 
 module _ (v : Rect) (g : good-viewport (box-of v) ≡ true) where
-  spotted : (row tile : ℕ) → off-screen (box-of v) row tile ≡ false → Spotted (spot-at v row tile)
-  spotted row tile o =
+  spotted : (w : Width) (row tile : ℕ) → off-screen (box-of v) row tile ≡ false → Spotted (spot-at v w row tile)
+  spotted w row tile o =
       let f = view (box-of v) g in
       let h = neither (leb (rows-of (box-of v)) row) (leb (width (box-of v) / 4) tile) o in
       let row-in = leb-false (rows-of (box-of v)) row (h .0) in
@@ -53,8 +55,8 @@ module _ (v : Rect) (g : good-viewport (box-of v) ≡ true) where
         small = small-viewport (box-of v) g;
         row = omega (arith, row-in, f .high);
         tile = omega (arith, tile-in, f .wide);
-        some-tiles = omega arith;
-        few-tiles = omega arith;
+        some-tiles = bucket-some w;
+        few-tiles = omega (arith, bucket-most w);
       }
 
   module _ (clip : Rect) (e : box-of clip ≡ whole (box-of v)) where
@@ -65,12 +67,12 @@ module _ (v : Rect) (g : good-viewport (box-of v) ≡ true) where
         record { left = omega arith; top = omega arith; right = omega (arith, f .wide); bottom = omega (arith, f .high) } in
         record { small = rw e small; few = omega arith }
 
-    pub ready-at : (ws : List ℕ) (l : Layout) (row tile : ℕ) (lines : List ℕ) → WalkReady ws l → off-screen (box-of v) row tile ≡ false
-        → length lines ≡ line-table → TaleReady ws l (spot-at v row tile) (outermost clip) beginning lines
-    ready-at ws l row tile lines r o n =
+    pub ready-at : (w : Width) (ws : List ℕ) (l : Layout) (row tile : ℕ) (lines : List ℕ) → WalkReady ws l → off-screen (box-of v) row tile ≡ false
+        → length lines ≡ line-table → TaleReady ws l (spot-at v w row tile) (outermost clip) beginning lines
+    ready-at w ws l row tile lines r o n =
         record {
           walk = r;
-          spotted = spotted row tile o;
+          spotted = spotted w row tile o;
           bounded = bounded;
           low = record { next = omega arith; paints = omega arith; layers = omega arith; filters = omega arith; levels = omega arith };
           room = n;
@@ -84,10 +86,10 @@ module _ (ws : List ℕ) (l : Layout) (r : WalkReady ws l) where
   unfolding file.recorded
   root = let h = root-range (file.recorded l ws) (r .good) in (h .0, rw (node-count l ws) at (h .1))
 
--- the walk from the root is the walk of the whole recording
-module _ (ws : List ℕ) (l : Layout) (v : Box) (row tile : ℕ) (t : Telling) where
+-- the walk from the root is the walk of the whole recording, at w tiles a bucket
+module _ (ws : List ℕ) (l : Layout) (w : ℕ) (v : Box) (row tile : ℕ) (t : Telling) where
   abbrev step : Step → Telling → Answer Telling
-  step = tell-at bucket-tiles v row tile
+  step = tell-at w v row tile
 
   from-root : walk-nodes Telling step (file.recorded l ws) (walk-layer Telling step (file.recorded l ws) most-layers) (getD ws (l .root .at) 0)
       (getD ws (l .root .at + 1) 0) t

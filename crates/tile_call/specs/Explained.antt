@@ -6,9 +6,10 @@ use mathlib.Core.List.{List}
 use mathlib.Core.Option.{Option, none, some}
 use lib.ListN.{replicate}
 use lib.Dec.{eqb}
-use Rattle.sizes.specs.Sizes.{bucket-tiles, line-table}
+use Rattle.sizes.specs.Sizes.{line-table}
 use Rattle.rules.specs.Answers.{Answer, answer, Done, BadForm, BadRun}
 use Rattle.rules.specs.Boxes.{Box}
+use Rattle.rules.specs.Plans.{Frame, bucket}
 use Rattle.rules.specs.Setups.{Setup, frame}
 use Rattle.rules.specs.Recording.{Recording, shape, sections, recording}
 use Rattle.rules.specs.Walk.{walk-all}
@@ -43,13 +44,13 @@ reason-told a s l =
     (no-reason (s .number) l)
 
 -- an accepted recording
-unfoldable pub explained-of : Box → Recording → ℕ → ℕ → Asked → ScreenLent → Explained
-explained-of v r row tile a l =
-    cond (off-screen v row tile) (no-reason BadRun l) (reason-told a (told-of bucket-tiles v r row tile) l)
+unfoldable pub explained-of : Frame → Recording → ℕ → ℕ → Asked → ScreenLent → Explained
+explained-of f r row tile a l =
+    cond (off-screen (f .viewport) row tile) (no-reason BadRun l) (reason-told a (told-of (bucket f) (f .viewport) r row tile) l)
 
 abbrev pub explained-in : Setup → Option (List (List (List ℕ))) → ℕ → ℕ → Asked → ScreenLent → Explained
 explained-in q none row tile a l = no-reason BadForm l
-explained-in q (some ss) row tile a l = let r = recording ss in explained-of (frame q (r .viewport) .viewport) r row tile a l
+explained-in q (some ss) row tile a l = let r = recording ss in explained-of (frame q (r .viewport)) r row tile a l
 
 -- A file's words: the recording's own number first; then 12; then the reason. The words are what the recording call leaves
 unfoldable pub explained : List ℕ → Setup → ℕ → ℕ → Asked → ScreenLent → Explained

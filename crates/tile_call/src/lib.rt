@@ -3,7 +3,7 @@ ghost use mathlib.Core.Path.{_≡_};
 ghost use mathlib.Core.Bool.{true, false};
 ghost use mathlib.Core.List.{[]};
 ghost use lib.ListN.{length};
-ghost use Rattle.sizes.specs.Sizes.{bucket-tiles};
+ghost use Rattle.sizes.specs.Widths.{bucket-tiles};
 ghost use Rattle.rules.specs.Boxes.{good-viewport};
 ghost use Rattle.rules.specs.Walk.{walk-all};
 ghost use Rattle.rect.specs.Rects.{box-of};
@@ -36,7 +36,7 @@ use sizes::answers::BAD_RUN;
 use sizes::answers::BAD_VIEWPORT;
 use sizes::answers::DONE;
 use sizes::wide;
-use span::Width;
+use sizes::width::Width;
 use tile_reason::Asked;
 use tile_reason::Reason;
 use tile_reason::reason_of;
@@ -68,18 +68,18 @@ pub fn tell_tile(
     w: &[u32],
     l: Layout,
     viewport: Rect,
+    width: Width,
     row: u32,
     tile: u32,
     lines: &mut [u32],
 ) -> Told
     requires { ⌜ WalkReady (now w) l × (good-viewport (box-of viewport) ≡ true) × (off-screen (box-of viewport) row tile ≡ false) × (length (now lines) ≡ line-table) ⌝ }
-    ensures { λ r. ⌜ Says (walk-all Telling (tell-at bucket-tiles (box-of viewport) row tile) (file.recorded l (now (w .entry))) (nothing-told (now (lines .entry)))) (r .number) (telling (r .tale) [] (now (lines .exit))) × Low (r .tale) ⌝ }
+    ensures { λ r. ⌜ Says (walk-all Telling (tell-at (bucket-tiles width) (box-of viewport) row tile) (file.recorded l (now (w .entry))) (nothing-told (now (lines .entry)))) (r .number) (telling (r .tale) [] (now (lines .exit))) × Low (r .tale) ⌝ }
 {
     let root = l.root;
     let at = root.at;
     let first = wide(w[at]);
     let end = wide(w[at + 1]);
-    let width = Width::W128;
     let spot = Spot {
         viewport,
         row,
@@ -105,6 +105,7 @@ fn reason_at(
     w: &[u32],
     l: Layout,
     viewport: Rect,
+    width: Width,
     screen: Screen,
     row: u32,
     tile: u32,
@@ -112,10 +113,10 @@ fn reason_at(
 ) -> Explained
     requires { ⌜ WalkReady (now w) l × (good-viewport (box-of viewport) ≡ true) × (off-screen (box-of viewport) row tile ≡ false) ⌝ }
     ensures { λ r. ⌜ ((t : Tables) → explained-as (r .number) (lent (r .screen) t) (said-of (r .reason))
-        ≡ reason-told (asked-of asked) (told-of bucket-tiles (box-of viewport) (file.recorded l (now (w .entry))) row tile) (lent screen t)) ⌝ }
+        ≡ reason-told (asked-of asked) (told-of (bucket-tiles width) (box-of viewport) (file.recorded l (now (w .entry))) row tile) (lent screen t)) ⌝ }
 {
     let mut lines = [0u32; LINE_TABLE];
-    let told = tell_tile(w, l, viewport, row, tile, &mut lines);
+    let told = tell_tile(w, l, viewport, width, row, tile, &mut lines);
     if told.number != DONE {
         return Explained {
             number: told.number,
@@ -168,7 +169,8 @@ fn explain(file: &[u32], setup: Setup, built: Built, row: u32, tile: u32, asked:
             reason: Reason::UnknownAttribute,
         };
     }
-    reason_at(file, l, viewport, after, row, tile, asked)
+    let width = setup.width;
+    reason_at(file, l, viewport, width, after, row, tile, asked)
 }
 
 // A recording is bucketed, and answers for one attribute at one tile. The recording's own number comes first, then 12 for a row or a tile off the

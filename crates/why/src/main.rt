@@ -3,9 +3,10 @@
 use libc::STDERR_FILENO;
 use libc::STDIN_FILENO;
 use libc::STDOUT_FILENO;
-use screen::Setup;
 use sizes::wide;
+use text_programs::no_width_text;
 use text_programs::options::Number;
+use text_programs::options::Want;
 use text_programs::options::is_word;
 use text_programs::options::number_at;
 use text_programs::options::read_options;
@@ -20,15 +21,17 @@ use text_why::question_text;
 use text_why::why_text;
 use tile_reason::Asked;
 ghost use mathlib.Core.Path.{_≡_};
-ghost use Prim.Native.Nat.{_<_};
+ghost use Prim.Native.Nat.{_≤_, _<_};
+ghost use lib.ListN.{length, take};
 ghost use Rattle.rules_reason.specs.Answers.{why-text, question-line};
 ghost use Rattle.screen.specs.Screens.{setup-of};
 ghost use Rattle.text_file.specs.Files.{Usual};
+ghost use Rattle.text_programs.specs.Programs.{by-width};
 ghost use Rattle.text_why.specs.Questions.{question-of};
 
-// Writes the answer to a question about a file's bytes in a setup: no other bytes can be handed to it. Whether that could be done.
-fn print(file: &[u8], setup: Setup, row: u32, tile: u32, question: Question, text: &[u8]) -> bool
-    requires { ⌜ now text ≡ why-text (setup-of setup) (now file) row tile (question-of question) ⌝ }
+// Writes what is wanted of a question about a file's bytes: no other bytes can be handed to it. Whether that could be done.
+fn print(file: &[u8], want: Want, row: u32, tile: u32, question: Question, text: &[u8]) -> bool
+    requires { ⌜ now text ≡ by-width (want .«no_width») (now file) (why-text (setup-of (want .setup)) (now file) row tile (question-of question)) ⌝ }
 {
     io::write_all(STDOUT_FILENO, text)
 }
@@ -40,12 +43,32 @@ fn print_line(i: u64, line: &[u8]) -> bool
     io::write_all(STDOUT_FILENO, line)
 }
 
-fn print_answer(file: &[u8], setup: Setup, row: u32, tile: u32, question: Question) -> bool
-    requires { ⌜ Usual (setup-of setup) ⌝ }
+// What is wanted, put first; how long it is.
+fn wanted_text(
+    file: &[u8],
+    want: Want,
+    row: u32,
+    tile: u32,
+    question: Question,
+    out: &mut [u8],
+) -> usize
+    requires { ⌜ Usual (setup-of (want .setup)) × (264256 ≤ length (now out)) ⌝ }
+    ensures { λ r. ⌜ r ≡ length (by-width (want .«no_width») (now (file .entry)) (why-text (setup-of (want .setup)) (now (file .entry)) row tile (question-of question))) ⌝ }
+    ensures { λ r. ⌜ take r (now (out .exit)) ≡ by-width (want .«no_width») (now (file .entry)) (why-text (setup-of (want .setup)) (now (file .entry)) row tile (question-of question)) ⌝ }
+{
+    if want.no_width {
+        return no_width_text(file, out);
+    }
+    let setup = want.setup;
+    why_text(file, setup, row, tile, question, out)
+}
+
+fn print_answer(file: &[u8], want: Want, row: u32, tile: u32, question: Question) -> bool
+    requires { ⌜ Usual (setup-of (want .setup)) ⌝ }
 {
     let mut out = text_buffer();
-    let n = why_text(file, setup, row, tile, question, &mut out);
-    print(file, setup, row, tile, question, &out[..n])
+    let n = wanted_text(file, want, row, tile, question, &mut out);
+    print(file, want, row, tile, question, &out[..n])
 }
 
 fn print_question(i: u64) -> bool {
@@ -57,7 +80,7 @@ fn print_question(i: u64) -> bool {
 fn usage() {
     io::write_all(
         STDERR_FILENO,
-        b"usage: why [--snap] ROW TILE [draw N | layer N] < FILE, or why [--snap] --stream < STREAM\n",
+        b"usage: why [--snap] [--width N] ROW TILE [draw N | layer N] < FILE, or why [--snap] [--width N] --stream < STREAM\n",
     );
 }
 
@@ -70,8 +93,8 @@ fn no_write() {
 }
 
 // One question about the file on standard input.
-fn ask(setup: Setup, row: u32, tile: u32, question: Question)
-    requires { ⌜ Usual (setup-of setup) ⌝ }
+fn ask(want: Want, row: u32, tile: u32, question: Question)
+    requires { ⌜ Usual (setup-of (want .setup)) ⌝ }
 {
     let mut bytes = file_buffer();
     let got = read_all(STDIN_FILENO, &mut bytes);
@@ -80,14 +103,14 @@ fn ask(setup: Setup, row: u32, tile: u32, question: Question)
         no_read();
         return;
     }
-    if !print_answer(&bytes[..n], setup, row, tile, question) {
+    if !print_answer(&bytes[..n], want, row, tile, question) {
         no_write();
     }
 }
 
 // The file of question i, after its head; whether the stream goes on.
-fn next_file(i: u64, size: usize, setup: Setup, row: u32, tile: u32) -> bool
-    requires { ⌜ Usual (setup-of setup) ⌝ }
+fn next_file(i: u64, size: usize, want: Want, row: u32, tile: u32) -> bool
+    requires { ⌜ Usual (setup-of (want .setup)) ⌝ }
 {
     let mut bytes = file_buffer();
     let got = read(&mut bytes, size);
@@ -100,7 +123,7 @@ fn next_file(i: u64, size: usize, setup: Setup, row: u32, tile: u32) -> bool
         no_write();
         return false;
     }
-    if !print_answer(&bytes[..n], setup, row, tile, Question::Every) {
+    if !print_answer(&bytes[..n], want, row, tile, Question::Every) {
         no_write();
         return false;
     }
@@ -112,8 +135,8 @@ fn next_file(i: u64, size: usize, setup: Setup, row: u32, tile: u32) -> bool
 }
 
 // Whether there was another question: the file's length, the row and the tile, then the file.
-fn next(i: u64, setup: Setup) -> bool
-    requires { ⌜ Usual (setup-of setup) ⌝ }
+fn next(i: u64, want: Want) -> bool
+    requires { ⌜ Usual (setup-of (want .setup)) ⌝ }
 {
     let mut head = [0u8; 12];
     let got = read_all(STDIN_FILENO, &mut head);
@@ -127,45 +150,45 @@ fn next(i: u64, setup: Setup) -> bool
     next_file(
         i,
         wide(word(&head, 0)),
-        setup,
+        want,
         word(&head, 4),
         word(&head, 8),
     )
 }
 
 // A proved loop has to end, and nothing says that a stream does: it counts up to a number that no run reaches.
-fn ask_all(setup: Setup)
-    requires { ⌜ Usual (setup-of setup) ⌝ }
+fn ask_all(want: Want)
+    requires { ⌜ Usual (setup-of (want .setup)) ⌝ }
 {
     let mut i: u64 = 0;
     while i < u64::MAX {
-        if !next(i, setup) {
+        if !next(i, want) {
             return;
         }
         i += 1;
     }
 }
 
-fn ask_of(setup: Setup, row: u32, tile: u32, layer: bool, attribute: u32)
-    requires { ⌜ Usual (setup-of setup) ⌝ }
+fn ask_of(want: Want, row: u32, tile: u32, layer: bool, attribute: u32)
+    requires { ⌜ Usual (setup-of (want .setup)) ⌝ }
 {
-    ask(setup, row, tile, Question::One(Asked { layer, attribute }));
+    ask(want, row, tile, Question::One(Asked { layer, attribute }));
 }
 
 // A question about one attribute; argument i says of which kind, and the next its number.
-fn ask_one(setup: Setup, row: u32, tile: u32, i: usize)
-    requires { ⌜ Usual (setup-of setup) × (i < 18446744073709551615) ⌝ }
+fn ask_one(want: Want, row: u32, tile: u32, i: usize)
+    requires { ⌜ Usual (setup-of (want .setup)) × (i < 18446744073709551615) ⌝ }
 {
     let Number::Good(attribute) = number_at(i + 1) else {
         usage();
         return;
     };
     if is_word(i, b"draw") {
-        ask_of(setup, row, tile, false, attribute);
+        ask_of(want, row, tile, false, attribute);
         return;
     }
     if is_word(i, b"layer") {
-        ask_of(setup, row, tile, true, attribute);
+        ask_of(want, row, tile, true, attribute);
         return;
     }
     usage();
@@ -173,13 +196,13 @@ fn ask_one(setup: Setup, row: u32, tile: u32, i: usize)
 
 fn main() {
     let options = read_options();
-    let setup = options.setup;
+    let want = options.want;
     let i = options.next;
     let n = options.others;
     if n < 2 {
         if n == 1 {
             if is_word(i, b"--stream") {
-                ask_all(setup);
+                ask_all(want);
                 return;
             }
         }
@@ -195,11 +218,11 @@ fn main() {
         return;
     };
     if n == 2 {
-        ask(setup, row, tile, Question::Every);
+        ask(want, row, tile, Question::Every);
         return;
     }
     if n == 4 {
-        ask_one(setup, row, tile, i + 2);
+        ask_one(want, row, tile, i + 2);
         return;
     }
     usage();

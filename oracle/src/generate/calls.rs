@@ -8,6 +8,7 @@ use crate::calls::Call;
 use crate::limits::{LAST_ID, MOST_ROOM};
 use crate::random::Random;
 use crate::viewport::{snapped, Mode};
+use crate::width::{Width, NO_WIDTHS};
 
 const DEFAULT: [u32; 2] = [0, 3];
 
@@ -46,6 +47,7 @@ pub(crate) fn reset(width: u32, height: u32, c: u32, d: u32) -> Call {
         c,
         d,
         mode: Mode::Exact,
+        width: 128,
     }
 }
 
@@ -115,7 +117,29 @@ fn step(row: u32) -> Call {
     Call::Step { row, words: 48 }
 }
 
+/// The same sequence with buckets of so many pixels.
+fn at(mut calls: Vec<Call>, pixels: u32) -> Vec<Call> {
+    for call in &mut calls {
+        if let Call::Reset { width, .. } = call {
+            *width = pixels;
+        }
+    }
+    calls
+}
+
+/// Those at 128 pixels a bucket, the same at the other widths, viewports at one width after another, and what is made for the widths.
 fn edges() -> Vec<Vec<Call>> {
+    let others = [64, 256].map(|pixels| plain_edges().into_iter().map(move |e| at(e, pixels)));
+    let turns = Width::ALL.into_iter().cycle().skip(1);
+    let viewports = viewports().into_iter().zip(turns);
+    let mut all = plain_edges();
+    all.extend(others.into_iter().flatten());
+    all.extend(viewports.map(|(calls, width)| at(calls, width.pixels())));
+    all.extend(width_edges());
+    all
+}
+
+fn plain_edges() -> Vec<Vec<Call>> {
     let wide = [solid(0, 0, 64)];
     let mut all = vec![
         // A screen without rows; a pop with no layer open; painting it.
@@ -211,6 +235,7 @@ fn edges() -> Vec<Vec<Call>> {
                 c: 8,
                 d: 8,
                 mode: Mode::Exact,
+                width: 128,
             },
             fill(&[solid(1, 0, 8_192), [1, 2, 0, 8_192, u32::MAX - 16 * 8_192]]),
             Call::Show,
@@ -268,6 +293,7 @@ fn edges() -> Vec<Vec<Call>> {
                 c: 8,
                 d: 8,
                 mode: Mode::Exact,
+                width: 128,
             },
             filter(5, [0, 9, 64, 15]),
             Call::Filter {
@@ -462,8 +488,214 @@ fn edges() -> Vec<Vec<Call>> {
     all.push(layers());
     all.extend([attributes(), layer_attributes(), filter_paints()]);
     all.push(skips());
-    all.extend(viewports());
     all
+}
+
+/// A reset to a screen of so many pixels across and rows, with so many pixels a bucket.
+fn reset_at(pixels: u32, across: u32, rows: u32) -> Call {
+    Call::Reset {
+        viewport: [0, 0, across, 4 * rows],
+        c: 16,
+        d: 16,
+        mode: Mode::Exact,
+        width: pixels,
+    }
+}
+
+/// What is made for the widths.
+fn width_edges() -> Vec<Vec<Call>> {
+    let mut all = no_widths();
+    all.push(narrower_and_wider());
+    for width in Width::ALL {
+        all.extend(beside_a_bucket(width));
+        all.push(widest(width));
+        all.push(skips_at(width));
+    }
+    all
+}
+
+/// Numbers that are no width are refused by 2, also where 1 would refuse, and leave what was there.
+fn no_widths() -> Vec<Vec<Call>> {
+    let built = |pixels| vec![reset_at(pixels, 256, 1), fill(&[solid(0, 0, 64)])];
+    let resets = |pixels: u32| {
+        [
+            (256, 8, 8, Mode::Exact),
+            (256, 0, 8, Mode::Exact),
+            (255, 8, 8, Mode::Exact),
+            (255, 8, 1_025, Mode::Snapping),
+        ]
+        .map(|(across, c, d, mode)| Call::Reset {
+            viewport: [0, 0, across, 4],
+            c,
+            d,
+            mode,
+            width: pixels,
+        })
+    };
+    let of = |(width, none): (Width, &[u32])| {
+        let refused = none.iter().flat_map(|&pixels| resets(pixels));
+        let mut calls: Vec<Call> = built(width.pixels()).into_iter().chain(refused).collect();
+        calls.extend([Call::Show, Call::Begin, step(0), Call::Show]);
+        calls
+    };
+    Width::ALL
+        .into_iter()
+        .zip(NO_WIDTHS.chunks(5))
+        .map(of)
+        .collect()
+}
+
+/// One screen at one width after another: depth words, fills and runs are those of the last reset.
+fn narrower_and_wider() -> Vec<Call> {
+    let mut calls = Vec::new();
+    for pixels in [128, 64, 256, 64, 128, 256, 256] {
+        calls.extend([
+            reset_at(pixels, 512, 1),
+            fill(&[solid(0, 10, 128)]),
+            fill(&[solid(0, 0, 70)]),
+            Call::Begin,
+            step(0),
+            Call::Unset {
+                row: 0,
+                tiles: [5, 128],
+                words: 6,
+            },
+            Call::Show,
+        ]);
+    }
+    calls
+}
+
+/// Screens of one to three buckets, one tile less and one more; fills from and to the tiles beside buckets' edges; the last bucket written, and one
+/// past it.
+fn beside_a_bucket(width: Width) -> Vec<Vec<Call>> {
+    let (pixels, w) = (width.pixels(), width.tiles());
+    let screen = |across: u32| {
+        let tiles = across / 4;
+        let buckets = tiles.div_ceil(w);
+        let mut calls = vec![reset_at(pixels, across, 2)];
+        for (first, end) in [
+            (0, tiles),
+            (1, tiles),
+            (w - 1, tiles),
+            (w, w + 1),
+            (0, w - 1),
+            (0, w),
+            (0, w + 1),
+        ] {
+            if first < end {
+                calls.push(fill(&[solid(0, first, end), solid(1, 0, end)]));
+            }
+        }
+        let write = |id, first, end, words| Call::Write {
+            row: 1,
+            id,
+            buckets: [first, end],
+            words,
+        };
+        let unset = |row, words| Call::Unset {
+            row,
+            tiles: [0, tiles + w],
+            words,
+        };
+        calls.extend([Call::Show, Call::Begin]);
+        calls.extend((0..9).map(|_| step(0)));
+        calls.extend([
+            unset(0, 6),
+            write(5, buckets, buckets + 1, 2),
+            write(5, buckets - 1, buckets, 2),
+            unset(1, 6),
+            write(6, 0, buckets, 4),
+            Call::Visible {
+                row: 1,
+                id: 5,
+                tiles: [0, 8_192],
+                words: 6,
+            },
+            Call::Show,
+        ]);
+        calls
+    };
+    let sizes = (1..4).flat_map(|count| [pixels * count - 4, pixels * count, pixels * count + 4]);
+    sizes.map(screen).collect()
+}
+
+/// The widest screen: every second bucket written, then what is left; fills over all of it.
+fn widest(width: Width) -> Vec<Call> {
+    let (pixels, w) = (width.pixels(), width.tiles());
+    let buckets = 4_096 / pixels;
+    let mut calls = vec![
+        reset_at(pixels, 4_096, 1),
+        fill(&[solid(0, 0, 1_024)]),
+        fill(&[solid(0, 1, 1_023)]),
+        fill(&[solid(0, w, 1_024 - w)]),
+        Call::Begin,
+    ];
+    calls.extend((0..6).map(|_| step(0)));
+    calls.extend([Call::Show, Call::Begin]);
+    calls.extend((0..buckets).step_by(2).map(|bucket| Call::Write {
+        row: 0,
+        id: 2,
+        buckets: [bucket, bucket + 1],
+        words: 2,
+    }));
+    calls.extend([
+        Call::Unset {
+            row: 0,
+            tiles: [w - 1, 1_024],
+            words: buckets,
+        },
+        Call::Unset {
+            row: 0,
+            tiles: [w - 1, 1_024],
+            words: buckets - 1,
+        },
+        Call::Visible {
+            row: 0,
+            id: 1,
+            tiles: [0, 8_192],
+            words: buckets,
+        },
+        Call::Write {
+            row: 0,
+            id: 3,
+            buckets: [0, buckets + 1],
+            words: buckets,
+        },
+        Call::Write {
+            row: 0,
+            id: 3,
+            buckets: [0, buckets],
+            words: buckets,
+        },
+        Call::Show,
+    ]);
+    calls
+}
+
+/// `can_skip` on both sides of a union of whole buckets.
+fn skips_at(width: Width) -> Vec<Call> {
+    let w = width.tiles();
+    let mut calls = vec![
+        reset_at(width.pixels(), 4 * 5 * w, 1),
+        fill(&[solid(0, w - 1, 2 * w + 1)]),
+        fill(&[solid(0, 3 * w, 4 * w)]),
+        fill(&[solid(0, 1, w - 1)]),
+    ];
+    for tiles in [
+        [0, w],
+        [0, w + 1],
+        [w - 1, w],
+        [w, w + 1],
+        [4 * w - 1, 4 * w],
+        [4 * w, 4 * w + 1],
+        [2 * w, 3 * w],
+        [0, 8_192],
+    ] {
+        calls.extend([1, 2].map(|id| Call::CanSkip { row: 0, tiles, id }));
+    }
+    calls.push(Call::Show);
+    calls
 }
 
 /// Words that a sequence of viewports has with its answers, unless one viewport alone has more.
@@ -475,8 +707,8 @@ fn viewports() -> Vec<Vec<Call>> {
     let mut all: Vec<Vec<Call>> = Vec::new();
     for (viewport, good) in viewport_edges() {
         let mut calls = vec![
-            sized(viewport, 4, 4, Mode::Exact),
-            sized(viewport, 4, 4, Mode::Snapping),
+            sized(viewport, [4, 4], Mode::Exact, 128),
+            sized(viewport, [4, 4], Mode::Snapping, 128),
         ];
         if good && fits(viewport, 4, 4) {
             let [left, _, right, bottom] = snapped(viewport).map(|edge| edge as u32 / 4);
@@ -518,13 +750,14 @@ fn fits(viewport: [u32; 4], c: u32, d: u32) -> bool {
 }
 
 /// A reset that asks for no more than a program has: otherwise for rows without room, which refuse it by 1 unless 2 does.
-fn sized(viewport: [u32; 4], c: u32, d: u32, mode: Mode) -> Call {
+fn sized(viewport: [u32; 4], [c, d]: [u32; 2], mode: Mode, width: u32) -> Call {
     let (c, d) = if fits(viewport, c, d) { (c, d) } else { (0, 0) };
     Call::Reset {
         viewport,
         c,
         d,
         mode,
+        width,
     }
 }
 
@@ -610,13 +843,47 @@ fn skips() -> Vec<Call> {
 struct Sketch {
     /// The box that the screen holds.
     viewport: [u32; 4],
+    /// Tiles of a bucket.
+    width: u32,
     /// The clip range of each open layer, if all was done so far.
     open: Vec<Option<(u32, u32)>>,
     calls: Vec<Call>,
 }
 
+/// A width, each as often as the others; at times a number that is none.
+fn any_width(random: &mut Random) -> u32 {
+    if random.chance(3) {
+        random.pick(&NO_WIDTHS)
+    } else {
+        random.pick(&Width::ALL).pixels()
+    }
+}
+
+/// The sketch's screen is reset at a width, unless the number is none.
+fn reset_done(sketch: &mut Sketch, viewport: [u32; 4], pixels: u32) {
+    if let Some(width) = Width::of(pixels) {
+        sketch.viewport = viewport;
+        sketch.width = width.tiles();
+        sketch.open.clear();
+    }
+}
+
+/// A viewport of few rows that is one tile less than some buckets wide, just as wide, or one tile more.
+fn wide_viewport(random: &mut Random) -> [u32; 4] {
+    let pixels = random.pick(&Width::ALL).pixels();
+    let most = if random.chance(25) { 4_096 } else { 1_280 };
+    let across = pixels * random.from(1, most / pixels) + 4 * random.below(3) - 4;
+    let x = 4 * random.pick(&[0, 0, 1, 17, 40]);
+    let across = across.min(4_096);
+    [x, 0, x + across, 4 * random.from(1, 3)]
+}
+
 fn sequence(random: &mut Random) -> Vec<Call> {
-    let viewport = viewport(random);
+    let viewport = if random.chance(35) {
+        wide_viewport(random)
+    } else {
+        viewport(random)
+    };
     let rows = (viewport[3] - viewport[1]) / 4;
     let room = |random: &mut Random, most: u32| {
         let room = random.pick(&[1, 2, 3, 4, 6, 8, 16, 64, 64, 64]);
@@ -630,6 +897,7 @@ fn sequence(random: &mut Random) -> Vec<Call> {
     };
     let mut sketch = Sketch {
         viewport,
+        width: 32,
         open: Vec::new(),
         calls: Vec::new(),
     };
@@ -638,13 +906,7 @@ fn sequence(random: &mut Random) -> Vec<Call> {
         sketch.calls.push(call);
         sketch.viewport = viewport;
     }
-    let (viewport, mode) = given(viewport, random);
-    sketch.calls.push(Call::Reset {
-        viewport,
-        c,
-        d,
-        mode,
-    });
+    first_resets(&mut sketch, viewport, [c, d], random);
     if random.chance(3) {
         sketch.calls.push(Call::NextId(LAST_ID - random.below(4)));
     }
@@ -668,8 +930,43 @@ fn sequence(random: &mut Random) -> Vec<Call> {
     sketch.calls
 }
 
+/// A reset to this box; before it, at times, one with a number that is no width, or one at another width.
+fn first_resets(sketch: &mut Sketch, held: [u32; 4], [c, d]: [u32; 2], random: &mut Random) {
+    loop {
+        let (viewport, mode) = given(held, random);
+        let width = any_width(random);
+        sketch.calls.push(Call::Reset {
+            viewport,
+            c,
+            d,
+            mode,
+            width,
+        });
+        reset_done(sketch, held, width);
+        if Width::of(width).is_some() && random.chance(95) {
+            break;
+        }
+    }
+}
+
+/// The same box once more, often at another width.
+fn again(sketch: &mut Sketch, random: &mut Random) -> Call {
+    let held = sketch.viewport;
+    let (viewport, mode) = given(held, random);
+    let pixels = any_width(random);
+    let call = sized(viewport, [4, 4], mode, pixels);
+    if matches!(call, Call::Reset { c: 4, .. }) {
+        reset_done(sketch, held, pixels);
+    }
+    call
+}
+
 fn build(sketch: &mut Sketch, random: &mut Random) {
-    match random.below(100) {
+    match random.below(101) {
+        100 => {
+            let call = again(sketch, random);
+            sketch.calls.push(call);
+        }
         0..55 => sketch.calls.push(any_fill(sketch, random)),
         55..70 => open(sketch, random),
         70..80 => close(sketch, random),
@@ -722,24 +1019,34 @@ fn edge_reset(sketch: &mut Sketch, random: &mut Random) -> Call {
         };
         [x0, y0, x1, y1]
     };
-    let call = sized(viewport, 4, 4, mode);
+    let pixels = any_width(random);
+    let call = sized(viewport, [4, 4], mode, pixels);
     if let (Some(held), Call::Reset { c: 4, .. }) = (mode.held(viewport), &call) {
-        sketch.viewport = held;
-        sketch.open.clear();
+        reset_done(sketch, held, pixels);
     }
     call
 }
 
+/// Segments for the screen's own buckets, at times for others.
+fn any_list(sketch: &Sketch, random: &mut Random) -> Vec<[u32; 5]> {
+    let width = if random.chance(75) {
+        sketch.width
+    } else {
+        random.pick(&Width::ALL).tiles()
+    };
+    new_list(sketch.viewport, width, random)
+}
+
 /// A list of segments with, at times, others around the range that is read.
 fn lent(sketch: &Sketch, random: &mut Random) -> (Vec<[u32; 5]>, (u32, u32)) {
-    let own = new_list(sketch.viewport, random);
+    let own = any_list(sketch, random);
     let before = if random.chance(20) {
-        new_list(sketch.viewport, random)
+        any_list(sketch, random)
     } else {
         Vec::new()
     };
     let after = if random.chance(20) {
-        new_list(sketch.viewport, random)
+        any_list(sketch, random)
     } else {
         Vec::new()
     };
@@ -816,7 +1123,7 @@ fn open(sketch: &mut Sketch, random: &mut Random) {
 /// A pop, lent a list with room for its clip's range; at times one too many.
 fn close(sketch: &mut Sketch, random: &mut Random) {
     let end = sketch.open.pop().flatten().map_or(0, |(_, end)| end);
-    let mut segments = new_list(sketch.viewport, random);
+    let mut segments = any_list(sketch, random);
     while segments.len() < end as usize {
         let row = segments
             .last()
@@ -937,7 +1244,7 @@ fn damaged_reset(sketch: &mut Sketch, random: &mut Random) -> Call {
     let [x0, y0, x1, y1, c, d] = words;
     // Known only as a guess: pops that come later may be refused.
     sketch.open.clear();
-    sized([x0, y0, x1, y1], c, d, mode)
+    sized([x0, y0, x1, y1], [c, d], mode, any_width(random))
 }
 
 /// Painting by turns, and runs in between.
@@ -967,24 +1274,24 @@ fn paint(sketch: &mut Sketch, random: &mut Random) {
             0..88 => Call::Step { row, words },
             88..91 => Call::Unset {
                 row,
-                tiles: range(random, tiles + 40),
+                tiles: range(random, tiles + sketch.width + 8),
                 words,
             },
             91..94 => Call::Visible {
                 row,
                 id,
-                tiles: range(random, tiles + 40),
+                tiles: range(random, tiles + sketch.width + 8),
                 words,
             },
             94..96 => Call::Write {
                 row,
                 id,
-                buckets: range(random, tiles.div_ceil(32)),
+                buckets: range(random, tiles.div_ceil(sketch.width)),
                 words,
             },
             _ => Call::CanSkip {
                 row,
-                tiles: range(random, tiles + 40),
+                tiles: range(random, tiles + sketch.width + 8),
                 id,
             },
         };
@@ -998,10 +1305,12 @@ fn paint(sketch: &mut Sketch, random: &mut Random) {
 
 #[cfg(test)]
 mod tests {
-    use super::{fits, sequence, sized, viewport_edges};
-    use crate::calls::{answers, Call};
+    use super::{fill, fits, reset_at, sequence, sized, viewport_edges};
+    use crate::calls::{answers, sequences, Call};
+    use crate::generate::draft::solid;
     use crate::random::Random;
     use crate::viewport::Mode;
+    use crate::width::{Width, NO_WIDTHS};
 
     #[test]
     fn every_reset_has_its_number() {
@@ -1013,7 +1322,7 @@ mod tests {
                     (true, false) => 1,
                     (true, true) => 0,
                 };
-                let said = answers(&[sized(viewport, 4, 4, mode)]);
+                let said = answers(&[sized(viewport, [4, 4], mode, 128)]);
                 assert_eq!(said, [answer], "{viewport:?} {mode:?}");
             }
         }
@@ -1036,5 +1345,99 @@ mod tests {
         assert!((30..37).contains(&(100 * snapping / resets)), "{snapping}");
         assert!(2 * loose > snapping, "{loose} of {snapping}");
         assert!(refused > 100, "{refused}");
+    }
+
+    #[test]
+    fn each_width_has_a_third_of_the_resets() {
+        let mut random = Random::new(1);
+        let (mut at, mut none, mut changed, mut wide) = ([0; 3], 0, 0, 0);
+        for calls in (0..3_000).map(|_| sequence(&mut random)) {
+            let mut before = None;
+            for call in calls {
+                let Call::Reset {
+                    viewport, width, ..
+                } = call
+                else {
+                    continue;
+                };
+                match Width::ALL.iter().position(|of| of.pixels() == width) {
+                    Some(which) => at[which] += 1,
+                    None => {
+                        none += 1;
+                        assert_eq!(answers(&[call]), [2]);
+                        continue;
+                    }
+                }
+                changed += u32::from(before.is_some_and(|before| before != width));
+                wide += u32::from(width == 256 && viewport[2] >= viewport[0].saturating_add(512));
+                before = Some(width);
+            }
+        }
+        let all: u32 = at.iter().sum();
+        for count in at {
+            assert!((30..37).contains(&(100 * count / all)), "{at:?}");
+        }
+        assert!((1..6).contains(&(100 * none / all)), "{none} of {all}");
+        assert!(changed > 200 && wide > 200, "{changed} {wide}");
+    }
+
+    /// A number that is no width comes after 3 and before 1, and leaves the screen as it was.
+    #[test]
+    fn no_width_is_refused_by_2() {
+        for pixels in NO_WIDTHS {
+            for (c, viewport) in [(4, 256), (0, 256), (4, 255), (1_025, 255)] {
+                let call = Call::Reset {
+                    viewport: [0, 0, viewport, 8],
+                    c,
+                    d: 4,
+                    mode: Mode::Exact,
+                    width: pixels,
+                };
+                assert_eq!(answers(&[call]), [2], "{pixels}");
+            }
+            let built = [reset_at(64, 256, 1), fill(&[solid(0, 0, 64)])];
+            let shown = answers(&[&built[..], &[Call::Show]].concat());
+            let refused = reset_at(pixels, 128, 2);
+            let after = answers(&[&built[..], &[refused, Call::Show]].concat());
+            assert_eq!(after, [&shown[..2], &[2], &shown[2..]].concat());
+        }
+    }
+
+    /// Without a mode a width is judged all the same; nothing is reset.
+    #[test]
+    fn a_width_beside_no_mode() {
+        for (width, answer) in [(64, 4), (256, 4), (96, 2), (0, 2)] {
+            let words = [9, 0, 0, 0, 256, 8, 0, 4, 2, width];
+            let bytes: Vec<u8> = words.into_iter().flat_map(u32::to_le_bytes).collect();
+            let calls = sequences(&bytes);
+            assert_eq!(answers(&calls[0]), [answer]);
+            assert_eq!(calls[0][0].words(), words[1..]);
+        }
+    }
+
+    /// The depth arena follows the width: rows times buckets.
+    #[test]
+    fn the_depth_words_follow_the_width() {
+        for width in Width::ALL {
+            for across in [
+                4, 60, 64, 68, 124, 128, 132, 252, 256, 260, 508, 512, 516, 4_096,
+            ] {
+                let size =
+                    |rows| answers(&[reset_at(width.pixels(), across, rows), Call::Show]).len();
+                let buckets = across.div_ceil(width.pixels()) as usize;
+                assert_eq!(size(3) - size(2), 8 + buckets);
+                let end = u32::try_from(buckets).expect("few");
+                for (end, answer) in [(end, 0), (end + 1, 12)] {
+                    let write = Call::Write {
+                        row: 0,
+                        id: 1,
+                        buckets: [0, end],
+                        words: 2,
+                    };
+                    let said = answers(&[reset_at(width.pixels(), across, 1), write]);
+                    assert_eq!(said[1], answer, "{across} at {width:?}");
+                }
+            }
+        }
     }
 }

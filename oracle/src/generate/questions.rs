@@ -10,6 +10,7 @@ use crate::scene::{scene, Scene};
 use crate::viewport::Mode;
 use crate::walk::Player;
 use crate::why::{self, Reason};
+use crate::width::Width;
 use vello_common::geometry::RectU16;
 
 /// Questions to a hand-made recording beside its own.
@@ -17,12 +18,13 @@ const HAND_MADE: usize = 24;
 
 /// A stream of so many questions, fewer where the kind is a fixed list: of the kinds `all` and `snapped` first the recordings made for the reasons,
 /// their viewports loosened for the latter, then those of the kind, each with several questions.
-pub fn stream(seed: u32, count: u32, kind: &str) -> Option<Vec<u8>> {
+/// The places are at and beside the edges of buckets of this width.
+pub fn stream(seed: u32, count: u32, kind: &str, width: Width) -> Option<Vec<u8>> {
     let mode = mode(kind);
     let mut maker = Maker {
         random: Random::new(seed),
         mode,
-        player: Player::new(mode, 1),
+        player: Player::new(mode, 1).at(width.pixels()),
         left: count,
         out: Vec::new(),
     };
@@ -41,7 +43,7 @@ pub fn stream(seed: u32, count: u32, kind: &str) -> Option<Vec<u8>> {
     }
     while is_endless(kind) && maker.left > 0 {
         let made = if kind != "damaged" && maker.random.chance(25) {
-            with_fills(&mut maker.random, mode)
+            with_fills(&mut maker.random, mode, width.tiles())
         } else {
             another(&mut maker.random, kind)
         };
@@ -55,11 +57,11 @@ fn several(made: &Made) -> usize {
     (8_192 / made.bytes.len().max(1)).clamp(3, 8)
 }
 
-/// A scene with wide opaque fills put between the nodes of its root, so that layers and filter fills are hidden too.
-fn with_fills(random: &mut Random, mode: Mode) -> Made {
+/// A scene with wide opaque fills, for buckets of so many tiles, put between the nodes of its root, so that layers and filter fills are hidden too.
+fn with_fills(random: &mut Random, mode: Mode, width: u32) -> Made {
     let mut draft = scenes::scene(random);
     let [x0, y0, x1, y1] = draft.viewport;
-    let (left, buckets) = (x0 / 4, (x1 - x0) / 128);
+    let (left, buckets) = (x0 / 4, (x1 - x0) / 4 / width);
     let paint = u32::try_from(draft.paints.len()).expect("few paints");
     draft.paints.push([1, 0, 0, 0]);
     let root = draft.nodes[draft.root[0] as usize..draft.root[1] as usize].to_vec();
@@ -69,8 +71,9 @@ fn with_fills(random: &mut Random, mode: Mode) -> Made {
         if random.chance(60) {
             let row = random.from(y0 / 4, y1 / 4).min(8_191);
             let from = random.below(buckets + 1);
-            let first = left + 32 * from;
-            let end = left + 32 * random.from(from, buckets) + random.pick(&[0, 1, 31, 32]);
+            let first = left + width * from;
+            let end =
+                left + width * random.from(from, buckets) + random.pick(&[0, 1, width - 1, width]);
             let (first, end) = (first.saturating_sub(random.below(2)), end.min(8_192));
             let list = (row..8_192.min(row + random.from(1, 3)))
                 .filter(|_| first < end)
@@ -114,9 +117,11 @@ impl Maker {
             let far = self.random.pick(&FAR);
             places.push((self.random.pick(&[0, 1, far]), self.random.below(9)));
         } else {
-            let recording = file::judged(&made.bytes, self.mode).expect("an accepted recording");
+            let width = self.player.width();
+            let recording = file::judged(&made.bytes, self.mode, Some(width));
+            let recording = recording.expect("an accepted recording");
             let scene = scene(&recording, self.mode);
-            let edges = Edges::of(&recording, scene.viewport);
+            let edges = Edges::of(&recording, scene.viewport, width);
             for _ in 0..more {
                 let place = edges.place(&mut self.random, &scene);
                 if !places.contains(&place) {
@@ -141,6 +146,7 @@ const FAR: [u32; 7] = [512, 1_024, 8_192, 65_536, 1 << 30, 1 << 31, u32::MAX];
 
 /// Where something begins or ends on the screen, in its own rows and tiles.
 struct Edges {
+    width: Width,
     rows: u32,
     tiles: u32,
     /// Row, first tile and end tile of the segments that meet the screen.
@@ -150,8 +156,8 @@ struct Edges {
 }
 
 impl Edges {
-    /// Of a recording whose screen holds this box.
-    fn of(recording: &Recording, held: RectU16) -> Self {
+    /// Of a recording whose screen holds this box, in buckets of this width.
+    fn of(recording: &Recording, held: RectU16, width: Width) -> Self {
         let [x0, y0, x1, y1] = [held.x0, held.y0, held.x1, held.y1].map(u32::from);
         let (rows, tiles) = ((y1 - y0) / 4, (x1 - x0) / 4);
         let across = |tile: u32| tile.saturating_sub(x0 / 4).min(tiles);
@@ -164,7 +170,7 @@ impl Edges {
             .collect();
         let mut at_rows = vec![0, rows];
         let mut at_tiles = vec![0, tiles];
-        at_tiles.extend((0..tiles).step_by(32));
+        at_tiles.extend((0..tiles).step_by(width.tiles() as usize));
         for &[row, first, end] in &segments {
             at_rows.extend([row, row + 1]);
             at_tiles.extend([first, end]);
@@ -177,6 +183,7 @@ impl Edges {
             }
         }
         Self {
+            width,
             rows,
             tiles,
             segments,
@@ -193,7 +200,7 @@ impl Edges {
         let tries = random.pick(&[1, 4]);
         let places = (0..tries).map(|_| self.on(random)).collect::<Vec<_>>();
         let covered = |&(row, tile): &Place| {
-            let reasons = why::reasons(scene, row, tile).expect("on the screen");
+            let reasons = why::reasons(scene, self.width, row, tile).expect("on the screen");
             let covered = reasons
                 .iter()
                 .filter(|&(_, _, reason)| reason != Reason::Uncovered);
@@ -256,19 +263,22 @@ mod tests {
     use crate::questions::{self, Answerer};
     use crate::viewport::Mode;
     use crate::walk::Player;
+    use crate::width::Width;
 
     #[test]
     fn many_questions_meet_every_reason() {
-        for (kind, mode) in [("all", Mode::Exact), ("snapped", Mode::Snapping)] {
-            meet_every_reason(kind, mode);
+        for width in Width::ALL {
+            for (kind, mode) in [("all", Mode::Exact), ("snapped", Mode::Snapping)] {
+                meet_every_reason(kind, mode, width);
+            }
         }
     }
 
-    fn meet_every_reason(kind: &str, mode: Mode) {
-        let bytes = stream(1, 4_000, kind).expect("a kind");
+    fn meet_every_reason(kind: &str, mode: Mode, width: Width) {
+        let bytes = stream(1, 4_000, kind, width).expect("a kind");
         let questions = questions::stream(&bytes);
         assert_eq!(questions.len(), 4_000);
-        let mut answerer = Answerer::new(Player::new(mode, 1));
+        let mut answerer = Answerer::new(Player::new(mode, 1).at(width.pixels()));
         let answers: Vec<String> = questions.into_iter().map(|q| answerer.all(q)).collect();
         assert_eq!(answerer.disagreements, Vec::<String>::new());
         for (kind, reason) in [
@@ -293,9 +303,9 @@ mod tests {
 
     #[test]
     fn a_fixed_kind_ends_and_another_is_none() {
-        let edges = stream(1, 100_000, "edges").expect("a kind");
+        let edges = stream(1, 100_000, "edges", Width::Of128).expect("a kind");
         let count = questions::stream(&edges).len();
         assert!(count > 363 && count < 100_000);
-        assert!(stream(1, 10, "other").is_none());
+        assert!(stream(1, 10, "other", Width::Of128).is_none());
     }
 }

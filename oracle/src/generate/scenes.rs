@@ -39,7 +39,10 @@ fn stack(random: &mut Random) -> Draft {
     let count = random.from(3, 9);
     for _ in 0..count {
         let (left, right) = (x / 4, (x + width) / 4);
-        let (a, b) = (place(random, left, right), place(random, left, right));
+        let (a, b) = (
+            place(random, left, right, 32),
+            place(random, left, right, 32),
+        );
         let (first, end) = (a.min(b), a.max(b).max(a.min(b) + 1));
         let row = random.below(2);
         let list = if random.chance(70) {
@@ -183,7 +186,7 @@ fn list(draft: &mut Draft, random: &mut Random) -> Range {
     if random.chance(5) {
         return (count, count);
     }
-    let list = new_list(draft.viewport, random);
+    let list = new_list(draft.viewport, 32, random);
     draft.segments(&list)
 }
 
@@ -193,14 +196,21 @@ fn ordered(list: &[[u32; 5]]) -> bool {
     })
 }
 
-/// One to five segments on and around the viewport.
-pub(crate) fn new_list([x0, y0, x1, y1]: [u32; 4], random: &mut Random) -> Vec<[u32; 5]> {
+/// One to five segments on and around the viewport, for buckets of so many tiles.
+pub(crate) fn new_list(
+    [x0, y0, x1, y1]: [u32; 4],
+    width: u32,
+    random: &mut Random,
+) -> Vec<[u32; 5]> {
     let (left, right, top, bottom) = (x0 / 4, x1 / 4, y0 / 4, y1 / 4);
     let mut row = random.from(top.saturating_sub(1), (bottom + 1).max(top));
     let mut from = 0;
     let mut list = Vec::new();
     for _ in 0..random.pick(&[1, 1, 1, 2, 2, 3, 5]) {
-        let (a, b) = (place(random, left, right), place(random, left, right));
+        let (a, b) = (
+            place(random, left, right, width),
+            place(random, left, right, width),
+        );
         let (first, end) = (a.min(b), (a.max(b)).max(a.min(b) + 1));
         // Touching the one before, at times.
         let first = if from > 0 && random.chance(30) {
@@ -220,7 +230,7 @@ pub(crate) fn new_list([x0, y0, x1, y1]: [u32; 4], random: &mut Random) -> Vec<[
     list
 }
 
-fn segment(random: &mut Random, row: u32, first: u32, end: u32) -> [u32; 5] {
+pub(crate) fn segment(random: &mut Random, row: u32, first: u32, end: u32) -> [u32; 5] {
     if random.chance(65) {
         return [0, row, first, end, 0];
     }
@@ -238,15 +248,15 @@ fn segment(random: &mut Random, row: u32, first: u32, end: u32) -> [u32; 5] {
     ]
 }
 
-/// A tile on or near the viewport, often at a bucket's edge as seen from it.
-fn place(random: &mut Random, left: u32, right: u32) -> u32 {
-    let buckets = (right - left) / 32;
+/// A tile on or near the viewport, often at the edge of a bucket of so many tiles as seen from it.
+pub(crate) fn place(random: &mut Random, left: u32, right: u32, width: u32) -> u32 {
+    let buckets = (right - left) / width;
     let tile = match random.below(6) {
         0 => left,
         1 => right,
         2 => left + random.below(right - left + 1),
         3 => (left + random.below(right - left + 12)).saturating_sub(6),
-        _ => (left + 32 * random.from(0, buckets + 1) + random.below(3)).saturating_sub(1),
+        _ => (left + width * random.from(0, buckets + 1) + random.below(3)).saturating_sub(1),
     };
     tile.min(8_191)
 }

@@ -302,8 +302,19 @@ returns-4 c =
     (at-play .play .last .1 .1 .1 .1 .1 .1 .0) (at-play .play .last .1 .1 .1 .1 .1 .1 .1 .0)
     (at-play .play .last .1 .1 .1 .1 .1 .1 .1 .1 .0) (at-play .play .last .1 .1 .1 .1 .1 .1 .1 .1 .1 .0)
     (at-play .play .last .1 .1 .1 .1 .1 .1 .1 .1 .1 .1 .0))) in
-    left-fresh _ _ (good-form (at-args .args .file .now) (at-l .l .given .0 .0) (sym (at-l .l .given .1) ∙ at-read-form .read-form .ensures)) _
-    (at-box-at .box-at .ensures) (setup-of (at-args .args .setup)) _ _ fresh (at-reset .reset .ensures) (at-if1 .if1 .left) _ after (at-play .play .ensures (tables
+    let old : ScreenLent =
+    (lent (at-args .args .screen) (tables (at-args .args .render .now) (at-args .args .fills .now) (at-args .args .depth .now) (at-args .args .rows .now)
+    (at-args .args .painting .now) (at-args .args .layers .now) (at-args .args .opacities .now) (at-args .args .paint-attrs .now)
+    (at-args .args .layer-attrs .now) (at-args .args .filter-paints .now))) in
+    let again : ScreenLent =
+    (lent (at-reset2 .reset2 .result .screen) (tables (at-reset2 .reset2 .last .1 .1 .1 .0) (at-reset2 .reset2 .last .1 .1 .1 .1 .0)
+    (at-reset2 .reset2 .last .1 .1 .1 .1 .1 .0) (at-reset2 .reset2 .last .1 .1 .1 .1 .1 .1 .0)
+    (at-reset2 .reset2 .last .1 .1 .1 .1 .1 .1 .1 .0) (at-reset2 .reset2 .last .1 .1 .1 .1 .1 .1 .1 .1 .0)
+    (at-reset2 .reset2 .last .1 .1 .1 .1 .1 .1 .1 .1 .1 .0) (at-reset2 .reset2 .last .1 .1 .1 .1 .1 .1 .1 .1 .1 .1 .0)
+    (at-reset2 .reset2 .last .1 .1 .1 .1 .1 .1 .1 .1 .1 .1 .1 .0)
+    (at-reset2 .reset2 .last .1 .1 .1 .1 .1 .1 .1 .1 .1 .1 .1 .1 .0))) in
+    left-fresh (at-l .l .given .0 .0) (at-args .args .file .now) (good-form (at-args .args .file .now) (at-l .l .given .0 .0) (sym (at-l .l .given .1) ∙ at-read-form .read-form .ensures)) _
+    (at-box-at .box-at .ensures) (setup-of (at-args .args .setup)) old _ fresh (at-reset .reset .ensures) (at-if1 .if1 .left) _ after (at-play .play .ensures (tables
     [] [] (at-reset .reset .last .1 .1 .1 .1 .1 .0) [] (at-reset .reset .last .1 .1 .1 .1 .1 .1 .1 .0) [] [] [] [] [])) (at-if2 .if2 .left) _ (record {
       render = at-play .play .kept .1 .1 .1 .1 .0;
       fills = at-play .play .kept .1 .1 .1 .1 .1 .0;
@@ -326,7 +337,7 @@ returns-4 c =
       paint-attrs = at-reset .reset .kept .1 .1 .1 .1 .1 .1 .1 .1 .1 .1 .0;
       layer-attrs = at-reset .reset .kept .1 .1 .1 .1 .1 .1 .1 .1 .1 .1 .1 .0;
       filter-paints = at-reset .reset .kept .1 .1 .1 .1 .1 .1 .1 .1 .1 .1 .1 .1 .0;
-    }) _ _ (at-reset2 .reset2 .ensures)
+    }) _ again (at-reset2 .reset2 .ensures)
 
 pub bucket-recording-spec : {M : Type 1} → statement M
 bucket-recording-spec =

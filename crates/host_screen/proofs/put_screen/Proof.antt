@@ -1,7 +1,8 @@
+-- Every word is stored at its place; no store changes the length.
 use mathlib.Core.Path.{refl}
-use Rattle.host_screen.proofs.Words.{screen-stored}
 use native.Mathlib.Omega.{arith}
 use lib.ListN.{length-set}
+use Rattle.host_screen.proofs.Words.{screen-stored}
 use borrow.Author.Needs.{needs}
 use Rattle.host_screen.proofs.put_screen.Statement.{statement}
 use Rattle.host_screen.proofs.put_screen.Tie as tie
@@ -57,13 +58,20 @@ flag-requires c κs = search needs
 slice-write-state-16 : tie.Need-slice-write-state-16
 slice-write-state-16 c = simp length-set (omega arith)
 
+width-word-requires : tie.Need-width-word-requires
+width-word-requires c κs = search needs
+
+slice-write-state-17 : tie.Need-slice-write-state-17
+slice-write-state-17 c = simp length-set (omega arith)
+
 same-length : tie.Need-same-length
 same-length c = simp length-set refl
 
 returns : tie.Need-returns
 returns c =
-    let at-args = c .before .before .before .before in
-    rw (c .flag .ensures) (screen-stored (at-args .args .screen) (at-args .args .state .now) (at-args .pre))
+    let at-flag = c .before in
+    let at-args = at-flag .before .before .before .before in
+    rw (c .width-word .ensures, at-flag .flag .ensures) (screen-stored (at-args .args .screen) (at-args .args .state .now) (at-args .pre))
 
 pub put-screen-spec : {M : Type 1} → statement M
 put-screen-spec =
@@ -86,5 +94,7 @@ put-screen-spec =
     slice-write-state-15
     flag-requires
     slice-write-state-16
+    width-word-requires
+    slice-write-state-17
     same-length
     returns)

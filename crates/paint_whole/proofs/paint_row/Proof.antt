@@ -19,15 +19,19 @@ returns c =
     (at-args .args .rows .now) (at-args .args .render .now) (at-args .args .fills .now) (at-args .args .depth .now) (at-args .args .painting .now)
     (at-args .args .list .now)) _ (at-judge-step .judge-step .ensures) (c .if1 .taken)
 
+buckets-requires : tie.Need-buckets-requires
+buckets-requires c κs = search needs
+
 row-part-requires : tie.Need-row-part-requires
 row-part-requires c κs =
-    let at-if1 = c .before .before .before in
+    let at-buckets = c .before .before .before in
+    let at-if1 = at-buckets .before in
     let at-judge-step = at-if1 .before in
     let at-args = at-judge-step .before .before .before .before .before .before .before .before .before in (
       omega arith,
-      ready (at-args .args .screen) (at-args .args .row) (attributes (at-args .args .paint-attrs .now) (at-args .args .layer-attrs .now)) (lent
+      rw (at-buckets .buckets .ensures) (ready (at-args .args .screen) (at-args .args .row) (attributes (at-args .args .paint-attrs .now) (at-args .args .layer-attrs .now)) (lent
           (at-args .args .rows .now) (at-args .args .render .now) (at-args .args .fills .now) (at-args .args .depth .now) (at-args .args .painting .now)
-          (at-args .args .list .now)) (sym (at-judge-step .judge-step .ensures) ∙ at-if1 .if1 .left),
+          (at-args .args .list .now)) (sym (at-judge-step .judge-step .ensures) ∙ at-if1 .if1 .left)),
     )
 
 same-length : tie.Need-same-length
@@ -42,12 +46,13 @@ same-length-3 c = search needs
 returns-2 : tie.Need-returns-2
 returns-2 c =
     let at-row-part = c .before .before .before .before .before .before in
-    let at-if1 = at-row-part .before .before .before .before in
+    let at-buckets = at-row-part .before .before .before .before in
+    let at-if1 = at-buckets .before in
     let at-judge-step = at-if1 .before in
     let at-args = at-judge-step .before .before .before .before .before .before .before .before .before in
     row-done (at-args .args .screen) (at-args .args .row) (attributes (at-args .args .paint-attrs .now) (at-args .args .layer-attrs .now)) (lent
     (at-args .args .rows .now) (at-args .args .render .now) (at-args .args .fills .now) (at-args .args .depth .now) (at-args .args .painting .now)
-    (at-args .args .list .now)) _ (at-judge-step .judge-step .ensures) _ (at-if1 .if1 .left) (at-row-part .row-part .ensures)
+    (at-args .args .list .now)) _ (at-judge-step .judge-step .ensures) _ (at-if1 .if1 .left) (rw (at-buckets .buckets .ensures) at (at-row-part .row-part .ensures))
 
 pub paint-row-spec : {M : Type 1} → statement M
 paint-row-spec =
@@ -55,6 +60,7 @@ paint-row-spec =
     (tie.spec
     judge-step-requires
     returns
+    buckets-requires
     row-part-requires
     same-length
     same-length-2

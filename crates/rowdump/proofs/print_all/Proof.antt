@@ -8,10 +8,10 @@ use Rattle.rowdump.proofs.print_all.Statement.{statement}
 use Rattle.rowdump.proofs.print_all.Tie as tie
 
 abbrev Inv-loop : tie.InvT-loop
-Inv-loop setup out₀ i₀ out i = length out ≡ length out₀
+Inv-loop want out₀ i₀ out i = length out ≡ length out₀
 
 abbrev μ-loop : tie.MeasureT-loop
-μ-loop setup out₀ i₀ out i = 18446744073709551615 - i
+μ-loop want out₀ i₀ out i = 18446744073709551615 - i
 
 loop-holds : tie.Need-loop-holds Inv-loop μ-loop
 loop-holds c = refl

@@ -271,8 +271,8 @@ module _ (s : State) (f : Framed s) where
   plan-boxes (a-filter count q) touched e = filter-boxes count q
 
 -- a step leaves the state framed
-module _ (R : Type 0) (ops : RowOps R) (w : ℕ) where
-  own-done : (p : Plan) (t : Screen R) → refusal R ops w p t ≡ Done → p .refused ≡ Done
+module _ (R : Type 0) (ops : RowOps R) where
+  own-done : (p : Plan) (t : Screen R) → refusal R ops p t ≡ Done → p .refused ≡ Done
   unfolding refusal
   own-done p t e = go (eqb (p .refused) Done) refl
     where
@@ -280,17 +280,17 @@ module _ (R : Type 0) (ops : RowOps R) (w : ℕ) where
       go true q = eqb-true (p .refused) Done q
       go false q = rw q at e
 
-  done-framed : (x : Step) (s : Screen R) → Framed (s .state) → planned R ops w x s .refused ≡ Done → Framed (done R ops w (planned R ops w x s) s .state)
+  done-framed : (x : Step) (s : Screen R) → Framed (s .state) → planned R ops x s .refused ≡ Done → Framed (done R ops (planned R ops x s) s .state)
   unfolding done
-  done-framed x s f e = record { wide = f .wide; tall = f .tall; boxes = plan-boxes (s .state) f x (touched R ops w (length (s .state .layers)) 0 (s .rows)) e }
+  done-framed x s f e = record { wide = f .wide; tall = f .tall; boxes = plan-boxes (s .state) f x (touched R ops (length (s .state .layers)) 0 (s .rows)) e }
 
-  pub call-framed : (x : Step) (s : Screen R) → Framed (s .state) → Framed (call R ops w x s .value .state)
+  pub call-framed : (x : Step) (s : Screen R) → Framed (s .state) → Framed (call R ops x s .value .state)
   unfolding call perform
-  call-framed x s f = go (eqb (refusal R ops w (planned R ops w x s) (done R ops w (planned R ops w x s) s)) Done) refl
+  call-framed x s f = go (eqb (refusal R ops (planned R ops x s) (done R ops (planned R ops x s) s)) Done) refl
     where
-      go : (c : Bool) → eqb (refusal R ops w (planned R ops w x s) (done R ops w (planned R ops w x s) s)) Done ≡ c
-          → Framed (cond c (answer Done (done R ops w (planned R ops w x s) s)) (answer (refusal R ops w (planned R ops w x s) (done R ops w (planned R ops w x s) s)) s) .value .state)
-      go true e = done-framed x s f (own-done (planned R ops w x s) (done R ops w (planned R ops w x s) s) (eqb-true _ Done e))
+      go : (c : Bool) → eqb (refusal R ops (planned R ops x s) (done R ops (planned R ops x s) s)) Done ≡ c
+          → Framed (cond c (answer Done (done R ops (planned R ops x s) s)) (answer (refusal R ops (planned R ops x s) (done R ops (planned R ops x s) s)) s) .value .state)
+      go true e = done-framed x s f (own-done (planned R ops x s) (done R ops (planned R ops x s) s) (eqb-true _ Done e))
       go false e = f
 
   -- and so does a reset

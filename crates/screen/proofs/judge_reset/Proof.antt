@@ -26,7 +26,7 @@ rooms : (c : tie.Else1) → let at-rows = c .before .before in let at-args = at-
 rooms c = sym (c .before .is-good-rooms .ensures) ∙ not-false _ (c .if1 .left)
 
 all-good : (c : tie.Else2) → let at-args = c .before .before .before .before .before .before .args in
-    good-arenas 32 (frame-of (at-args .screen)) (arenas (at-args .lent)) ≡ true
+    good-arenas (frame-of (at-args .screen)) (arenas (at-args .lent)) ≡ true
 all-good c =
     let at-buckets = c .before .before in
     let at-if1 = at-buckets .before in
@@ -47,7 +47,7 @@ buckets-requires c κs = search needs
 mul-if2 : tie.Need-mul-if2
 mul-if2 c =
     let at-rows = c .before .before .before in
-    omega (arith, mul-le-mul {m₁ = c .buckets .result} {n₂ = 512} {m₂ = 32} (few at-rows) (rw (c .buckets .ensures) (few-buckets _ (at-rows .before .pre))))
+    omega (arith, mul-le-mul {m₁ = c .buckets .result} {n₂ = 512} {m₂ = 64} (few at-rows) (rw (c .buckets .ensures) (few-buckets _ (at-rows .before .pre) (at-rows .before .args .screen .width))))
 
 returns-2 : tie.Need-returns-2
 returns-2 c =

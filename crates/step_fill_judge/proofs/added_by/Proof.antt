@@ -1,6 +1,5 @@
 use Rattle.span.specs.Spans.{tiles}
-use Rattle.span.specs.Widths.{wide}
-use Rattle.span.proofs.Widths.{wide-some, above-small, below-small}
+use Rattle.sizes.specs.Widths.{bucket-tiles}
 use native.Mathlib.Omega.{arith}
 use Rattle.step_fill_judge.proofs.Laws.{added-alpha, added-plain, found-one, found-more, edge-small}
 use borrow.Author.Needs.{needs}
@@ -31,23 +30,17 @@ returns c =
     rw (
       at-enum-told2 .enum-told2 .given .1,
       at-if1 .if1 .taken,
-      found-one (wide (a .width)) (tiles (a .stretch .tiles)) _ _ (at-above .above .ensures) (c .before .below .ensures) (c .if2 .taken),
+      found-one (bucket-tiles (a .width)) (tiles (a .stretch .tiles)) _ _ (at-above .above .ensures) (c .before .below .ensures) (c .if2 .taken),
     )
 
-times-requires : tie.Need-times-requires
-times-requires c κs =
-    let at-args = c .before .before .before .before .before .before .before in
-    let few = above-small (at-args .args .width) (at-args .args .stretch .tiles .first) in
-    omega (arith, few, at-args .pre .0, c .before .before .above .ensures)
+within-requires : tie.Need-within-requires
+within-requires c κs = search needs
 
 edge-requires : tie.Need-edge-requires
 edge-requires c κs = search needs
 
-times-requires-2 : tie.Need-times-requires-2
-times-requires-2 c κs =
-    let at-args = c .before .before .before .before .before .before .before .before .before in
-    let few = below-small (at-args .args .width) (at-args .args .stretch .tiles .end) in
-    omega (arith, few, at-args .pre .1, c .before .before .before .below .ensures)
+within-requires-2 : tie.Need-within-requires-2
+within-requires-2 c κs = search needs
 
 edge-requires-2 : tie.Need-edge-requires-2
 edge-requires-2 c κs = search needs
@@ -55,24 +48,22 @@ edge-requires-2 c κs = search needs
 add-t15 : tie.Need-add-t15
 add-t15 c =
     let at-edge = c .before .before in
-    let at-args = at-edge .before .before .before .before .before .before .before .before .before in
-    let t = at-args .args .stretch .tiles in
     record {
       fits = omega (
         arith,
         at-edge .edge .ensures,
         c .edge2 .ensures,
-        edge-small (t .first) (at-edge .before .times .result),
-        edge-small (c .before .times2 .result) (t .end),
+        edge-small 0 (at-edge .before .within .result),
+        edge-small 0 (c .before .within2 .result),
       );
     }
 
 returns-2 : tie.Need-returns-2
 returns-2 c =
-    let at-times2 = c .before in
-    let at-edge = at-times2 .before in
-    let at-times = at-edge .before in
-    let at-if2 = at-times .before in
+    let at-within2 = c .before in
+    let at-edge = at-within2 .before in
+    let at-within = at-edge .before in
+    let at-if2 = at-within .before in
     let at-below = at-if2 .before in
     let at-above = at-below .before in
     let at-if1 = at-above .before in
@@ -81,12 +72,11 @@ returns-2 c =
     rw (
       at-enum-told2 .enum-told2 .given .1,
       at-if1 .if1 .taken,
-      found-more (wide (a .width)) (tiles (a .stretch .tiles)) _ _ (at-above .above .ensures) (at-below .below .ensures) (wide-some (a .width))
-          (at-if2 .if2 .left),
+      found-more (a .width) (tiles (a .stretch .tiles)) _ _ (at-above .above .ensures) (at-below .below .ensures) (at-if2 .if2 .left),
       at-edge .edge .ensures,
       c .edge2 .ensures,
-      at-times .times .ensures,
-      at-times2 .times2 .ensures,
+      at-within .within .ensures,
+      at-within2 .within2 .ensures,
     )
 
 returns-3 : tie.Need-returns-3
@@ -104,9 +94,9 @@ added-by-spec =
     above-requires
     below-requires
     returns
-    times-requires
+    within-requires
     edge-requires
-    times-requires-2
+    within-requires-2
     edge-requires-2
     add-t15
     returns-2

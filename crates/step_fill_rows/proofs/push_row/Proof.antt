@@ -2,7 +2,7 @@
 use Rattle.row.specs.Words.{words}
 use mathlib.Core.Path.{sym, _∙_}
 use Rattle.span.specs.Spans.{tiles}
-use Rattle.span.specs.Widths.{wide}
+use Rattle.sizes.specs.Widths.{bucket-tiles}
 use Rattle.row_acts.specs.Acts.{alpha-of}
 use Rattle.step_fill_rows.proofs.Laws.{drawn-once}
 use borrow.Author.Needs.{needs}
@@ -31,7 +31,7 @@ push-paint-requires c κs =
     let w = words (a .state .now) (a .render .now) (a .fills .now) in
     let one = sym (at-is-unsplit .is-unsplit .ensures) ∙ at-if2 .if2 .taken in (
       start .pre .0,
-      rw (drawn-once (wide (a .width)) (a .n) (tiles (a .span)) (a .attrs-idx) (a .draw-id) w (at-if1 .if1 .taken) (a .eligible) (alpha-of (a .alpha)) one) at
+      rw (drawn-once (bucket-tiles (a .width)) (a .n) (tiles (a .span)) (a .attrs-idx) (a .draw-id) w (at-if1 .if1 .taken) (a .eligible) (alpha-of (a .alpha)) one) at
           (start .pre .2),
     )
 
@@ -53,7 +53,7 @@ returns c =
     let at-args = at-if1 .before .before .before .before .before in
     let a = at-args .args in
     let one = sym (at-is-unsplit .is-unsplit .ensures) ∙ at-if2 .if2 .taken in
-    at-push-paint .push-paint .ensures ∙ sym (drawn-once (wide (a .width)) (a .n) (tiles (a .span)) (a .attrs-idx) (a .draw-id) _ (at-if1 .if1 .taken) (a .eligible) (alpha-of
+    at-push-paint .push-paint .ensures ∙ sym (drawn-once (bucket-tiles (a .width)) (a .n) (tiles (a .span)) (a .attrs-idx) (a .draw-id) _ (at-if1 .if1 .taken) (a .eligible) (alpha-of
     (a .alpha)) one)
 
 push-fill-requires : tie.Need-push-fill-requires

@@ -50,7 +50,7 @@ returns c =
     let at-place = at-placed .before .before in
     let at-segment-at = at-place .before in
     let at-args = at-segment-at .before .before .before .before .before in
-    sym (one-out (at-args .args .screen .layers - 1) (at-args .args .screen .«layer_attrs») _ _ _ _ (placed-at (at-args .args .scene)
+    sym (one-out _ (at-args .args .screen .layers - 1) (at-args .args .screen .«layer_attrs») _ _ _ _ (placed-at (at-args .args .scene)
     (at-placed .placed .given .1) (at-place .place .ensures) (at-segment-at .segment-at .ensures)) (touched-no (at-args .pre .0) _ _ _ (at-args .pre .1) _
     (c .before .is-touched .ensures) (at-wide .wide .ensures) (c .if1 .taken)))
 
@@ -63,7 +63,7 @@ close-at-requires c κs =
     let at-place = at-placed .before .before in
     let at-segment-at = at-place .before in
     let at-pre = at-segment-at .before .before .before .before .before in
-    rw (at-wide .wide .ensures) (clip-here (at-pre .pre .0) _ _ _ (at-pre .args .screen .layers - 1) (at-pre .args .screen .«layer_attrs») (at-pre .args .scene)
+    rw (at-wide .wide .ensures) (clip-here (at-pre .pre .0) _ _ _ _ (at-pre .args .screen .layers - 1) (at-pre .args .screen .«layer_attrs») (at-pre .args .scene)
     (seg-at (at-pre .args .list .now) (at-pre .args .i)) _ (at-pre .pre .1) (at-pre .pre .3) (at-pre .pre .4) (placed-at (at-pre .args .scene)
     (at-placed .placed .given .1) (at-place .place .ensures) (at-segment-at .segment-at .ensures)) (touched-yes (at-pre .pre .0) _ _ _ (at-pre .pre .1) _
     (at-is-touched .is-touched .ensures) (at-wide .wide .ensures) (at-if1 .if1 .left)) (at-pre .pre .5))
@@ -73,7 +73,7 @@ returns-2 c =
     let at-place = c .before .before in
     let at-segment-at = at-place .before in
     let at-args = at-segment-at .before .before .before .before .before in
-    sym (one-none (at-args .args .screen .layers - 1) (at-args .args .screen .«layer_attrs») _ _ _ (placed-at (at-args .args .scene) (c .enum-told .given .1)
+    sym (one-none _ (at-args .args .screen .layers - 1) (at-args .args .screen .«layer_attrs») _ _ _ (placed-at (at-args .args .scene) (c .enum-told .given .1)
     (at-place .place .ensures) (at-segment-at .segment-at .ensures)))
 
 same-length-2 : tie.Need-same-length-2
@@ -95,7 +95,7 @@ returns-3 c =
     let at-place = at-placed .before .before in
     let at-segment-at = at-place .before in
     let at-args = at-segment-at .before .before .before .before .before in
-    (rw (at-wide .wide .ensures) at (at-close-at .close-at .ensures)) ∙ sym (one-in (at-args .args .screen .layers - 1) (at-args .args .screen .«layer_attrs») _
+    (rw (at-wide .wide .ensures) at (at-close-at .close-at .ensures)) ∙ sym (one-in _ (at-args .args .screen .layers - 1) (at-args .args .screen .«layer_attrs») _
     _ _ _ (placed-at (at-args .args .scene) (at-placed .placed .given .1) (at-place .place .ensures) (at-segment-at .segment-at .ensures)) (touched-yes
     (at-args .pre .0) _ _ _ (at-args .pre .1) _ (at-is-touched .is-touched .ensures) (at-wide .wide .ensures) (at-if1 .if1 .left)))
 

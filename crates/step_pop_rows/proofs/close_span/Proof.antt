@@ -27,7 +27,7 @@ slice-read-if1 c = search needs
 returns : tie.Need-returns
 returns c =
     let at-pre = c .before .before .before .before .before .before in
-    act-other (at-pre .pre .0) _ _ (at-pre .pre .1) (c .if1 .taken) (at-pre .args .screen .layers - 1) (close (tiles (at-pre .args .span)) none
+    act-other (at-pre .pre .0) _ _ (at-pre .pre .1) (c .if1 .taken) _ (at-pre .args .screen .layers - 1) (close (tiles (at-pre .args .span)) none
     (at-pre .args .screen .«layer_attrs»))
 
 close-at-requires : tie.Need-close-at-requires
@@ -55,7 +55,7 @@ returns-2 c =
     let at-close-at = c .before .before .before .before .before .before in
     let at-if1 = at-close-at .before .before .before .before in
     let at-pre = at-if1 .before .before .before .before .before .before in
-    at-close-at .close-at .ensures ∙ close-here (at-pre .pre .0) _ _ (at-pre .pre .1) (at-if1 .if1 .left) (at-pre .args .screen .layers - 1) (tiles
+    at-close-at .close-at .ensures ∙ close-here (at-pre .pre .0) _ _ (at-pre .pre .1) (at-if1 .if1 .left) _ (at-pre .args .screen .layers - 1) (tiles
     (at-pre .args .span)) (at-pre .args .screen .«layer_attrs»)
 
 pub close-span-spec : {M : Type 1} → statement M

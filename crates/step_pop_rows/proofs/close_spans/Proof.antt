@@ -7,6 +7,7 @@ use borrow.Author.Needs.{needs}
 use Rattle.rules.specs.Plans.{close}
 use Rattle.span.specs.Spans.{tiles}
 use Rattle.screen.specs.Screens.{frame-of}
+use Rattle.sizes.specs.Widths.{bucket-tiles}
 use Rattle.row.specs.Words.{words}
 use Rattle.row_judge.specs.Building.{rows-at, Whole}
 use Rattle.step_pop_rows.specs.Closing.{Fillable}
@@ -21,7 +22,7 @@ use Rattle.step_pop_rows.proofs.close_span.Reads as close-span-reads
 abbrev Inv-loop : tie.InvT-loop
 Inv-loop screen rows₀ render₀ fills₀ a b span r₀ rows render fills r =
     Whole (frame-of screen) (words rows render fills) × Going (close (tiles span) none (screen .«layer_attrs»)) (Fillable (tiles span) none
-    (screen .«layer_attrs»)) (screen .layers - 1) (screen .layers) a b (rows-at (frame-of screen) (words rows₀ render₀ fills₀)) r (rows-at (frame-of screen)
+    (screen .«layer_attrs»)) (bucket-tiles (screen .width)) (screen .layers - 1) (screen .layers) a b (rows-at (frame-of screen) (words rows₀ render₀ fills₀)) r (rows-at (frame-of screen)
     (words rows render fills))
 
 abbrev μ-loop : tie.MeasureT-loop
@@ -32,7 +33,7 @@ loop-holds c =
     let at-pre = c .before .before .before in (
       at-pre .pre .0,
       going-start (close (tiles (at-pre .args .span)) none (at-pre .args .screen .«layer_attrs»)) (Fillable (tiles (at-pre .args .span)) none
-          (at-pre .args .screen .«layer_attrs»)) (at-pre .args .screen .layers - 1) _ _ _ _ (at-pre .pre .3),
+          (at-pre .args .screen .«layer_attrs»)) _ (at-pre .args .screen .layers - 1) _ _ _ _ (at-pre .pre .3),
     )
 
 close-span-requires : tie.Need-close-span-requires Inv-loop μ-loop

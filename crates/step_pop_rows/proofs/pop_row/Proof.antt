@@ -25,7 +25,7 @@ slice-read-if1 c = search needs
 returns : tie.Need-returns
 returns c =
     let at-pre = c .before .before .before .before .before .before in
-    act-other (at-pre .pre .0) _ _ (at-pre .pre .1) (c .if1 .taken) (at-pre .args .screen .layers - 1) pop
+    act-other (at-pre .pre .0) _ _ (at-pre .pre .1) (c .if1 .taken) _ (at-pre .args .screen .layers - 1) pop
 
 pop-at-requires : tie.Need-pop-at-requires
 pop-at-requires c κs =
@@ -47,7 +47,7 @@ returns-2 c =
     let at-pop-at = c .before .before .before .before .before .before in
     let at-if1 = at-pop-at .before .before .before .before in
     let at-pre = at-if1 .before .before .before .before .before .before in
-    at-pop-at .pop-at .ensures ∙ pop-here (at-pre .pre .0) _ _ (at-pre .pre .1) (at-if1 .if1 .left) (at-pre .args .screen .layers - 1)
+    at-pop-at .pop-at .ensures ∙ pop-here (at-pre .pre .0) _ _ (at-pre .pre .1) (at-if1 .if1 .left) _ (at-pre .args .screen .layers - 1)
 
 pub pop-row-spec : {M : Type 1} → statement M
 pop-row-spec =

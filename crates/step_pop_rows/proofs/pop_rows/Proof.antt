@@ -5,6 +5,7 @@ use native.Mathlib.Omega.{arith}
 use borrow.Author.Needs.{needs}
 use Rattle.rules.specs.Plans.{pop}
 use Rattle.screen.specs.Screens.{frame-of}
+use Rattle.sizes.specs.Widths.{bucket-tiles}
 use Rattle.row.specs.Words.{words}
 use Rattle.row_judge.specs.Building.{rows-at, Whole}
 use Rattle.step_pop_rows.specs.Closing.{Poppable}
@@ -17,7 +18,7 @@ use Rattle.step_pop_rows.proofs.pop_rows.Lts as lts
 use Rattle.step_pop_rows.proofs.pop_row.Reads as pop-row-reads
 
 abbrev Inv-loop : tie.InvT-loop
-Inv-loop screen rows₀ render₀ fills₀ a b r₀ rows render fills r = Whole (frame-of screen) (words rows render fills) × Going pop Poppable (screen .layers - 1) (screen .layers) a b (rows-at (frame-of screen) (words rows₀ render₀ fills₀)) r (rows-at (frame-of screen) (words rows render fills))
+Inv-loop screen rows₀ render₀ fills₀ a b r₀ rows render fills r = Whole (frame-of screen) (words rows render fills) × Going pop Poppable (bucket-tiles (screen .width)) (screen .layers - 1) (screen .layers) a b (rows-at (frame-of screen) (words rows₀ render₀ fills₀)) r (rows-at (frame-of screen) (words rows render fills))
 
 abbrev μ-loop : tie.MeasureT-loop
 μ-loop screen rows₀ render₀ fills₀ a b r₀ rows render fills r = b - r
@@ -25,7 +26,7 @@ abbrev μ-loop : tie.MeasureT-loop
 loop-holds : tie.Need-loop-holds Inv-loop μ-loop
 loop-holds c =
     let at-pre = c .before .before .before in
-    (at-pre .pre .0, going-start pop Poppable (at-pre .args .screen .layers - 1) _ _ _ _ (at-pre .pre .2))
+    (at-pre .pre .0, going-start pop Poppable _ (at-pre .args .screen .layers - 1) _ _ _ _ (at-pre .pre .2))
 
 pop-row-requires : tie.Need-pop-row-requires Inv-loop μ-loop
 pop-row-requires c κs =

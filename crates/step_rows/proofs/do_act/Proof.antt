@@ -1,9 +1,5 @@
 -- By the act's case, one call does it.
-use mathlib.Core.Path.{sym, _∙_}
-use Rattle.span.specs.Spans.{tiles}
-use Rattle.row_acts.proofs.Laws.{touch-is, paint-is}
 use borrow.Author.Needs.{needs}
-use Rattle.step_rows.proofs.Laws.{touch-room, paint-room}
 use Rattle.step_rows.proofs.do_act.Statement.{statement}
 use Rattle.step_rows.proofs.do_act.Tie as tie
 
@@ -15,7 +11,7 @@ ensure-row-layers-requires c κs =
     let at-enum-told = c .before .before .before in
     let back = at-enum-told .before .before .before .before .before in
     let start = back in
-    (start .pre .1, touch-room _ _ (rw (at-enum-told .enum-told .given .1) at (start .pre .2)))
+    (start .pre .1, rw (at-enum-told .enum-told .given .1) at (start .pre .2))
 
 enum-known-act : tie.Need-enum-known-act
 enum-known-act c = search needs
@@ -26,7 +22,7 @@ push-plain-requires c κs =
     let back = at-act .before .before .before .before .before in
     let start = back in
     let told = at-act .act .given .1 in
-    (rw told at (start .pre .0), start .pre .1, paint-room _ _ _ _ (rw told at (start .pre .2)))
+    (rw told at (start .pre .0), start .pre .1, rw told at (start .pre .2))
 
 same-length : tie.Need-same-length
 same-length c = search needs
@@ -41,7 +37,7 @@ returns : tie.Need-returns
 returns c =
     let at-ensure-row-layers = c .before .before .before .before .before .before in
     let at-enum-told = at-ensure-row-layers .before .before .before .before in
-    rw (at-enum-told .enum-told .given .1) (at-ensure-row-layers .ensure-row-layers .ensures ∙ sym (touch-is _ _ _))
+    rw (at-enum-told .enum-told .given .1) (at-ensure-row-layers .ensure-row-layers .ensures)
 
 same-length-4 : tie.Need-same-length-4
 same-length-4 c = search needs
@@ -56,7 +52,7 @@ returns-2 : tie.Need-returns-2
 returns-2 c =
     let at-push-plain = c .before .before .before .before .before .before in
     let at-act = at-push-plain .before .before .before .before .before in
-    rw (at-act .act .given .1) (at-push-plain .push-plain .ensures ∙ sym (paint-is _ _ _ _ _ 0))
+    rw (at-act .act .given .1) (at-push-plain .push-plain .ensures)
 
 pub do-act-spec : {M : Type 1} → statement M
 do-act-spec =

@@ -1,9 +1,11 @@
 -- Row r stands where `place_of` says, so the three parts lie within the slices, are row r as they are lent, and come back as row r.
+use mathlib.Core.Path.{sym, _∙_}
+use Rattle.sizes.specs.Widths.{bucket-tiles}
 use Rattle.row_screen.proofs.Laws.{y-end, z-end, roomy, back}
 use Rattle.row_acts.specs.Acts.{acted}
 use Rattle.step_rows.specs.Band.{act-of}
 use borrow.Author.Needs.{needs}
-use Rattle.step_rows.proofs.Laws.{act-grows}
+use Rattle.step_rows.proofs.Laws.{act-grows, act-on-is}
 use Rattle.step_rows.proofs.on_row.Statement.{statement}
 use Rattle.step_rows.proofs.on_row.Tie as tie
 
@@ -23,7 +25,9 @@ do-act-requires c κs =
     let back = at-place-of .before .before .before .before in
     let start = back in
     let o = start .pre .1 in
-    (start .pre .0, o .layers, roomy (o .whole) (o .within) (at-place-of .place-of .ensures) (acted 32 (start .args .n) (act-of (start .args .act))) (o .room))
+    let a = start .args .act in
+    let f = acted (bucket-tiles (start .args .screen .width)) (start .args .n) (act-of a) in
+    (start .pre .0, o .layers, rw (act-on-is _ _ a _) at (roomy (o .whole) (o .within) (at-place-of .place-of .ensures) f (o .room)))
 
 returns : tie.Need-returns
 returns c =
@@ -33,9 +37,10 @@ returns c =
     let start = back-2 in
     let o = start .pre .1 in
     let s = at-place-of .place-of .ensures in
-    let a = act-of (start .args .act) in
-    let f = acted 32 (start .args .n) a in
-    back (o .whole) (o .within) s f _ _ _ (act-grows (start .args .n) a _ (o .layers) (roomy (o .whole) (o .within) s f (o .room))) (at-do-act .do-act .ensures)
+    let a = start .args .act in
+    let f = acted (bucket-tiles (start .args .screen .width)) (start .args .n) (act-of a) in
+    back (o .whole) (o .within) s f _ _ _ (act-grows _ (start .args .n) (act-of a) _ (o .layers) (roomy (o .whole) (o .within) s f (o .room)))
+    (at-do-act .do-act .ensures ∙ sym (act-on-is _ _ a _))
 
 pub on-row-spec : {M : Type 1} → statement M
 on-row-spec =

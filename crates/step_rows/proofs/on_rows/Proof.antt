@@ -3,6 +3,7 @@ use borrow.Author.Needs.{needs}
 use mathlib.Core.Path.{sym, _∙_}
 use Prim.Native.Nat.{_-_}
 use native.Mathlib.Omega.{arith}
+use Rattle.sizes.specs.Widths.{bucket-tiles}
 use Rattle.row.specs.Words.{words}
 use Rattle.row_acts.specs.Acts.{acted}
 use Rattle.step_rows.specs.Band.{act-of}
@@ -11,7 +12,7 @@ use Rattle.step_rows.proofs.on_rows.Statement.{statement}
 use Rattle.step_rows.proofs.on_rows.Tie as tie
 
 abbrev Inv-loop : tie.InvT-loop
-Inv-loop screen rows₀ render₀ fills₀ a b n act r₀ rows render fills r = Banding screen n (acted 32 n (act-of act)) a b (words rows₀ render₀ fills₀) r (words rows render fills)
+Inv-loop screen rows₀ render₀ fills₀ a b n act r₀ rows render fills r = Banding screen n (acted (bucket-tiles (screen .width)) n (act-of act)) a b (words rows₀ render₀ fills₀) r (words rows render fills)
 
 abbrev μ-loop : tie.MeasureT-loop
 μ-loop screen rows₀ render₀ fills₀ a b n act r₀ rows render fills r = b - r

@@ -1,9 +1,7 @@
 -- After its layers the row has room for the command.
-use mathlib.Core.Bool.{false}
-use mathlib.Core.Option.{none}
-use Rattle.span.specs.Spans.{tiles}
-use Rattle.row_acts.proofs.Laws.{first-room, layers-then, drawn-plain}
+use Rattle.row_acts.proofs.Laws.{layers-then}
 use borrow.Author.Needs.{needs}
+use Rattle.step_rows.proofs.Laws.{layers-room}
 use Rattle.step_rows.proofs.push_plain.Statement.{statement}
 use Rattle.step_rows.proofs.push_plain.Tie as tie
 use Rattle.step_rows.proofs.push_plain.Reads as reads
@@ -14,8 +12,7 @@ use Rattle.row.proofs.push_paint.Reads as push-paint-reads
 ensure-row-layers-requires : tie.Need-ensure-row-layers-requires
 ensure-row-layers-requires c κs =
     let start = c .before .before .before .before .before .before in
-    let room = start .pre .2 in
-    (start .pre .1, first-room _ _ _ 0 (tiles (start .args .span)) _ (room .state) (room .levels) (start .pre .1) false none room)
+    (start .pre .1, layers-room _ _ _ (start .pre .1) (start .pre .2))
 
 push-paint-requires : tie.Need-push-paint-requires
 push-paint-requires c κs =
@@ -23,7 +20,7 @@ push-paint-requires c κs =
     let back = at-ensure-row-layers .before .before .before .before .before .before .before in
     let start = back in
     let layered = at-ensure-row-layers .ensure-row-layers .ensures in
-    (start .pre .0, rw (← layered) at (layers-then _ (start .pre .1) layered (rw drawn-plain at (start .pre .2))))
+    (start .pre .0, rw (← layered) at (layers-then _ (start .pre .1) layered (start .pre .2)))
 
 same-length : tie.Need-same-length
 same-length c = search needs
@@ -38,7 +35,7 @@ returns : tie.Need-returns
 returns c =
     let at-push-paint = c .before .before .before .before .before .before in
     let at-ensure-row-layers = at-push-paint .before .before .before .before .before .before .before .before .before .before in
-    rw (drawn-plain, ← at-ensure-row-layers .ensure-row-layers .ensures) (at-push-paint .push-paint .ensures)
+    rw (← at-ensure-row-layers .ensure-row-layers .ensures) (at-push-paint .push-paint .ensures)
 
 pub push-plain-spec : {M : Type 1} → statement M
 push-plain-spec =

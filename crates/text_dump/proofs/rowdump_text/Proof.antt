@@ -2,6 +2,7 @@
 use native.Mathlib.Omega.{arith}
 use lib.ListN.{length-take, length-drop}
 use Rattle.screen.specs.Screens.{setup-of}
+use Rattle.text_dump.specs.Rowdump.{file-lines-text}
 use Rattle.text_dump.proofs.Files.{line-first, whole-text}
 use Rattle.text_dump.proofs.rowdump_text.Statement.{statement}
 use Rattle.text_dump.proofs.rowdump_text.Tie as tie
@@ -48,7 +49,8 @@ returns c =
     let at-put = c .before .before .before .before .before .before in
     let entry = at-put .before .before .before .before in
     let line = line-first (entry .args .i) (entry .args .out .now) (omega (arith, entry .pre .1)) (at-put .put-recording .ensures) in
-    whole-text (setup-of (entry .args .setup)) (entry .args .i) (entry .args .file .now) (entry .args .out .now) (line .0) (line .1) (c .before .before .recording-text .ensures) (omega (arith, c .before .before .before .before .before .out .given))
+    whole-text (entry .args .i) (file-lines-text (setup-of (entry .args .setup)) (entry .args .file .now)) (entry .args .out .now) (line .0) (line .1)
+    (c .before .before .recording-text .ensures .count) (c .before .before .recording-text .ensures .bytes) (omega (arith, c .before .before .before .before .before .out .given))
 
 pub rowdump-text-spec : {M : Type 1} → statement M
 rowdump-text-spec =

@@ -1,7 +1,12 @@
 -- 2, 1 or 4 of the screen and the lengths comes first, then 4 of a row.
 use Rattle.text_screen.proofs.Judging.{by-screen, by-rows, by-none, whole}
 use Rattle.text_screen.proofs.Runs.{not-true, not-false}
+use Rattle.rules.specs.Boxes.{width}
+use Rattle.rules.proofs.laws.Widths.{above-small}
+use Rattle.rect.specs.Rects.{box-of}
 use Rattle.row.specs.Words.{words}
+use Prim.Native.Nat.{_/_}
+use native.Mathlib.Omega.{arith}
 use mathlib.Core.Path.{sym, _∙_}
 use borrow.Author.Needs.{needs}
 use Rattle.text_screen.proofs.judge_list.Statement.{statement}
@@ -20,7 +25,9 @@ buckets-requires : tie.Need-buckets-requires
 buckets-requires c κs = search needs
 
 cast-buckets : tie.Need-cast-buckets
-cast-buckets c = search needs
+cast-buckets c =
+    let screen = c .before .before .before .before .before .before .before .args .screen in
+    omega (arith, c .buckets .ensures, above-small (screen .width) (width (box-of (screen .viewport)) / 4))
 
 judge-rows-requires : tie.Need-judge-rows-requires
 judge-rows-requires c κs =

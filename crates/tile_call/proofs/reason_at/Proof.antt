@@ -19,7 +19,7 @@ returns c =
     let at-tale = c .before .before .before in
     let entry = at-tale .before .before .before in
     let args = entry .args in
-    λ (t : Tables). story-refused (recorded (args .l) (args .w .now)) (box-of (args .viewport)) (args .row) (args .tile) (asked-of (args .asked)) (lent (args .screen) t) _ _ (at-tale .tell-tile .ensures .0) (c .if1 .taken)
+    λ (t : Tables). story-refused _ (recorded (args .l) (args .w .now)) (box-of (args .viewport)) (args .row) (args .tile) (asked-of (args .asked)) (lent (args .screen) t) _ _ (at-tale .tell-tile .ensures .0) (c .if1 .taken)
 
 add-wide : tie.Need-add-wide
 add-wide c = search needs
@@ -40,7 +40,7 @@ returns-2 c =
     let at-tale = at-if1 .before .before .before in
     let entry = at-tale .before .before .before in
     let args = entry .args in
-    λ (t : Tables). story-told (recorded (args .l) (args .w .now)) (box-of (args .viewport)) (args .row) (args .tile) (asked-of (args .asked)) (lent (args .screen) t) _ _ (at-tale .tell-tile .ensures .0) (at-if1 .if1 .left) _
+    λ (t : Tables). story-told _ (recorded (args .l) (args .w .now)) (box-of (args .viewport)) (args .row) (args .tile) (asked-of (args .asked)) (lent (args .screen) t) _ _ (at-tale .tell-tile .ensures .0) (at-if1 .if1 .left) _
     (rw (at-wide .wide .ensures) at (c .reason-of .ensures))
 
 pub reason-at-spec : {M : Type 1} → statement M

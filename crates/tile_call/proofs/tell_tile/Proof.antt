@@ -44,7 +44,7 @@ tell-nodes-requires c κs =
     let args = entry .args in
     let from = root (args .w .now) (args .l) (entry .pre .0) in
     rw (at-tiles .tiles .ensures) (
-      ready-at (args .viewport) (entry .pre .1) _ (at-whole .whole .ensures) (args .w .now) (args .l) (args .row) (args .tile) (args .lines .now) (entry .pre .0) (entry .pre .2) (entry .pre .3),
+      ready-at (args .viewport) (entry .pre .1) _ (at-whole .whole .ensures) (args .width) (args .w .now) (args .l) (args .row) (args .tile) (args .lines .now) (entry .pre .0) (entry .pre .2) (entry .pre .3),
       omega arith,
       omega (arith, at-wide .wide .ensures, at-wide2 .wide2 .ensures, from .0),
       omega (arith, at-wide2 .wide2 .ensures, from .1),
@@ -62,7 +62,7 @@ returns c =
     let at-wide = at-wide2 .before .before in
     let entry = at-wide .before .before .before .before .before in
     let args = entry .args in (
-      all-told (args .w .now) (args .l) (box-of (args .viewport)) (args .row) (args .tile) _ _ _ (at-wide .wide .ensures) (at-wide2 .wide2 .ensures) _ _
+      all-told (args .w .now) (args .l) _ (box-of (args .viewport)) (args .row) (args .tile) _ _ _ (at-wide .wide .ensures) (at-wide2 .wide2 .ensures) _ _
           (rw (at-tiles .tiles .ensures) at (at-nodes .tell-nodes .ensures .0 [] (holds-nothing (args .viewport) (entry .pre .1) _ (at-whole .whole .ensures)))),
       at-nodes .tell-nodes .ensures .1,
     )

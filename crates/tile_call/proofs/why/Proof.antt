@@ -18,7 +18,9 @@ explain-requires c κs =
     record { before = old; after = left; same = at-recording .bucket-recording .ensures }
 
 same-length : tie.Need-same-length
-same-length c = search needs
+same-length c =
+    let at-recording = c .before .before .before .before .before .before .before .before .before .before .before .before .before .before .before .before .before .before .before .before in
+    at-recording .bucket-recording .kept .1 .1 .1 .0
 
 same-length-2 : tie.Need-same-length-2
 same-length-2 c = search needs

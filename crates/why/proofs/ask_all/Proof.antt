@@ -6,10 +6,10 @@ use Rattle.why.proofs.ask_all.Statement.{statement}
 use Rattle.why.proofs.ask_all.Tie as tie
 
 abbrev Inv-loop : tie.InvT-loop
-Inv-loop setup i₀ i = i ≤ 18446744073709551615
+Inv-loop want i₀ i = i ≤ 18446744073709551615
 
 abbrev μ-loop : tie.MeasureT-loop
-μ-loop setup i₀ i = 18446744073709551615 - i
+μ-loop want i₀ i = 18446744073709551615 - i
 
 loop-holds : tie.Need-loop-holds Inv-loop μ-loop
 loop-holds c = omega arith

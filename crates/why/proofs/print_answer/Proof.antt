@@ -9,17 +9,17 @@ use Rattle.why.proofs.print_answer.Tie as tie
 text-buffer-requires : tie.Need-text-buffer-requires
 text-buffer-requires c κs = search needs
 
-slice-aggregate-why-text : tie.Need-slice-aggregate-why-text
-slice-aggregate-why-text c = search needs
+slice-aggregate-wanted-text : tie.Need-slice-aggregate-wanted-text
+slice-aggregate-wanted-text c = search needs
 
-why-text-requires : tie.Need-why-text-requires
-why-text-requires c κs = search needs
+wanted-text-requires : tie.Need-wanted-text-requires
+wanted-text-requires c κs = search needs
 
 array-share-prefix-out : tie.Need-array-share-prefix-out
-array-share-prefix-out c = taken-fits _ _ _ (c .before .why-text .ensures .0) (c .before .why-text .ensures .1)
+array-share-prefix-out c = taken-fits _ _ _ (c .before .wanted-text .ensures .0) (c .before .wanted-text .ensures .1)
 
 slice-aggregate-print : tie.Need-slice-aggregate-print
-slice-aggregate-print c = sym (length-take-le _ _ (taken-fits _ _ _ (c .before .before .why-text .ensures .0) (c .before .before .why-text .ensures .1)))
+slice-aggregate-print c = sym (length-take-le _ _ (taken-fits _ _ _ (c .before .before .wanted-text .ensures .0) (c .before .before .wanted-text .ensures .1)))
 
 print-requires : tie.Need-print-requires
 print-requires c κs = search needs
@@ -32,8 +32,8 @@ print-answer-spec =
     tie.close
     (tie.spec
     text-buffer-requires
-    slice-aggregate-why-text
-    why-text-requires
+    slice-aggregate-wanted-text
+    wanted-text-requires
     array-share-prefix-out
     slice-aggregate-print
     print-requires

@@ -1,8 +1,8 @@
 use mathlib.Core.Path.{sym, _∙_}
 use borrow.Author.Needs.{needs}
 use Rattle.span.specs.Spans.{tiles}
-use Rattle.span.specs.Widths.{wide}
-use Rattle.span.proofs.Widths.{wide-most}
+use Rattle.sizes.specs.Widths.{bucket-tiles}
+use Rattle.rules.proofs.laws.Widths.{bucket-most}
 use Rattle.depth.proofs.Answering.{room-for, met-within, met-small, tiles-backward, tiles-past, tiles-short, tiles-done}
 use Rattle.depth.proofs.runs.visible_runs.Statement.{statement}
 use Rattle.depth.proofs.runs.visible_runs.Tie as tie
@@ -25,7 +25,7 @@ met-end-requires c κs = search needs
 is-short-requires : tie.Need-is-short-requires
 is-short-requires c κs =
     let at-args = c .before .before .before .before .before .before .before .before in
-    rw (c .met-end .ensures) (met-within (wide (at-args .args .width)) _ (tiles (at-args .args .span)))
+    rw (c .met-end .ensures) (met-within (bucket-tiles (at-args .args .width)) _ (tiles (at-args .args .span)))
 
 returns-3 : tie.Need-returns-3
 returns-3 c =
@@ -51,9 +51,9 @@ list-runs-requires c κs =
     let at-args = at-if2 .before .before .before .before .before .before in
     let width = at-args .args .width in
     let s = tiles (at-args .args .span) in (
-      rw (at-met-end .met-end .ensures) (met-within (wide width) _ s),
+      rw (at-met-end .met-end .ensures) (met-within (bucket-tiles width) _ s),
       (
-        rw (at-met-end .met-end .ensures, at-tiles .tiles .ensures) (met-small (wide width) _ s (wide-most width) (at-if2 .if2 .left)),
+        rw (at-met-end .met-end .ensures, at-tiles .tiles .ensures) (met-small (bucket-tiles width) _ s (bucket-most width) (at-if2 .if2 .left)),
         room-for _ _ (sym (at-tiles .before .if3 .left) ∙ at-is-short .is-short .ensures),
       ),
     )

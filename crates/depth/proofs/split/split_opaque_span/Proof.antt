@@ -2,7 +2,7 @@ use native.Mathlib.Omega.{arith}
 use borrow.Author.Tests.{lt-leb, le-leb}
 use borrow.Author.Needs.{needs}
 use Rattle.rules.specs.Split.{split-answer}
-use Rattle.span.proofs.Widths.{wide-some, above-small, below-small}
+use Rattle.rules.proofs.laws.Widths.{bucket-some, above-small, below-small}
 use Rattle.depth.proofs.Splitting.{in-one, in-three}
 use Rattle.depth.proofs.split.split_opaque_span.Statement.{statement}
 use Rattle.depth.proofs.split.split_opaque_span.Tie as tie
@@ -25,7 +25,7 @@ returns-3 : tie.Need-returns-3
 returns-3 c =
     let at-above = c .before .before in
     let at-if1 = at-above .before .before in
-    in-one _ (wide-some (at-if1 .before .args .width)) _ (at-if1 .if1 .left) (at-above .before .if2 .left) _ _ (at-above .above .ensures)
+    in-one _ (bucket-some (at-if1 .before .args .width)) _ (at-if1 .if1 .left) (at-above .before .if2 .left) _ _ (at-above .above .ensures)
     (c .before .below .ensures) (c .if3 .taken)
 
 times-requires : tie.Need-times-requires
@@ -49,7 +49,7 @@ returns-4 c =
     let at-if3 = c .before .before .before .before in
     let at-above = at-if3 .before .before in
     let at-if1 = at-above .before .before in
-    in-three _ (wide-some (at-if1 .before .args .width)) _ (at-if1 .if1 .left) (at-above .before .if2 .left) _ _ (at-above .above .ensures)
+    in-three _ (bucket-some (at-if1 .before .args .width)) _ (at-if1 .if1 .left) (at-above .before .if2 .left) _ _ (at-above .above .ensures)
     (at-if3 .before .below .ensures) _ _ (at-if3 .if3 .left) (rw (c .before .before .before .times .ensures) at (c .before .before .piece .ensures))
     (rw (c .before .times2 .ensures) at (c .piece2 .ensures))
 

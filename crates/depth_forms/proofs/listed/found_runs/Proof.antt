@@ -12,10 +12,10 @@ visible-runs-requires : tie.Need-visible-runs-requires
 visible-runs-requires c κs = search needs
 
 returns : tie.Need-returns
-returns c = (found-short _ _ _ _ _ _ _ (c .before .before .visible-runs .ensures) (c .if1 .taken), refl)
+returns c = (found-short (c .before .before .before .before .before .args .width) _ _ _ _ _ _ _ (c .before .before .visible-runs .ensures) (c .if1 .taken), refl)
 
 returns-2 : tie.Need-returns-2
-returns-2 c = (found-kept _ _ _ _ _ _ _ (c .before .before .visible-runs .ensures) (c .if1 .left), refl)
+returns-2 c = (found-kept (c .before .before .before .before .before .args .width) _ _ _ _ _ _ _ (c .before .before .visible-runs .ensures) (c .if1 .left), refl)
 
 pub found-runs-spec : {M : Type 1} → statement M
 found-runs-spec = tie.close (tie.spec slice-aggregate-visible-runs visible-runs-requires returns returns-2)

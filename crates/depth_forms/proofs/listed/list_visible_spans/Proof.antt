@@ -35,6 +35,7 @@ use denote.Lend.{lends-shr-slice}
 use denote.Signature.{plain}
 use denote.Builtin.{u32, usize, unit}
 use denote.Struct.Laws as LL
+use denote.Enum.Laws as EL
 use denote.Struct.Steps.{spelt}
 use denote.Steps.{only, nothing, owned, peeks, heard}
 use denote.Triple.Statement.{Contract, Triple}
@@ -44,6 +45,11 @@ use denote.Triple.Spec.{Meets, tripleOf}
 use denote.Triple.Clauses.{Lasts, ensured, lasts}
 use denote.Triple.Table.{entered, cited}
 use denote.Triple.Walked.{says, Stays, stay-none-slice, stay-none, gave-slice, walkOf, AllGo, Walks, ends-at, walked, goes-none-slice, goes-none, goes-gave-slice, walk-meets}
+use Rattle.sizes.specs.Sizes.{bucket-end}
+use Rattle.sizes.specs.declared.width.Width.{Width}
+use Rattle.sizes.specs.Widths.{bucket-tiles}
+use Rattle.sizes.proofs.width.Width as S
+use Rattle.sizes.proofs.width.Width.Laws as S′
 use Rattle.rules.specs.Depth.{visible-answer}
 use Rattle.span.specs.Spans.{tiles}
 use Rattle.span.specs.declared.TileSpan.{TileSpan}
@@ -74,13 +80,16 @@ use Rattle.depth_forms.proofs.listed.list_visible_spans.Statement as st
 use Rattle.depth_forms.proofs.listed.list_visible_spans.Code as code
 
 abbrev stayed : Stays (outer.ended .signature .params) (outer.ended .kept)
-stayed = (stay-none-slice (0 ∷ []) tt (plain (λ _. u32)) yes, (stay-none (λ _. T.the-row) yes, (stay-none (λ _. u32) yes, (gave-slice (1 ∷ []) tt (plain (λ _. T.the-row)), tt))))
+stayed = (stay-none-slice (0 ∷ []) tt (plain (λ _. u32)) yes, (stay-none (λ _. T.the-row) yes, (stay-none (λ _. u32) yes, (gave-slice (1 ∷ []) tt (plain (λ _. T.the-row)), (stay-none (λ _. S.the-row) yes, tt)))))
 
 abbrev span-val : TileSpan → Val
 span-val s = vstruct (vcons (vint w32 (s .first)) (vcons (vint w32 (s .end)) vnil))
 
 abbrev runs-val : Runs → Val
 runs-val r = R′.lowered r
+
+abbrev width-val : Width → Val
+width-val g = EL.val S.the-type S′.the-laws g
 
 -- what is known of each field of what is found
 module _ (f : Found) (v : Val) (is : Is F.the-row f (v ∷ [])) where
@@ -93,7 +102,7 @@ module _ (f : Found) (v : Val) (is : Is F.the-row f (v ∷ [])) where
   its-words : Is words-row (f .words) (words-val (f .words) ∷ [])
   its-words = subst (λ (ws : List ℕ). Is words-row ws (words-val ws ∷ [])) (same (f .words)) (LL.owed F.the-type F′.the-laws f _ is .1 .1 .0)
 
-  all-words : length (f .words) ≡ 256
+  all-words : length (f .words) ≡ bucket-end
   all-words = its-words .1 .0 .1
 
 module _ {M : Type 1} (𝓤 : URA M) (H : Heap 𝓤) (A : Atoms 𝓤) (at-mem : Memory → SProp 𝓤) (run : Routine → Fun 𝓤) where
@@ -105,18 +114,18 @@ module _ {M : Type 1} (𝓤 : URA M) (H : Heap 𝓤) (A : Atoms 𝓤) (at-mem : 
   Writer = tripleOf 𝓤 H A writer.signature (writer.spec 𝓤 H A at-mem run)
 
 module _ {M : Type 1} (𝓤 : URA M) (H : Heap 𝓤) (A : Atoms 𝓤) (W : Given 𝓤 H A) (at-mem : Memory → SProp 𝓤) (run : Routine → Fun 𝓤) (κ κ₂ : Lft) (q q₂ : Share)
-    (b o : ℕ) (γ : GName) (bs : List ℕ) (s : TileSpan) (i : ℕ) (b₂ o₂ : ℕ) (γ₂ : GName) (ys : List TileSpan) where
+    (b o : ℕ) (γ : GName) (bs : List ℕ) (s : TileSpan) (i : ℕ) (b₂ o₂ : ℕ) (γ₂ : GName) (ys : List TileSpan) (g : Width) where
   abbrev d : RefT (List ℕ)
   d = record { ptr = (b, o); name = γ; now = bs }
 
   abbrev list : RefT (List TileSpan)
   list = record { ptr = (b₂, o₂); name = γ₂; now = ys }
 
-  abbrev x : RefT (List ℕ) × (TileSpan × (ℕ × (RefT (List TileSpan) × Unit {0})))
-  x = (d, (s, (i, (list, tt))))
+  abbrev x : RefT (List ℕ) × (TileSpan × (ℕ × (RefT (List TileSpan) × (Width × Unit {0}))))
+  x = (d, (s, (i, (list, (g, tt)))))
 
   abbrev at : Vals outer.signature (κ, (κ₂, tt))
-  at = (sliceVal (b, o) (length bs) ∷ [], (span-val s ∷ [], (vint w32 i ∷ [], (sliceVal (b₂, o₂) (length ys) ∷ [], tt))))
+  at = (sliceVal (b, o) (length bs) ∷ [], (span-val s ∷ [], (vint w32 i ∷ [], (sliceVal (b₂, o₂) (length ys) ∷ [], (width-val g ∷ [], tt)))))
 
   abbrev bound : walkOf 𝓤 H A outer.ended stayed (outer.clauses 𝓤 H A at-mem run) .Ghost
   bound = (((κ, (κ₂, tt)), (q, (q₂, tt)), tt, x, at), tt)
@@ -131,14 +140,14 @@ module _ {M : Type 1} (𝓤 : URA M) (H : Heap 𝓤) (A : Atoms 𝓤) (W : Given
   List-own = MutSlice (named 1) κ₂ T.the-row .own list (sliceVal (b₂, o₂) (length ys) ∷ [])
 
   -- what `found_runs` is passed, and what it promises
-  abbrev asks : RefT (List ℕ) × (TileSpan × (ℕ × (ℕ × Unit {0})))
-  asks = (d, (s, (i, (length ys, tt))))
+  abbrev asks : RefT (List ℕ) × (TileSpan × (ℕ × (ℕ × (Width × Unit {0}))))
+  asks = (d, (s, (i, (length ys, (g, tt)))))
 
   abbrev to-finder : Finder 𝓤 H A at-mem run .Ghost
-  to-finder = (((κ, tt), (q, tt), tt, asks, (sliceVal (b, o) (length bs) ∷ [], (span-val s ∷ [], (vint w32 i ∷ [], (vint w64 (length ys) ∷ [], tt))))), tt)
+  to-finder = (((κ, tt), (q, tt), tt, asks, (sliceVal (b, o) (length bs) ∷ [], (span-val s ∷ [], (vint w32 i ∷ [], (vint w64 (length ys) ∷ [], (width-val g ∷ [], tt)))))), tt)
 
   abbrev FoundThere : Found → Type 0
-  FoundThere f = (words.out (f .runs) (f .words) ≡ words.listing (visible-answer 32 bs i (tiles s) (length ys)) (replicate 256 0)) × (f .count ≡ counted (f .runs))
+  FoundThere f = (words.out (f .runs) (f .words) ≡ words.listing (visible-answer (bucket-tiles g) bs i (tiles s) (length ys)) (replicate bucket-end 0)) × (f .count ≡ counted (f .runs))
 
   said : (f : Found) → ent 𝓤 (ensured 𝓤 H A finder.ended (finder.clauses 𝓤 H A at-mem run) (κ, tt) asks tt f) (fact 𝓤 (FoundThere f))
   said f = exE 𝓤 _ (λ es. snd∗ 𝓤 (sem 𝓤 H A (lasts finder.ended (κ, tt) asks es)) (fact 𝓤 (FoundThere f)))
@@ -159,123 +168,126 @@ module _ {M : Type 1} (𝓤 : URA M) (H : Heap 𝓤) (A : Atoms 𝓤) (W : Given
   abbrev Written : Found → List TileSpan → Type 0
   Written f zs = zs ≡ with-spans (f .words) (f .count) ys
 
-  room : length (visible-answer 32 bs i (tiles s) (length ys) .value) ≤ length ys
-  room = in-room 32 bs i (tiles s) (length ys)
+  room : length (visible-answer (bucket-tiles g) bs i (tiles s) (length ys) .value) ≤ length ys
+  room = in-room (bucket-tiles g) bs i (tiles s) (length ys)
 
   abbrev Listed : Runs → List TileSpan → Type 0
-  Listed r zs = out r zs ≡ listing (visible-answer 32 bs i (tiles s) (length ys)) ys
+  Listed r zs = out r zs ≡ listing (visible-answer (bucket-tiles g) bs i (tiles s) (length ys)) ys
 
   listed : (f : Found) (zs : List TileSpan) → FoundThere f → Written f zs → Listed (f .runs) zs
   listed f zs p w = rw w (found-written (f .words) _ _ ys (f .count) room (f .runs) (p .0) (p .1))
 
-  module _ (gb : length bs < 2 ^ 64) (gs : Is T.the-row s (span-val s ∷ [])) (gi : i < 2 ^ 32) (gn : Room T.the-row (length ys)) where
+  module _ (gb : length bs < 2 ^ 64) (gs : Is T.the-row s (span-val s ∷ [])) (gi : i < 2 ^ 32) (gn : Room T.the-row (length ys)) (gw : Is S.the-row g (width-val g ∷ [])) where
     exits : (r : Runs) (zs : List TileSpan) → Is R.the-row r (runs-val r ∷ []) → length zs ≡ length ys → Listed r zs
         → ent 𝓤 (⋆ 𝓤 H A (‵ (finally T.the-row γ₂ zs) ∷ ‵ (flft κ q) ∷ ‵ (flft κ₂ q₂) ∷ ‵ Depth ∷ [])) (Post (runs-val r))
     exits r zs is l p =
         qed W (‵ (finally T.the-row γ₂ zs) ∷ ‵ (flft κ q) ∷ ‵ (flft κ₂ q₂) ∷ ‵ Depth ∷ []) ∵
-        suffices ! _ (ends-at 𝓤 H A outer.ended stayed (outer.clauses 𝓤 H A at-mem run) W bound (runs-val r) r (tt, (tt, (tt, (zs, tt)))) (tt, (tt, (tt, (l, tt))))) $ says ! p $
-        nothing ! $ move ! (1 ∷ 0 ∷ []) $ fjoin ! $ owned ! u32 (Is u32) (uint-makes 𝓤 H A W w32) i _ (refl, gi) $ fjoin ! $
+        suffices ! _ (ends-at 𝓤 H A outer.ended stayed (outer.clauses 𝓤 H A at-mem run) W bound (runs-val r) r (tt, (tt, (tt, (zs, (tt, tt))))) (tt, (tt, (tt, (l, (tt, tt)))))) $ says ! p $
+        nothing ! $ owned ! S.the-row (Is S.the-row) (EL.makes S.the-type S′.the-plain 𝓤 H A) g _ gw $ fjoin ! $ move ! (1 ∷ 0 ∷ []) $ fjoin ! $ owned ! u32 (Is u32) (uint-makes 𝓤 H A W w32) i _ (refl, gi) $ fjoin ! $
         owned ! T.the-row (Is T.the-row) (LL.makes T.the-type T′.the-plain 𝓤 H A) s _ gs $ fjoin ! $ move ! (3 ∷ 0 ∷ []) $ fjoin ! $
         nothing ! $ move ! (3 ∷ 0 ∷ []) $ join ! $ move ! (2 ∷ 0 ∷ []) $ join ! $
         owned ! R.the-row (Is R.the-row) (LL.makes R.the-type R′.the-plain 𝓤 H A) r _ is $ move ! (1 ∷ 2 ∷ 0 ∷ []) $ done !
 
     asks-finder : ent 𝓤 (sep 𝓤 (A .lft κ q) (sem 𝓤 H A Depth)) (Finder 𝓤 H A at-mem run .pre to-finder)
     asks-finder =
-        qed W (‵ (flft κ q) ∷ ‵ Depth ∷ []) ∵ nothing ! $ owned ! usize (Is usize) (uint-makes 𝓤 H A W w64) (length ys) _ (refl, gn .0) $ fjoin ! $
+        qed W (‵ (flft κ q) ∷ ‵ Depth ∷ []) ∵ nothing ! $ owned ! S.the-row (Is S.the-row) (EL.makes S.the-type S′.the-plain 𝓤 H A) g _ gw $ fjoin ! $
+        owned ! usize (Is usize) (uint-makes 𝓤 H A W w64) (length ys) _ (refl, gn .0) $ fjoin ! $
         owned ! u32 (Is u32) (uint-makes 𝓤 H A W w32) i _ (refl, gi) $ fjoin ! $ owned ! T.the-row (Is T.the-row) (LL.makes T.the-type T′.the-plain 𝓤 H A) s _ gs $ fjoin ! $
         move ! (2 ∷ 0 ∷ []) $ fjoin ! $ nothing ! $ move ! (2 ∷ 0 ∷ []) $ join ! $ join ! $ frame ! $ done !
 
     asks-writer : (f : Found) → FoundThere f → f .count < 2 ^ 64 → (α l : ℕ) (δ : GName)
         → ent 𝓤 (sep 𝓤 (sep 𝓤 (A .lft κ₂ q₂) (sem 𝓤 H A List-own)) (sep 𝓤 (A .lft (α ∷ []) fullShare) (sem 𝓤 H A (Words f α l δ)))) (Writer 𝓤 H A at-mem run .pre (to-writer f α l δ))
-    asks-writer f p g α l δ =
+    asks-writer f p k α l δ =
         qed W ((‵ (flft κ₂ q₂) ⊛ ‵ List-own) ∷ (‵ (flft (α ∷ []) fullShare) ⊛ ‵ (Words f α l δ)) ∷ []) ∵
         says ! (found-fits (f .words) _ _ ys (f .count) room (f .runs) (p .0) (p .1)) $ split ! $ move ! (2 ∷ []) $ split ! $ nothing ! $
         -- [true; the words' token; the words; the list's token; the list]
         move ! (1 ∷ 0 ∷ []) $ join ! $ move ! (2 ∷ 0 ∷ []) $ join ! $ frame ! $
-        nothing ! $ owned ! usize (Is usize) (uint-makes 𝓤 H A W w64) (f .count) _ (refl, g) $ fjoin ! $ move ! (1 ∷ 0 ∷ []) $ fjoin ! $ move ! (1 ∷ 0 ∷ []) $ fjoin ! $ done !
+        nothing ! $ owned ! usize (Is usize) (uint-makes 𝓤 H A W w64) (f .count) _ (refl, k) $ fjoin ! $ move ! (1 ∷ 0 ∷ []) $ fjoin ! $ move ! (1 ∷ 0 ∷ []) $ fjoin ! $ done !
 
     module _ (C : Calls 𝓤 H) (Λ : Loops 𝓤 H) (fm : FmC 𝓤 H (W .laws) C) (finds : Triple 𝓤 (C #finder) (Finder 𝓤 H A at-mem run)) (writes : Triple 𝓤 (C #writer) (Writer 𝓤 H A at-mem run)) where
       walk : ent 𝓤 (onEntry 𝓤 H A outer.signature (κ, (κ₂, tt)) (q, (q₂, tt)) x at)
-          (WpFn 𝓤 H C Λ code.function (sliceVal (b, o) (length bs) ∷ span-val s ∷ vint w32 i ∷ sliceVal (b₂, o₂) (length ys) ∷ []) Post)
+          (WpFn 𝓤 H C Λ code.function (sliceVal (b, o) (length bs) ∷ span-val s ∷ vint w32 i ∷ sliceVal (b₂, o₂) (length ys) ∷ width-val g ∷ []) Post)
       unfolding partOf
       walk =
-          qed W ((‵ (flft κ q) ⊛ ‵ (flft κ₂ q₂) ⊛ ‵ ftrue) ∷ ‵ (owns (ShrSlice (named 0) κ u32 ∷ T.the-row ∷ u32 ∷ MutSlice (named 1) κ₂ T.the-row ∷ []) x at) ∷ []) ∵
-          enter ! C Λ code.function (sliceVal (b, o) (length bs) ∷ span-val s ∷ vint w32 i ∷ sliceVal (b₂, o₂) (length ys) ∷ []) _ $
-          alloc1 ! (λ l₀. alloc1 ! (λ l₁. alloc1 ! (λ l₂. alloc1 ! (λ l₃. alloc1 ! (λ l₄. alloc1 ! (λ l₅. alloc1 ! (λ l₆. alloc1 ! (λ l₇. alloc1 ! (λ l₈. alloc1 ! (λ l₉. alloc1 ! (λ l₁₀. alloc1 ! (λ l₁₁. alloc1 ! (λ l₁₂. alloc0 ! $ params1 ! $
-          pass1 ! (init ! 22 refl (tt, (tt, (record { fits = gb }, tt)))) $ pass1 ! (init ! 20 refl (LL.lawful T.the-type T′.the-laws 𝓤 H A W .typed s _ gs .0)) $
-          pass1 ! (init ! 18 refl (tt, record { fits = gi })) $ pass1 ! (init ! 16 refl (tt, (tt, (record { fits = gn .0 }, tt)))) $ pass0 ! $
-          assigns ! (of-opd ! (load ! (from ! (fld ! refl (stop !))) (look-in ! 16 (sub ! 1 refl (whole !))))) (from ! (stop !)) (init ! 10 refl (tt, record { fits = gn .0 })) $
+          qed W ((‵ (flft κ q) ⊛ ‵ (flft κ₂ q₂) ⊛ ‵ ftrue) ∷ ‵ (owns (ShrSlice (named 0) κ u32 ∷ T.the-row ∷ u32 ∷ MutSlice (named 1) κ₂ T.the-row ∷ S.the-row ∷ []) x at) ∷ []) ∵
+          enter ! C Λ code.function (sliceVal (b, o) (length bs) ∷ span-val s ∷ vint w32 i ∷ sliceVal (b₂, o₂) (length ys) ∷ width-val g ∷ []) _ $
+          alloc1 ! (λ l₀. alloc1 ! (λ l₁. alloc1 ! (λ l₂. alloc1 ! (λ l₃. alloc1 ! (λ l₄. alloc1 ! (λ l₅. alloc1 ! (λ l₆. alloc1 ! (λ l₇. alloc1 ! (λ l₈. alloc1 ! (λ l₉. alloc1 ! (λ l₁₀. alloc1 ! (λ l₁₁. alloc1 ! (λ l₁₂. alloc1 ! (λ l₁₃. alloc0 ! $ params1 ! $
+          pass1 ! (init ! 24 refl (tt, (tt, (record { fits = gb }, tt)))) $ pass1 ! (init ! 22 refl (LL.lawful T.the-type T′.the-laws 𝓤 H A W .typed s _ gs .0)) $
+          pass1 ! (init ! 20 refl (tt, record { fits = gi })) $ pass1 ! (init ! 18 refl (tt, (tt, (record { fits = gn .0 }, tt)))) $
+          pass1 ! (init ! 16 refl (EL.lawful S.the-type S′.the-laws 𝓤 H A W tt .typed g _ gw .0)) $ pass0 ! $
+          assigns ! (of-opd ! (load ! (from ! (fld ! refl (stop !))) (look-in ! 18 (sub ! 1 refl (whole !))))) (from ! (stop !)) (init ! 10 refl (tt, record { fits = gn .0 })) $
           -- `found_runs` is called: the depth words' reference is passed, and kept
-          move ! (27 ∷ []) $ fsplit ! $ use1 W (‵ Depth ⊛ ‵ Depth) (shr-slice-copy 𝓤 H A W (named 0) κ u32 .twice d (sliceVal (b, o) (length bs) ∷ [])) $ split ! $ move ! (29 ∷ []) $ split ! $
+          move ! (29 ∷ []) $ fsplit ! $ use1 W (‵ Depth ⊛ ‵ Depth) (shr-slice-copy 𝓤 H A W (named 0) κ u32 .twice d (sliceVal (b, o) (length bs) ∷ [])) $ split ! $ move ! (31 ∷ []) $ split ! $
           move ! (0 ∷ 2 ∷ []) $ use2 W (raw (Finder 𝓤 H A at-mem run .pre to-finder)) asks-finder $
-          -- [what is asked; the list's token; the depth words; the other parameters; _12; …; _0; …]
+          -- [what is asked; the list's token; the depth words; the other parameters; _13; …; _0; …]
           calls-at ! fm (Finder 𝓤 H A at-mem run) finds to-finder
-          (and-then ! (load ! (from ! (stop !)) (look ! 26 refl)) (and-then ! (load ! (from ! (stop !)) (look ! 24 refl)) (and-then ! (load ! (from ! (stop !)) (look ! 22 refl)) (and-then ! (load ! (from ! (stop !)) (look ! 14 refl)) (no-more !))))) (λ v.
+          (and-then ! (load ! (from ! (stop !)) (look ! 28 refl)) (and-then ! (load ! (from ! (stop !)) (look ! 26 refl)) (and-then ! (load ! (from ! (stop !)) (look ! 24 refl)) (and-then ! (load ! (from ! (stop !)) (look ! 14 refl))
+          (and-then ! (load ! (from ! (stop !)) (look ! 20 refl)) (no-more !)))))) (λ v.
           use1 W (later (some (λ (f : Found). ((‵ (flft κ q) ⊛ ‵ ftrue) ⊛ ‵ (F.the-row .own f (v ∷ []))) ⊛ raw (ensured 𝓤 H A finder.ended (finder.clauses 𝓤 H A at-mem run) (κ, tt) asks tt f)))) (id⊢ 𝓤 _) $ await ! tt $ pick ! (λ f.
           split ! $ move ! (1 ∷ []) $ use1 W (raw (fact 𝓤 (FoundThere f))) (said f) $ heard ! (FoundThere f) (λ p. split ! $ move ! (1 ∷ []) $
           peeks ! F.the-row (Is F.the-row) (shows 𝓤 H A F.the-row) f (v ∷ []) (λ is. drop ! $
-          -- [the depth words' token; the list's token; the depth words; the other parameters; _12; …; _0; …]
+          -- [the depth words' token; the list's token; the depth words; the other parameters; _13; …; _0; …]
           land ! (from ! (stop !)) (init ! 18 refl (LL.lawful F.the-type F′.the-laws 𝓤 H A W .typed f _ is .0)) $
-          rewrite ! 18 (λ (u : Val). ‵ (fat fullShare F′.mir l₅ 0 u)) (ap only (F′.lowers .val-is f _ is)) refl $
+          rewrite ! 18 (λ (u : Val). ‵ (fat fullShare F′.mir l₆ 0 u)) (ap only (F′.lowers .val-is f _ is)) refl $
           assigns ! (of-opd ! (load ! (from ! (fld ! refl (stop !))) (look-in ! 18 (sub ! 2 refl (whole !))))) (from ! (stop !))
-          (init ! 16 refl (array-lawful 𝓤 H A W u32 (uint-lawful 𝓤 H A W w32) 256 .typed (f .words) _ (its-words f v is) .0)) $
+          (init ! 16 refl (array-lawful 𝓤 H A W u32 (uint-lawful 𝓤 H A W w32) bucket-end .typed (f .words) _ (its-words f v is) .0)) $
           -- the list's reference is made again
-          assigns ! (addr ! (from ! (fld ! refl (hop ! (look-in ! 20 (sub ! 0 refl (whole !))) (stop !))))) (from ! (stop !)) (init ! 10 refl (tt, tt)) $
-          assigns ! (agg ! (and-then ! (load ! (from ! (stop !)) (look ! 10 refl)) (and-then ! (load ! (from ! (fld ! refl (stop !))) (look-in ! 20 (sub ! 1 refl (whole !)))) (no-more !)))) (from ! (stop !))
+          assigns ! (addr ! (from ! (fld ! refl (hop ! (look-in ! 22 (sub ! 0 refl (whole !))) (stop !))))) (from ! (stop !)) (init ! 10 refl (tt, tt)) $
+          assigns ! (agg ! (and-then ! (load ! (from ! (stop !)) (look ! 10 refl)) (and-then ! (load ! (from ! (fld ! refl (stop !))) (look-in ! 22 (sub ! 1 refl (whole !)))) (no-more !)))) (from ! (stop !))
           (init ! 8 refl (tt, (tt, (record { fits = gn .0 }, tt)))) $
           assigns ! (addr ! (from ! (stop !))) (from ! (stop !)) (init ! 6 refl (tt, tt)) $
           assigns ! (agg ! (and-then ! (load ! (from ! (stop !)) (look ! 6 refl)) (and-then ! (lit ! tt) (no-more !)))) (from ! (stop !)) (init ! 4 refl (tt, (tt, (record { fits = lit< tt }, tt)))) $
-          rewrite ! 4 (λ (m : ℕ). ‵ (fat fullShare lent-ty l₁₂ 0 (sliceVal (l₆, 0) m))) (sym (all-words f v is)) refl $
+          rewrite ! 4 (λ (m : ℕ). ‵ (fat fullShare lent-ty l₁₃ 0 (sliceVal (l₇, 0) m))) (sym (all-words f v is)) refl $
           -- the words are lent as a slice for a new lifetime
-          move ! (16 ∷ []) $ use1 W (‵ (arr-parts (shares u32) (length (f .words)) .part fullShare (f .words) l₆ 0)) (apart 𝓤 H A W l₆ 0 (f .words) (its-words f v is)) $ lft-new ! tt (λ α. move ! (1 ∷ []) $
-          use1 W (later (some (λ (δ : GName). ‵ (Words f α l₆ δ) ⊛ ‵ (flent (α ∷ []) (arr-parts (shares u32) (length (f .words)) .part fullShare (f .words) l₆ 0)))))
-          (lends-shr-slice 𝓤 H A W u32 (named 0) (α ∷ []) fullShare (f .words) l₆ 0 (subst (Room u32) (sym (all-words f v is)) (lit< tt, lit< tt))) $ await ! tt $ pick ! (λ δ. split ! $
-          -- [the words; the lender's part; its token; the depth words' token; the list's token; the depth words; the other parameters; _12; …; _7; …; _6's end; _5; …; _0; …]
+          move ! (16 ∷ []) $ use1 W (‵ (arr-parts (shares u32) (length (f .words)) .part fullShare (f .words) l₇ 0)) (apart 𝓤 H A W l₇ 0 (f .words) (its-words f v is)) $ lft-new ! tt (λ α. move ! (1 ∷ []) $
+          use1 W (later (some (λ (δ : GName). ‵ (Words f α l₇ δ) ⊛ ‵ (flent (α ∷ []) (arr-parts (shares u32) (length (f .words)) .part fullShare (f .words) l₇ 0)))))
+          (lends-shr-slice 𝓤 H A W u32 (named 0) (α ∷ []) fullShare (f .words) l₇ 0 (subst (Room u32) (sym (all-words f v is)) (lit< tt, lit< tt))) $ await ! tt $ pick ! (λ δ. split ! $
+          -- [the words; the lender's part; its token; the depth words' token; the list's token; the depth words; the other parameters; _13; …; _8; …; _7's end; _6; …; _0; …]
           move ! (6 ∷ []) $ fsplit ! $ drop ! $ fsplit ! $ drop ! $ fsplit ! $ move ! (6 ∷ []) $ split ! $ move ! (0 ∷ 2 ∷ []) $ join ! $ move ! (5 ∷ 3 ∷ []) $ join ! $ move ! (1 ∷ 0 ∷ []) $
-          use2 W (raw (Writer 𝓤 H A at-mem run .pre (to-writer f α l₆ δ))) (asks-writer f p (its-count f v is) α l₆ δ) $
-          -- [what is asked; true; true; the lender's part; the depth words' token; the depth words; _12; …]
-          calls-at ! fm (Writer 𝓤 H A at-mem run) writes (to-writer f α l₆ δ)
+          use2 W (raw (Writer 𝓤 H A at-mem run .pre (to-writer f α l₇ δ))) (asks-writer f p (its-count f v is) α l₇ δ) $
+          -- [what is asked; true; the width; the lender's part; the depth words' token; the depth words; _13; …]
+          calls-at ! fm (Writer 𝓤 H A at-mem run) writes (to-writer f α l₇ δ)
           (and-then ! (load ! (from ! (stop !)) (look ! 10 refl)) (and-then ! (load ! (from ! (stop !)) (look ! 6 refl)) (and-then ! (load ! (from ! (fld ! refl (stop !))) (look-in ! 19 (sub ! 1 refl (whole !)))) (no-more !)))) (λ v₂.
           use1 W (later (some (λ (r : Unit {0}). ((‵ (flft κ₂ q₂) ⊛ ‵ (flft (α ∷ []) fullShare) ⊛ ‵ ftrue) ⊛ ‵ (unit .own r (v₂ ∷ [])))
-          ⊛ raw (ensured 𝓤 H A writer.ended (writer.clauses 𝓤 H A at-mem run) (κ₂, (α ∷ [], tt)) (passed f l₆ δ) tt r)))) (id⊢ 𝓤 _) $ await ! tt $ pick ! (λ r. split ! $ move ! (1 ∷ []) $
-          use1 W (some (λ (es : Lasts writer.ended (κ₂, (α ∷ [], tt)) (passed f l₆ δ)). ‵ (lasts writer.ended (κ₂, (α ∷ [], tt)) (passed f l₆ δ) es) ⊛ raw (fact 𝓤 (Written f (es .0))))) (id⊢ 𝓤 _) $
+          ⊛ raw (ensured 𝓤 H A writer.ended (writer.clauses 𝓤 H A at-mem run) (κ₂, (α ∷ [], tt)) (passed f l₇ δ) tt r)))) (id⊢ 𝓤 _) $ await ! tt $ pick ! (λ r. split ! $ move ! (1 ∷ []) $
+          use1 W (some (λ (es : Lasts writer.ended (κ₂, (α ∷ [], tt)) (passed f l₇ δ)). ‵ (lasts writer.ended (κ₂, (α ∷ [], tt)) (passed f l₇ δ) es) ⊛ raw (fact 𝓤 (Written f (es .0))))) (id⊢ 𝓤 _) $
           pick ! (λ es. split ! $ move ! (1 ∷ []) $ heard ! (Written f (es .0)) (λ w. fsplit ! $ fsplit ! $ move ! (1 ∷ []) $ feqL ! (λ long.
-          -- [the last list; true; the tokens and the result; true; true; the lender's part; the depth words' token; the depth words; _12; …]
+          -- [the last list; true; the tokens and the result; true; true; the lender's part; the depth words' token; the depth words; _13; …]
           move ! (2 ∷ []) $ split ! $ move ! (1 ∷ []) $ feqL ! (λ u.
           land ! (from ! (stop !)) (init ! 16 refl (subst (λ (y : Val). Holds (hasTy tyUnit y) × WT y) (sym (ap only u)) (tt, tt))) $
           -- the lifetime is ended, and the words are taken back
           split ! $ move ! (1 ∷ []) $ split ! $ lft-end ! tt $ move ! (0 ∷ 7 ∷ []) $ lent-back ! tt $
-          use1 W (‵ (partAt words-row fullShare (f .words) l₆ 0)) (together 𝓤 H A W l₆ 0 (f .words) (all-words f v is)) $
-          fpick ! (λ vs. fsplit ! $ spelt ! words-row (Is words-row) (shows 𝓤 H A words-row) (array-vals (uint-vals w32)) (array-tells u32 (uint-vals w32) (uint-tells w32) 256) fullShare (f .words) vs l₆ 0 $
-          move ! (1 ∷ []) $ drop ! $ use1 W (‵ (fat fullShare words-ty l₆ 0 (words-val (f .words)))) (W .laws .raw-at fullShare words-ty l₆ 0 (words-val (f .words))) $
-          -- [_6; true; the list's token; the last list; true; true; true; the depth words' token; the depth words; _12; …; _7; …; _6's end; _5; …; _0; …]
+          use1 W (‵ (partAt words-row fullShare (f .words) l₇ 0)) (together 𝓤 H A W l₇ 0 (f .words) (all-words f v is)) $
+          fpick ! (λ vs. fsplit ! $ spelt ! words-row (Is words-row) (shows 𝓤 H A words-row) (array-vals (uint-vals w32)) (array-tells u32 (uint-vals w32) (uint-tells w32) bucket-end) fullShare (f .words) vs l₇ 0 $
+          move ! (1 ∷ []) $ drop ! $ use1 W (‵ (fat fullShare words-ty l₇ 0 (words-val (f .words)))) (W .laws .raw-at fullShare words-ty l₇ 0 (words-val (f .words))) $
+          -- [_7; true; the list's token; the last list; true; true; true; the depth words' token; the depth words; _13; …; _8; …; _7's end; _6; …; _0; …]
           assigns ! (of-opd ! (load ! (from ! (fld ! refl (stop !))) (look-in ! 22 (sub ! 0 refl (whole !))))) (from ! (stop !))
-          (init ! 32 refl (LL.lawful R.the-type R′.the-laws 𝓤 H A W .typed (f .runs) _ (its-runs f v is) .0)) $
-          returns ! (look ! 32 refl) $ forget ! 0 refl $ forget ! 9 refl $ forget ! 11 refl $ forget ! 13 refl $ forget ! 15 refl $ forget ! 17 refl $ forget ! 19 refl $
-          forget ! 22 refl $ forget ! 24 refl $ forget ! 26 refl $ forget ! 28 refl $ forget ! 30 refl $ forget ! 32 refl $
-          move ! (32 ∷ 33 ∷ []) $ free1 ! $ move ! (30 ∷ 31 ∷ []) $ free1 ! $ move ! (28 ∷ 29 ∷ []) $ free1 ! $ move ! (26 ∷ 27 ∷ []) $ free1 ! $ move ! (24 ∷ 25 ∷ []) $ free1 ! $ move ! (22 ∷ 23 ∷ []) $ free1 ! $
+          (init ! 34 refl (LL.lawful R.the-type R′.the-laws 𝓤 H A W .typed (f .runs) _ (its-runs f v is) .0)) $
+          returns ! (look ! 34 refl) $ forget ! 0 refl $ forget ! 9 refl $ forget ! 11 refl $ forget ! 13 refl $ forget ! 15 refl $ forget ! 17 refl $ forget ! 19 refl $
+          forget ! 22 refl $ forget ! 24 refl $ forget ! 26 refl $ forget ! 28 refl $ forget ! 30 refl $ forget ! 32 refl $ forget ! 34 refl $
+          move ! (34 ∷ 35 ∷ []) $ free1 ! $ move ! (32 ∷ 33 ∷ []) $ free1 ! $ move ! (30 ∷ 31 ∷ []) $ free1 ! $ move ! (28 ∷ 29 ∷ []) $ free1 ! $ move ! (26 ∷ 27 ∷ []) $ free1 ! $ move ! (24 ∷ 25 ∷ []) $ free1 ! $ move ! (22 ∷ 23 ∷ []) $ free1 ! $
           move ! (0 ∷ 21 ∷ []) $ free1 ! $ move ! (18 ∷ 19 ∷ []) $ free1 ! $ move ! (16 ∷ 17 ∷ []) $ free1 ! $ move ! (14 ∷ 15 ∷ []) $ free1 ! $ move ! (12 ∷ 13 ∷ []) $ free1 ! $ move ! (10 ∷ 11 ∷ []) $ free1 ! $
           move ! (8 ∷ 9 ∷ []) $ free1 ! $ free0 ! $
           -- [true; the list's token; the last list; true; true; true; the depth words' token; the depth words]
-          move ! (6 ∷ []) $ split ! $ keep ! (4 ∷ 0 ∷ 3 ∷ 8 ∷ []) $ by ! (exits (f .runs) (es .0) (its-runs f v is) long (listed f (es .0) p w))))))))))))))))))))))))))))
+          move ! (6 ∷ []) $ split ! $ keep ! (4 ∷ 0 ∷ 3 ∷ 8 ∷ []) $ by ! (exits (f .runs) (es .0) (its-runs f v is) long (listed f (es .0) p w)))))))))))))))))))))))))))))
 
 module _ {M : Type 1} (𝓤 : URA M) (H : Heap 𝓤) (A : Atoms 𝓤) (W : Given 𝓤 H A) (at-mem : Memory → SProp 𝓤) (run : Routine → Fun 𝓤) where
   list-walks : (C : Calls 𝓤 H) (Λ : Loops 𝓤 H) → FmC 𝓤 H (W .laws) C → Triple 𝓤 (C #finder) (Finder 𝓤 H A at-mem run) → Triple 𝓤 (C #writer) (Writer 𝓤 H A at-mem run)
       → Walks 𝓤 H A outer.ended stayed (WpFn 𝓤 H C Λ code.function) (outer.clauses 𝓤 H A at-mem run)
   list-walks C Λ fm finds writes = walked 𝓤 H A outer.ended stayed (outer.clauses 𝓤 H A at-mem run) (WpFn 𝓤 H C Λ code.function)
-      (λ κs. (slice-vals, (LL.vals T.the-type T′.the-laws, (uint-vals w32, (slice-vals, tt)))))
-      (λ κs. (shr-slice-tells (named 0) (κs .0) u32, (LL.tells T.the-type T′.the-laws, (uint-tells w32, (mut-slice-tells (named 1) (κs .1 .0) T.the-row, tt)))))
+      (λ κs. (slice-vals, (LL.vals T.the-type T′.the-laws, (uint-vals w32, (slice-vals, (EL.vals S.the-type S′.the-laws, tt))))))
+      (λ κs. (shr-slice-tells (named 0) (κs .0) u32, (LL.tells T.the-type T′.the-laws, (uint-tells w32, (mut-slice-tells (named 1) (κs .1 .0) T.the-row, (EL.tells S.the-type S′.the-laws, tt))))))
       (λ κs qs bounds a g are. via 𝓤 _ (fst∗ 𝓤 _ (emp 𝓤))
       (walk 𝓤 H A W at-mem run (κs .0) (κs .1 .0) (qs .0) (qs .1 .0) (a .0 .ptr .0) (a .0 .ptr .1) (a .0 .name) (a .0 .now) (a .1 .0) (a .1 .1 .0)
-      (a .1 .1 .1 .0 .ptr .0) (a .1 .1 .1 .0 .ptr .1) (a .1 .1 .1 .0 .name) (a .1 .1 .1 .0 .now)
-      (are .0 .0 .1 .0) (are .1 .0) (are .1 .1 .0 .1) (are .1 .1 .1 .0 .0 .1) C Λ fm finds writes))
+      (a .1 .1 .1 .0 .ptr .0) (a .1 .1 .1 .0 .ptr .1) (a .1 .1 .1 .0 .name) (a .1 .1 .1 .0 .now) (a .1 .1 .1 .1 .0)
+      (are .0 .0 .1 .0) (are .1 .0) (are .1 .1 .0 .1) (are .1 .1 .1 .0 .0 .1) (are .1 .1 .1 .1 .0) C Λ fm finds writes))
 
   goes : AllGo 𝓤 H A W 2 (outer.signature .params) (outer.ended .kept) stayed
   goes = (
     goes-none-slice 𝓤 H A W 2 (0 ∷ []) tt (plain (λ _. u32)) yes,
     (
       goes-none 𝓤 H A W 2 (λ _. T.the-row) yes (λ κs x f. refl),
-      (goes-none 𝓤 H A W 2 (λ _. u32) yes (λ κs x f. refl), (goes-gave-slice 𝓤 H A W 2 1 tt (plain (λ _. T.the-row)), tt)),
+      (goes-none 𝓤 H A W 2 (λ _. u32) yes (λ κs x f. refl), (goes-gave-slice 𝓤 H A W 2 1 tt (plain (λ _. T.the-row)), (goes-none 𝓤 H A W 2 (λ _. S.the-row) yes (λ κs x f. refl), tt))),
     ),
   )
 

@@ -1,4 +1,4 @@
--- `forms::runs::runs_of` meets its contract: a walk of its MIR, by hand. An array of 16 spans is made in a local, taken apart into its elements and lent as a slice for a lifetime that is made for the call of `write_runs`;
+-- `forms::runs::runs_of` meets its contract: a walk of its MIR, by hand. An array of spans is made in a local, taken apart into its elements and lent as a slice for a lifetime that is made for the call of `write_runs`;
 -- the lifetime is ended, the elements are an array again, and that is returned. Assumes nothing.
 use mathlib.Core.Path.{_≡_, refl, sym, ap, subst}
 use mathlib.Core.List.{List, [], _∷_}
@@ -48,6 +48,7 @@ use denote.Triple.Spec.{Meets, tripleOf}
 use denote.Triple.Clauses.{Lasts, ensured, lasts}
 use denote.Triple.Table.{entered, cited}
 use denote.Triple.Walked.{says, needs, Stays, stay-none-slice, stay-none, walkOf, AllGo, Walks, ends-at, walked, goes-none-slice, goes-none, walk-meets}
+use Rattle.sizes.specs.Sizes.{most-runs}
 use Rattle.span.specs.declared.TileSpan.{TileSpan}
 use Rattle.span.proofs.TileSpan as T
 use Rattle.span.proofs.TileSpan.Laws as T′
@@ -65,10 +66,10 @@ abbrev stayed : Stays (outer.ended .signature .params) (outer.ended .kept)
 stayed = (stay-none-slice (0 ∷ []) tt (plain (λ _. u32)) yes, (stay-none (λ _. usize) yes, tt))
 
 abbrev spans : RattleType
-spans = Array T.the-row 16
+spans = Array T.the-row most-runs
 
 abbrev spans-ty : Ty
-spans-ty = tyArray T′.mir 16
+spans-ty = tyArray T′.mir most-runs
 
 abbrev vals : TileSpan → List Val
 vals = LL.vals T.the-type T′.the-laws
@@ -78,7 +79,7 @@ spans-val xs = only (array-vals vals xs)
 
 -- the list before anything is written
 abbrev blank : List TileSpan
-blank = replicate 16 no-span
+blank = replicate most-runs no-span
 
 abbrev no-val : Val
 no-val = vstruct (vcons (vint w32 0) (vcons (vint w32 0) vnil))
@@ -90,10 +91,10 @@ each-is : (n : ℕ) → shadow (each TileSpan (T.the-row .own) (replicate n no-s
 each-is zero = tt
 each-is (suc n) = (none-is, each-is n)
 
-blank-is : Is spans blank (arrayVal (replicate 16 no-val) ∷ [])
-blank-is = (replicate 16 no-val, ((refl, length-replicate 16 no-span), each-is 16))
+blank-is : Is spans blank (arrayVal (replicate most-runs no-val) ∷ [])
+blank-is = (replicate most-runs no-val, ((refl, length-replicate most-runs no-span), each-is most-runs))
 
-room : Room T.the-row 16
+room : Room T.the-row most-runs
 room = (lit< tt, lit< tt)
 
 module _ {M : Type 1} (𝓤 : URA M) (H : Heap 𝓤) (A : Atoms 𝓤) (at-mem : Memory → SProp 𝓤) (run : Routine → Fun 𝓤) where
@@ -103,20 +104,20 @@ module _ {M : Type 1} (𝓤 : URA M) (H : Heap 𝓤) (A : Atoms 𝓤) (at-mem : 
 
 -- an array in memory as its elements, and back
 module _ {M : Type 1} (𝓤 : URA M) (H : Heap 𝓤) (A : Atoms 𝓤) (W : Given 𝓤 H A) (b o : ℕ) where
-  apart : ent 𝓤 (H .at fullShare spans-ty b o (arrayVal (replicate 16 no-val))) (sem 𝓤 H A (cells (mem T.the-row) blank b o))
+  apart : ent 𝓤 (H .at fullShare spans-ty b o (arrayVal (replicate most-runs no-val))) (sem 𝓤 H A (cells (mem T.the-row) blank b o))
   unfolding partOf
   apart =
-      qed W (‵ (fat fullShare spans-ty b o (arrayVal (replicate 16 no-val))) ∷ []) ∵
-      use1 W (‵ (cellAt fullShare (spans .mir) (arrayVal (replicate 16 no-val) ∷ []) b o)) (W .laws .at-raw fullShare spans-ty b o (arrayVal (replicate 16 no-val))) $
-      owned ! spans (Is spans) (array-makes 𝓤 H A W T.the-row (LL.makes T.the-type T′.the-plain 𝓤 H A) 16) blank _ blank-is $ move ! (1 ∷ 0 ∷ []) $ fjoin ! $
-      fpack ! (List Val) (λ us. fsep (cellAt fullShare (spans .mir) us b o) (spans .own blank us)) (arrayVal (replicate 16 no-val) ∷ []) $
-      use1 W (‵ (arr-parts (shares T.the-row) 16 .part fullShare blank b o)) (array-apart 𝓤 H A W T.the-row fullShare tt 16 blank b o) $
+      qed W (‵ (fat fullShare spans-ty b o (arrayVal (replicate most-runs no-val))) ∷ []) ∵
+      use1 W (‵ (cellAt fullShare (spans .mir) (arrayVal (replicate most-runs no-val) ∷ []) b o)) (W .laws .at-raw fullShare spans-ty b o (arrayVal (replicate most-runs no-val))) $
+      owned ! spans (Is spans) (array-makes 𝓤 H A W T.the-row (LL.makes T.the-type T′.the-plain 𝓤 H A) most-runs) blank _ blank-is $ move ! (1 ∷ 0 ∷ []) $ fjoin ! $
+      fpack ! (List Val) (λ us. fsep (cellAt fullShare (spans .mir) us b o) (spans .own blank us)) (arrayVal (replicate most-runs no-val) ∷ []) $
+      use1 W (‵ (arr-parts (shares T.the-row) most-runs .part fullShare blank b o)) (array-apart 𝓤 H A W T.the-row fullShare tt most-runs blank b o) $
       fsplit ! $ drop ! $ by ! (whole-in 𝓤 H A W T.the-row blank b o)
 
-  together : (xs : List TileSpan) → ent 𝓤 (sem 𝓤 H A (Arr (mem T.the-row) 16 .lies xs b o)) (sem 𝓤 H A (partAt spans fullShare xs b o))
+  together : (xs : List TileSpan) → ent 𝓤 (sem 𝓤 H A (Arr (mem T.the-row) most-runs .lies xs b o)) (sem 𝓤 H A (partAt spans fullShare xs b o))
   together xs =
-      qed W (‵ (Arr (mem T.the-row) 16 .lies xs b o) ∷ []) ∵ fsplit ! $ feqL ! (λ l. use1 W (‵ (row T.the-row fullShare xs b o)) (whole-out 𝓤 H A W T.the-row xs b o) $
-      feqI ! ℕ (length xs) 16 l $ fjoin ! $ by ! (array-whole 𝓤 H A W T.the-row fullShare 16 xs b o))
+      qed W (‵ (Arr (mem T.the-row) most-runs .lies xs b o) ∷ []) ∵ fsplit ! $ feqL ! (λ l. use1 W (‵ (row T.the-row fullShare xs b o)) (whole-out 𝓤 H A W T.the-row xs b o) $
+      feqI ! ℕ (length xs) most-runs l $ fjoin ! $ by ! (array-whole 𝓤 H A W T.the-row fullShare most-runs xs b o))
 
 module _ {M : Type 1} (𝓤 : URA M) (H : Heap 𝓤) (A : Atoms 𝓤) (W : Given 𝓤 H A) (at-mem : Memory → SProp 𝓤) (run : Routine → Fun 𝓤) (κ : Lft) (q : Share) (b o : ℕ) (γ : GName) (ws : List ℕ) (k : ℕ) where
   abbrev w : RefT (List ℕ)
@@ -136,7 +137,7 @@ module _ {M : Type 1} (𝓤 : URA M) (H : Heap 𝓤) (A : Atoms 𝓤) (W : Given
   passed l δ = (lent l δ, (w, (k, tt)))
 
   abbrev to : ℕ → ℕ → GName → Inner 𝓤 H A at-mem run .Ghost
-  to α l δ = (((α ∷ [], (κ, tt)), (fullShare, (q, tt)), tt, passed l δ, (sliceVal (l, 0) 16 ∷ [], (sliceVal (b, o) (length ws) ∷ [], (vint w64 k ∷ [], tt)))), tt)
+  to α l δ = (((α ∷ [], (κ, tt)), (fullShare, (q, tt)), tt, passed l δ, (sliceVal (l, 0) most-runs ∷ [], (sliceVal (b, o) (length ws) ∷ [], (vint w64 k ∷ [], tt)))), tt)
 
   abbrev Post : Val → SProp 𝓤
   Post = walkOf 𝓤 H A outer.ended stayed (outer.clauses 𝓤 H A at-mem run) .post (((κ, tt), (q, tt), tt, x, at), tt)
@@ -148,7 +149,7 @@ module _ {M : Type 1} (𝓤 : URA M) (H : Heap 𝓤) (A : Atoms 𝓤) (W : Given
   Count = fsep (usize .own k (vint w64 k ∷ [])) ftrue
 
   abbrev List-own : ℕ → ℕ → GName → Fml
-  List-own α l δ = MutSlice (named 0) (α ∷ []) T.the-row .own (lent l δ) (sliceVal (l, 0) 16 ∷ [])
+  List-own α l δ = MutSlice (named 0) (α ∷ []) T.the-row .own (lent l δ) (sliceVal (l, 0) most-runs ∷ [])
 
   abbrev Listed : List TileSpan → Type 0
   Listed r = r ≡ with-spans ws k blank
@@ -159,7 +160,7 @@ module _ {M : Type 1} (𝓤 : URA M) (H : Heap 𝓤) (A : Atoms 𝓤) (W : Given
       suffices ! _ (ends-at 𝓤 H A outer.ended stayed (outer.clauses 𝓤 H A at-mem run) W (((κ, tt), (q, tt), tt, x, at), tt) (spans-val r) r (tt, (tt, tt)) (tt, (tt, tt))) $ says ! p $
       move ! (1 ∷ []) $ frame ! $ move ! (1 ∷ 2 ∷ []) $ fjoin ! $ frame ! $ done !
 
-  module _ (gw : length ws < 2 ^ 64) (gk : k < 2 ^ 64) (fits : (k ≤ 16) × (k * 2 ≤ length ws)) where
+  module _ (gw : length ws < 2 ^ 64) (gk : k < 2 ^ 64) (fits : (k ≤ most-runs) × (k * 2 ≤ length ws)) where
     asked : (α l : ℕ) (δ : GName) → ent 𝓤 (sep 𝓤 (sep 𝓤 (A .lft (α ∷ []) fullShare) (sem 𝓤 H A (List-own α l δ))) (sep 𝓤 (A .lft κ q) (sem 𝓤 H A Words))) (Inner 𝓤 H A at-mem run .pre (to α l δ))
     asked α l δ =
         qed W ((‵ (flft (α ∷ []) fullShare) ⊛ ‵ (List-own α l δ)) ∷ (‵ (flft κ q) ⊛ ‵ Words) ∷ []) ∵ says ! fits $ split ! $ move ! (2 ∷ []) $ split ! $ nothing ! $
@@ -175,12 +176,12 @@ module _ {M : Type 1} (𝓤 : URA M) (H : Heap 𝓤) (A : Atoms 𝓤) (W : Given
           alloc1 ! (λ l₀. alloc1 ! (λ l₁. alloc1 ! (λ l₂. alloc1 ! (λ l₃. alloc1 ! (λ l₄. alloc1 ! (λ l₅. alloc1 ! (λ l₆. alloc1 ! (λ l₇. alloc0 ! $ params1 ! $
           pass1 ! (init ! 12 refl (tt, (tt, (record { fits = gw }, tt)))) $ pass1 ! (init ! 10 refl (tt, record { fits = gk })) $ pass0 ! $
           assigns ! (agg ! (and-then ! (lit ! tt) (and-then ! (lit ! tt) (no-more !)))) (from ! (stop !)) (init ! 6 refl (tt, (record { fits = lit< tt }, (record { fits = lit< tt }, tt)))) $
-          assigns ! (rep ! 16 (load ! (from ! (stop !)) (look ! 6 refl))) (from ! (stop !)) (init ! 8 refl (array-lawful 𝓤 H A W T.the-row (LL.lawful T.the-type T′.the-laws 𝓤 H A W) 16 .typed blank _ blank-is .0)) $
+          assigns ! (rep ! most-runs (load ! (from ! (stop !)) (look ! 6 refl))) (from ! (stop !)) (init ! 8 refl (array-lawful 𝓤 H A W T.the-row (LL.lawful T.the-type T′.the-laws 𝓤 H A W) most-runs .typed blank _ blank-is .0)) $
           assigns ! (addr ! (from ! (stop !))) (from ! (stop !)) (init ! 2 refl (tt, tt)) $
           assigns ! (agg ! (and-then ! (load ! (from ! (stop !)) (look ! 2 refl)) (and-then ! (lit ! tt) (no-more !)))) (from ! (stop !)) (init ! 0 refl (tt, (tt, (record { fits = lit< tt }, tt)))) $
           -- the array is lent as a slice for a new lifetime
           move ! (8 ∷ []) $ use1 W (‵ (cells (mem T.the-row) blank l₃ 0)) (apart 𝓤 H A W l₃ 0) $ lft-new ! tt (λ α. move ! (1 ∷ []) $
-          use1 W (later (some (λ (δ : GName). ‵ (List-own α l₃ δ) ⊛ ‵ (flent (α ∷ []) (Held T.the-row 16 l₃ 0 δ))))) (lends-slice 𝓤 H A W T.the-row (named 0) (α ∷ []) blank l₃ 0 room) $ await ! tt $ pick ! (λ δ. split ! $
+          use1 W (later (some (λ (δ : GName). ‵ (List-own α l₃ δ) ⊛ ‵ (flent (α ∷ []) (Held T.the-row most-runs l₃ 0 δ))))) (lends-slice 𝓤 H A W T.the-row (named 0) (α ∷ []) blank l₃ 0 room) $ await ! tt $ pick ! (λ δ. split ! $
           -- [the list; the lender's part; its token; _7; …; _6; …; _5; …; _4; …; _3's end; _2; …; _1; …; _0; …; the words' token; the parameters]
           move ! (19 ∷ []) $ fsplit ! $ use1 W (‵ Words ⊛ ‵ Words) (shr-slice-copy 𝓤 H A W (named 0) κ u32 .twice w (sliceVal (b, o) (length ws) ∷ [])) $ split ! $ move ! (21 ∷ []) $ split ! $
           move ! (0 ∷ 2 ∷ []) $ join ! $ move ! (6 ∷ 4 ∷ []) $ join ! $ use2 W (raw (Inner 𝓤 H A at-mem run .pre (to α l₃ δ))) (asked α l₃ δ) $
@@ -193,13 +194,13 @@ module _ {M : Type 1} (𝓤 : URA M) (H : Heap 𝓤) (A : Atoms 𝓤) (W : Given
           move ! (2 ∷ []) $ split ! $ move ! (1 ∷ []) $ feqL ! (λ u.
           land ! (from ! (stop !)) (init ! 11 refl (subst (λ (y : Val). Holds (hasTy tyUnit y) × WT y) (sym (ap only u)) (tt, tt))) $
           -- the lifetime is ended, and the array is taken back at its last list
-          split ! $ lft-end ! tt $ move ! (0 ∷ 7 ∷ 2 ∷ []) $ use3 W (later (‵ (Arr (mem T.the-row) 16 .lies (es .0) l₃ 0))) (slice-back 𝓤 H A W T.the-row (α ∷ []) δ (es .0) 16 l₃ 0) $ await ! tt $
+          split ! $ lft-end ! tt $ move ! (0 ∷ 7 ∷ 2 ∷ []) $ use3 W (later (‵ (Arr (mem T.the-row) most-runs .lies (es .0) l₃ 0))) (slice-back 𝓤 H A W T.the-row (α ∷ []) δ (es .0) most-runs l₃ 0) $ await ! tt $
           use1 W (‵ (partAt spans fullShare (es .0) l₃ 0)) (together 𝓤 H A W l₃ 0 (es .0)) $
-          fpick ! (λ vs. fsplit ! $ spelt ! spans (Is spans) (shows 𝓤 H A spans) (array-vals vals) (array-tells T.the-row vals (LL.tells T.the-type T′.the-laws) 16) fullShare (es .0) vs l₃ 0 $
+          fpick ! (λ vs. fsplit ! $ spelt ! spans (Is spans) (shows 𝓤 H A spans) (array-vals vals) (array-tells T.the-row vals (LL.tells T.the-type T′.the-laws) most-runs) fullShare (es .0) vs l₃ 0 $
           move ! (1 ∷ []) $ peeks ! spans (Is spans) (shows 𝓤 H A spans) (es .0) (spans-val (es .0) ∷ []) (λ is. move ! (1 ∷ []) $
           use1 W (‵ (fat fullShare spans-ty l₃ 0 (spans-val (es .0)))) (W .laws .raw-at fullShare spans-ty l₃ 0 (spans-val (es .0))) $
           -- [_3; what it owns; the words' token; true; true; the words; the count; _7; …; _6; …; _5; …; _4; …; _3's end; _2; …; _1; …; _0; …]
-          assigns ! (of-opd ! (load ! (from ! (stop !)) (look ! 0 refl))) (from ! (stop !)) (init ! 20 refl (array-lawful 𝓤 H A W T.the-row (LL.lawful T.the-type T′.the-laws 𝓤 H A W) 16 .typed (es .0) _ is .0)) $
+          assigns ! (of-opd ! (load ! (from ! (stop !)) (look ! 0 refl))) (from ! (stop !)) (init ! 20 refl (array-lawful 𝓤 H A W T.the-row (LL.lawful T.the-type T′.the-laws 𝓤 H A W) most-runs .typed (es .0) _ is .0)) $
           returns ! (look ! 20 refl) $ forget ! 0 refl $ forget ! 7 refl $ forget ! 9 refl $ forget ! 11 refl $ forget ! 13 refl $ forget ! 16 refl $ forget ! 18 refl $ forget ! 20 refl $
           move ! (20 ∷ 21 ∷ []) $ free1 ! $ move ! (18 ∷ 19 ∷ []) $ free1 ! $ move ! (16 ∷ 17 ∷ []) $ free1 ! $ move ! (0 ∷ 15 ∷ []) $ free1 ! $ move ! (12 ∷ 13 ∷ []) $ free1 ! $ move ! (10 ∷ 11 ∷ []) $ free1 ! $
           move ! (8 ∷ 9 ∷ []) $ free1 ! $ move ! (6 ∷ 7 ∷ []) $ free1 ! $ free0 ! $
@@ -208,7 +209,7 @@ module _ {M : Type 1} (𝓤 : URA M) (H : Heap 𝓤) (A : Atoms 𝓤) (W : Given
 module _ {M : Type 1} (𝓤 : URA M) (H : Heap 𝓤) (A : Atoms 𝓤) (W : Given 𝓤 H A) (at-mem : Memory → SProp 𝓤) (run : Routine → Fun 𝓤) where
   of-walks : (C : Calls 𝓤 H) (Λ : Loops 𝓤 H) → FmC 𝓤 H (W .laws) C → Triple 𝓤 (C #inner) (Inner 𝓤 H A at-mem run) → Walks 𝓤 H A outer.ended stayed (WpFn 𝓤 H C Λ code.function) (outer.clauses 𝓤 H A at-mem run)
   of-walks C Λ fm known = walked 𝓤 H A outer.ended stayed (outer.clauses 𝓤 H A at-mem run) (WpFn 𝓤 H C Λ code.function) (λ κs. (slice-vals, (uint-vals w64, tt))) (λ κs. (shr-slice-tells (named 0) (κs .0) u32, (uint-tells w64, tt)))
-      (λ κs qs bounds a g are. needs 𝓤 ((a .1 .0 ≤ 16) × (a .1 .0 * 2 ≤ length (now (a .0)))) _
+      (λ κs qs bounds a g are. needs 𝓤 ((a .1 .0 ≤ most-runs) × (a .1 .0 * 2 ≤ length (now (a .0)))) _
       (λ fits. walk 𝓤 H A W at-mem run (κs .0) (qs .0) (a .0 .ptr .0) (a .0 .ptr .1) (a .0 .name) (a .0 .now) (a .1 .0) (are .0 .0 .1 .0) (are .1 .0 .1) fits C Λ fm known))
 
   goes : AllGo 𝓤 H A W 1 (outer.signature .params) (outer.ended .kept) stayed

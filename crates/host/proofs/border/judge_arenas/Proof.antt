@@ -1,17 +1,17 @@
--- Each test of the code gives the definition's next number. A good viewport has at most 512 rows of 32 buckets.
+-- Each test of the code gives the definition's next number. A good viewport has at most 512 rows of 64 buckets.
 use mathlib.Core.Path.{_≡_, sym, ap, _∙_}
 use mathlib.Core.Bool.{true}
 use Prim.Native.Nat.{_≤_}
 use native.Mathlib.Nat.{mul-le-mul}
 use native.Mathlib.Omega.{arith}
 use borrow.Author.Tests.{not-true, not-false}
-use Rattle.rules.specs.Boxes.{good-viewport, rows-of, buckets-of}
-use Rattle.rules.specs.Plans.{Frame}
+use Rattle.rules.specs.Boxes.{good-viewport, rows-of}
+use Rattle.rules.specs.Plans.{Frame, buckets-across}
 use Rattle.rect.specs.declared.Viewport.the-variants as viewport
 use Rattle.rect.specs.Rects.{box-of, seen}
 use Rattle.rect.proofs.Snapping.{good-seen, bad-seen}
 use Rattle.screen.specs.declared.Screen.{Screen}
-use Rattle.screen.specs.Screens.{frame, fresh-screen}
+use Rattle.screen.specs.Screens.{frame, frame-of, fresh-screen}
 use Rattle.screen.proofs.Laws.{few-rows, few-buckets}
 use Rattle.screen.proofs.Resets.{begun}
 use Rattle.host.proofs.Ways.{bad-view, bad-rooms, bad-depth, good-lent}
@@ -40,8 +40,8 @@ rows-are c = c .rows .ensures ∙ ap (λ (s : Screen). rows-of (box-of (s .viewp
 few : (c : tie.After-rows) → c .rows .result ≤ 512
 few c = rw (rows-are c) (few-rows _ (good-view (c .before)))
 
-buckets-are : (c : tie.After-buckets) → c .buckets .result ≡ buckets-of 32 (asked-frame (c .before .before .before .before) .viewport)
-buckets-are c = c .buckets .ensures ∙ ap (λ (s : Screen). buckets-of 32 (box-of (s .viewport))) (its-screen (c .before .before .before .before))
+buckets-are : (c : tie.After-buckets) → c .buckets .result ≡ buckets-across (asked-frame (c .before .before .before .before))
+buckets-are c = c .buckets .ensures ∙ ap (λ (s : Screen). buckets-across (frame-of s)) (its-screen (c .before .before .before .before))
 
 viewport-in-requires : tie.Need-viewport-in-requires
 viewport-in-requires c κs = search needs
@@ -80,8 +80,8 @@ buckets-requires c κs = search needs
 mul-if2 : tie.Need-mul-if2
 mul-if2 c =
     let at-rows = c .before .before .before in
-    let wide : c .buckets .result ≤ 32 = rw (buckets-are c) (few-buckets _ (good-view (at-rows .before))) in
-    omega (arith, mul-le-mul {n₁ = at-rows .rows .result} {m₁ = c .buckets .result} {n₂ = 512} {m₂ = 32} (few at-rows) wide)
+    let wide : c .buckets .result ≤ 64 = rw (buckets-are c) (few-buckets _ (good-view (at-rows .before)) (asked-frame (at-rows .before) .width)) in
+    omega (arith, mul-le-mul {n₁ = at-rows .rows .result} {m₁ = c .buckets .result} {n₂ = 512} {m₂ = 64} (few at-rows) wide)
 
 returns-3 : tie.Need-returns-3
 unfolding asked-frame

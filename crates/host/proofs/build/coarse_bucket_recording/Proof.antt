@@ -21,13 +21,18 @@ enum-known-asked c = search needs
 enum-told : tie.Need-enum-told
 enum-told c = search needs
 
+no-setup-requires : tie.Need-no-setup-requires
+no-setup-requires c κs = search needs
+
 refuse-setup-requires : tie.Need-refuse-setup-requires
 refuse-setup-requires c κs = search needs
 
 returns : tie.Need-returns
 returns c =
-    let at-told = c .before in
-    recording-unasked _ (sym (ap asked-for (at-told .enum-told .given .1)) ∙ at-told .before .before .read-setup .ensures) _ _ (tables _ _ _ _ _ _ _ _ _ _) _ (c .refuse-setup .ensures)
+    let at-number = c .before in
+    let at-told = at-number .before in
+    recording-unasked _ (sym (ap asked-for (at-told .enum-told .given .1)) ∙ at-told .before .before .read-setup .ensures) _ (at-number .no-setup .ensures) _ _
+    (c .refuse-setup .ensures) _ (tables _ _ _ _ _ _ _ _ _ _)
 
 screen-of-requires : tie.Need-screen-of-requires
 screen-of-requires c κs = search needs
@@ -114,6 +119,7 @@ coarse-bucket-recording-spec =
     read-setup-requires
     enum-known-asked
     enum-told
+    no-setup-requires
     refuse-setup-requires
     returns
     screen-of-requires

@@ -21,9 +21,14 @@ enum-known-asked c = search needs
 enum-told : tie.Need-enum-told
 enum-told c = search needs
 
+no-setup-requires : tie.Need-no-setup-requires
+no-setup-requires c κs = search needs
+
 returns : tie.Need-returns
 returns c =
-    reset-unasked _ (sym (ap asked-for (c .enum-told .given .1)) ∙ c .before .before .read-setup .ensures) _ _ (tables _ _ _ _ _ _ _ _ _ _)
+    let at-told = c .before in
+    reset-unasked _ (sym (ap asked-for (at-told .enum-told .given .1)) ∙ at-told .before .before .read-setup .ensures) _ (c .no-setup .ensures) _ _
+    (tables _ _ _ _ _ _ _ _ _ _)
 
 screen-of-requires : tie.Need-screen-of-requires
 screen-of-requires c κs = search needs
@@ -109,6 +114,7 @@ coarse-reset-spec =
     read-setup-requires
     enum-known-asked
     enum-told
+    no-setup-requires
     returns
     screen-of-requires
     enum-known-screen

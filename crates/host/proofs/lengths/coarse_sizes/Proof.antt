@@ -16,8 +16,13 @@ enum-known-asked c = search needs
 enum-told : tie.Need-enum-told
 enum-told c = search needs
 
+no-setup-requires : tie.Need-no-setup-requires
+no-setup-requires c κs = search needs
+
 returns : tie.Need-returns
-returns c = sizes-unasked _ (sym (ap asked-for (c .enum-told .given .1)) ∙ c .before .before .read-setup .ensures) _ _
+returns c =
+    let at-told = c .before in
+    sizes-unasked _ (sym (ap asked-for (at-told .enum-told .given .1)) ∙ at-told .before .before .read-setup .ensures) _ (c .no-setup .ensures) _ _
 
 put-lengths-requires : tie.Need-put-lengths-requires
 put-lengths-requires c κs = search needs
@@ -39,6 +44,7 @@ coarse-sizes-spec =
     read-setup-requires
     enum-known-asked
     enum-told
+    no-setup-requires
     returns
     put-lengths-requires
     same-length

@@ -1,18 +1,18 @@
--- Each test of the code gives the definition's next number. A good viewport has at most 512 rows of 32 buckets.
+-- Each test of the code gives the definition's next number. A good viewport has at most 512 rows of 64 buckets.
 use mathlib.Core.Path.{_≡_, sym, ap, _∙_}
 use mathlib.Core.Bool.{true}
 use Prim.Native.Nat.{_*_, _≤_}
 use native.Mathlib.Nat.{mul-le-mul}
 use native.Mathlib.Omega.{arith}
 use borrow.Author.Tests.{not-true, not-false}
-use Rattle.rules.specs.Boxes.{good-viewport, rows-of, buckets-of}
-use Rattle.rules.specs.Plans.{Frame}
+use Rattle.rules.specs.Boxes.{good-viewport, rows-of}
+use Rattle.rules.specs.Plans.{Frame, buckets-across}
 use Rattle.rules.specs.Walk.{good-room}
 use Rattle.rect.specs.declared.Viewport.the-variants as viewport
 use Rattle.rect.specs.Rects.{box-of, seen}
 use Rattle.rect.proofs.Snapping.{good-seen, bad-seen}
 use Rattle.screen.specs.declared.Screen.{Screen}
-use Rattle.screen.specs.Screens.{frame, fresh-screen}
+use Rattle.screen.specs.Screens.{frame, frame-of, fresh-screen}
 use Rattle.screen.proofs.Laws.{few-rows, few-buckets}
 use Rattle.screen.proofs.Resets.{begun}
 use Rattle.host.proofs.Sized.{no-view, no-room-c, no-room-d, not-ten, all-ten}
@@ -48,11 +48,11 @@ rows-are c = c .rows .ensures ∙ ap (λ (s : Screen). rows-of (box-of (s .viewp
 few : (c : tie.After-rows) → c .rows .result ≤ 512
 few c = rw (rows-are c) (few-rows _ (good-view (at-room (c .before))))
 
-buckets-are : (c : tie.After-buckets) → c .buckets .result ≡ buckets-of 32 (asked-frame (at-room (c .before .before)) .viewport)
-buckets-are c = c .buckets .ensures ∙ ap (λ (s : Screen). buckets-of 32 (box-of (s .viewport))) (its-screen (c .before .before))
+buckets-are : (c : tie.After-buckets) → c .buckets .result ≡ buckets-across (asked-frame (at-room (c .before .before)))
+buckets-are c = c .buckets .ensures ∙ ap (λ (s : Screen). buckets-across (frame-of s)) (its-screen (c .before .before))
 
-wide : (c : tie.After-buckets) → c .buckets .result ≤ 32
-wide c = rw (buckets-are c) (few-buckets _ (good-view (at-room (c .before .before))))
+wide : (c : tie.After-buckets) → c .buckets .result ≤ 64
+wide c = rw (buckets-are c) (few-buckets _ (good-view (at-room (c .before .before))) (asked-frame (at-room (c .before .before)) .width))
 
 viewport-in-requires : tie.Need-viewport-in-requires
 viewport-in-requires c κs = search needs
@@ -130,13 +130,13 @@ mul-put-sizes : tie.Need-mul-put-sizes
 mul-put-sizes c =
     let at-buckets = c .before .before .before in
     let at-rows = at-buckets .before in
-    omega (arith, mul-le-mul {n₁ = at-rows .rows .result} {m₁ = at-buckets .buckets .result} {n₂ = 512} {m₂ = 32} (few at-rows) (wide at-buckets))
+    omega (arith, mul-le-mul {n₁ = at-rows .rows .result} {m₁ = at-buckets .buckets .result} {n₂ = 512} {m₂ = 64} (few at-rows) (wide at-buckets))
 
 mul-put-sizes-2 : tie.Need-mul-put-sizes-2
-mul-put-sizes-2 c = search needs
+mul-put-sizes-2 c = omega (arith, few (c .before .before .before .before))
 
 mul-put-sizes-3 : tie.Need-mul-put-sizes-3
-mul-put-sizes-3 c = search needs
+mul-put-sizes-3 c = omega (arith, few (c .before .before .before .before))
 
 put-sizes-requires : tie.Need-put-sizes-requires
 put-sizes-requires c κs = search needs

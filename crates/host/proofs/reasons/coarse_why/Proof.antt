@@ -26,18 +26,22 @@ enum-known-wanted c = search needs
 enum-told : tie.Need-enum-told
 enum-told c = search needs
 
+no-setup-requires : tie.Need-no-setup-requires
+no-setup-requires c κs = search needs
+
 refuse-setup-requires : tie.Need-refuse-setup-requires
 refuse-setup-requires c κs = search needs
 
 returns : tie.Need-returns
 returns c =
-    let at-told = c .before in
+    let at-number = c .before in
+    let at-told = at-number .before in
     let at-setup = at-told .before .before in
     let args = at-setup .before .before .before .before .before .before .before .before .before .before .before .before .before .args in
     let lent : Tables = tables (args .render .now) (args .fills .now) (args .depth .now) (args .rows .now) (args .painting .now) (args .layers .now)
     (args .opacities .now) (args .paint-attrs .now) (args .layer-attrs .now) (args .filter-paints .now) in
-    why-unasked _ (sym (ap asked-for (at-told .enum-told .given .1)) ∙ at-setup .read-setup .ensures) (args .file .now) (args .row) (args .tile) (args .layer)
-    (args .attribute) (args .state .now) lent (args .result .now) _ (c .refuse-setup .ensures)
+    why-unasked _ (sym (ap asked-for (at-told .enum-told .given .1)) ∙ at-setup .read-setup .ensures) _ (at-number .no-setup .ensures) (args .file .now) _
+    (c .refuse-setup .ensures) (args .row) (args .tile) (args .layer) (args .attribute) (args .state .now) lent (args .result .now)
 
 is-good-question-requires : tie.Need-is-good-question-requires
 is-good-question-requires c κs = search needs
@@ -158,6 +162,7 @@ coarse-why-spec =
     read-setup-requires
     enum-known-wanted
     enum-told
+    no-setup-requires
     refuse-setup-requires
     returns
     is-good-question-requires

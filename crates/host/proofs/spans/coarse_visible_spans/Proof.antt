@@ -44,6 +44,7 @@ use denote.Triple.Spec.{Meets, tripleOf}
 use denote.Triple.Clauses.{Lasts, ensured, lasts}
 use denote.Triple.Table.{entered, cited}
 use denote.Triple.Walked.{says, Stays, stay-none-slice, stay-none, gave-slice, walkOf, AllGo, Walks, ends-at, walked, goes-none-slice, goes-none, goes-gave-slice, walk-meets}
+use Rattle.sizes.specs.Sizes.{bucket-end}
 use Rattle.rules.specs.Answers.{answer}
 use Rattle.rules.specs.Spans.{span}
 use Rattle.span.specs.declared.TileSpan.{TileSpan}
@@ -98,7 +99,7 @@ module _ (f : Found) (v : Val) (is : Is F.the-row f (v ∷ [])) where
   its-words : Is words-row (f .words) (words-val (f .words) ∷ [])
   its-words = subst (λ (ws : List ℕ). Is words-row ws (words-val ws ∷ [])) (same (f .words)) (LL.owed F.the-type F′.the-laws f _ is .1 .1 .0)
 
-  all-words : length (f .words) ≡ 256
+  all-words : length (f .words) ≡ bucket-end
   all-words = its-words .1 .0 .1
 
 module _ {M : Type 1} (𝓤 : URA M) (H : Heap 𝓤) (A : Atoms 𝓤) (at-mem : Memory → SProp 𝓤) (run : Routine → Fun 𝓤) where
@@ -278,7 +279,7 @@ module _ {M : Type 1} (𝓤 : URA M) (H : Heap 𝓤) (A : Atoms 𝓤) (W : Given
           land ! (from ! (stop !)) (init ! 24 refl (LL.lawful F.the-type F′.the-laws 𝓤 H A W .typed f _ is .0)) $
           rewrite ! 24 (λ (u : Val). ‵ (fat fullShare F′.mir l₉ 0 u)) (ap only (F′.lowers .val-is f _ is)) refl $
           assigns ! (of-opd ! (load ! (from ! (fld ! refl (stop !))) (look-in ! 24 (sub ! 2 refl (whole !))))) (from ! (stop !))
-          (init ! 22 refl (array-lawful 𝓤 H A W u32 (uint-lawful 𝓤 H A W w32) 256 .typed (f .words) _ (its-words f v is) .0)) $
+          (init ! 22 refl (array-lawful 𝓤 H A W u32 (uint-lawful 𝓤 H A W w32) bucket-end .typed (f .words) _ (its-words f v is) .0)) $
           -- the list's reference is made again
           assigns ! (addr ! (from ! (fld ! refl (hop ! (look-in ! 28 (sub ! 0 refl (whole !))) (stop !))))) (from ! (stop !)) (init ! 12 refl (tt, tt)) $
           assigns ! (agg ! (and-then ! (load ! (from ! (stop !)) (look ! 12 refl)) (and-then ! (load ! (from ! (fld ! refl (stop !))) (look-in ! 28 (sub ! 1 refl (whole !)))) (no-more !)))) (from ! (stop !))
@@ -306,7 +307,7 @@ module _ {M : Type 1} (𝓤 : URA M) (H : Heap 𝓤) (A : Atoms 𝓤) (W : Given
           -- the lifetime is ended, and the words are taken back
           split ! $ move ! (1 ∷ []) $ split ! $ lft-end ! tt $ move ! (0 ∷ 4 ∷ []) $ lent-back ! tt $
           use1 W (‵ (partAt words-row fullShare (f .words) l₁₀ 0)) (together 𝓤 H A W l₁₀ 0 (f .words) (all-words f v is)) $
-          fpick ! (λ vs. fsplit ! $ spelt ! words-row (Is words-row) (shows 𝓤 H A words-row) (array-vals (uint-vals w32)) (array-tells u32 (uint-vals w32) (uint-tells w32) 256) fullShare (f .words) vs l₁₀ 0 $
+          fpick ! (λ vs. fsplit ! $ spelt ! words-row (Is words-row) (shows 𝓤 H A words-row) (array-vals (uint-vals w32)) (array-tells u32 (uint-vals w32) (uint-tells w32) bucket-end) fullShare (f .words) vs l₁₀ 0 $
           move ! (1 ∷ []) $ drop ! $ use1 W (‵ (fat fullShare words-ty l₁₀ 0 (words-val (f .words)))) (W .laws .raw-at fullShare words-ty l₁₀ 0 (words-val (f .words))) $ move ! (1 ∷ []) $ drop ! $
           -- [_10; the list's token; the last list; the other tokens; the last results; the depth words; the state; _18; …; _11; …; _10's end; _9; …; _0; …]
           assigns ! (of-opd ! (load ! (from ! (fld ! refl (stop !))) (look-in ! 24 (sub ! 0 refl (whole !))))) (from ! (stop !)) (init ! 42 refl (tt, record { fits = its-number f v is })) $

@@ -1,4 +1,4 @@
--- The first words of 256, two for each run that there is room for, are lent to `coarse_visible_runs`; where that answers 0, the results are one word, which says how many runs there are.
+-- The first of the words, two for each run that there is room for, are lent to `coarse_visible_runs`; where that answers 0, the results are one word, which says how many runs there are.
 use mathlib.Core.Path.{sym}
 use borrow.Author.Needs.{needs}
 use native.Mathlib.Omega.{arith}

@@ -1,6 +1,7 @@
 -- By the command's kind: a fill gives its runs, a PushBuf and a PopBuf change the nesting; a bad one is answered by its number.
 use Rattle.depth.specs.Answers.{summary}
 use Rattle.paint_command.proofs.Steps.{paint-forged, paint-taken, layer-forged, layer-taken, push-forged, pushed, pop-forged, popped, paint-good, layer-good}
+use Rattle.sizes.specs.Widths.{bucket-tiles}
 use borrow.Author.Needs.{needs}
 use Rattle.paint_command.proofs.row.step_command.Statement.{statement}
 use Rattle.paint_command.proofs.row.step_command.Tie as tie
@@ -19,7 +20,7 @@ returns c =
     let at-paint-taken = c .before .before in
     let at-cmd = at-paint-taken .before .before in
     let at-args = at-cmd .before .before .before .before .before .before .before in
-    paint-forged _ _ _ _ _ (at-args .args .painting .now) _ (summary (at-args .args .sum)) _ _ (at-cmd .cmd .given .1) _ (at-paint-taken .paint-taken .ensures)
+    paint-forged (bucket-tiles (at-args .args .width)) _ _ _ _ _ (at-args .args .painting .now) _ (summary (at-args .args .sum)) _ _ (at-cmd .cmd .given .1) _ (at-paint-taken .paint-taken .ensures)
     _ (c .before .if1 .taken) (c .refused .ensures)
 
 paint-fill-requires : tie.Need-paint-fill-requires
@@ -43,7 +44,7 @@ returns-2 c =
     let at-layer-taken = c .before .before in
     let at-cmd2 = at-layer-taken .before .before in
     let at-args = at-cmd2 .before .before .before .before .before .before .before in
-    layer-forged _ _ _ _ _ (at-args .args .painting .now) _ (summary (at-args .args .sum)) _ _ (at-cmd2 .cmd2 .given .1) _
+    layer-forged (bucket-tiles (at-args .args .width)) _ _ _ _ _ (at-args .args .painting .now) _ (summary (at-args .args .sum)) _ _ (at-cmd2 .cmd2 .given .1) _
     (at-layer-taken .layer-taken .ensures) _ (c .before .if2 .taken) (c .refused2 .ensures)
 
 paint-fill-requires-2 : tie.Need-paint-fill-requires-2
@@ -74,7 +75,7 @@ returns-3 c =
     let at-if3 = at-advance .before .before in
     let at-enum-told = at-if3 .before .before in
     let at-args = at-enum-told .before .before .before .before .before .before .before in
-    pushed _ _ _ _ _ (at-args .args .painting .now) _ (summary (at-args .args .sum)) _ _ (at-enum-told .enum-told .given .1) _ _ (at-if3 .if3 .taken)
+    pushed (bucket-tiles (at-args .args .width)) _ _ _ _ _ (at-args .args .painting .now) _ (summary (at-args .args .sum)) _ _ (at-enum-told .enum-told .given .1) _ _ (at-if3 .if3 .taken)
     (at-advance .advance .ensures)
 
 refused-requires-3 : tie.Need-refused-requires-3
@@ -101,7 +102,7 @@ returns-4 c =
     let at-if4 = at-advance2 .before .before in
     let at-enum-told2 = at-if4 .before .before in
     let at-args = at-enum-told2 .before .before .before .before .before .before .before in
-    popped _ _ _ _ _ (at-args .args .painting .now) _ (summary (at-args .args .sum)) _ (at-enum-told2 .enum-told2 .given .1) _ _ (at-if4 .if4 .taken)
+    popped (bucket-tiles (at-args .args .width)) _ _ _ _ _ (at-args .args .painting .now) _ (summary (at-args .args .sum)) _ (at-enum-told2 .enum-told2 .given .1) _ _ (at-if4 .if4 .taken)
     (at-advance2 .advance2 .ensures)
 
 refused-requires-4 : tie.Need-refused-requires-4
@@ -120,7 +121,7 @@ returns-5 c =
     let at-paint-taken = at-if1 .before in
     let at-cmd = at-paint-taken .before .before in
     let at-args = at-cmd .before .before .before .before .before .before .before in
-    paint-taken _ _ _ _ _ (at-args .args .painting .now) _ (summary (at-args .args .sum)) _ _ (at-cmd .cmd .given .1) _ (at-paint-taken .paint-taken .ensures) _
+    paint-taken (bucket-tiles (at-args .args .width)) _ _ _ _ _ (at-args .args .painting .now) _ (summary (at-args .args .sum)) _ _ (at-cmd .cmd .given .1) _ (at-paint-taken .paint-taken .ensures) _
     (at-if1 .if1 .left) (at-paint-fill .paint-fill .ensures)
 
 same-length-5 : tie.Need-same-length-5
@@ -136,21 +137,21 @@ returns-6 c =
     let at-layer-taken = at-if2 .before in
     let at-cmd2 = at-layer-taken .before .before in
     let at-args = at-cmd2 .before .before .before .before .before .before .before in
-    layer-taken _ _ _ _ _ (at-args .args .painting .now) _ (summary (at-args .args .sum)) _ _ (at-cmd2 .cmd2 .given .1) _ (at-layer-taken .layer-taken .ensures)
+    layer-taken (bucket-tiles (at-args .args .width)) _ _ _ _ _ (at-args .args .painting .now) _ (summary (at-args .args .sum)) _ _ (at-cmd2 .cmd2 .given .1) _ (at-layer-taken .layer-taken .ensures)
     _ (at-if2 .if2 .left) (at-paint-fill2 .paint-fill2 .ensures)
 
 returns-7 : tie.Need-returns-7
 returns-7 c =
     let at-enum-told = c .before .before .before in
     let at-args = at-enum-told .before .before .before .before .before .before .before in
-    push-forged _ _ _ _ _ (at-args .args .painting .now) _ (summary (at-args .args .sum)) _ _ (at-enum-told .enum-told .given .1) _ (c .before .if3 .left)
+    push-forged (bucket-tiles (at-args .args .width)) _ _ _ _ _ (at-args .args .painting .now) _ (summary (at-args .args .sum)) _ _ (at-enum-told .enum-told .given .1) _ (c .before .if3 .left)
     (c .refused3 .ensures)
 
 returns-8 : tie.Need-returns-8
 returns-8 c =
     let at-enum-told2 = c .before .before .before in
     let at-args = at-enum-told2 .before .before .before .before .before .before .before in
-    pop-forged _ _ _ _ _ (at-args .args .painting .now) _ (summary (at-args .args .sum)) _ (at-enum-told2 .enum-told2 .given .1) _ (c .before .if4 .left)
+    pop-forged (bucket-tiles (at-args .args .width)) _ _ _ _ _ (at-args .args .painting .now) _ (summary (at-args .args .sum)) _ (at-enum-told2 .enum-told2 .given .1) _ (c .before .if4 .left)
     (c .refused4 .ensures)
 
 pub step-command-spec : {M : Type 1} → statement M

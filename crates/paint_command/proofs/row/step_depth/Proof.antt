@@ -1,6 +1,7 @@
 -- The fill's words are judged, then its attribute; its unset runs become pieces and its id is written.
 use native.Mathlib.Omega.{arith}
 use Rattle.paint_command.proofs.Steps.{depth-unread, depth-forged, depth-taken, depth-good}
+use Rattle.sizes.specs.Widths.{bucket-tiles}
 use borrow.Author.Needs.{needs}
 use Rattle.paint_command.proofs.row.step_depth.Statement.{statement}
 use Rattle.paint_command.proofs.row.step_depth.Tie as tie
@@ -8,11 +9,11 @@ use Rattle.paint_command.proofs.row.step_depth.Tie as tie
 mul-at : tie.Need-mul-at
 mul-at c = search needs
 
-mul-t12 : tie.Need-mul-t12
-mul-t12 c = search needs
+mul-t13 : tie.Need-mul-t13
+mul-t13 c = search needs
 
-shared-slice-read-t14 : tie.Need-shared-slice-read-t14
-shared-slice-read-t14 c = search needs
+shared-slice-read-t15 : tie.Need-shared-slice-read-t15
+shared-slice-read-t15 c = search needs
 
 add-read : tie.Need-add-read
 add-read c = search needs
@@ -50,7 +51,7 @@ returns c =
     let at-fill = at-paint-taken .before .before in
     let at-read = at-fill .before .before in
     let at-args = at-read .before .before .before .before .before .before .before .before in
-    depth-forged (at-args .args .paint-attrs .now) (at-args .args .paints) _ _ (at-args .args .depth .now) (at-args .args .painting .now)
+    depth-forged (bucket-tiles (at-args .args .width)) (at-args .args .paint-attrs .now) (at-args .args .paints) _ _ (at-args .args .depth .now) (at-args .args .painting .now)
     (at-args .args .list .now) _ _ 0 (at-read .read .ensures) _ (at-fill .fill .given .1) _ (at-paint-taken .paint-taken .ensures) _ (c .before .if1 .taken)
     (c .refused2 .ensures)
 
@@ -67,7 +68,7 @@ returns-2 : tie.Need-returns-2
 returns-2 c =
     let at-read = c .before .before .before in
     let at-args = at-read .before .before .before .before .before .before .before .before in
-    depth-unread (at-args .args .paint-attrs .now) (at-args .args .paints) _ _ (at-args .args .depth .now) (at-args .args .painting .now)
+    depth-unread (bucket-tiles (at-args .args .width)) (at-args .args .paint-attrs .now) (at-args .args .paints) _ _ (at-args .args .depth .now) (at-args .args .painting .now)
     (at-args .args .list .now) _ _ 0 (at-read .read .ensures) _ (c .before .enum-told .given .1) (c .refused .ensures)
 
 same-length : tie.Need-same-length
@@ -87,7 +88,7 @@ returns-3 c =
     let at-fill = at-paint-taken .before .before in
     let at-read = at-fill .before .before in
     let at-args = at-read .before .before .before .before .before .before .before .before in
-    depth-taken (at-args .args .paint-attrs .now) (at-args .args .paints) _ _ (at-args .args .depth .now) (at-args .args .painting .now)
+    depth-taken (bucket-tiles (at-args .args .width)) (at-args .args .paint-attrs .now) (at-args .args .paints) _ _ (at-args .args .depth .now) (at-args .args .painting .now)
     (at-args .args .list .now) _ _ 0 (at-read .read .ensures) _ (at-fill .fill .given .1) _ (at-paint-taken .paint-taken .ensures) _ (at-if1 .if1 .left)
     (at-paint-depth .paint-depth .ensures)
 
@@ -96,8 +97,8 @@ step-depth-spec =
     tie.close
     (tie.spec
     mul-at
-    mul-t12
-    shared-slice-read-t14
+    mul-t13
+    shared-slice-read-t15
     add-read
     mul-read
     shared-slice-read-read

@@ -1,5 +1,6 @@
 -- The step's number decides: depth fills from the last, then commands from the first, then finished. In each part the words that are read are judged
 -- before anything is written.
+use Rattle.sizes.specs.Widths.{bucket-tiles}
 use borrow.Author.Needs.{needs}
 use mathlib.Core.Path.{refl, sym, _∙_}
 use native.Mathlib.Omega.{arith}
@@ -30,7 +31,7 @@ returns : tie.Need-returns
 returns c =
     let at-wide = c .before .before in
     let at-args = at-wide .before .before .before .before .before .before .before .before .before .before .before .before in
-    many-renders _ _ _ _ _ (at-args .args .painting .now) _ (at-args .args .state .now) _ _ _ (rw (at-wide .wide .ensures) at (c .before .if1 .taken))
+    many-renders (bucket-tiles (at-args .args .width)) _ _ _ _ _ (at-args .args .painting .now) _ (at-args .args .state .now) _ _ _ (rw (at-wide .wide .ensures) at (c .before .if1 .taken))
     (c .refused .ensures)
 
 wide-requires-2 : tie.Need-wide-requires-2
@@ -48,7 +49,7 @@ returns-2 c =
     let at-if1 = at-wide2 .before in
     let at-wide = at-if1 .before in
     let at-args = at-wide .before .before .before .before .before .before .before .before .before .before .before .before in
-    many-depths _ _ _ _ _ (at-args .args .painting .now) _ (at-args .args .state .now) _ _ (rw (at-wide .wide .ensures) at (at-if1 .if1 .left)) _ (rw
+    many-depths (bucket-tiles (at-args .args .width)) _ _ _ _ _ (at-args .args .painting .now) _ (at-args .args .state .now) _ _ (rw (at-wide .wide .ensures) at (at-if1 .if1 .left)) _ (rw
     (at-wide2 .wide2 .ensures) at (c .before .if2 .taken)) (c .refused2 .ensures)
 
 slice-read-if3 : tie.Need-slice-read-if3
@@ -64,7 +65,7 @@ returns-3 c =
     let at-if1 = at-wide2 .before in
     let at-wide = at-if1 .before in
     let at-args = at-wide .before .before .before .before .before .before .before .before .before .before .before .before in
-    deep _ _ _ _ _ (at-args .args .painting .now) _ (at-args .args .state .now) _ _ (rw (at-wide .wide .ensures) at (at-if1 .if1 .left)) (rw
+    deep (bucket-tiles (at-args .args .width)) _ _ _ _ _ (at-args .args .painting .now) _ (at-args .args .state .now) _ _ (rw (at-wide .wide .ensures) at (at-if1 .if1 .left)) (rw
     (at-wide2 .wide2 .ensures) at (at-if2 .if2 .left)) _ (c .before .if3 .taken) (c .refused3 .ensures)
 
 add-if4 : tie.Need-add-if4
@@ -81,7 +82,7 @@ returns-4 c =
     let at-if1 = at-wide2 .before in
     let at-wide = at-if1 .before in
     let at-args = at-wide .before .before .before .before .before .before .before .before .before .before .before .before in
-    past _ _ _ _ _ (at-args .args .painting .now) _ (at-args .args .state .now) _ _ (rw (at-wide .wide .ensures) at (at-if1 .if1 .left)) (rw
+    past (bucket-tiles (at-args .args .width)) _ _ _ _ _ (at-args .args .painting .now) _ (at-args .args .state .now) _ _ (rw (at-wide .wide .ensures) at (at-if1 .if1 .left)) (rw
     (at-wide2 .wide2 .ensures) at (at-if2 .if2 .left)) (at-if3 .if3 .left) _ (c .before .if4 .taken) (c .refused4 .ensures)
 
 is-good-summary-requires : tie.Need-is-good-summary-requires
@@ -100,7 +101,7 @@ returns-5 c =
     let at-if1 = at-wide2 .before in
     let at-wide = at-if1 .before in
     let at-args = at-wide .before .before .before .before .before .before .before .before .before .before .before .before in
-    unsummed _ _ _ _ _ (at-args .args .painting .now) _ (at-args .args .state .now) _ _ (rw (at-wide .wide .ensures) at (at-if1 .if1 .left)) (rw
+    unsummed (bucket-tiles (at-args .args .width)) _ _ _ _ _ (at-args .args .painting .now) _ (at-args .args .state .now) _ _ (rw (at-wide .wide .ensures) at (at-if1 .if1 .left)) (rw
     (at-wide2 .wide2 .ensures) at (at-if2 .if2 .left)) (at-if3 .if3 .left) (at-if4 .if4 .left) _ (sym (at-is-good-summary .is-good-summary .ensures) ∙ not-true
     _ (c .before .if5 .taken)) (c .refused5 .ensures)
 
@@ -139,7 +140,7 @@ returns-6 c =
     let at-if1 = at-wide2 .before in
     let at-wide = at-if1 .before in
     let at-args = at-wide .before .before .before .before .before .before .before .before .before .before .before .before in
-    then-depth _ _ _ _ _ (at-args .args .painting .now) _ (at-args .args .state .now) _ _ (rw (at-wide .wide .ensures) at (at-if1 .if1 .left)) (rw
+    then-depth (bucket-tiles (at-args .args .width)) _ _ _ _ _ (at-args .args .painting .now) _ (at-args .args .state .now) _ _ (rw (at-wide .wide .ensures) at (at-if1 .if1 .left)) (rw
     (at-wide2 .wide2 .ensures) at (at-if2 .if2 .left)) (at-if3 .if3 .left) (at-if4 .if4 .left) (sym (at-is-good-summary .is-good-summary .ensures) ∙ not-false _
     (at-if5 .if5 .left)) _ _ (at-if6 .if6 .taken) (at-wide3 .wide3 .ensures) (at-step-depth .step-depth .ensures)
 
@@ -197,7 +198,7 @@ returns-7 c =
     let at-if1 = at-wide2 .before in
     let at-wide = at-if1 .before in
     let at-args = at-wide .before .before .before .before .before .before .before .before .before .before .before .before in
-    then-unread _ _ _ _ _ (at-args .args .painting .now) _ (at-args .args .state .now) _ _ (rw (at-wide .wide .ensures) at (at-if1 .if1 .left)) (rw
+    then-unread (bucket-tiles (at-args .args .width)) _ _ _ _ _ (at-args .args .painting .now) _ (at-args .args .state .now) _ _ (rw (at-wide .wide .ensures) at (at-if1 .if1 .left)) (rw
     (at-wide2 .wide2 .ensures) at (at-if2 .if2 .left)) (at-if3 .if3 .left) (at-if4 .if4 .left) (sym (at-is-good-summary .is-good-summary .ensures) ∙ not-false _
     (at-if5 .if5 .left)) (at-if6 .if6 .left) _ (at-wide4 .wide4 .ensures) (at-if7 .if7 .taken) _ (at-read-command .read-command .ensures) _
     (c .before .enum-told .given .1) (c .refused6 .ensures)
@@ -229,7 +230,7 @@ returns-8 c =
     let at-if1 = at-wide2 .before in
     let at-wide = at-if1 .before in
     let at-args = at-wide .before .before .before .before .before .before .before .before .before .before .before .before in
-    then-command _ _ _ _ _ (at-args .args .painting .now) _ (at-args .args .state .now) _ _ (rw (at-wide .wide .ensures) at (at-if1 .if1 .left)) (rw
+    then-command (bucket-tiles (at-args .args .width)) _ _ _ _ _ (at-args .args .painting .now) _ (at-args .args .state .now) _ _ (rw (at-wide .wide .ensures) at (at-if1 .if1 .left)) (rw
     (at-wide2 .wide2 .ensures) at (at-if2 .if2 .left)) (at-if3 .if3 .left) (at-if4 .if4 .left) (sym (at-is-good-summary .is-good-summary .ensures) ∙ not-false _
     (at-if5 .if5 .left)) (at-if6 .if6 .left) _ (at-wide4 .wide4 .ensures) (at-if7 .if7 .taken) _ (at-read-command .read-command .ensures) _ _ _
     (at-cmd .cmd .given .1) (at-summary-of .summary-of .ensures) (at-step-command .step-command .ensures)
@@ -245,7 +246,7 @@ returns-9 c =
     let at-if1 = at-wide2 .before in
     let at-wide = at-if1 .before in
     let at-args = at-wide .before .before .before .before .before .before .before .before .before .before .before .before in
-    then-finished _ _ _ _ _ (at-args .args .painting .now) _ (at-args .args .state .now) _ _ (rw (at-wide .wide .ensures) at (at-if1 .if1 .left)) (rw
+    then-finished (bucket-tiles (at-args .args .width)) _ _ _ _ _ (at-args .args .painting .now) _ (at-args .args .state .now) _ _ (rw (at-wide .wide .ensures) at (at-if1 .if1 .left)) (rw
     (at-wide2 .wide2 .ensures) at (at-if2 .if2 .left)) (at-if3 .if3 .left) (at-if4 .if4 .left) (sym (at-is-good-summary .is-good-summary .ensures) ∙ not-false _
     (at-if5 .if5 .left)) (c .before .if6 .left) _ refl (c .if7 .left) (at-args .pre .0 .4)
 

@@ -3,8 +3,8 @@ use mathlib.Core.Path.{_∙_}
 use native.Mathlib.Nat.{mul-le-mul}
 use native.Mathlib.Omega.{arith}
 use Rattle.span.specs.Spans.{tiles}
-use Rattle.span.specs.Widths.{wide}
-use Rattle.span.proofs.Widths.{wide-most}
+use Rattle.sizes.specs.Widths.{bucket-tiles}
+use Rattle.rules.proofs.laws.Widths.{bucket-most}
 use Rattle.depth.specs.Answers.{summary}
 use Rattle.paint_runs.proofs.Clear.{skip-said}
 use borrow.Author.Needs.{needs}
@@ -27,7 +27,7 @@ mul-result : tie.Need-mul-result
 mul-result c =
     let at-args = c .before .before .before .before in
     let w = at-args .args .width in
-    let few = mul-le-mul {n₁ = wide w} {m₁ = at-args .args .buckets} {n₂ = 64} {m₂ = 65535} (wide-most w) (at-args .pre .2) in
+    let few = mul-le-mul {n₁ = bucket-tiles w} {m₁ = at-args .args .buckets} {n₂ = 64} {m₂ = 65535} (bucket-most w) (at-args .pre .2) in
     record { fits = rw (c .tiles .ensures) (omega (arith, few)) }
 
 returns : tie.Need-returns

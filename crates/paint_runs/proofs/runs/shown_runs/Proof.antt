@@ -1,6 +1,6 @@
 use mathlib.Core.Path.{sym, _∙_}
 use Rattle.span.specs.Spans.{tiles}
-use Rattle.span.specs.Widths.{wide}
+use Rattle.sizes.specs.Widths.{bucket-tiles}
 use Rattle.depth.specs.Answers.{summary}
 use Rattle.paint_runs.proofs.Clear.{shown-whole, shown-searched}
 use borrow.Author.Needs.{needs}
@@ -22,7 +22,7 @@ returns c =
     let at-if1 = at-list-whole .before .before in
     let at-is-clear = at-if1 .before in
     let at-args = at-is-clear .before .before .before in
-    shown-whole (wide (at-args .args .width)) (summary (at-args .args .sum)) (at-args .args .depth .now) (at-args .args .id) (tiles (at-args .args .span)) (at-args .args .list .now) _ (sym
+    shown-whole (bucket-tiles (at-args .args .width)) (summary (at-args .args .sum)) (at-args .args .depth .now) (at-args .args .id) (tiles (at-args .args .span)) (at-args .args .list .now) _ (sym
     (at-is-clear .is-clear .ensures) ∙ at-if1 .if1 .taken) (at-list-whole .list-whole .ensures)
 
 visible-runs-requires : tie.Need-visible-runs-requires
@@ -37,7 +37,7 @@ returns-2 c =
     let at-if1 = at-visible-runs .before .before in
     let at-is-clear = at-if1 .before in
     let at-args = at-is-clear .before .before .before in
-    shown-searched (wide (at-args .args .width)) (summary (at-args .args .sum)) (at-args .args .depth .now) (at-args .args .id) (tiles (at-args .args .span)) (at-args .args .list .now) _
+    shown-searched (bucket-tiles (at-args .args .width)) (summary (at-args .args .sum)) (at-args .args .depth .now) (at-args .args .id) (tiles (at-args .args .span)) (at-args .args .list .now) _
     (at-args .pre .0) (at-args .pre .1) (sym (at-is-clear .is-clear .ensures) ∙ at-if1 .if1 .left) (at-visible-runs .visible-runs .ensures)
 
 pub shown-runs-spec : {M : Type 1} → statement M

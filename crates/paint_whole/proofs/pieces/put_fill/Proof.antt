@@ -5,7 +5,7 @@ use native.Mathlib.Omega.{arith}
 use lib.ListN.{length}
 use borrow.Author.Needs.{needs}
 use Rattle.rules.specs.Spans.{span}
-use Rattle.span.specs.Widths.{wide}
+use Rattle.sizes.specs.Widths.{bucket-tiles}
 use Rattle.cmd.proofs.Tables.{length-at}
 use Rattle.paint_whole.specs.Kinds.{run-words}
 use Rattle.paint_whole.proofs.Putting.{put-both}
@@ -60,7 +60,7 @@ put-runs-requires c κs =
     let a = entry .args in
     let look = entry .pre .0 in
     let found = rw (at-if1 .if1 .taken) at (look .found) in
-    let words = run-words (wide (a .width)) (a .tag) (a .i) (a .tiles) (a .alpha) (a .level) (span (at-wide2 .wide2 .result) (a .stop)) in
+    let words = run-words (bucket-tiles (a .width)) (a .tag) (a .i) (a .tiles) (a .alpha) (a .level) (span (at-wide2 .wide2 .result) (a .stop)) in
     let long = length-at (a .list .now) (6 * a .k) words (omega (arith, entry .pre .2, ap length found)) in
     let high = at-wide .wide .ensures ∙ at-above .above .ensures in
     rw high (

@@ -3,7 +3,7 @@ use Prim.Native.Nat.{_-_, _%_}
 use mathlib.Core.Path.{_∙_}
 use native.Mathlib.Omega.{arith}
 use borrow.Author.Needs.{needs}
-use Rattle.span.proofs.Widths.{above-small, starts-before}
+use Rattle.rules.proofs.laws.Widths.{above-small, starts-before}
 use Rattle.paint_whole.proofs.Looks.{index-moves}
 use Rattle.paint_whole.proofs.pieces.put_run.Statement.{statement}
 use Rattle.paint_whole.proofs.pieces.put_run.Tie as tie

@@ -7,7 +7,7 @@ use native.Mathlib.Omega.{arith}
 use lib.ListN.{length, getD}
 use borrow.Author.Tests.{le-leb}
 use Rattle.rules.specs.Depth.{is-visible}
-use Rattle.span.specs.Widths.{wide}
+use Rattle.sizes.specs.Widths.{bucket-tiles}
 use Rattle.depth.proofs.Searching.{Reached, reach-first, reach-more}
 use Rattle.paint_whole.specs.Kinds.{SeenTo}
 use Rattle.paint_whole.proofs.Looks.{seen-stop, seen-end}
@@ -26,7 +26,7 @@ abbrev μ-loop2 : tie.MeasureT-loop2
 
 abbrev Inv-loop : tie.InvT-loop
 Inv-loop depth start shown e id list₀ k tag i tiles alpha level width at₀ open₀ n₀ list at «open» n =
-    Put depth id e (wide width) tag i tiles alpha level start k list₀ at n list × (at < e → is-visible id (getD depth at 0) ≡ «open»)
+    Put depth id e (bucket-tiles width) tag i tiles alpha level start k list₀ at n list × (at < e → is-visible id (getD depth at 0) ≡ «open»)
 
 abbrev μ-loop : tie.MeasureT-loop
 μ-loop depth start shown e id list₀ k tag i tiles alpha level width at₀ open₀ n₀ list at «open» n = e - at

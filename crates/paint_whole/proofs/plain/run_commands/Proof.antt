@@ -4,6 +4,7 @@ use Prim.Native.Nat.{_+_, _-_, _*_, _/_, _≤_}
 use mathlib.Core.Path.{_≡_, refl, _∙_}
 use native.Mathlib.Omega.{arith}
 use lib.ListN.{length}
+use Rattle.sizes.specs.Widths.{bucket-tiles}
 use Rattle.rules.specs.Depth.{is-visible}
 use Rattle.depth.proofs.Searching.{runs-few}
 use Rattle.paint_command.specs.Painting.{word, attrs-at}
@@ -19,12 +20,12 @@ use Rattle.paint_whole.proofs.pieces.put_fill.Reads as put-fill-reads
 use Rattle.paint_whole.proofs.pieces.most_runs.Reads as most-runs-reads
 
 abbrev Inv-loop : tie.InvT-loop
-Inv-loop state render fills depth paint-attrs paints layer-attrs layers list₀ start stop pieces nesting at₀ n₀ level₀ list at n level =
-    Reaches (own-step (attrs-at paint-attrs paints layer-attrs layers) state render fills) depth (word state 1) (place start pieces nesting list₀) (place at n level list)
+Inv-loop state render fills depth paint-attrs paints layer-attrs layers list₀ start stop pieces nesting width at₀ n₀ level₀ list at n level =
+    Reaches (own-step (bucket-tiles width) (attrs-at paint-attrs paints layer-attrs layers) state render fills) depth (word state 1) (place start pieces nesting list₀) (place at n level list)
     × (at ≤ stop)
 
 abbrev μ-loop : tie.MeasureT-loop
-μ-loop state render fills depth paint-attrs paints layer-attrs layers list₀ start stop pieces nesting at₀ n₀ level₀ list at n level = stop - at
+μ-loop state render fills depth paint-attrs paints layer-attrs layers list₀ start stop pieces nesting width at₀ n₀ level₀ list at n level = stop - at
 
 loop-holds : tie.Need-loop-holds Inv-loop μ-loop
 loop-holds c =
@@ -225,7 +226,7 @@ put-fill-requires c κs =
     let part = ahead .1 .partly (omega (arith, at-if1 .if1 .left)) in
     let tiles = word (entry .args .render .now) (4 * at-sure .run-sure .result .at + 1) in
     let at-if2 = c .before .before .before .before .before in
-    let few = runs-few (is-visible (at-sure .run-sure .result .look .id)) (entry .args .depth .now) (low-met 32 tiles) (high-met 32 tiles) in
+    let few = runs-few (is-visible (at-sure .run-sure .result .look .id)) (entry .args .depth .now) (low-met (bucket-tiles (entry .args .width)) tiles) (high-met (bucket-tiles (entry .args .width)) tiles) in
     (part .looked, part .good, omega (arith, at-if2 .if2 .left, at-if2 .before .most-runs .ensures, few, sure .0 .few))
 
 add-at : tie.Need-add-at Inv-loop μ-loop
@@ -259,9 +260,9 @@ loop-again c =
     let at-put = c .before .before in
     let at-if2 = c .before .before .before .before .before .before .before .before in
     let tiles = word (entry .args .render .now) (4 * at-sure .run-sure .result .at + 1) in
-    let few = runs-few (is-visible (at-sure .run-sure .result .look .id)) (entry .args .depth .now) (low-met 32 tiles) (high-met 32 tiles) in
+    let few = runs-few (is-visible (at-sure .run-sure .result .look .id)) (entry .args .depth .now) (low-met (bucket-tiles (entry .args .width)) tiles) (high-met (bucket-tiles (entry .args .width)) tiles) in
     let all = reach-both _ _ _ _ _ _ (at-loop .loop .inv .0) (sure .0) in (
-      rw (at-put .put-fill .ensures .0) (on-partly _ (entry .args .state .now) (entry .args .render .now) (entry .args .fills .now) (entry .args .depth .now) (entry .pre .1 .0 .1) _
+      rw (at-put .put-fill .ensures .0) (on-partly (bucket-tiles (entry .args .width)) _ (entry .args .state .now) (entry .args .render .now) (entry .args .fills .now) (entry .args .depth .now) (entry .pre .1 .0 .1) _
           _ _ _ _ all (omega (arith, ahead .0, entry .pre .1 .1 .1)) _ _ _ (ahead .1) (omega (
             arith,
             at-if2 .if2 .left,

@@ -3,6 +3,7 @@ use native.Mathlib.Omega.{arith}
 use mathlib.Core.Path.{sym, _∙_}
 use borrow.Author.Tests.{not-false}
 use lib.ListN.{length-set}
+use Rattle.sizes.specs.Widths.{bucket-tiles}
 use Rattle.paint_command.specs.Painting.{attrs-at, word}
 use Rattle.paint_whole.specs.Running.{own-step}
 use Rattle.paint_whole.specs.Kinds.{place}
@@ -30,7 +31,7 @@ none-done-requires c κs = search needs
 returns : tie.Need-returns
 returns c =
     let at-args = c .before .before .before .before .before .before .before .before .before .before .before .before in
-    none-gone (own-step (attrs-at (at-args .args .paint-attrs .now) (at-args .args .paints) (at-args .args .layer-attrs .now) (at-args .args .layers))
+    none-gone (own-step (bucket-tiles (at-args .args .width)) (attrs-at (at-args .args .paint-attrs .now) (at-args .args .paints) (at-args .args .layer-attrs .now) (at-args .args .layers))
     (at-args .args .state .now) (at-args .args .render .now) (at-args .args .fills .now)) (at-args .args .depth .now) (at-args .args .painting .now)
     (at-args .args .list .now) (at-args .args .pieces) (at-args .args .limit) _ _ (at-args .pre .1 .1 .0) (c .none-done .ensures)
 
@@ -43,7 +44,7 @@ none-done-requires-2 c κs = search needs
 returns-2 : tie.Need-returns-2
 returns-2 c =
     let at-args = c .before .before .before .before .before .before .before .before .before .before .before .before .before .before in
-    none-gone (own-step (attrs-at (at-args .args .paint-attrs .now) (at-args .args .paints) (at-args .args .layer-attrs .now) (at-args .args .layers))
+    none-gone (own-step (bucket-tiles (at-args .args .width)) (attrs-at (at-args .args .paint-attrs .now) (at-args .args .paints) (at-args .args .layer-attrs .now) (at-args .args .layers))
     (at-args .args .state .now) (at-args .args .render .now) (at-args .args .fills .now)) (at-args .args .depth .now) (at-args .args .painting .now)
     (at-args .args .list .now) (at-args .args .pieces) (at-args .args .limit) _ _ (at-args .pre .1 .1 .0) (c .none-done2 .ensures)
 
@@ -59,7 +60,7 @@ none-done-requires-3 c κs = search needs
 returns-3 : tie.Need-returns-3
 returns-3 c =
     let at-args = c .before .before .before .before .before .before .before .before .before .before .before .before .before .before .before .before in
-    none-gone (own-step (attrs-at (at-args .args .paint-attrs .now) (at-args .args .paints) (at-args .args .layer-attrs .now) (at-args .args .layers))
+    none-gone (own-step (bucket-tiles (at-args .args .width)) (attrs-at (at-args .args .paint-attrs .now) (at-args .args .paints) (at-args .args .layer-attrs .now) (at-args .args .layers))
     (at-args .args .state .now) (at-args .args .render .now) (at-args .args .fills .now)) (at-args .args .depth .now) (at-args .args .painting .now)
     (at-args .args .list .now) (at-args .args .pieces) (at-args .args .limit) _ _ (at-args .pre .1 .1 .0) (c .none-done3 .ensures)
 
@@ -76,7 +77,7 @@ returns-4 : tie.Need-returns-4
 returns-4 c =
     let at-args = c .before .before .before .before .before .before .before .before .before .before .before .before .before .before .before .before
     .before .before in
-    none-gone (own-step (attrs-at (at-args .args .paint-attrs .now) (at-args .args .paints) (at-args .args .layer-attrs .now) (at-args .args .layers))
+    none-gone (own-step (bucket-tiles (at-args .args .width)) (attrs-at (at-args .args .paint-attrs .now) (at-args .args .paints) (at-args .args .layer-attrs .now) (at-args .args .layers))
     (at-args .args .state .now) (at-args .args .render .now) (at-args .args .fills .now)) (at-args .args .depth .now) (at-args .args .painting .now)
     (at-args .args .list .now) (at-args .args .pieces) (at-args .args .limit) _ _ (at-args .pre .1 .1 .0) (c .none-done4 .ensures)
 
@@ -90,7 +91,7 @@ returns-5 : tie.Need-returns-5
 returns-5 c =
     let at-args = c .before .before .before .before .before .before .before .before .before .before .before .before .before .before .before .before
     .before .before .before .before in
-    none-gone (own-step (attrs-at (at-args .args .paint-attrs .now) (at-args .args .paints) (at-args .args .layer-attrs .now) (at-args .args .layers))
+    none-gone (own-step (bucket-tiles (at-args .args .width)) (attrs-at (at-args .args .paint-attrs .now) (at-args .args .paints) (at-args .args .layer-attrs .now) (at-args .args .layers))
     (at-args .args .state .now) (at-args .args .render .now) (at-args .args .fills .now)) (at-args .args .depth .now) (at-args .args .painting .now)
     (at-args .args .list .now) (at-args .args .pieces) (at-args .args .limit) _ _ (at-args .pre .1 .1 .0) (c .none-done5 .ensures)
 
@@ -104,7 +105,7 @@ returns-6 : tie.Need-returns-6
 returns-6 c =
     let at-args = c .before .before .before .before .before .before .before .before .before .before .before .before .before .before .before .before
     .before .before .before .before .before .before in
-    none-gone (own-step (attrs-at (at-args .args .paint-attrs .now) (at-args .args .paints) (at-args .args .layer-attrs .now) (at-args .args .layers))
+    none-gone (own-step (bucket-tiles (at-args .args .width)) (attrs-at (at-args .args .paint-attrs .now) (at-args .args .paints) (at-args .args .layer-attrs .now) (at-args .args .layers))
     (at-args .args .state .now) (at-args .args .render .now) (at-args .args .fills .now)) (at-args .args .depth .now) (at-args .args .painting .now)
     (at-args .args .list .now) (at-args .args .pieces) (at-args .args .limit) _ _ (at-args .pre .1 .1 .0) (c .none-done6 .ensures)
 
@@ -253,7 +254,7 @@ returns-7 c =
     let at-if2 = at-wide .before in
     let at-if1 = at-if2 .before .before in
     let at-args = at-if1 .before .before .before .before .before .before .before .before .before .before .before in (
-      run-gone (own-step (attrs-at (at-args .args .paint-attrs .now) (at-args .args .paints) (at-args .args .layer-attrs .now) (at-args .args .layers))
+      run-gone (own-step (bucket-tiles (at-args .args .width)) (attrs-at (at-args .args .paint-attrs .now) (at-args .args .paints) (at-args .args .layer-attrs .now) (at-args .args .layers))
           (at-args .args .state .now) (at-args .args .render .now) (at-args .args .fills .now)) (at-args .args .depth .now) (word (at-args .args .state .now) 1)
           (at-args .args .painting .now) (at-args .pre .0 .4) (at-if1 .if1 .left) _ (at-args .args .pieces) (at-wide3 .wide3 .ensures) (at-args .args .list .now) _
           (at-run-commands .run-commands .ensures .0),

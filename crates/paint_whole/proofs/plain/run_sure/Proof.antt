@@ -3,6 +3,7 @@ use mathlib.Core.Path.{_≡_, refl, _∙_}
 use Prim.Native.Nat.{_-_, _≤_}
 use native.Mathlib.Omega.{arith}
 use lib.ListN.{length}
+use Rattle.sizes.specs.Widths.{bucket-tiles}
 use Rattle.paint_command.specs.Painting.{word, attrs-at}
 use Rattle.paint_whole.specs.Running.{own-step}
 use Rattle.paint_whole.specs.Kinds.{place, Reaches}
@@ -15,12 +16,12 @@ use Rattle.paint_whole.proofs.plain.sure_kind.Reads as sure-kind-reads
 use Rattle.paint_pieces.proofs.put_words.Reads as put-words-reads
 
 abbrev Inv-loop : tie.InvT-loop
-Inv-loop state render fills depth paint-attrs paints layer-attrs layers list₀ start stop pieces nesting from to largest at₀ n₀ level₀ list at n level =
-    Reaches (own-step (attrs-at paint-attrs paints layer-attrs layers) state render fills) depth (word state 1) (place start pieces nesting list₀) (place at n level list)
+Inv-loop state render fills depth paint-attrs paints layer-attrs layers list₀ start stop pieces nesting width from to largest at₀ n₀ level₀ list at n level =
+    Reaches (own-step (bucket-tiles width) (attrs-at paint-attrs paints layer-attrs layers) state render fills) depth (word state 1) (place start pieces nesting list₀) (place at n level list)
     × (at ≤ stop) × (from ≡ word state 2) × (to ≡ word state 3) × (largest ≡ word state 4)
 
 abbrev μ-loop : tie.MeasureT-loop
-μ-loop state render fills depth paint-attrs paints layer-attrs layers list₀ start stop pieces nesting from to largest at₀ n₀ level₀ list at n level =
+μ-loop state render fills depth paint-attrs paints layer-attrs layers list₀ start stop pieces nesting width from to largest at₀ n₀ level₀ list at n level =
     stop - at
 
 shared-slice-read-from : tie.Need-shared-slice-read-from Inv-loop μ-loop
@@ -141,7 +142,10 @@ add-n c =
     omega (arith, at-loop .loop .inv .0 .few, at-loop .loop .inv .0 .long, at-good .good .1 .1 .1 .1 .1 .1 .1 .1 .0 .0)
 
 add-at : tie.Need-add-at Inv-loop μ-loop
-add-at c = omega (arith, c .before .before .before .before .before .before .before .before .before .before .before .loop-test .taken)
+add-at c =
+    let at-loop-test = c .before .before .before .before .before .before .before .before .before .before .before in
+    let at-pre = at-loop-test .before .before .before .before .before .before .before .before .before .before .before .before in
+    omega (arith, at-loop-test .loop-test .taken, at-pre .pre .1 .1 .1, at-pre .pre .1 .0 .1 .renders, at-pre .pre .1 .0 .2)
 
 loop-less : tie.Need-loop-less Inv-loop μ-loop
 loop-less c = omega (arith, c .before .before .before .before .before .before .before .before .before .before .before .loop-test .taken)
@@ -155,7 +159,7 @@ loop-again c =
     let at-loop-test = at-sure-kind .before .before .before .before .before in
     let at-loop = at-loop-test .before in
     let at-args = at-loop .before .before .before .before .before .before .before .before .before .before .before in (
-      on-whole (attrs-at (at-args .args .paint-attrs .now) (at-args .args .paints) (at-args .args .layer-attrs .now) (at-args .args .layers))
+      on-whole (bucket-tiles (at-args .args .width)) (attrs-at (at-args .args .paint-attrs .now) (at-args .args .paints) (at-args .args .layer-attrs .now) (at-args .args .layers))
           (at-args .args .state .now) (at-args .args .render .now) (at-args .args .fills .now) (at-args .args .depth .now) (at-args .pre .1 .0 .1) _
           (at-loop .loop .at) (at-loop .loop .n) (at-loop .loop .level) (at-loop .loop .list) (at-loop .loop .inv .0) (omega (
             arith,
@@ -181,7 +185,7 @@ loop-again-2 c =
     let at-loop-test = at-sure-kind .before .before .before .before .before in
     let at-loop = at-loop-test .before in
     let at-args = at-loop .before .before .before .before .before .before .before .before .before .before .before in (
-      on-hidden (attrs-at (at-args .args .paint-attrs .now) (at-args .args .paints) (at-args .args .layer-attrs .now) (at-args .args .layers))
+      on-hidden (bucket-tiles (at-args .args .width)) (attrs-at (at-args .args .paint-attrs .now) (at-args .args .paints) (at-args .args .layer-attrs .now) (at-args .args .layers))
           (at-args .args .state .now) (at-args .args .render .now) (at-args .args .fills .now) (at-args .args .depth .now) (at-args .pre .1 .0 .1) _
           (at-loop .loop .at) (at-loop .loop .n) (at-loop .loop .level) (at-loop .loop .list) (at-loop .loop .inv .0) (omega (
             arith,
@@ -209,7 +213,7 @@ loop-again-3 c =
     let at-loop-test = at-sure-kind .before .before .before .before .before in
     let at-loop = at-loop-test .before in
     let at-args = at-loop .before .before .before .before .before .before .before .before .before .before .before in (
-      on-pushed (attrs-at (at-args .args .paint-attrs .now) (at-args .args .paints) (at-args .args .layer-attrs .now) (at-args .args .layers))
+      on-pushed (bucket-tiles (at-args .args .width)) (attrs-at (at-args .args .paint-attrs .now) (at-args .args .paints) (at-args .args .layer-attrs .now) (at-args .args .layers))
           (at-args .args .state .now) (at-args .args .render .now) (at-args .args .fills .now) (at-args .args .depth .now) (at-args .pre .1 .0 .1) _
           (at-loop .loop .at) (at-loop .loop .n) (at-loop .loop .level) (at-loop .loop .list) (at-loop .loop .inv .0) (omega (
             arith,
@@ -237,7 +241,7 @@ loop-again-4 c =
     let at-loop-test = at-sure-kind .before .before .before .before .before in
     let at-loop = at-loop-test .before in
     let at-args = at-loop .before .before .before .before .before .before .before .before .before .before .before in (
-      on-popped (attrs-at (at-args .args .paint-attrs .now) (at-args .args .paints) (at-args .args .layer-attrs .now) (at-args .args .layers))
+      on-popped (bucket-tiles (at-args .args .width)) (attrs-at (at-args .args .paint-attrs .now) (at-args .args .paints) (at-args .args .layer-attrs .now) (at-args .args .layers))
           (at-args .args .state .now) (at-args .args .render .now) (at-args .args .fills .now) (at-args .args .depth .now) (at-args .pre .1 .0 .1) _
           (at-loop .loop .at) (at-loop .loop .n) (at-loop .loop .level) (at-loop .loop .list) (at-loop .loop .inv .0) (omega (
             arith,

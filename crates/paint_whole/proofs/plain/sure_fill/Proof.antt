@@ -3,8 +3,8 @@ use Prim.Native.Nat.{_/_, _%_, _<_}
 use mathlib.Core.Path.{sym, _∙_}
 use native.Mathlib.Omega.{arith}
 use borrow.Author.Tests.{not-false}
-use Rattle.span.specs.Widths.{wide}
-use Rattle.span.proofs.Widths.{meets}
+use Rattle.sizes.specs.Widths.{bucket-tiles}
+use Rattle.rules.proofs.laws.Widths.{meets}
 use Rattle.paint_whole.specs.Kinds.{summary-by}
 use Rattle.paint_whole.proofs.Looks.{seen-all, hidden-all, one-seen, one-hidden, none-said, clear-said, all-seen, all-hidden, some-seen, some-hidden}
 use borrow.Author.Needs.{needs}
@@ -19,12 +19,12 @@ use Rattle.sizes.proofs.wide.Reads as wide-reads
 returns : tie.Need-returns
 returns c =
     let a = c .before .before .args in
-    none-said (wide (a .width)) (summary-by (a .from) (a .to) (a .largest)) (a .depth .now) (a .id) (a .tag) (a .tiles) (a .alpha)
+    none-said (bucket-tiles (a .width)) (summary-by (a .from) (a .to) (a .largest)) (a .depth .now) (a .id) (a .tag) (a .tiles) (a .alpha)
 
 returns-2 : tie.Need-returns-2
 returns-2 c =
     let a = c .before .before .before .args in
-    none-said (wide (a .width)) (summary-by (a .from) (a .to) (a .largest)) (a .depth .now) (a .id) (a .tag) (a .tiles) (a .alpha)
+    none-said (bucket-tiles (a .width)) (summary-by (a .from) (a .to) (a .largest)) (a .depth .now) (a .id) (a .tag) (a .tiles) (a .alpha)
 
 sub-is-good-index : tie.Need-sub-is-good-index
 sub-is-good-index c = search needs
@@ -35,7 +35,7 @@ is-good-index-requires c κs = search needs
 returns-3 : tie.Need-returns-3
 returns-3 c =
     let a = c .before .before .before .before .before .args in
-    none-said (wide (a .width)) (summary-by (a .from) (a .to) (a .largest)) (a .depth .now) (a .id) (a .tag) (a .tiles) (a .alpha)
+    none-said (bucket-tiles (a .width)) (summary-by (a .from) (a .to) (a .largest)) (a .depth .now) (a .id) (a .tag) (a .tiles) (a .alpha)
 
 above-requires : tie.Need-above-requires
 above-requires c κs = search needs
@@ -46,7 +46,7 @@ wide-requires c κs = search needs
 returns-4 : tie.Need-returns-4
 returns-4 c =
     let a = c .before .before .before .before .before .before .before .before .args in
-    none-said (wide (a .width)) (summary-by (a .from) (a .to) (a .largest)) (a .depth .now) (a .id) (a .tag) (a .tiles) (a .alpha)
+    none-said (bucket-tiles (a .width)) (summary-by (a .from) (a .to) (a .largest)) (a .depth .now) (a .id) (a .tag) (a .tiles) (a .alpha)
 
 is-apart-requires : tie.Need-is-apart-requires
 is-apart-requires c κs = search needs

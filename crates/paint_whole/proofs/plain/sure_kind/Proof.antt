@@ -1,4 +1,5 @@
 use native.Mathlib.Omega.{arith}
+use Rattle.sizes.specs.Widths.{bucket-tiles}
 use Rattle.paint_command.specs.Painting.{attrs-at}
 use Rattle.paint_whole.specs.Kinds.{summary-by}
 use Rattle.paint_whole.proofs.Saying.{said-none, said-fill}
@@ -17,13 +18,13 @@ sure-buffer-requires c κs = search needs
 returns : tie.Need-returns
 returns c =
     let at-args = c .before .before .before .before .before in
-    c .sure-buffer .ensures (attrs-at (at-args .args .paint-attrs .now) (at-args .args .paints) (at-args .args .layer-attrs .now) (at-args .args .layers))
+    c .sure-buffer .ensures (bucket-tiles (at-args .args .width)) (attrs-at (at-args .args .paint-attrs .now) (at-args .args .paints) (at-args .args .layer-attrs .now) (at-args .args .layers))
     (summary-by (at-args .args .from) (at-args .args .to) (at-args .args .largest)) (at-args .args .depth .now)
 
 returns-2 : tie.Need-returns-2
 returns-2 c =
     let at-args = c .before .before .before .before .before in
-    said-none (attrs-at (at-args .args .paint-attrs .now) (at-args .args .paints) (at-args .args .layer-attrs .now) (at-args .args .layers)) (summary-by
+    said-none (bucket-tiles (at-args .args .width)) (attrs-at (at-args .args .paint-attrs .now) (at-args .args .paints) (at-args .args .layer-attrs .now) (at-args .args .layers)) (summary-by
     (at-args .args .from) (at-args .args .to) (at-args .args .largest)) (at-args .args .depth .now) (at-args .args .nesting) (at-args .args .tag)
     (at-args .args .tiles) (at-args .args .alpha) (at-args .args .i)
 
@@ -33,7 +34,7 @@ id-of-requires c κs = search needs
 returns-3 : tie.Need-returns-3
 returns-3 c =
     let at-args = c .before .before .before .before .before .before .before in
-    said-none (attrs-at (at-args .args .paint-attrs .now) (at-args .args .paints) (at-args .args .layer-attrs .now) (at-args .args .layers)) (summary-by
+    said-none (bucket-tiles (at-args .args .width)) (attrs-at (at-args .args .paint-attrs .now) (at-args .args .paints) (at-args .args .layer-attrs .now) (at-args .args .layers)) (summary-by
     (at-args .args .from) (at-args .args .to) (at-args .args .largest)) (at-args .args .depth .now) (at-args .args .nesting) (at-args .args .tag)
     (at-args .args .tiles) (at-args .args .alpha) (at-args .args .i)
 
@@ -46,7 +47,7 @@ returns-4 c =
     let at-if2 = at-id-of .before in
     let at-if1 = at-if2 .before in
     let at-args = at-if1 .before .before .before .before in
-    said-fill (at-args .args .paint-attrs .now) (at-args .args .paints) (at-args .args .layer-attrs .now) (at-args .args .layers) (summary-by
+    said-fill (bucket-tiles (at-args .args .width)) (at-args .args .paint-attrs .now) (at-args .args .paints) (at-args .args .layer-attrs .now) (at-args .args .layers) (summary-by
     (at-args .args .from) (at-args .args .to) (at-args .args .largest)) (at-args .args .depth .now) (at-args .args .nesting) (at-args .args .tag)
     (at-args .args .tiles) (at-args .args .alpha) (at-args .args .i) _ _ _ _ (c .before .if3 .left) (c .sure-fill .ensures) (omega (
       arith,

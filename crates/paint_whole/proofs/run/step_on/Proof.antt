@@ -1,4 +1,5 @@
 use native.Mathlib.Omega.{arith}
+use Rattle.sizes.specs.Widths.{bucket-tiles}
 use Rattle.paint_command.specs.Painting.{attrs-at}
 use Rattle.paint_whole.proofs.Runs.{one-done, one-few}
 use borrow.Author.Needs.{needs}
@@ -26,14 +27,14 @@ part-step-row-end c = search needs
 step-row-requires : tie.Need-step-row-requires
 step-row-requires c κs = search needs
 
-add-t18 : tie.Need-add-t18
-add-t18 c =
+add-t19 : tie.Need-add-t19
+add-t19 c =
     let at-step-row = c .before .before .before .before .before .before .before in
     let at-args = at-step-row .before .before .before .before .before .before .before .before .before .before .before .before in
     record {
       fits = omega (
         arith,
-        one-few (attrs-at (at-args .args .paint-attrs .now) (at-args .args .paints) (at-args .args .layer-attrs .now)
+        one-few (bucket-tiles (at-args .args .width)) (attrs-at (at-args .args .paint-attrs .now) (at-args .args .paints) (at-args .args .layer-attrs .now)
             (at-args .args .layers)) (at-args .args .state .now) (at-args .args .render .now) (at-args .args .fills .now) (at-args .args .depth .now)
             (at-args .args .painting .now) (at-args .args .list .now) (at-args .args .pieces) (at-args .pre .1 .1) (at-step-row .step-row .result) _ _ _
             (at-step-row .step-row .ensures),
@@ -54,10 +55,10 @@ returns : tie.Need-returns
 returns c =
     let at-step-row = c .before .before .before .before .before .before .before in
     let at-args = at-step-row .before .before .before .before .before .before .before .before .before .before .before .before in (
-      one-done (attrs-at (at-args .args .paint-attrs .now) (at-args .args .paints) (at-args .args .layer-attrs .now) (at-args .args .layers))
+      one-done (bucket-tiles (at-args .args .width)) (attrs-at (at-args .args .paint-attrs .now) (at-args .args .paints) (at-args .args .layer-attrs .now) (at-args .args .layers))
           (at-args .args .state .now) (at-args .args .render .now) (at-args .args .fills .now) (at-args .args .depth .now) (at-args .args .painting .now)
           (at-args .args .list .now) (at-args .args .pieces) (at-args .pre .1 .1) (at-step-row .step-row .result) _ _ _ (at-step-row .step-row .ensures),
-      one-few (attrs-at (at-args .args .paint-attrs .now) (at-args .args .paints) (at-args .args .layer-attrs .now) (at-args .args .layers))
+      one-few (bucket-tiles (at-args .args .width)) (attrs-at (at-args .args .paint-attrs .now) (at-args .args .paints) (at-args .args .layer-attrs .now) (at-args .args .layers))
           (at-args .args .state .now) (at-args .args .render .now) (at-args .args .fills .now) (at-args .args .depth .now) (at-args .args .painting .now)
           (at-args .args .list .now) (at-args .args .pieces) (at-args .pre .1 .1) (at-step-row .step-row .result) _ _ _ (at-step-row .step-row .ensures),
     )
@@ -72,7 +73,7 @@ step-on-spec =
     part-step-row-start
     part-step-row-end
     step-row-requires
-    add-t18
+    add-t19
     same-length
     same-length-2
     same-length-3

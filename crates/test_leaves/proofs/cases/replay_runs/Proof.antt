@@ -64,8 +64,8 @@ slice-aggregate-seen-runs c =
     let at-asked = c .before .before .before in
     let at-marks = at-asked .before .before .before .before in
     let at-word = at-marks .before .before .before .before in
-    at-marks .marks .ensures ∙ sym (length-front (at-marks .marks .result) (at-asked .asked .last .1 .1 .1 .0) (at-word .word .result)
-    (at-asked .asked .kept .1 .1 .1 .0))
+    at-marks .marks .ensures ∙ sym (length-front (at-marks .marks .result) (at-asked .asked .last .1 .1 .1 .1 .0) (at-word .word .result)
+    (at-asked .asked .kept .1 .1 .1 .1 .0))
 
 seen-runs-requires : tie.Need-seen-runs-requires
 seen-runs-requires c κs = search needs

@@ -1,16 +1,15 @@
--- The arguments left to look at fall. Whatever the mode, C and D are the usual ones.
+-- The arguments left to look at fall.
 use Prim.Native.Nat.{_-_, _≤_}
 use native.Mathlib.Omega.{arith}
 use borrow.Author.Needs.{needs}
-use Rattle.text_programs.proofs.Laws.{as-usual}
 use Rattle.text_programs.proofs.options.read_options.Statement.{statement}
 use Rattle.text_programs.proofs.options.read_options.Tie as tie
 
 abbrev Inv-loop : tie.InvT-loop
-Inv-loop n mode₀ i₀ t4 mode i = i ≤ 18446744073709551615
+Inv-loop n mode₀ pixels₀ i₀ t6 mode pixels i = i ≤ 18446744073709551615
 
 abbrev μ-loop : tie.MeasureT-loop
-μ-loop n mode₀ i₀ t4 mode i = n - i
+μ-loop n mode₀ pixels₀ i₀ t6 mode pixels i = n - i
 
 arg-count-requires : tie.Need-arg-count-requires Inv-loop μ-loop
 arg-count-requires c κs = search needs
@@ -24,15 +23,6 @@ slice-aggregate-is-word c = search needs
 is-word-requires : tie.Need-is-word-requires Inv-loop μ-loop
 is-word-requires c κs = search needs
 
-usual-requires : tie.Need-usual-requires Inv-loop μ-loop
-usual-requires c κs = search needs
-
-sub-t10 : tie.Need-sub-t10 Inv-loop μ-loop
-sub-t10 c = omega arith
-
-returns : tie.Need-returns Inv-loop μ-loop
-returns c = (as-usual _ (c .usual .ensures), omega arith)
-
 add-i : tie.Need-add-i Inv-loop μ-loop
 add-i c = omega arith
 
@@ -42,11 +32,50 @@ loop-less c = omega arith
 loop-again : tie.Need-loop-again Inv-loop μ-loop
 loop-again c = omega arith
 
-usual-requires-2 : tie.Need-usual-requires-2 Inv-loop μ-loop
-usual-requires-2 c κs = search needs
+sub-if2 : tie.Need-sub-if2 Inv-loop μ-loop
+sub-if2 c = omega arith
+
+sub-options-at : tie.Need-sub-options-at Inv-loop μ-loop
+sub-options-at c = omega arith
+
+options-at-requires : tie.Need-options-at-requires Inv-loop μ-loop
+options-at-requires c κs = search needs
+
+returns : tie.Need-returns Inv-loop μ-loop
+returns c = (c .options-at .ensures .0, omega (arith, c .options-at .ensures .1, c .options-at .ensures .2))
+
+width-at-requires : tie.Need-width-at-requires Inv-loop μ-loop
+width-at-requires c κs = search needs
+
+enum-known-p : tie.Need-enum-known-p Inv-loop μ-loop
+enum-known-p c = search needs
+
+enum-told : tie.Need-enum-told Inv-loop μ-loop
+enum-told c = search needs
+
+sub-options-at-2 : tie.Need-sub-options-at-2 Inv-loop μ-loop
+sub-options-at-2 c = omega arith
+
+options-at-requires-2 : tie.Need-options-at-requires-2 Inv-loop μ-loop
+options-at-requires-2 c κs = search needs
 
 returns-2 : tie.Need-returns-2 Inv-loop μ-loop
-returns-2 c = (as-usual _ (c .usual2 .ensures), omega arith)
+returns-2 c = (c .options-at2 .ensures .0, omega (arith, c .options-at2 .ensures .1, c .options-at2 .ensures .2))
+
+add-i-2 : tie.Need-add-i-2 Inv-loop μ-loop
+add-i-2 c = omega arith
+
+loop-less-2 : tie.Need-loop-less-2 Inv-loop μ-loop
+loop-less-2 c = omega arith
+
+loop-again-2 : tie.Need-loop-again-2 Inv-loop μ-loop
+loop-again-2 c = omega arith
+
+options-at-requires-3 : tie.Need-options-at-requires-3 Inv-loop μ-loop
+options-at-requires-3 c κs = search needs
+
+returns-3 : tie.Need-returns-3 Inv-loop μ-loop
+returns-3 c = (c .options-at3 .ensures .0, omega (arith, c .options-at3 .ensures .1, c .options-at3 .ensures .2))
 
 pub read-options-spec : {M : Type 1} → statement M
 read-options-spec =
@@ -58,11 +87,21 @@ read-options-spec =
     loop-holds
     slice-aggregate-is-word
     is-word-requires
-    usual-requires
-    sub-t10
-    returns
     add-i
     loop-less
     loop-again
-    usual-requires-2
-    returns-2)
+    sub-if2
+    sub-options-at
+    options-at-requires
+    returns
+    width-at-requires
+    enum-known-p
+    enum-told
+    sub-options-at-2
+    options-at-requires-2
+    returns-2
+    add-i-2
+    loop-less-2
+    loop-again-2
+    options-at-requires-3
+    returns-3)

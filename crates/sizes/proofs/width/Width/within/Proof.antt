@@ -1,6 +1,6 @@
 use borrow.Author.Needs.{needs}
-use Rattle.span.proofs.Width.below.Statement.{statement}
-use Rattle.span.proofs.Width.below.Tie as tie
+use Rattle.sizes.proofs.width.Width.within.Statement.{statement}
+use Rattle.sizes.proofs.width.Width.within.Tie as tie
 
 enum-told : tie.Need-enum-told
 enum-told c = search needs
@@ -20,5 +20,5 @@ returns-2 c = rw (c .enum-told2 .given .1)
 returns-3 : tie.Need-returns-3
 returns-3 c = rw (c .enum-told3 .given .1)
 
-pub below-spec : {M : Type 1} → statement M
-below-spec = tie.close (tie.spec enum-told enum-told-2 enum-told-3 returns returns-2 returns-3)
+pub within-spec : {M : Type 1} → statement M
+within-spec = tie.close (tie.spec enum-told enum-told-2 enum-told-3 returns returns-2 returns-3)

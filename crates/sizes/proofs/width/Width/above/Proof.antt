@@ -1,6 +1,6 @@
 use borrow.Author.Needs.{needs}
-use Rattle.span.proofs.Width.above.Statement.{statement}
-use Rattle.span.proofs.Width.above.Tie as tie
+use Rattle.sizes.proofs.width.Width.above.Statement.{statement}
+use Rattle.sizes.proofs.width.Width.above.Tie as tie
 
 enum-told : tie.Need-enum-told
 enum-told c = search needs

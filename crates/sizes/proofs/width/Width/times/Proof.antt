@@ -1,6 +1,6 @@
 use borrow.Author.Needs.{needs}
-use Rattle.span.proofs.Width.times.Statement.{statement}
-use Rattle.span.proofs.Width.times.Tie as tie
+use Rattle.sizes.proofs.width.Width.times.Statement.{statement}
+use Rattle.sizes.proofs.width.Width.times.Tie as tie
 
 enum-told : tie.Need-enum-told
 enum-told c = search needs

@@ -193,11 +193,25 @@ static void snapped_screen(void) {
     coarse_bucketer_free(&b);
 }
 
+/* One draw over tiles 0 to 64 of a screen of 256 x 8. */
+static const uint32_t one_draw[] = {1, 0, 0, 256, 8, 1, 1, 1, 0, 0, 1, 0, 0, 0, 64, 0, 1, 0, 0, 1, 0, 0, 3, 0, 0, 1, 0, 1, 0, 1, 0, 1};
+
+/* Words that ask for no setup: every call that takes them gives this answer, a recording and a question after their 3. */
+static void unasked(uint32_t answer, coarse_bucketer *b, coarse_rect viewport, coarse_setup setup, size_t *sizes) {
+    coarse_bucketer other;
+    expect("no screen of it", answer, coarse_bucketer_new(&other, viewport, setup));
+    expect("no sizes", answer, coarse_bucketer_sizes(viewport, setup, sizes));
+    expect("no reset", answer, reset(b, viewport, setup));
+    expect("no recording", answer, record(b, one_draw, 32, setup));
+    expect("a cut recording's form first", COARSE_BAD_FORM, record(b, one_draw, 31, setup));
+    expect("no reason", answer, why(b, one_draw, 32, setup, 0, COARSE_REASON));
+    expect("a cut recording's form first, asked why", COARSE_BAD_FORM, why(b, one_draw, 31, setup, 0, COARSE_REASON));
+}
+
 /* A mode above 1 is refused by 4 with nothing changed, whatever the viewport and C; of a recording after its 3. */
 static void no_mode(void) {
     coarse_bucketer b;
     coarse_rect narrow = {0, 0, 256, 8}, bad = {0, 0, 2, 4};
-    const uint32_t file[] = {1, 0, 0, 256, 8, 1, 1, 1, 0, 0, 1, 0, 0, 0, 64, 0, 1, 0, 0, 1, 0, 0, 3, 0, 0, 1, 0, 1, 0, 1, 0, 1};
     size_t sizes[10] = {7, 7, 7, 7, 7, 7, 7, 7, 7, 7};
     uint32_t modes[] = {2, 3, 0xffffffffu}, before;
     size_t i;
@@ -205,17 +219,10 @@ static void no_mode(void) {
     expect("with a fill", COARSE_DONE, coarse_bucketer_generate_fill(&b, paints, 2, segments, 2, &both));
     before = sum(&b);
     for (i = 0; i < 3; i++) {
-        coarse_bucketer other;
         coarse_setup setup = {8, 8, modes[i], COARSE_128}, empty = {0, 8, modes[i], COARSE_128};
-        expect("no screen of it", COARSE_BAD_RECORD, coarse_bucketer_new(&other, narrow, setup));
-        expect("no sizes", COARSE_BAD_RECORD, coarse_bucketer_sizes(narrow, setup, sizes));
+        unasked(COARSE_BAD_RECORD, &b, narrow, setup, sizes);
         expect("no sizes of a bad viewport", COARSE_BAD_RECORD, coarse_bucketer_sizes(bad, empty, sizes));
-        expect("no reset", COARSE_BAD_RECORD, reset(&b, narrow, setup));
         expect("no reset to a bad viewport", COARSE_BAD_RECORD, reset(&b, bad, empty));
-        expect("no recording", COARSE_BAD_RECORD, record(&b, file, 32, setup));
-        expect("a cut recording's form first", COARSE_BAD_FORM, record(&b, file, 31, setup));
-        expect("no reason", COARSE_BAD_RECORD, why(&b, file, 32, setup, 0, COARSE_REASON));
-        expect("a cut recording's form first, asked why", COARSE_BAD_FORM, why(&b, file, 31, setup, 0, COARSE_REASON));
     }
     expect("nothing has changed", before, sum(&b));
     for (i = 0; i < 10; i++)
@@ -226,10 +233,10 @@ static void no_mode(void) {
     expect("a bad state", COARSE_BAD_RECORD, reset(&b, narrow, small));
     expect("a bad state, snapping", COARSE_BAD_RECORD, reset(&b, narrow, snapping));
     expect("no mode and a bad state", COARSE_BAD_RECORD, reset(&b, bad, (coarse_setup){8, 8, 2, COARSE_128}));
-    expect("a cut recording before both", COARSE_BAD_FORM, record(&b, file, 31, (coarse_setup){8, 8, 2, COARSE_128}));
-    expect("no state, a cut recording", COARSE_BAD_RECORD, stateless(&b, file, 31, small));
-    expect("no state, no mode, a cut recording", COARSE_BAD_FORM, stateless(&b, file, 31, (coarse_setup){8, 8, 2, COARSE_128}));
-    expect("no state, no mode", COARSE_BAD_RECORD, stateless(&b, file, 32, (coarse_setup){8, 8, 2, COARSE_128}));
+    expect("a cut recording before both", COARSE_BAD_FORM, record(&b, one_draw, 31, (coarse_setup){8, 8, 2, COARSE_128}));
+    expect("no state, a cut recording", COARSE_BAD_RECORD, stateless(&b, one_draw, 31, small));
+    expect("no state, no mode, a cut recording", COARSE_BAD_FORM, stateless(&b, one_draw, 31, (coarse_setup){8, 8, 2, COARSE_128}));
+    expect("no state, no mode", COARSE_BAD_RECORD, stateless(&b, one_draw, 32, (coarse_setup){8, 8, 2, COARSE_128}));
     coarse_bucketer_free(&b);
 }
 
@@ -266,7 +273,6 @@ static void widths(void) {
 static void no_width(void) {
     coarse_bucketer b;
     coarse_rect narrow = {0, 0, 256, 8};
-    const uint32_t file[] = {1, 0, 0, 256, 8, 1, 1, 1, 0, 0, 1, 0, 0, 0, 64, 0, 1, 0, 0, 1, 0, 0, 3, 0, 0, 1, 0, 1, 0, 1, 0, 1};
     size_t sizes[10] = {7, 7, 7, 7, 7, 7, 7, 7, 7, 7};
     uint32_t none[] = {0, 1, 16, 32, 63, 65, 96, 127, 129, 255, 257, 512, 0xffffffffu}, parts[9] = {7}, before;
     size_t i;
@@ -274,16 +280,9 @@ static void no_width(void) {
     expect("with a fill", COARSE_DONE, coarse_bucketer_generate_fill(&b, paints, 2, segments, 2, &both));
     before = sum(&b);
     for (i = 0; i < sizeof none / sizeof none[0]; i++) {
-        coarse_bucketer other;
         coarse_setup setup = {8, 8, COARSE_EXACT, none[i]}, empty = {0, 8, 2, none[i]};
-        expect("no screen of it", COARSE_BAD_VIEWPORT, coarse_bucketer_new(&other, narrow, setup));
-        expect("no sizes", COARSE_BAD_VIEWPORT, coarse_bucketer_sizes(narrow, setup, sizes));
-        expect("no reset", COARSE_BAD_VIEWPORT, reset(&b, narrow, setup));
-        expect("nor without room and a mode", COARSE_BAD_VIEWPORT, reset(&b, narrow, empty));
-        expect("no recording", COARSE_BAD_VIEWPORT, record(&b, file, 32, setup));
-        expect("a cut recording's form first", COARSE_BAD_FORM, record(&b, file, 31, empty));
-        expect("no reason", COARSE_BAD_VIEWPORT, why(&b, file, 32, setup, 0, COARSE_REASON));
-        expect("a cut recording's form first, asked why", COARSE_BAD_FORM, why(&b, file, 31, setup, 0, COARSE_REASON));
+        unasked(COARSE_BAD_VIEWPORT, &b, narrow, setup, sizes);
+        unasked(COARSE_BAD_VIEWPORT, &b, narrow, empty, sizes);
         expect("no split", COARSE_BAD_VIEWPORT, coarse_split_opaque_span(0, 64, none[i], parts, 9));
         expect("nor of nine words less one", COARSE_BAD_VIEWPORT, coarse_split_opaque_span(64, 0, none[i], parts, 8));
     }

@@ -64,19 +64,33 @@ static inline const char *coarse_answer_text(uint32_t answer) {
  * after 3, 2 and 1. */
 #define COARSE_STATE 17
 
-/* Lengths that no viewport changes. coarse_sizes gives the others. */
-#define COARSE_LAYERS 256
-#define COARSE_OPACITIES 1040
-#define COARSE_PAINT_ATTRS 8192
-#define COARSE_LAYER_ATTRS 6144
-#define COARSE_FILTER_PAINTS 1024
+/* A panel: the number, 0 to 255, of the program module that drew a fill or a layer. It goes with the draw or the layer to its attribute,
+ * to each painted piece and to each reason; nothing else depends on it. A filter fill takes its layer's panel. Above 255 is answer 4, in a
+ * call and in a table's words. A recording has none: all its draws and layers have panel 0. */
+#define COARSE_LAST_PANEL 255
 
 /* Words of one record. */
-#define COARSE_PAINT 4   /* a paint: 1 if opaque else 0, handle, shift x, shift y */
-#define COARSE_SEGMENT 5 /* a segment: 0 solid or 1 alpha, tile row, first tile, end tile, alpha index or 0 */
-#define COARSE_PIECE 6   /* a piece: 1 paint solid, 2 paint alpha, 3 layer solid, 4 layer alpha; attribute; first tile; end tile; alpha index or 0; nesting */
-#define COARSE_RUN 2     /* a run: first, end */
-#define COARSE_REASON 2  /* a reason: one of the cases below, and its number or 0 */
+#define COARSE_PAINT 4        /* a paint: 1 if opaque else 0, handle, shift x, shift y */
+#define COARSE_SEGMENT 5      /* a segment: 0 solid or 1 alpha, tile row, first tile, end tile, alpha index or 0 */
+#define COARSE_PIECE 7        /* a piece: 1 paint solid, 2 paint alpha, 3 layer solid, 4 layer alpha; attribute; first tile; end tile; alpha index or 0; nesting; panel */
+#define COARSE_RUN 2          /* a run: first, end */
+#define COARSE_REASON 4       /* a reason: one of the cases below; its number or 0; the asked attribute's panel; the panel of the one that hides it, or 0 */
+#define COARSE_OPEN_LAYER 17  /* an open layer's own; the last is its panel */
+#define COARSE_PAINT_ATTR 9   /* a paint attribute: paint, mix, compose, mask, draw id, thread, origin x, origin y, panel */
+#define COARSE_LAYER_ATTR 7   /* a layer attribute: mix, compose, mask, draw id, thread, the opacity's bits if it is a NaN else 0, panel */
+#define COARSE_FILTER_PAINT 4 /* a filter fill's paint, as a paint */
+
+/* How many there may be: layers open at once, attributes of each kind, paints of filter fills. */
+#define COARSE_MOST_LAYERS 16
+#define COARSE_MOST_ATTRS 1024
+#define COARSE_MOST_FILTERS 256
+
+/* Lengths that no viewport changes. coarse_sizes gives the others. Opacities: of the open layers, then of the layer attributes. */
+#define COARSE_LAYERS (COARSE_MOST_LAYERS * COARSE_OPEN_LAYER)
+#define COARSE_OPACITIES (COARSE_MOST_LAYERS + COARSE_MOST_ATTRS)
+#define COARSE_PAINT_ATTRS (COARSE_MOST_ATTRS * COARSE_PAINT_ATTR)
+#define COARSE_LAYER_ATTRS (COARSE_MOST_ATTRS * COARSE_LAYER_ATTR)
+#define COARSE_FILTER_PAINTS (COARSE_MOST_FILTERS * COARSE_FILTER_PAINT)
 
 /* How a viewport is read. */
 enum coarse_mode {
@@ -93,13 +107,13 @@ enum coarse_width { COARSE_64 = 64, COARSE_128 = 128, COARSE_256 = 256 };
  * changes then. */
 typedef struct coarse_setup { uint32_t c, d, mode, width; } coarse_setup;
 
-/* Why an attribute is shown at a tile or not: the first that holds. */
+/* Why an attribute is shown at a tile or not: the first that holds. With every case but the first comes the attribute's panel. */
 enum coarse_reason_case {
     COARSE_UNKNOWN_ATTRIBUTE = 0, /* the recording has no such draw or layer attribute */
     COARSE_NO_SEGMENT = 1,        /* no segment of it covers the tile */
     COARSE_CUT_AWAY = 2,          /* one covers it, and a clip box cuts it away */
     COARSE_ROW_UNTOUCHED = 3,     /* the row was never touched within the layer that closes */
-    COARSE_HIDDEN = 4,            /* hidden by a newer depth fill; number: the attribute of the newest one */
+    COARSE_HIDDEN = 4,            /* hidden by a newer depth fill; number: the attribute of the newest one, whose panel comes too */
     COARSE_SHOWN = 5              /* number: its place in the tile's list, from 0 */
 };
 
@@ -165,7 +179,7 @@ uint32_t coarse_fill(uint32_t *state, size_t state_len,
                      const uint32_t *paints, size_t paints_len,
                      const uint32_t *segments, size_t segments_len,
                      uint32_t thread, size_t start, size_t end, uint32_t paint,
-                     uint32_t mix, uint32_t compose, uint32_t mask);
+                     uint32_t mix, uint32_t compose, uint32_t mask, uint32_t panel);
 
 /* Opens a layer. opacity: the bits of an f32, any; every pattern is kept. flag: 1 with a clip, whose box, segment range and thread
  * follow, or 0 without, and those are not read. */
@@ -177,9 +191,10 @@ uint32_t coarse_push_layer(uint32_t *state, size_t state_len,
                            float *opacities, size_t opacities_len,
                            uint32_t mix, uint32_t compose, uint32_t opacity, uint32_t mask,
                            uint32_t flag, uint32_t x0, uint32_t y0, uint32_t x1, uint32_t y1,
-                           uint32_t start, uint32_t end, uint32_t thread);
+                           uint32_t start, uint32_t end, uint32_t thread, uint32_t panel);
 
-/* Closes the innermost layer. segments: the list that its clip's range lies in; empty without a clip. */
+/* Closes the innermost layer, whose attribute has the panel that it was pushed with. segments: the list that its clip's range lies in;
+ * empty without a clip. */
 uint32_t coarse_pop_layer(uint32_t *state, size_t state_len,
                           uint32_t *rows, size_t rows_len,
                           uint32_t *render, size_t render_len,
@@ -190,7 +205,7 @@ uint32_t coarse_pop_layer(uint32_t *state, size_t state_len,
                           const uint32_t *segments, size_t segments_len);
 
 /* Draws a filter layer's picture into a box. has_pixmap: 1 with a picture, whose handle follows, any below 2^31 and 0 too; or 0 without,
- * and the handle is not read: then nothing is drawn. paint_count: how many paints the paint list has. */
+ * and the handle is not read: then nothing is drawn. paint_count: how many paints the paint list has. panel: the layer's. */
 uint32_t coarse_filter_fill(uint32_t *state, size_t state_len,
                             uint32_t *rows, size_t rows_len,
                             uint32_t *render, size_t render_len,
@@ -198,15 +213,16 @@ uint32_t coarse_filter_fill(uint32_t *state, size_t state_len,
                             uint32_t *paint_attrs, size_t paint_attrs_len,
                             int32_t *filter_paints, size_t filter_paints_len,
                             uint32_t x0, uint32_t y0, uint32_t x1, uint32_t y1,
-                            uint32_t source_x, uint32_t source_y, uint32_t has_pixmap, uint32_t pixmap, uint32_t paint_count);
+                            uint32_t source_x, uint32_t source_y, uint32_t has_pixmap, uint32_t pixmap, uint32_t paint_count,
+                            uint32_t panel);
 
 /* Clears the depth words and sets every row to its first step. */
 uint32_t coarse_begin_painting(uint32_t *state, size_t state_len,
                                uint32_t *depth, size_t depth_len,
                                uint32_t *painting, size_t painting_len);
 
-/* The next stored command of a row: its pieces at the start of the list, six words each. result_len is 2: 1 if no command was left,
- * else 0; how many pieces. */
+/* The next stored command of a row: its pieces at the start of the list, COARSE_PIECE words each. result_len is 2: 1 if no command was
+ * left, else 0; how many pieces. */
 uint32_t coarse_paint_step(const uint32_t *state, size_t state_len, size_t row,
                            const uint32_t *rows, size_t rows_len,
                            const uint32_t *render, size_t render_len,

@@ -23,28 +23,29 @@ typedef struct { uint32_t kind, row, first, end, alpha; } coarse_segment;
 typedef struct { uint32_t mix, compose; } coarse_blend;
 #define COARSE_DEFAULT_BLEND {0, 3}
 
-/* Segments start to end of a list, with the paint at a place of a paint list. */
-typedef struct { size_t start, end; uint32_t paint; coarse_blend blend; uint32_t mask, thread; } coarse_draw;
+/* Segments start to end of a list, with the paint at a place of a paint list. panel: whose draw it is; left out, 0. */
+typedef struct { size_t start, end; uint32_t paint; coarse_blend blend; uint32_t mask, thread, panel; } coarse_draw;
 
 /* A clip's segments are start to end of the list that is lent to the pop. */
 typedef struct { coarse_rect box; uint32_t start, end, thread; } coarse_clip;
 
-/* A layer's properties. clip: null for none. */
-typedef struct { coarse_blend blend; float opacity; uint32_t mask; const coarse_clip *clip; } coarse_layer_props;
+/* A layer's properties. clip: null for none. panel: whose layer it is; left out, 0. */
+typedef struct { coarse_blend blend; float opacity; uint32_t mask; const coarse_clip *clip; uint32_t panel; } coarse_layer_props;
 
 /* Where a filter layer's picture is drawn, and from where in it. */
 typedef struct { coarse_rect dest; uint32_t source_x, source_y; } coarse_placement;
 
-/* tag: 1 paint solid, 2 paint alpha, 3 layer solid, 4 layer alpha. */
-typedef struct { uint32_t tag, attribute, first, end, alpha, nesting; } coarse_piece;
+/* tag: 1 paint solid, 2 paint alpha, 3 layer solid, 4 layer alpha. panel: its attribute's. */
+typedef struct { uint32_t tag, attribute, first, end, alpha, nesting, panel; } coarse_piece;
 
 typedef coarse_span coarse_run;
 
-/* reason: a case of coarse_reason_case. number: with COARSE_HIDDEN the attribute that hides, with COARSE_SHOWN the place, else 0. */
-typedef struct { uint32_t reason, number; } coarse_reason;
+/* reason: a case of coarse_reason_case. number: with COARSE_HIDDEN the attribute that hides, with COARSE_SHOWN the place, else 0. panel:
+ * the asked attribute's, with COARSE_UNKNOWN_ATTRIBUTE 0. hider_panel: with COARSE_HIDDEN that of the attribute that hides, else 0. */
+typedef struct { uint32_t reason, number, panel, hider_panel; } coarse_reason;
 
-typedef struct { uint32_t paint; coarse_blend blend; uint32_t mask, draw_id, thread, origin_x, origin_y; } coarse_paint_attrs;
-typedef struct { coarse_blend blend; float opacity; uint32_t mask, draw_id, thread; } coarse_layer_attrs;
+typedef struct { uint32_t paint; coarse_blend blend; uint32_t mask, draw_id, thread, origin_x, origin_y, panel; } coarse_paint_attrs;
+typedef struct { coarse_blend blend; float opacity; uint32_t mask, draw_id, thread, panel; } coarse_layer_attrs;
 
 /* A screen. The tables point into `block`; everything here is the calls' own. */
 typedef struct {
@@ -185,7 +186,7 @@ static inline uint32_t coarse_bucketer_generate_fill(coarse_bucketer *b, const c
     return coarse_fill(b->state, COARSE_STATE, b->rows, b->sizes[3], b->render, b->sizes[0], b->fills, b->sizes[1], b->paint_attrs,
                        b->sizes[7], (const uint32_t *)paints, paint_count * COARSE_PAINT, (const uint32_t *)segments,
                        segment_count * COARSE_SEGMENT, draw->thread, draw->start, draw->end, draw->paint, draw->blend.mix,
-                       draw->blend.compose, draw->mask);
+                       draw->blend.compose, draw->mask, draw->panel);
 }
 
 /* Rule 8. The opacity is kept bit for bit. */
@@ -197,7 +198,7 @@ static inline uint32_t coarse_bucketer_push_layer(coarse_bucketer *b, const coar
     return coarse_push_layer(b->state, COARSE_STATE, b->rows, b->sizes[3], b->render, b->sizes[0], b->fills, b->sizes[1], b->layers,
                              b->sizes[5], b->opacities, b->sizes[6], props->blend.mix, props->blend.compose, bits, props->mask,
                              props->clip != NULL, clip->box.x0, clip->box.y0, clip->box.x1, clip->box.y1, clip->start, clip->end,
-                             clip->thread);
+                             clip->thread, props->panel);
 }
 
 /* Rules 9 and 10. The list has the segments of the layer's clip; without a clip it may be null and 0. */
@@ -207,13 +208,15 @@ static inline uint32_t coarse_bucketer_pop_layer(coarse_bucketer *b, const coars
                             segment_count * COARSE_SEGMENT);
 }
 
-/* Rule 11. pixmap: the picture's handle, or null for none. paint_count: how many paints the paint list has. */
+/* Rule 11. pixmap: the picture's handle, or null for none. paint_count: how many paints the paint list has. panel: the layer's. */
 static inline uint32_t coarse_bucketer_generate_filter_layer_fill(coarse_bucketer *b, const uint32_t *pixmap,
-                                                                  const coarse_placement *placement, uint32_t paint_count) {
+                                                                  const coarse_placement *placement, uint32_t paint_count,
+                                                                  uint32_t panel) {
     coarse_rect to = placement->dest;
     return coarse_filter_fill(b->state, COARSE_STATE, b->rows, b->sizes[3], b->render, b->sizes[0], b->fills, b->sizes[1],
                               b->paint_attrs, b->sizes[7], b->filter_paints, b->sizes[9], to.x0, to.y0, to.x1, to.y1,
-                              placement->source_x, placement->source_y, pixmap != NULL, pixmap ? *pixmap : 0, paint_count);
+                              placement->source_x, placement->source_y, pixmap != NULL, pixmap ? *pixmap : 0, paint_count,
+                              panel);
 }
 
 /* Clears the depth words and sets every row to its first step. */
@@ -355,25 +358,25 @@ static inline size_t coarse_bucketer_paint_attr_count(const coarse_bucketer *b) 
 static inline size_t coarse_bucketer_layer_attr_count(const coarse_bucketer *b) { return b->state[12]; }
 
 static inline coarse_paint_attrs coarse_bucketer_paint_attrs(const coarse_bucketer *b, size_t i) {
-    coarse_paint_attrs a = {0, {0, 0}, 0, 0, 0, 0, 0};
+    coarse_paint_attrs a = {0, {0, 0}, 0, 0, 0, 0, 0, 0};
     if (i < coarse_bucketer_paint_attr_count(b)) {
-        const uint32_t *w = b->paint_attrs + 8 * i;
+        const uint32_t *w = b->paint_attrs + COARSE_PAINT_ATTR * i;
         a.paint = w[0], a.blend.mix = w[1], a.blend.compose = w[2], a.mask = w[3];
-        a.draw_id = w[4], a.thread = w[5], a.origin_x = w[6], a.origin_y = w[7];
+        a.draw_id = w[4], a.thread = w[5], a.origin_x = w[6], a.origin_y = w[7], a.panel = w[8];
     }
     return a;
 }
 
 /* A NaN opacity has the pattern that was pushed. */
 static inline coarse_layer_attrs coarse_bucketer_layer_attrs(const coarse_bucketer *b, size_t i) {
-    coarse_layer_attrs a = {{0, 0}, 0, 0, 0, 0};
+    coarse_layer_attrs a = {{0, 0}, 0, 0, 0, 0, 0};
     if (i < coarse_bucketer_layer_attr_count(b)) {
-        const uint32_t *w = b->layer_attrs + 6 * i;
-        a.blend.mix = w[0], a.blend.compose = w[1], a.mask = w[2], a.draw_id = w[3], a.thread = w[4];
+        const uint32_t *w = b->layer_attrs + COARSE_LAYER_ATTR * i;
+        a.blend.mix = w[0], a.blend.compose = w[1], a.mask = w[2], a.draw_id = w[3], a.thread = w[4], a.panel = w[6];
         if (w[5])
             memcpy(&a.opacity, &w[5], sizeof a.opacity);
         else
-            a.opacity = b->opacities[16 + i];
+            a.opacity = b->opacities[COARSE_MOST_LAYERS + i];
     }
     return a;
 }

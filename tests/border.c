@@ -35,7 +35,7 @@ static void null_pointers(void) {
                             layer_attrs, COARSE_LAYER_ATTRS, NULL, 0));
     expect("a fill without a paint", COARSE_BAD_RECORD,
            coarse_fill(state, COARSE_STATE, NULL, 0, NULL, 0, NULL, 0, paint_attrs, COARSE_PAINT_ATTRS, NULL, 0, NULL, 0, 0, 0, 0, 0,
-                       0, 3, 0));
+                       0, 3, 0, 0));
     expect("painting no rows", COARSE_DONE, coarse_begin_painting(state, COARSE_STATE, NULL, 0, NULL, 0));
     expect("a run of no row", COARSE_BAD_RUN, coarse_unset_runs(state, COARSE_STATE, 0, NULL, 0, 0, 4, NULL, 0, count, 1));
     expect("its count stays", 7, (uint32_t)count[0]);
@@ -89,15 +89,16 @@ static void lent_spans(void) {
     coarse_bucketer_free(&b);
 }
 
-/* A filter fill of 8 by 3 pixels with any flag and handle. */
-static uint32_t filter_fill(coarse_bucketer *b, uint32_t has_pixmap, uint32_t pixmap) {
+/* A filter fill of 8 by 3 pixels with any flag and handle, of any panel. */
+static uint32_t filter_fill(coarse_bucketer *b, uint32_t has_pixmap, uint32_t pixmap, uint32_t panel) {
     return coarse_filter_fill(b->state, COARSE_STATE, b->rows, b->sizes[3], b->render, b->sizes[0], b->fills, b->sizes[1], b->paint_attrs,
-                              b->sizes[7], b->filter_paints, b->sizes[9], 0, 0, 8, 3, 4, 0, has_pixmap, pixmap, 2);
+                              b->sizes[7], b->filter_paints, b->sizes[9], 0, 0, 8, 3, 4, 0, has_pixmap, pixmap, 2,
+                              panel);
 }
 
 /* The first tile, in any setup, with any word for draw or layer, and any length of the result. */
 static uint32_t why(coarse_bucketer *b, const uint32_t *file, size_t words, coarse_setup setup, uint32_t layer, size_t room) {
-    uint32_t result[COARSE_REASON];
+    uint32_t result[COARSE_REASON + 1];
     return coarse_why(b->state, COARSE_STATE, file, words, setup, 0, 0, layer, 0, b->render, b->sizes[0], b->fills, b->sizes[1],
                       b->depth, b->sizes[2], b->rows, b->sizes[3], b->painting, b->sizes[4], b->layers, b->sizes[5], b->opacities,
                       b->sizes[6], b->paint_attrs, b->sizes[7], b->layer_attrs, b->sizes[8], b->filter_paints, b->sizes[9], result,
@@ -182,7 +183,7 @@ static void snapped_screen(void) {
 
     /* A recording's viewport is read in the bucketer's mode: 510 x 3 pixels are 128 tiles of one row. */
     const uint32_t file[] = {1, 0, 0, 510, 3, 1, 1, 1, 0, 0, 1, 0, 0, 0, 128, 0, 1, 0, 0, 1, 0, 0, 3, 0, 0, 1, 0, 1, 0, 1, 0, 1};
-    coarse_reason reason = {7, 7};
+    coarse_reason reason = {7, 7, 7, 7};
     expect("a recording", COARSE_DONE, coarse_bucketer_bucket_commands(&b, file, 32));
     expect("on a screen of 4 buckets", 4, (uint32_t)coarse_bucketer_buckets(&b));
     expect("its last tile", COARSE_DONE, coarse_bucketer_why(&b, file, 32, 0, 127, 0, 0, &reason));
@@ -317,7 +318,8 @@ static void owned_tables(void) {
     expect("and back", COARSE_DONE, coarse_bucketer_reset(&b, narrow));
 
     coarse_clip clip = {{0, 0, 64, 4}, 0, 1, 3};
-    coarse_layer_props layer = {COARSE_DEFAULT_BLEND, 0.5f, 0, &clip}, plain = {COARSE_DEFAULT_BLEND, 1.0f, 0, NULL};
+    coarse_layer_props layer = {.blend = COARSE_DEFAULT_BLEND, .opacity = 0.5f, .clip = &clip};
+    coarse_layer_props plain = {.blend = COARSE_DEFAULT_BLEND, .opacity = 1.0f};
     coarse_placement placement = {{0, 0, 8, 3}, 4, 0};
     expect("a fill", COARSE_DONE, coarse_bucketer_generate_fill(&b, paints, 2, segments, 2, &both));
     expect("a clipped layer", COARSE_DONE, coarse_bucketer_push_layer(&b, &layer));
@@ -327,12 +329,12 @@ static void owned_tables(void) {
     expect("a plain layer", COARSE_DONE, coarse_bucketer_push_layer(&b, &plain));
     expect("closed without a list", COARSE_DONE, coarse_bucketer_pop_layer(&b, NULL, 0));
     uint32_t first = 0, too_large = 2147483648u;
-    expect("no picture", COARSE_DONE, coarse_bucketer_generate_filter_layer_fill(&b, NULL, &placement, 2));
+    expect("no picture", COARSE_DONE, coarse_bucketer_generate_filter_layer_fill(&b, NULL, &placement, 2, 0));
     expect("is not drawn", 2, (uint32_t)coarse_bucketer_paint_attr_count(&b));
-    expect("a handle of 2^31", COARSE_BAD_RECORD, coarse_bucketer_generate_filter_layer_fill(&b, &too_large, &placement, 2));
-    expect("a flag of 2", COARSE_BAD_RECORD, filter_fill(&b, 2, 9));
-    expect("no picture, any handle", COARSE_DONE, filter_fill(&b, 0, too_large));
-    expect("the first picture", COARSE_DONE, coarse_bucketer_generate_filter_layer_fill(&b, &first, &placement, 2));
+    expect("a handle of 2^31", COARSE_BAD_RECORD, coarse_bucketer_generate_filter_layer_fill(&b, &too_large, &placement, 2, 0));
+    expect("a flag of 2", COARSE_BAD_RECORD, filter_fill(&b, 2, 9, 0));
+    expect("no picture, any handle", COARSE_DONE, filter_fill(&b, 0, too_large, 0));
+    expect("the first picture", COARSE_DONE, coarse_bucketer_generate_filter_layer_fill(&b, &first, &placement, 2, 0));
     expect("is number 0", 0, (uint32_t)b.filter_paints[1]);
     expect("a step too early", COARSE_OPEN, coarse_bucketer_paint_step(&b, 0, &finished, &pieces, &count));
     expect("painting", COARSE_DONE, coarse_bucketer_begin_painting(&b));
@@ -354,6 +356,8 @@ static void owned_tables(void) {
     expect("layer attributes", 2, (uint32_t)coarse_bucketer_layer_attr_count(&b));
     expect("a clip's thread", 3, coarse_bucketer_layer_attrs(&b, 0).thread);
     expect("half opacity", 1, coarse_bucketer_layer_attrs(&b, 0).opacity == 0.5f);
+    expect("a panel left out of a fill", 0, coarse_bucketer_paint_attrs(&b, 0).panel);
+    expect("and of a layer", 0, coarse_bucketer_layer_attrs(&b, 0).panel);
 
     /* A recording on a viewport of its own: one refused by 3 leaves the screen, one that is done brings its tables. */
     const uint32_t file[] = {1, 0, 0, 512, 4, 1, 1, 1, 0, 0, 1, 0, 0, 0, 128, 0, 1, 0, 0, 1, 0, 0, 3, 0, 0, 1, 0, 1, 0, 1, 0, 1};
@@ -368,20 +372,130 @@ static void owned_tables(void) {
     expect("in one piece", 1, (uint32_t)count);
 
     /* Why a tile of it shows what it shows: tiles 0 to 128 of one row, filled by one draw. */
-    coarse_reason reason = {7, 7};
+    coarse_reason reason = {7, 7, 7, 7};
     expect("a tile past the end", COARSE_BAD_RUN, coarse_bucketer_why(&b, file, 32, 0, 128, 0, 0, &reason));
     expect("a row past the end", COARSE_BAD_RUN, coarse_bucketer_why(&b, file, 32, 1, 0, 0, 0, &reason));
     expect("a cut recording's tile", COARSE_BAD_FORM, coarse_bucketer_why(&b, file, 31, 1, 0, 0, 0, &reason));
     expect("refused, no reason", 7, reason.reason);
+    expect("nor a panel", 7, reason.panel);
     expect("the screen is the recording's", 4, (uint32_t)coarse_bucketer_buckets(&b));
     expect("its last tile", COARSE_DONE, coarse_bucketer_why(&b, file, 32, 0, 127, 0, 0, &reason));
     expect("shows the draw", COARSE_SHOWN, reason.reason);
     expect("in its first place", 0, reason.number);
+    expect("of panel 0, as every recording", 0, reason.panel);
+    expect("hidden by none", 0, reason.hider_panel);
     expect("a layer's attribute", COARSE_DONE, coarse_bucketer_why(&b, file, 32, 0, 127, 1, 0, &reason));
     expect("is not there", COARSE_UNKNOWN_ATTRIBUTE, reason.reason);
+    expect("and has no panel", 0, reason.panel);
     expect("neither draw nor layer", COARSE_BAD_RECORD, why(&b, file, 32, small, 2, COARSE_REASON));
     expect("of a cut recording", COARSE_BAD_FORM, why(&b, file, 31, small, 2, COARSE_REASON));
     expect("one word for a reason", COARSE_BAD_RECORD, why(&b, file, 32, small, 0, 1));
+    expect("one too few", COARSE_BAD_RECORD, why(&b, file, 32, small, 0, COARSE_REASON - 1));
+    expect("one too many", COARSE_BAD_RECORD, why(&b, file, 32, small, 0, COARSE_REASON + 1));
+    expect("as many as there are", COARSE_DONE, why(&b, file, 32, small, 0, COARSE_REASON));
+
+    /* Two such draws: the second hides the first. */
+    const uint32_t two[] = {1, 0, 0, 512, 4, 1, 1, 1, 0, 0, 1, 0, 0, 0, 128, 0, 2, 0, 0, 1, 0, 0, 3, 0, 0, 0, 1, 0, 0, 3, 0, 0, 1, 0, 2, 0, 1, 0, 1};
+    reason = (coarse_reason){7, 7, 7, 7};
+    expect("the first of two", COARSE_DONE, coarse_bucketer_why(&b, two, 39, 0, 5, 0, 0, &reason));
+    expect("is hidden", COARSE_HIDDEN, reason.reason);
+    expect("by the second", 1, reason.number);
+    expect("its panel", 0, reason.panel);
+    expect("and the second's", 0, reason.hider_panel);
+    coarse_bucketer_free(&b);
+}
+
+/* The tables have the lengths that the header names. */
+static void named_sizes(void) {
+    size_t sizes[10] = {0};
+    expect("sizes", COARSE_DONE, coarse_bucketer_sizes((coarse_rect){0, 0, 256, 8}, small, sizes));
+    expect("open layers", COARSE_LAYERS, (uint32_t)sizes[5]);
+    expect("opacities", COARSE_OPACITIES, (uint32_t)sizes[6]);
+    expect("paint attributes", COARSE_PAINT_ATTRS, (uint32_t)sizes[7]);
+    expect("layer attributes", COARSE_LAYER_ATTRS, (uint32_t)sizes[8]);
+    expect("filter paints", COARSE_FILTER_PAINTS, (uint32_t)sizes[9]);
+    expect("a piece is its words", COARSE_PIECE, (uint32_t)(sizeof(coarse_piece) / sizeof(uint32_t)));
+    expect("a reason is its words", COARSE_REASON, (uint32_t)(sizeof(coarse_reason) / sizeof(uint32_t)));
+}
+
+static const coarse_segment eight[] = {{1, 0, 0, 8, 0}};
+
+static uint32_t fill_of(coarse_bucketer *b, uint32_t panel) {
+    coarse_draw draw = {.start = 0, .end = 1, .paint = 1, .blend = COARSE_DEFAULT_BLEND, .panel = panel};
+    return coarse_bucketer_generate_fill(b, paints, 2, eight, 1, &draw);
+}
+
+static uint32_t push_of(coarse_bucketer *b, uint32_t panel) {
+    coarse_layer_props layer = {.blend = COARSE_DEFAULT_BLEND, .opacity = 1.0f, .panel = panel};
+    return coarse_bucketer_push_layer(b, &layer);
+}
+
+/* The row's steps until one is refused or none is left: its answer. */
+static uint32_t steps(coarse_bucketer *b) {
+    const coarse_piece *pieces;
+    size_t count;
+    int finished = 0;
+    uint32_t answer = coarse_bucketer_begin_painting(b);
+    while (answer == COARSE_DONE && !finished)
+        answer = coarse_bucketer_paint_step(b, 0, &finished, &pieces, &count);
+    return answer;
+}
+
+/* A panel goes with a fill, a layer or a filter fill to its attribute and its pieces. Above 255 it is refused by 4 with nothing changed. */
+static void panels(void) {
+    static const struct { uint32_t tag, attribute, panel; } want[] = {{2, 0, 255}, {2, 1, 0}, {3, 0, 255}, {3, 1, 7}, {1, 2, 9}};
+    static const uint32_t none[] = {256, 257, 65536, 0xffffffffu};
+    coarse_bucketer b;
+    const coarse_piece *pieces = NULL;
+    size_t i, count = 0;
+    uint32_t before, *inner, *fill, *layer;
+    expect("a screen", COARSE_DONE, coarse_bucketer_new(&b, (coarse_rect){0, 0, 256, 8}, (coarse_setup){16, 16, COARSE_EXACT, COARSE_128}));
+    expect("a fill of the last panel", COARSE_DONE, fill_of(&b, COARSE_LAST_PANEL));
+    expect("a layer of another", COARSE_DONE, push_of(&b, 7));
+    expect("in it one of the last", COARSE_DONE, push_of(&b, COARSE_LAST_PANEL));
+    expect("in that a fill of the first", COARSE_DONE, fill_of(&b, 0));
+    before = sum(&b);
+    for (i = 0; i < sizeof none / sizeof none[0]; i++) {
+        expect("no fill", COARSE_BAD_RECORD, fill_of(&b, none[i]));
+        expect("no layer", COARSE_BAD_RECORD, push_of(&b, none[i]));
+        expect("no filter fill", COARSE_BAD_RECORD, filter_fill(&b, 1, 0, none[i]));
+        expect("nor one without a picture", COARSE_BAD_RECORD, filter_fill(&b, 0, 0, none[i]));
+    }
+    expect("nothing has changed", before, sum(&b));
+
+    inner = b.layers + COARSE_OPEN_LAYER + 16;
+    expect("the open layer's panel", 255, *inner);
+    *inner = 256;
+    expect("none, it is not closed", COARSE_BAD_RECORD, coarse_bucketer_pop_layer(&b, NULL, 0));
+    *inner = 255;
+    expect("nothing has changed there", before, sum(&b));
+    expect("the inner one closed", COARSE_DONE, coarse_bucketer_pop_layer(&b, NULL, 0));
+    expect("and the outer", COARSE_DONE, coarse_bucketer_pop_layer(&b, NULL, 0));
+    expect("a filter fill", COARSE_DONE, filter_fill(&b, 1, 0, 9));
+    expect("the first fill's", 255, coarse_bucketer_paint_attrs(&b, 0).panel);
+    expect("the second fill's", 0, coarse_bucketer_paint_attrs(&b, 1).panel);
+    expect("the filter fill's", 9, coarse_bucketer_paint_attrs(&b, 2).panel);
+    expect("the inner layer's own", 255, coarse_bucketer_layer_attrs(&b, 0).panel);
+    expect("the outer layer's own", 7, coarse_bucketer_layer_attrs(&b, 1).panel);
+
+    /* Words of an attribute with such a panel are refused where a step reads them. */
+    fill = b.paint_attrs + 8;
+    layer = b.layer_attrs + 6;
+    *fill = 256;
+    expect("none, a fill's", COARSE_BAD_RECORD, steps(&b));
+    *fill = 255;
+    *layer = 256;
+    expect("none, a layer's", COARSE_BAD_RECORD, steps(&b));
+    *layer = 255;
+    expect("all of them", COARSE_DONE, steps(&b));
+    expect("afresh", COARSE_DONE, coarse_bucketer_begin_painting(&b));
+    expect("the row", COARSE_DONE, coarse_bucketer_paint_row(&b, 0, &pieces, &count));
+    expect("its pieces", sizeof want / sizeof want[0], (uint32_t)count);
+    for (i = 0; i < count && i < sizeof want / sizeof want[0]; i++) {
+        expect("paint or layer", want[i].tag, pieces[i].tag);
+        expect("its attribute", want[i].attribute, pieces[i].attribute);
+        expect("whose it is", want[i].panel, pieces[i].panel);
+    }
     coarse_bucketer_free(&b);
 }
 
@@ -393,5 +507,7 @@ int main(void) {
     no_mode();
     widths();
     no_width();
+    named_sizes();
+    panels();
     return wrong;
 }

@@ -8,6 +8,7 @@ mod widths;
 
 use oracle::original::Original;
 use oracle::painting::Piece;
+use oracle::sizes;
 use oracle::steps::steps;
 use port::Port;
 use std::hint::black_box;
@@ -58,7 +59,7 @@ fn race(it: &scenes::Scene, rounds: usize) {
     paint.line(it.name, "paint");
     by_steps.line(it.name, "by steps");
 
-    // Both sides have given the same pieces.
+    // Both sides have given the same pieces, of the same panels.
     let [mut given, mut listed, mut stepped] = [(); 3].map(|()| Vec::<Piece>::new());
     original.paint(|pieces| given.extend(pieces));
     port.paint(|pieces| listed.extend(pieces.iter().map(port::piece)));
@@ -105,16 +106,12 @@ fn words(
 ) {
     let [x0, y0, x1, y1] = it.draft.viewport.map(|edge| edge as usize);
     let (rows, buckets) = ((y1 - y0) / 4, ((x1 - x0) / 4).div_ceil(32));
-    let lent = rows * (4 * it.c as usize + 2 * it.d as usize + buckets + 54 + 2)
-        + 256
-        + 1_040
-        + 8_192
-        + 6_144
-        + 1_024;
+    let commands = sizes::COMMAND * it.c as usize + sizes::DEPTH_FILL * it.d as usize;
+    let lent = rows * (commands + buckets + sizes::ROW + sizes::PAINTING) + sizes::TABLES;
     for (what, race, words) in [
         ("reset", reset, lent),
         ("build", build, original.words()),
-        ("paint", paint, 6 * pieces),
+        ("paint", paint, sizes::PIECE * pieces),
     ] {
         race.words(it.name, what, words, rounds);
     }

@@ -29,8 +29,14 @@ impl Port {
                 .map(|&[opaque, handle, ..]| Paint::new(opaque == 1, handle))
                 .collect(),
             segments: draft.segments.iter().map(segment).collect(),
-            draws: draft.draws.iter().map(draw).collect(),
-            layers: draft.layers.iter().map(layer).collect(),
+            draws: (0..)
+                .zip(&draft.draws)
+                .map(|(i, words)| draw(words, draft.draw_panel(i)))
+                .collect(),
+            layers: (0..)
+                .zip(&draft.layers)
+                .map(|(i, words)| layer(words, draft.layer_panel(i)))
+                .collect(),
             bucketer: CommandBucketer::new(viewport, setup).expect("a good viewport"),
         }
     }
@@ -101,7 +107,10 @@ fn segment(&[kind, row, first, end, alpha]: &[u32; 5]) -> Segment {
     }
 }
 
-fn draw(&[thread_idx, start, end, paint, mix, compose, mask]: &[u32; 7]) -> RecordedFill {
+fn draw(
+    &[thread_idx, start, end, paint, mix, compose, mask]: &[u32; 7],
+    panel: u32,
+) -> RecordedFill {
     RecordedFill {
         thread_idx,
         start: start as usize,
@@ -109,10 +118,11 @@ fn draw(&[thread_idx, start, end, paint, mix, compose, mask]: &[u32; 7]) -> Reco
         paint,
         blend_mode: BlendMode { mix, compose },
         mask,
+        panel,
     }
 }
 
-fn layer(layer: &[u32; 22]) -> LayerProps {
+fn layer(layer: &[u32; 22], panel: u32) -> LayerProps {
     let &[_, _, _, mix, compose, opacity, mask, flag, x0, y0, x1, y1, start, end, thread_idx, ..] =
         layer;
     let clip = LayerClip {
@@ -126,6 +136,7 @@ fn layer(layer: &[u32; 22]) -> LayerProps {
         opacity: f32::from_bits(opacity),
         mask,
         clip: (flag == 1).then_some(clip),
+        panel,
     }
 }
 
@@ -139,5 +150,6 @@ pub(crate) fn piece(piece: &Piece) -> painting::Piece {
         end: short(piece.end),
         alpha: piece.alpha_idx(),
         nesting: piece.nesting as usize,
+        panel: piece.panel,
     }
 }

@@ -11,7 +11,22 @@ pub(crate) struct Scene {
     pub(crate) d: u32,
 }
 
+/// The program modules that draw: panels from 1 on.
+const MODULES: u32 = 9;
+
+/// So many records of the modules by turns.
+fn panels(records: usize) -> Vec<u32> {
+    (1..=MODULES).cycle().take(records).collect()
+}
+
 impl Scene {
+    /// Draws and layers get their panels.
+    fn new(name: &'static str, mut draft: Draft, c: u32, d: u32) -> Self {
+        draft.draw_panels = panels(draft.draws.len());
+        draft.layer_panels = panels(draft.layers.len());
+        Self { name, draft, c, d }
+    }
+
     /// At 128 pixels a bucket.
     pub(crate) fn setup(&self) -> Setup {
         Setup::new(self.c, self.d)
@@ -157,22 +172,12 @@ fn nested() -> Scene {
         ));
     }
     let root = draft.node((0, 0), inner);
-    Scene {
-        name: "nested layers",
-        draft: draft.rooted(root),
-        c: 256,
-        d: 64,
-    }
+    Scene::new("nested layers", draft.rooted(root), 256, 64)
 }
 
 /// All draws in order, in one node.
 fn finished(name: &'static str, mut draft: Draft, c: u32, d: u32) -> Scene {
     let draws = u32::try_from(draft.draws.len()).expect("few draws");
     let root = draft.node((0, draws), 0);
-    Scene {
-        name,
-        draft: draft.rooted(root),
-        c,
-        d,
-    }
+    Scene::new(name, draft.rooted(root), c, d)
 }

@@ -1,8 +1,12 @@
-//! A panel over a banner: what the tiles of one row receive.
+//! A panel over a banner, drawn by two program modules: whose each piece of a row is, and what its tiles receive.
 
 use coarse::{Answer, CommandBucketer, Paint, Piece, RecordedFill, Segment, Setup};
 
 const NAMES: [&str; 2] = ["banner", "panel"];
+
+/// The panel numbers of the two modules.
+const STATUS: u32 = 3;
+const DIALOGS: u32 = 7;
 
 /// The names of what a tile receives, in the order of painting.
 fn received(pieces: &[Piece], paints: &[u32], tile: u32) -> String {
@@ -25,25 +29,27 @@ fn main() -> Result<(), Answer> {
         start: 0,
         end: 1,
         paint: 0,
+        panel: STATUS,
         ..RecordedFill::default()
     };
     let panel = RecordedFill {
         start: 1,
         end: 2,
         paint: 1,
+        panel: DIALOGS,
         ..RecordedFill::default()
     };
     screen.generate_fill(&paints, &segments, &banner)?;
     screen.generate_fill(&paints, &segments, &panel)?;
 
-    // The row is painted to its end.
+    // The row is painted to its end. A piece says which module drew it.
     screen.begin_painting()?;
     let pieces = screen.paint_row(0)?.to_vec();
     let paints: Vec<u32> = screen.paint_attrs().map(|attrs| attrs.paint).collect();
     for piece in &pieces {
         println!(
-            "{} on tiles {} to {}",
-            NAMES[paints[piece.attrs_idx as usize] as usize], piece.first, piece.end
+            "{} on tiles {} to {}, by module {}",
+            NAMES[paints[piece.attrs_idx as usize] as usize], piece.first, piece.end, piece.panel
         );
     }
 

@@ -1,5 +1,8 @@
 //! The proved coarse stage behind the original's names. A [`CommandBucketer`] owns the tables that the calls of `include/coarse.h` are
 //! lent; each method is one call. Bad input is an [`Answer`], never a panic.
+//!
+//! A panel is the number, 0 to [`LAST_PANEL`], of the program module that drew a fill or a layer. It goes with it to its attribute, its
+//! pieces and its reasons. Above is [`Answer::BadRecord`]; left out it is 0, as in every recording.
 
 mod sys;
 
@@ -242,6 +245,9 @@ impl Default for BlendMode {
     }
 }
 
+/// The largest number that a panel has.
+pub const LAST_PANEL: u32 = 255;
+
 /// The original's `RecordedFill`: segments start to end of a list, with the paint at a place of a paint list.
 #[derive(Debug, Clone, Copy, PartialEq, Eq, Default)]
 pub struct RecordedFill {
@@ -251,6 +257,8 @@ pub struct RecordedFill {
     pub paint: u32,
     pub blend_mode: BlendMode,
     pub mask: u32,
+    /// Whose fill it is.
+    pub panel: u32,
 }
 
 /// A layer's clip: its box, its segments and the thread that has their alphas.
@@ -269,6 +277,8 @@ pub struct LayerProps {
     pub opacity: f32,
     pub mask: u32,
     pub clip: Option<LayerClip>,
+    /// Whose layer it is.
+    pub panel: u32,
 }
 
 impl Default for LayerProps {
@@ -278,6 +288,7 @@ impl Default for LayerProps {
             opacity: 1.0,
             mask: 0,
             clip: None,
+            panel: 0,
         }
     }
 }
@@ -302,6 +313,8 @@ pub struct Piece {
     /// 0 where the piece is solid.
     pub alpha: u32,
     pub nesting: u32,
+    /// Its attribute's.
+    pub panel: u32,
 }
 
 impl Piece {
@@ -327,6 +340,7 @@ pub struct PaintFillAttrs {
     pub draw_id: u32,
     pub thread_idx: u32,
     pub origin: (u32, u32),
+    pub panel: u32,
 }
 
 /// What a popped layer left for the fine stage.
@@ -337,6 +351,7 @@ pub struct LayerFillAttrs {
     pub mask: u32,
     pub draw_id: u32,
     pub thread_idx: u32,
+    pub panel: u32,
 }
 
 /// A paint that a filter fill added after the paint list.
@@ -361,32 +376,55 @@ pub enum Attribute {
     Layer(u32),
 }
 
-/// Why an attribute is shown at a tile or not: the first that holds.
+/// Why an attribute is shown at a tile or not: the first that holds. `panel` is the asked attribute's.
 #[derive(Debug, Clone, Copy, PartialEq, Eq)]
 pub enum Reason {
     /// The recording has no such attribute.
     UnknownAttribute,
     /// No segment of it covers the tile.
-    NoSegment,
+    NoSegment { panel: u32 },
     /// A segment covers the tile, and a clip box cuts it away.
-    CutAway,
+    CutAway { panel: u32 },
     /// The row was never touched within the layer that closes.
-    RowUntouched,
-    /// Hidden by a newer depth fill: the attribute of the newest one.
-    HiddenBy(u32),
+    RowUntouched { panel: u32 },
+    /// Hidden by a newer depth fill: the attribute of the newest one, and that attribute's panel.
+    HiddenBy {
+        attribute: u32,
+        hider_panel: u32,
+        panel: u32,
+    },
     /// Shown, at this place in the tile's list.
-    ShownAt(u32),
+    ShownAt { place: u32, panel: u32 },
 }
 
 impl Reason {
-    fn of(words: [u32; 2]) -> Self {
-        match words[0] {
+    fn of([case, number, panel, hider_panel]: [u32; REASON]) -> Self {
+        match case {
             0 => Self::UnknownAttribute,
-            1 => Self::NoSegment,
-            2 => Self::CutAway,
-            3 => Self::RowUntouched,
-            4 => Self::HiddenBy(words[1]),
-            _ => Self::ShownAt(words[1]),
+            1 => Self::NoSegment { panel },
+            2 => Self::CutAway { panel },
+            3 => Self::RowUntouched { panel },
+            4 => Self::HiddenBy {
+                attribute: number,
+                hider_panel,
+                panel,
+            },
+            _ => Self::ShownAt {
+                place: number,
+                panel,
+            },
+        }
+    }
+
+    /// The asked attribute's panel; none of one that is unknown.
+    pub fn panel(self) -> Option<u32> {
+        match self {
+            Self::UnknownAttribute => None,
+            Self::NoSegment { panel }
+            | Self::CutAway { panel }
+            | Self::RowUntouched { panel }
+            | Self::HiddenBy { panel, .. }
+            | Self::ShownAt { panel, .. } => Some(panel),
         }
     }
 }
@@ -498,16 +536,25 @@ impl Tables {
     }
 }
 
-/// Places in the state's words.
+/// The words of the state, and places in them.
 const STATE: usize = 17;
-
-/// The words of a row's record; the second is how many depth fills it has.
-const ROW: usize = 54;
 const NEXT_DRAW_ID: usize = 10;
 const PAINT_ATTRS: usize = 11;
 const LAYER_ATTRS: usize = 12;
 const FILTER_PAINTS: usize = 13;
 const LAYERS: usize = 14;
+
+/// The words of a row's record; the second is how many depth fills it has.
+const ROW: usize = 54;
+
+/// The words of one record of a table, and of a reason, as `include/coarse.h` has them.
+const PAINT_ATTR: usize = 9;
+const LAYER_ATTR: usize = 7;
+const FILTER_PAINT: usize = 4;
+const REASON: usize = 4;
+
+/// The opacities of the open layers stand before those of the layer attributes.
+const MOST_LAYERS: usize = 16;
 
 /// A screen with all its tables.
 #[derive(Debug, Clone)]
@@ -673,6 +720,7 @@ impl CommandBucketer {
                 fill.blend_mode.mix,
                 fill.blend_mode.compose,
                 fill.mask,
+                fill.panel,
             )
         })
     }
@@ -713,6 +761,7 @@ impl CommandBucketer {
                 clip.start,
                 clip.end,
                 clip.thread_idx,
+                props.panel,
             )
         })
     }
@@ -743,12 +792,13 @@ impl CommandBucketer {
         })
     }
 
-    /// Rule 11. Nothing is drawn without a picture. paint_count is the paint list's length.
+    /// Rule 11. Nothing is drawn without a picture. paint_count is the paint list's length, panel the layer's.
     pub fn generate_filter_layer_fill(
         &mut self,
         pixmap: Option<u32>,
         placement: &FilterLayerPlacement,
         paint_count: u32,
+        panel: u32,
     ) -> Result<(), Answer> {
         let t = &mut self.tables;
         let Rect { x0, y0, x1, y1 } = placement.dest;
@@ -775,6 +825,7 @@ impl CommandBucketer {
                 u32::from(pixmap.is_some()),
                 pixmap.unwrap_or(0),
                 paint_count,
+                panel,
             )
         })
     }
@@ -1051,7 +1102,7 @@ impl CommandBucketer {
         let n = self.state[PAINT_ATTRS] as usize;
         self.tables
             .paint_attrs
-            .chunks_exact(8)
+            .chunks_exact(PAINT_ATTR)
             .take(n)
             .map(|w| PaintFillAttrs {
                 paint: w[0],
@@ -1063,14 +1114,15 @@ impl CommandBucketer {
                 draw_id: w[4],
                 thread_idx: w[5],
                 origin: (w[6], w[7]),
+                panel: w[8],
             })
     }
 
     /// The attributes of all popped layers. A NaN opacity has the pattern that was pushed.
     pub fn layer_attrs(&self) -> impl Iterator<Item = LayerFillAttrs> + '_ {
         let n = self.state[LAYER_ATTRS] as usize;
-        let opacities = self.tables.opacities.iter().skip(16);
-        let words = self.tables.layer_attrs.chunks_exact(6);
+        let opacities = self.tables.opacities.iter().skip(MOST_LAYERS);
+        let words = self.tables.layer_attrs.chunks_exact(LAYER_ATTR);
         words
             .zip(opacities)
             .take(n)
@@ -1087,6 +1139,7 @@ impl CommandBucketer {
                 mask: w[2],
                 draw_id: w[3],
                 thread_idx: w[4],
+                panel: w[6],
             })
     }
 
@@ -1094,7 +1147,7 @@ impl CommandBucketer {
         let n = self.state[FILTER_PAINTS] as usize;
         self.tables
             .filter_paints
-            .chunks_exact(4)
+            .chunks_exact(FILTER_PAINT)
             .take(n)
             .map(|w| FilterPaint {
                 pixmap: w[1].unsigned_abs(),
@@ -1154,7 +1207,7 @@ fn explain(
         Attribute::Draw(attribute) => (0, attribute),
         Attribute::Layer(attribute) => (1, attribute),
     };
-    let mut result = [0; 2];
+    let mut result = [0; REASON];
     Answer::check(unsafe {
         sys::coarse_why(
             state.as_mut_ptr(),

@@ -173,6 +173,7 @@ extern "C" {
         mix: u32,
         compose: u32,
         mask: u32,
+        panel: u32,
     ) -> u32;
 
     pub fn coarse_push_layer(
@@ -200,6 +201,7 @@ extern "C" {
         start: u32,
         end: u32,
         thread: u32,
+        panel: u32,
     ) -> u32;
 
     pub fn coarse_pop_layer(
@@ -243,6 +245,7 @@ extern "C" {
         has_pixmap: u32,
         pixmap: u32,
         paint_count: u32,
+        panel: u32,
     ) -> u32;
 
     pub fn coarse_begin_painting(

@@ -2,6 +2,9 @@ use super::*;
 
 const SOLID: BlendMode = BlendMode { mix: 0, compose: 3 };
 
+/// The words of an open layer; the last is its panel.
+const OPEN_LAYER: usize = 17;
+
 fn fill(start: usize, end: usize, paint: u32) -> RecordedFill {
     RecordedFill {
         start,
@@ -28,6 +31,7 @@ fn paint(attrs_idx: u32, first: u32, end: u32) -> Piece {
         end,
         alpha: 0,
         nesting: 0,
+        panel: 0,
     }
 }
 
@@ -92,6 +96,38 @@ fn answers_in_words() {
     }
 }
 
+/// The header has the same sizes, and the tables are as long as they ask.
+#[test]
+fn sizes_by_name() {
+    let header = include_str!("../../include/coarse.h");
+    for (name, number) in [
+        ("STATE", STATE),
+        ("PIECE", size_of_val(&Piece::default()) / 4),
+        ("REASON", REASON),
+        ("OPEN_LAYER", OPEN_LAYER),
+        ("PAINT_ATTR", PAINT_ATTR),
+        ("LAYER_ATTR", LAYER_ATTR),
+        ("FILTER_PAINT", FILTER_PAINT),
+        ("MOST_LAYERS", MOST_LAYERS),
+        ("LAST_PANEL", LAST_PANEL as usize),
+    ] {
+        let line = ["#define", &format!("COARSE_{name}"), &number.to_string()];
+        let same = |text: &str| text.split_whitespace().take(3).eq(line);
+        assert_eq!(
+            header.lines().filter(|text| same(text)).count(),
+            1,
+            "{name}"
+        );
+    }
+    let [.., layers, opacities, paint_attrs, layer_attrs, filter_paints] =
+        sizes(Rect::new(0, 0, 256, 8), Setup::new(8, 8)).unwrap();
+    assert_eq!(layers, MOST_LAYERS * OPEN_LAYER);
+    assert_eq!(opacities, MOST_LAYERS + 1024);
+    assert_eq!(paint_attrs, 1024 * PAINT_ATTR);
+    assert_eq!(layer_attrs, 1024 * LAYER_ATTR);
+    assert_eq!(filter_paints, 256 * FILTER_PAINT);
+}
+
 fn words(bytes: &[u8]) -> Vec<u32> {
     bytes
         .chunks_exact(4)
@@ -140,8 +176,14 @@ fn why_a_tile_shows_what_it_shows() {
     let file = words(include_bytes!("../../samples/worked.rec"));
     let mut bucketer = CommandBucketer::from_wh(4, 4, Setup::new(64, 64)).unwrap();
     let mut why = |row, tile, attribute| bucketer.why(&file, row, tile, attribute);
-    assert_eq!(why(0, 10, Attribute::Draw(0)), Ok(Reason::ShownAt(0)));
-    assert_eq!(why(0, 9, Attribute::Draw(0)), Ok(Reason::NoSegment));
+    assert_eq!(
+        why(0, 10, Attribute::Draw(0)),
+        Ok(Reason::ShownAt { place: 0, panel: 0 })
+    );
+    assert_eq!(
+        why(0, 9, Attribute::Draw(0)),
+        Ok(Reason::NoSegment { panel: 0 })
+    );
     assert_eq!(why(0, 9, Attribute::Draw(9)), Ok(Reason::UnknownAttribute));
     assert_eq!(why(2, 0, Attribute::Draw(0)), Err(Answer::BadRun));
     assert_eq!(why(0, 64, Attribute::Draw(0)), Err(Answer::BadRun));
@@ -150,6 +192,50 @@ fn why_a_tile_shows_what_it_shows() {
         bucketer.why(&file[1..], 9, 9, Attribute::Draw(0)),
         Err(Answer::BadForm)
     );
+}
+
+/// The second of two opaque draws over one row hides the first. A recording's draws have panel 0.
+#[test]
+fn a_hidden_draw() {
+    let file = [
+        1, 0, 0, 512, 4, 1, 1, 1, 0, 0, 1, 0, 0, 0, 128, 0, 2, 0, 0, 1, 0, 0, 3, 0, 0, 0, 1, 0, 0,
+        3, 0, 0, 1, 0, 2, 0, 1, 0, 1,
+    ];
+    let mut bucketer = CommandBucketer::from_wh(4, 4, Setup::new(8, 8)).unwrap();
+    assert_eq!(
+        bucketer.why(&file, 0, 5, Attribute::Draw(0)),
+        Ok(Reason::HiddenBy {
+            attribute: 1,
+            hider_panel: 0,
+            panel: 0
+        })
+    );
+    assert!(bucketer.paint_attrs().all(|attrs| attrs.panel == 0));
+}
+
+/// The four words of a reason.
+#[test]
+fn reasons_by_their_words() {
+    let hidden = Reason::HiddenBy {
+        attribute: 7,
+        hider_panel: 9,
+        panel: 255,
+    };
+    let shown = Reason::ShownAt {
+        place: 7,
+        panel: 255,
+    };
+    for (words, reason, panel) in [
+        ([0, 0, 0, 0], Reason::UnknownAttribute, None),
+        ([1, 0, 3, 0], Reason::NoSegment { panel: 3 }, Some(3)),
+        ([2, 0, 4, 0], Reason::CutAway { panel: 4 }, Some(4)),
+        ([3, 0, 5, 0], Reason::RowUntouched { panel: 5 }, Some(5)),
+        ([4, 7, 255, 9], hidden, Some(255)),
+        ([5, 7, 255, 0], shown, Some(255)),
+    ] {
+        assert_eq!(Reason::of(words), reason);
+        assert_eq!(reason.panel(), panel);
+    }
 }
 
 #[test]
@@ -173,6 +259,7 @@ fn the_worked_example() {
         end: 64,
         alpha: 0,
         nesting: 1,
+        panel: 0,
     };
     assert_eq!(
         painted(&mut bucketer, 1),
@@ -286,6 +373,7 @@ fn a_clipped_layer() {
         end: 12,
         alpha: 160,
         nesting: 1,
+        panel: 0,
     };
     assert_eq!(
         painted(&mut bucketer, 0),
@@ -310,15 +398,15 @@ fn a_filter_fill() {
         source_y: 5,
     };
     bucketer
-        .generate_filter_layer_fill(None, &placement, 3)
+        .generate_filter_layer_fill(None, &placement, 3, 0)
         .unwrap();
     assert_eq!(bucketer.filter_paints().count(), 0);
     assert_eq!(
-        bucketer.generate_filter_layer_fill(Some(1 << 31), &placement, 3),
+        bucketer.generate_filter_layer_fill(Some(1 << 31), &placement, 3, 0),
         Err(Answer::BadRecord)
     );
     bucketer
-        .generate_filter_layer_fill(Some(0), &placement, 3)
+        .generate_filter_layer_fill(Some(0), &placement, 3, 0)
         .unwrap();
     assert_eq!(
         bucketer.filter_paints().collect::<Vec<_>>(),
@@ -336,11 +424,119 @@ fn a_filter_fill() {
         draw_id: 1,
         thread_idx: 0,
         origin: (0, 0),
+        panel: 0,
     };
     assert_eq!(attrs, [expected]);
     bucketer.begin_painting().unwrap();
     assert_eq!(painted(&mut bucketer, 0), [paint(0, 4, 12)]);
     assert_eq!(painted(&mut bucketer, 1), [paint(0, 4, 12)]);
+}
+
+/// Two layers of two panels, one in the other, with fills and a filter fill of others.
+fn of_many_panels() -> CommandBucketer {
+    let mut bucketer = CommandBucketer::from_wh(256, 8, Setup::new(16, 16)).unwrap();
+    let layer = |panel| LayerProps {
+        panel,
+        ..LayerProps::default()
+    };
+    let fills = |bucketer: &mut CommandBucketer, panel| {
+        let recorded = RecordedFill {
+            panel,
+            ..fill(0, 1, 0)
+        };
+        bucketer.generate_fill(
+            &[Paint::new(false, 1)],
+            &[Segment::solid(0, 0, 8)],
+            &recorded,
+        )
+    };
+    fills(&mut bucketer, LAST_PANEL).unwrap();
+    bucketer.push_layer(&layer(7)).unwrap();
+    bucketer.push_layer(&layer(LAST_PANEL)).unwrap();
+    fills(&mut bucketer, 0).unwrap();
+    bucketer
+}
+
+const BOX: FilterLayerPlacement = FilterLayerPlacement {
+    dest: Rect {
+        x0: 0,
+        y0: 0,
+        x1: 8,
+        y1: 4,
+    },
+    source_x: 0,
+    source_y: 0,
+};
+
+/// A piece has the panel of its fill, or of the layer that closes, whichever layer it stands in.
+#[test]
+fn panels() {
+    let mut bucketer = of_many_panels();
+    bucketer.pop_layer(&[]).unwrap();
+    bucketer.pop_layer(&[]).unwrap();
+    bucketer
+        .generate_filter_layer_fill(Some(0), &BOX, 1, 9)
+        .unwrap();
+    let of_fills: Vec<u32> = bucketer.paint_attrs().map(|attrs| attrs.panel).collect();
+    let of_layers: Vec<u32> = bucketer.layer_attrs().map(|attrs| attrs.panel).collect();
+    assert_eq!((of_fills, of_layers), (vec![255, 0, 9], vec![255, 7]));
+    bucketer.begin_painting().unwrap();
+    let pieces: Vec<(bool, u32, u32)> = painted(&mut bucketer, 0)
+        .iter()
+        .map(|piece| (piece.is_layer(), piece.attrs_idx, piece.panel))
+        .collect();
+    assert_eq!(
+        pieces,
+        [
+            (false, 0, 255),
+            (false, 1, 0),
+            (true, 0, 255),
+            (true, 1, 7),
+            (false, 2, 9)
+        ]
+    );
+}
+
+/// A panel above 255 is refused by 4 and changes nothing.
+#[test]
+fn no_panels() {
+    let mut bucketer = of_many_panels();
+    let before = bucketer.clone();
+    for panel in [LAST_PANEL + 1, u32::MAX] {
+        let recorded = RecordedFill {
+            panel,
+            ..fill(0, 1, 0)
+        };
+        let layer = LayerProps {
+            panel,
+            ..LayerProps::default()
+        };
+        let segments = [Segment::solid(0, 0, 8)];
+        for refused in [
+            bucketer.generate_fill(&[Paint::new(false, 1)], &segments, &recorded),
+            bucketer.push_layer(&layer),
+            bucketer.generate_filter_layer_fill(Some(0), &BOX, 1, panel),
+            bucketer.generate_filter_layer_fill(None, &BOX, 1, panel),
+        ] {
+            assert_eq!(refused, Err(Answer::BadRecord));
+        }
+    }
+    assert_eq!(bucketer.state, before.state);
+    let words = |b: &CommandBucketer| {
+        let t = b.tables.clone();
+        ([t.render, t.rows, t.layers, t.paint_attrs], t.filter_paints)
+    };
+    assert_eq!(words(&bucketer), words(&before));
+    // So are words of a table with such a panel, where they are read: the inner layer's, then the first fill's.
+    let inner = 2 * OPEN_LAYER - 1;
+    bucketer.tables.layers[inner] = 256;
+    assert_eq!(bucketer.pop_layer(&[]), Err(Answer::BadRecord));
+    bucketer.tables.layers[inner] = 255;
+    bucketer.pop_layer(&[]).unwrap();
+    bucketer.pop_layer(&[]).unwrap();
+    bucketer.begin_painting().unwrap();
+    bucketer.tables.paint_attrs[PAINT_ATTR - 1] = 256;
+    assert_eq!(bucketer.paint_step(0), Err(Answer::BadRecord));
 }
 
 #[test]
@@ -702,6 +898,6 @@ fn a_snapped_recording() {
     bucketer.begin_painting().unwrap();
     assert_eq!(painted(&mut bucketer, 0), [paint(0, 0, 128)]);
     let mut why = |tile| bucketer.why(&file, 0, tile, Attribute::Draw(0));
-    assert_eq!(why(127), Ok(Reason::ShownAt(0)));
+    assert_eq!(why(127), Ok(Reason::ShownAt { place: 0, panel: 0 }));
     assert_eq!(why(128), Err(Answer::BadRun));
 }

@@ -5,9 +5,12 @@ use crate::limits::{
     self, BAD_ARENA, BAD_ORDER, BAD_RECORD, BAD_RUN, BAD_VIEWPORT, HANDLES, LAST_PIXEL, LAST_TILE,
     MOST_RECORDS, MOST_ROOM, NO_LAYER, NO_ROOM, OPEN, THREADS,
 };
+use crate::panels::{draws, good_panel, Panels};
+use crate::print;
 use crate::rules::Ledger;
 use crate::scene::{blend, draw, mask, paint, rect, strip};
 use crate::screen::{Command, Range, Screen};
+use crate::sizes::{LAYER_ATTR, PAINT_ATTR, PIECE};
 use crate::viewport::{must_hold, Mode};
 use crate::width::{Depth, Width};
 use std::sync::Arc;
@@ -35,7 +38,8 @@ pub enum Call {
     /// A reset whose mode word is none, as its words.
     NoMode([u32; 8]),
     Fill {
-        draw: [u32; 7],
+        /// The panel comes last.
+        draw: [u32; 8],
         paints: Vec<[u32; 4]>,
         segments: Vec<[u32; 5]>,
     },
@@ -46,6 +50,7 @@ pub enum Call {
         mask: u32,
         flag: u32,
         clip: [u32; 7],
+        panel: u32,
     },
     Pop {
         segments: Vec<[u32; 5]>,
@@ -55,6 +60,7 @@ pub enum Call {
         dest: [u32; 4],
         source: [u32; 2],
         count: u32,
+        panel: u32,
     },
     Begin,
     Step {
@@ -116,16 +122,21 @@ impl Call {
                 mask,
                 flag,
                 clip,
-            } => [&[2, *mix, *compose, *opacity, *mask, *flag], &clip[..]].concat(),
+                panel,
+            } => {
+                let own = [2, *mix, *compose, *opacity, *mask, *flag];
+                [&own, &clip[..], &[*panel]].concat()
+            }
             Self::Pop { segments } => [vec![3], list(segments)].concat(),
             Self::Filter {
                 pixmap,
                 dest,
                 source,
                 count,
+                panel,
             } => {
                 let choice = [u32::from(pixmap.is_some()), pixmap.unwrap_or(0)];
-                [&[4], &choice[..], &dest[..], &source[..], &[*count]].concat()
+                [&[4], &choice[..], &dest[..], &source[..], &[*count, *panel]].concat()
             }
             Self::Begin => vec![5],
             Self::Step { row, words } => vec![6, *row, *words],
@@ -145,6 +156,24 @@ impl Call {
             Self::CanSkip { row, tiles, id } => vec![10, *row, tiles[0], tiles[1], *id],
             Self::NextId(id) => vec![11, *id],
             Self::Show => vec![12],
+        }
+    }
+
+    /// Whether it is a building step.
+    pub(crate) fn builds(&self) -> bool {
+        use Call::{Fill, Filter, Pop, Push};
+        matches!(self, Fill { .. } | Push { .. } | Pop { .. } | Filter { .. })
+    }
+
+    /// The panel of a call that has one.
+    pub(crate) fn panel(&mut self) -> Option<&mut u32> {
+        match self {
+            Self::Fill {
+                draw: [.., panel], ..
+            }
+            | Self::Push { panel, .. }
+            | Self::Filter { panel, .. } => Some(panel),
+            _ => None,
         }
     }
 
@@ -172,25 +201,29 @@ impl Call {
             },
             2 => {
                 let [mix, compose, opacity, mask, flag] = take(rest)?;
+                let clip = take(rest)?;
+                let [panel] = take(rest)?;
                 Self::Push {
                     mix,
                     compose,
                     opacity,
                     mask,
                     flag,
-                    clip: take(rest)?,
+                    clip,
+                    panel,
                 }
             }
             3 => Self::Pop {
                 segments: records(rest)?,
             },
             4 => {
-                let [flag, handle, x0, y0, x1, y1, x, y, count] = take(rest)?;
+                let [flag, handle, x0, y0, x1, y1, x, y, count, panel] = take(rest)?;
                 Self::Filter {
                     pixmap: (flag != 0).then_some(handle),
                     dest: [x0, y0, x1, y1],
                     source: [x, y],
                     count,
+                    panel,
                 }
             }
             5 => Self::Begin,
@@ -289,6 +322,21 @@ pub fn answers(calls: &[Call]) -> Vec<u32> {
     calls.iter().flat_map(answer).collect()
 }
 
+/// The number of each step of a history after its reset, then the attributes and pieces that it leaves, with their panels.
+pub fn told(calls: &[Call]) -> String {
+    let mut sequence = Sequence::new();
+    let mut number = |call| format!(" {}", sequence.answer(call)[0]);
+    let numbers: Vec<String> = calls.iter().map(&mut number).collect();
+    let numbers = numbers[1..].concat();
+    let Sequence {
+        screen,
+        width,
+        panels,
+        ..
+    } = sequence;
+    format!("answers{numbers}\n") + &print::detail(&*screen, width, &panels, true)
+}
+
 /// Where the painting of a row stands.
 struct Painter {
     depth: Depth,
@@ -308,6 +356,7 @@ struct Sequence {
     /// What was done since the reset: a step that passes a limit is undone by doing these again.
     done: Vec<Call>,
     ledger: Ledger,
+    panels: Panels,
     begun: bool,
     painters: Vec<Painter>,
 }
@@ -324,6 +373,7 @@ impl Sequence {
             d: 1,
             done: Vec::new(),
             ledger: Ledger::new(empty, width.tiles()),
+            panels: Panels::default(),
             begun: false,
             painters: Vec::new(),
         }
@@ -393,6 +443,7 @@ impl Sequence {
         must_hold(&*self.screen, self.held);
         self.done.clear();
         self.ledger = Ledger::new(self.held, width.tiles());
+        self.panels.clear();
         self.begun = false;
         self.blank();
         0
@@ -408,7 +459,7 @@ impl Sequence {
         self.painters = (0..self.screen.rows()).map(blank).collect();
     }
 
-    /// A building step: judged by document 01, done by the Rust, undone if a limit is passed. The own account of the rows must agree.
+    /// A building step: judged by document 01, done by the Rust, undone if a limit is passed. The own accounts of rows and panels must agree.
     fn build(&mut self, call: &Call) -> u32 {
         let inputs = self.judge(call);
         if inputs != 0 {
@@ -419,6 +470,7 @@ impl Sequence {
         let answer = match limits::within(&*self.screen, self.c, self.d) {
             Ok(()) => {
                 self.done.push(call.clone());
+                self.account(call);
                 self.begun = false;
                 0
             }
@@ -432,14 +484,38 @@ impl Sequence {
             }
         };
         self.ledger.must_agree(&*self.screen);
+        self.panels.must_agree(&*self.screen);
         answer
+    }
+
+    /// A step that was done, in the account of panels. The box that fills are cut to is the same before and after a filter fill.
+    fn account(&mut self, call: &Call) {
+        match call {
+            Call::Fill {
+                draw: [_, start, end, .., panel],
+                ..
+            } => self.panels.fill(*panel, (end - start) as usize),
+            Call::Push { panel, .. } => self.panels.push(*panel),
+            Call::Pop { .. } => self.panels.pop(),
+            Call::Filter {
+                pixmap,
+                dest,
+                panel,
+                ..
+            } => {
+                let origin = (self.held.x0, self.held.y0);
+                let drawn = pixmap.is_some() && draws(rect(*dest), origin, self.screen.clip_box());
+                self.panels.filter(*panel, drawn);
+            }
+            _ => {}
+        }
     }
 
     /// 4, 5 or 7 for what a step is given.
     fn judge(&self, call: &Call) -> u32 {
         match call {
             Call::Fill {
-                draw: [thread, start, end, paint, mix, compose, mask],
+                draw: [thread, start, end, paint, mix, compose, mask, panel],
                 paints,
                 segments,
             } => {
@@ -450,7 +526,8 @@ impl Sequence {
                     && paints.len() <= MOST_RECORDS as usize
                     && good_paint
                     && good_blend(*mix, *compose)
-                    && *mask < HANDLES;
+                    && *mask < HANDLES
+                    && good_panel(*panel);
                 if good {
                     judge_list(segments, *start, *end)
                 } else {
@@ -463,11 +540,14 @@ impl Sequence {
                 mask,
                 flag,
                 clip: [x0, y0, x1, y1, start, end, thread],
+                panel,
                 ..
             } => {
                 let clipped = *flag == 0
                     || (good_box([*x0, *y0, *x1, *y1]) && start <= end && *thread < THREADS);
-                if good_blend(*mix, *compose) && *mask < HANDLES && clipped {
+                let good =
+                    good_blend(*mix, *compose) && *mask < HANDLES && clipped && good_panel(*panel);
+                if good {
                     0
                 } else {
                     BAD_RECORD
@@ -487,11 +567,13 @@ impl Sequence {
                 dest,
                 source,
                 count,
+                panel,
             } => {
                 let good = pixmap.is_none_or(|handle| handle < HANDLES)
                     && good_dest(*dest)
                     && source.iter().all(|edge| *edge <= LAST_PIXEL)
-                    && *count <= MOST_RECORDS;
+                    && *count <= MOST_RECORDS
+                    && good_panel(*panel);
                 if good {
                     0
                 } else {
@@ -505,7 +587,7 @@ impl Sequence {
     fn perform(&mut self, call: &Call) {
         match call {
             Call::Fill {
-                draw: words,
+                draw: [words @ .., _],
                 paints,
                 segments,
             } => {
@@ -526,6 +608,7 @@ impl Sequence {
                 mask: handle,
                 flag,
                 clip: [x0, y0, x1, y1, start, end, thread],
+                ..
             } => {
                 let clip = || LayerClip {
                     bbox: rect([*x0, *y0, *x1, *y1]),
@@ -558,6 +641,7 @@ impl Sequence {
                 dest,
                 source: [x, y],
                 count,
+                ..
             } => {
                 let source = (
                     u16::try_from(*x).expect("judged"),
@@ -595,13 +679,14 @@ impl Sequence {
         let fills = state.fills.len();
         let mut depth = painter.depth.clone();
         let mut nesting = painter.nesting;
-        let mut pieces: Vec<[u32; 6]> = Vec::new();
+        let mut pieces: Vec<[u32; PIECE]> = Vec::new();
         if painter.steps < fills {
             let fill = state.fills[fills - 1 - painter.steps];
             let id = self.screen.paint_attrs()[fill.attribute as usize].id;
             for run in depth.write(fill.buckets, id) {
                 let (first, end) = self.width.tiles_of(run);
-                pieces.push([1, fill.attribute, first, end, 0, 0]);
+                let panel = self.panels.of(false, fill.attribute);
+                pieces.push([1, fill.attribute, first, end, 0, 0, panel]);
             }
         } else if let Some(command) = state.commands.get(painter.steps - fills) {
             match *command {
@@ -612,20 +697,21 @@ impl Sequence {
                     } else {
                         self.screen.paint_attrs()[at].id
                     };
+                    let panel = self.panels.of(fill.layer, fill.attribute);
                     let tag = 1 + 2 * u32::from(fill.layer) + u32::from(fill.alpha.is_some());
                     for (first, end) in depth.visible(fill.tiles, id) {
                         let moved = fill.alpha.map(|alpha| alpha + 16 * (first - fill.tiles.0));
                         let alpha = moved.unwrap_or(0);
-                        pieces.push([tag, fill.attribute, first, end, alpha, nesting]);
+                        pieces.push([tag, fill.attribute, first, end, alpha, nesting, panel]);
                     }
                 }
                 Command::Push(_) => nesting += 1,
                 Command::Pop => nesting -= 1,
             }
         } else {
-            return [vec![0, 1, 0], listed::<6>(&[], words)].concat();
+            return [vec![0, 1, 0], listed::<PIECE>(&[], words)].concat();
         }
-        if pieces.len() > words as usize / 6 {
+        if pieces.len() > words as usize / PIECE {
             return refused(NO_ROOM, 2, words);
         }
         let steps = painter.steps + 1;
@@ -710,14 +796,20 @@ impl Sequence {
             out.extend(painter.depth.words());
             out.extend([count(painter.steps), painter.nesting]);
         }
-        for attr in screen.paint_attrs() {
+        for (i, attr) in (0..).zip(screen.paint_attrs()) {
             let ([mix, compose], [x, y]) = (attr.blend, attr.origin);
-            out.extend([attr.paint, mix, compose, attr.mask, attr.id]);
-            out.extend([attr.thread, x, y]);
+            let (mask, id, thread) = (attr.mask, attr.id, attr.thread);
+            let panel = self.panels.of(false, i);
+            let words: [u32; PAINT_ATTR] =
+                [attr.paint, mix, compose, mask, id, thread, x, y, panel];
+            out.extend(words);
         }
-        for attr in screen.layer_attrs() {
+        for (i, attr) in (0..).zip(screen.layer_attrs()) {
             let [mix, compose] = attr.blend;
-            out.extend([mix, compose, attr.mask, attr.id, attr.thread, attr.opacity]);
+            let (mask, id, thread) = (attr.mask, attr.id, attr.thread);
+            let panel = self.panels.of(true, i);
+            let words: [u32; LAYER_ATTR] = [mix, compose, mask, id, thread, attr.opacity, panel];
+            out.extend(words);
         }
         for EncodedPaint::Image(image) in screen.filter_paints() {
             let ImageSource::Pixmap(pixmap) = &image.source;

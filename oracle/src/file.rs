@@ -17,6 +17,19 @@ pub struct Recording {
     pub layers: Vec<[u32; 22]>,
     pub nodes: Vec<[u32; 3]>,
     pub root: [u32; 2],
+    /// The panels of its draws and of its layers, by their numbers. A file has none; what has none here is of panel 0.
+    pub draw_panels: Vec<u32>,
+    pub layer_panels: Vec<u32>,
+}
+
+impl Recording {
+    pub fn draw_panel(&self, draw: usize) -> u32 {
+        self.draw_panels.get(draw).copied().unwrap_or(0)
+    }
+
+    pub fn layer_panel(&self, layer: usize) -> u32 {
+        self.layer_panels.get(layer).copied().unwrap_or(0)
+    }
 }
 
 /// A stream's recordings: each after its length in bytes; the last may be cut short.
@@ -68,6 +81,7 @@ fn sections(bytes: &[u8]) -> Option<Recording> {
         layers: section(&mut rest)?,
         nodes: section(&mut rest)?,
         root: only(&mut rest)?,
+        ..Recording::default()
     };
     rest.is_empty().then_some(recording)
 }

@@ -16,6 +16,7 @@ pub mod leaves;
 mod limits;
 pub mod original;
 pub mod painting;
+mod panels;
 mod peniko {
     pub(crate) use vello_common::peniko::*;
 }
@@ -25,6 +26,7 @@ mod random;
 mod rules;
 mod scene;
 mod screen;
+pub mod sizes;
 pub mod steps;
 pub mod viewport;
 pub mod walk;

@@ -27,14 +27,16 @@ pub(crate) const HIGHEST: u32 = 2_048;
 pub(crate) const HANDLES: u32 = 1 << 31;
 /// Thread numbers are below this.
 pub(crate) const THREADS: u32 = 256;
+/// Panel numbers are below this.
+pub(crate) const PANELS: u32 = 256;
 /// The most records of a section.
 pub(crate) const MOST_RECORDS: u32 = 4_096;
 /// The most commands or depth fills that a row can have room for.
 pub(crate) const MOST_ROOM: u32 = 1_024;
 pub(crate) const LAST_ID: u32 = 1_048_576;
-const MOST_LAYERS: usize = 16;
-const MOST_ATTRS: usize = 1_024;
-const MOST_FILTERS: usize = 256;
+pub(crate) const MOST_LAYERS: usize = 16;
+pub(crate) const MOST_ATTRS: usize = 1_024;
+pub(crate) const MOST_FILTERS: usize = 256;
 
 /// Limits of the program `rowlist`: bytes, rows, and C and D.
 pub(crate) const MOST_BYTES: usize = 65_536;

@@ -8,7 +8,7 @@ use oracle::{calls, file, generate, leaves, print, walk};
 use std::io::{Read, Write};
 
 const USAGE: &str = "usage: oracle rowlist [--snap] [--width N] [--first-id N] < FILE
-       oracle rowdump [--snap] [--width N] [--first-id N] < STREAM
+       oracle rowdump [--snap] [--width N] [--panels] [--first-id N] < STREAM
        oracle lines [--snap] [--width N] [--first-id N] < STREAM
        oracle generate SEED COUNT [all|edges|scenes|damaged|snapped|wide|heavy|ids] > STREAM
        oracle names SEED COUNT [KIND]
@@ -18,6 +18,8 @@ const USAGE: &str = "usage: oracle rowlist [--snap] [--width N] [--first-id N] <
        oracle leaves [--text] [SEED [COUNT]]
        oracle calls SEED COUNT [MOST] > CALLS
        oracle answers < CALLS
+       oracle histories SEED COUNT > CALLS
+       oracle told < CALLS
        oracle forged [--text]";
 
 fn main() {
@@ -25,6 +27,7 @@ fn main() {
     let first_id = option(&mut words, "--first-id").unwrap_or(1);
     let mode = mode(&mut words);
     let width = width(&mut words);
+    let panels = panels(&mut words);
     let mut player = walk::Player::new(mode, first_id).at(width);
     let words: Vec<&str> = words.iter().map(String::as_str).collect();
     let mut agreed = true;
@@ -37,7 +40,7 @@ fn main() {
         ["questions", seed, count] => asked(seed, count, "all", width),
         ["questions", seed, count, kind] => asked(seed, count, kind, width),
         ["rowlist"] => print::rowlist(&mut player, &input()).into_bytes(),
-        ["rowdump"] => dump(|bytes| print::rowdump(&mut player, bytes)),
+        ["rowdump"] => dump(|bytes| print::rowdump(&mut player, bytes, panels)),
         ["generate", seed, count] => generate::stream(&made(seed, count, "all")),
         ["generate", seed, count, kind] => generate::stream(&made(seed, count, kind)),
         ["names", seed, count] => generate::names(&made(seed, count, "all")),
@@ -55,6 +58,14 @@ fn main() {
                 .map(|calls| calls::answers(calls))
                 .collect::<Vec<_>>(),
         ),
+        ["histories", seed, count] => generate::calls::histories(number(seed), number(count)),
+        ["told"] => {
+            let told = |(i, calls): (usize, &Vec<calls::Call>)| {
+                format!("sequence {i}\n{}", calls::told(calls))
+            };
+            let all = calls::sequences(&input());
+            all.iter().enumerate().map(told).collect::<String>().into()
+        }
         ["lines"] => dump(|bytes| print::rowlist(&mut player, bytes)),
         _ => usage(),
     };
@@ -66,16 +77,28 @@ fn main() {
 
 /// Takes `--snap` out of the arguments of a command that reads recordings.
 fn mode(words: &mut Vec<String>) -> Mode {
-    let reads = ["rowlist", "rowdump", "lines", "why"];
-    let all = words.len();
-    if words.first().is_some_and(|word| reads.contains(&&word[..])) {
-        words.retain(|word| word != "--snap");
-    }
-    if words.len() < all {
+    if flag(words, "--snap", &["rowlist", "rowdump", "lines", "why"]) {
         Mode::Snapping
     } else {
         Mode::Exact
     }
+}
+
+/// Takes `--panels` out of the arguments of `rowdump`.
+fn panels(words: &mut Vec<String>) -> bool {
+    flag(words, "--panels", &["rowdump"])
+}
+
+/// Takes a word out of the arguments of one of these commands: whether it was there.
+fn flag(words: &mut Vec<String>, name: &str, commands: &[&str]) -> bool {
+    let all = words.len();
+    if words
+        .first()
+        .is_some_and(|word| commands.contains(&&word[..]))
+    {
+        words.retain(|word| word != name);
+    }
+    words.len() < all
 }
 
 /// Takes `--width N` out of the arguments of a command that reads recordings or asks about them: pixels a bucket. Of several the last counts.

@@ -4,7 +4,9 @@ use crate::coarse::depth::DepthBuffer;
 use crate::coarse::{stage, CommandBucketer};
 use crate::file::Recording;
 use crate::painting::Piece;
+use crate::panels::Panels;
 use crate::scene::{scene, Scene};
+use crate::sizes;
 use crate::steps::Step;
 use crate::viewport::Mode;
 use std::mem::size_of;
@@ -15,6 +17,8 @@ pub struct Original {
     bucketer: CommandBucketer,
     depth: DepthBuffer,
     pieces: Vec<Piece>,
+    /// The original knows none: they are kept beside its attributes.
+    panels: Panels,
 }
 
 impl Original {
@@ -27,33 +31,46 @@ impl Original {
             bucketer,
             depth,
             pieces: Vec::new(),
+            panels: Panels::default(),
         }
     }
 
     pub fn reset(&mut self) {
         self.bucketer.reset(self.scene.viewport);
+        self.panels.clear();
     }
 
     /// The steps of the scene, on a screen that is reset.
     pub fn build(&mut self, steps: &[Step]) {
         let (bucketer, scene) = (&mut self.bucketer, &self.scene);
+        let panels = &mut self.panels;
         for step in steps {
             match *step {
                 Step::Fill(i) => {
                     let draw = &scene.draws[i];
                     let strips = scene.strips_of(draw);
                     stage::fill(bucketer, draw, scene.origin(), strips, &scene.paints);
+                    panels.fill(scene.draw_panels[i], strips.len());
                 }
-                Step::Push(i) => bucketer.push_layer(&scene.layers[i].props),
-                Step::Pop => bucketer.pop_layer(&scene.strips),
+                Step::Push(i) => {
+                    bucketer.push_layer(&scene.layers[i].props);
+                    panels.push(scene.layer_panels[i]);
+                }
+                Step::Pop => {
+                    bucketer.pop_layer(&scene.strips);
+                    panels.pop();
+                }
             }
         }
     }
 
-    /// The walk of the whole recording.
+    /// The walk of the whole recording, as a file has it: without panels.
     pub fn walk(&mut self) {
         self.bucketer.reset(self.scene.viewport);
         stage::walk(&mut self.bucketer, &self.scene);
+        let made = &self.bucketer;
+        self.panels
+            .without(made.paint_fill_attrs.len(), made.layer_fill_attrs.len());
     }
 
     /// Every row painted into a list, which is handed to `give`; the search is left out where it can be.
@@ -61,7 +78,14 @@ impl Original {
         for row in self.bucketer.rows() {
             self.depth.clear();
             self.pieces.clear();
-            stage::paint(&self.bucketer, row, true, &mut self.depth, &mut self.pieces);
+            stage::paint(
+                &self.bucketer,
+                row,
+                true,
+                &self.panels,
+                &mut self.depth,
+                &mut self.pieces,
+            );
             give(&self.pieces);
         }
     }
@@ -81,10 +105,12 @@ impl Original {
     pub fn words(&self) -> usize {
         let rows = self.bucketer.rows().iter();
         let commands: usize = rows
-            .map(|row| 4 * row.render_cmds.len() + 2 * row.depth_cmds.len())
+            .map(|row| {
+                sizes::COMMAND * row.render_cmds.len() + sizes::DEPTH_FILL * row.depth_cmds.len()
+            })
             .sum();
         commands
-            + 8 * self.bucketer.paint_fill_attrs.len()
-            + 6 * self.bucketer.layer_fill_attrs.len()
+            + sizes::PAINT_ATTR * self.bucketer.paint_fill_attrs.len()
+            + sizes::LAYER_ATTR * self.bucketer.layer_fill_attrs.len()
     }
 }

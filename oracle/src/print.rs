@@ -1,6 +1,7 @@
 //! What `rowlist` prints of document 01, and the detail that `rowdump` adds.
 
 use crate::painting::{pieces, Piece};
+use crate::panels::Panels;
 use crate::screen::{Command, Screen};
 use crate::walk::Player;
 use crate::width::{Depth, Width};
@@ -15,24 +16,30 @@ macro_rules! line {
 
 /// The lines of `rowlist`.
 pub fn rowlist(player: &mut Player, bytes: &[u8]) -> String {
-    both(player, bytes, screen_lines)
-}
-
-/// The lines of `rowlist`, then attributes and pieces of an accepted recording.
-pub fn rowdump(player: &mut Player, bytes: &[u8]) -> String {
-    both(player, bytes, |screen, width| {
-        screen_lines(screen, width) + &detail(screen, width)
+    both(player, bytes, |screen, width, _| {
+        screen_lines(screen, width)
     })
 }
 
-/// The text of the stepwise walk, which the Rust's own walk must give too.
-fn both(player: &mut Player, bytes: &[u8], text: impl Fn(&dyn Screen, Width) -> String) -> String {
+/// The lines of `rowlist`, then attributes and pieces of an accepted recording, at wish with their panels.
+pub fn rowdump(player: &mut Player, bytes: &[u8], with_panels: bool) -> String {
+    both(player, bytes, |screen, width, panels| {
+        screen_lines(screen, width) + &detail(screen, width, panels, with_panels)
+    })
+}
+
+/// The text of the stepwise walk, which the Rust's own walk must give too, with the same panels.
+fn both(
+    player: &mut Player,
+    bytes: &[u8],
+    text: impl Fn(&dyn Screen, Width, &Panels) -> String,
+) -> String {
     if let Err(number) = player.play(bytes) {
         return format!("refused {number}\n");
     }
-    let width = player.width();
-    let steps = text(player.screen(), width);
-    let whole = text(&*player.play_whole(bytes), width);
+    let (width, panels) = (player.width(), player.panels());
+    let steps = text(player.screen(), width, panels);
+    let whole = text(&*player.play_whole(bytes), width, panels);
     assert!(
         steps == whole,
         "the walk by steps and bucket_commands differ:\n{steps}\nand\n{whole}"
@@ -85,12 +92,24 @@ fn or_dash(alpha: Option<u32>) -> String {
     alpha.map_or("-".into(), |alpha| alpha.to_string())
 }
 
-fn detail(screen: &dyn Screen, width: Width) -> String {
+/// Attributes, filter paints and pieces, at wish with their panels.
+pub(crate) fn detail(
+    screen: &dyn Screen,
+    width: Width,
+    panels: &Panels,
+    with_panels: bool,
+) -> String {
     let mut out = String::new();
-    paint_attributes(&mut out, screen);
-    layer_attributes(&mut out, screen);
+    // The panel is one more number at a line's end.
+    let last = |panel: u32| match with_panels {
+        true => format!(" {panel}"),
+        false => String::new(),
+    };
+    let of = |layer: bool, attribute: u32| last(panels.of(layer, attribute));
+    paint_attributes(&mut out, screen, |i| of(false, i));
+    layer_attributes(&mut out, screen, |i| of(true, i));
     filter_paints(&mut out, screen);
-    for (i, pieces) in pieces(screen, width).into_iter().enumerate() {
+    for (i, pieces) in pieces(screen, width, panels).into_iter().enumerate() {
         line!(out, "painted {i} pieces {}", pieces.len());
         for Piece {
             layer,
@@ -99,47 +118,52 @@ fn detail(screen: &dyn Screen, width: Width) -> String {
             end,
             alpha,
             nesting,
+            panel,
         } in pieces
         {
             let tag = if layer { 'l' } else { 'p' };
             line!(
                 out,
-                "{tag} {attribute} {first} {end} {} {nesting}",
-                or_dash(alpha)
+                "{tag} {attribute} {first} {end} {} {nesting}{}",
+                or_dash(alpha),
+                last(panel)
             );
         }
     }
     out
 }
 
-fn paint_attributes(out: &mut String, screen: &dyn Screen) {
+/// A line for each attribute, ended by what its number gives.
+fn paint_attributes(out: &mut String, screen: &dyn Screen, last: impl Fn(u32) -> String) {
     let attrs = screen.paint_attrs();
     line!(out, "paint attributes {}", attrs.len());
-    for attr in attrs {
+    for (i, attr) in (0..).zip(attrs) {
         let ([mix, compose], [x, y]) = (attr.blend, attr.origin);
         line!(
             out,
-            "A {} {mix} {compose} {} {} {} {x} {y}",
+            "A {} {mix} {compose} {} {} {} {x} {y}{}",
             attr.paint,
             attr.mask,
             attr.id,
-            attr.thread
+            attr.thread,
+            last(i)
         );
     }
 }
 
-fn layer_attributes(out: &mut String, screen: &dyn Screen) {
+fn layer_attributes(out: &mut String, screen: &dyn Screen, last: impl Fn(u32) -> String) {
     let attrs = screen.layer_attrs();
     line!(out, "layer attributes {}", attrs.len());
-    for attr in attrs {
+    for (i, attr) in (0..).zip(attrs) {
         let [mix, compose] = attr.blend;
         line!(
             out,
-            "Y {mix} {compose} {} {} {} {}",
+            "Y {mix} {compose} {} {} {} {}{}",
             attr.opacity,
             attr.mask,
             attr.id,
-            attr.thread
+            attr.thread,
+            last(i)
         );
     }
 }

@@ -2,10 +2,9 @@
 
 use crate::file;
 use crate::painting::row_pieces;
-use crate::screen::Screen;
+use crate::panels::Panels;
 use crate::walk::Player;
 use crate::why::{reasons, Kind, Reason, Reasons};
-use crate::width::Width;
 use std::collections::BTreeMap;
 use std::fmt::{Display, Formatter, Write};
 
@@ -66,7 +65,7 @@ impl Answerer {
             Ok(reasons) => {
                 let reason = reasons.of(kind, number);
                 self.tally.count(kind, reason);
-                format!("{reason}\n")
+                reason.text(self.player.panels(), kind, number) + "\n"
             }
         }
     }
@@ -80,7 +79,9 @@ impl Answerer {
         let mut out = String::new();
         for (kind, number, reason) in reasons.iter() {
             self.tally.count(kind, reason);
-            writeln!(out, "{kind} {number}: {reason}").expect("a line");
+            let asked = u32::try_from(number).expect("few");
+            let text = reason.text(self.player.panels(), kind, asked);
+            writeln!(out, "{kind} {number}: {text}").expect("a line");
         }
         out
     }
@@ -112,28 +113,23 @@ fn judged(player: &mut Player, question: Question) -> Result<(Reasons, Option<St
     player.play(bytes)?;
     let scene = player.judged(bytes).expect("an accepted recording");
     let reasons = reasons(&scene, player.width(), row, tile)?;
-    let how = contradiction(&reasons, player.screen(), player.width(), row, tile);
+    let how = contradiction(&reasons, player, row, tile);
     Ok((reasons, how))
 }
 
 /// A place of a tile's list, and the attribute there.
 type Placed = (usize, Kind, usize);
 
-/// The tile's list as the Rust paints it must be what is shown, in the order of places, and there are no other attributes.
-fn contradiction(
-    reasons: &Reasons,
-    screen: &dyn Screen,
-    width: Width,
-    row: u32,
-    tile: u32,
-) -> Option<String> {
+/// The tile's list as the Rust paints it on the player's screen must be what is shown, in the order of places, and there are no other attributes.
+fn contradiction(reasons: &Reasons, player: &Player, row: u32, tile: u32) -> Option<String> {
+    let (screen, width, panels) = (player.screen(), player.width(), player.panels());
     let counts = (reasons.draws.len(), reasons.layers.len());
     let [paints, layers, _] = screen.counts();
     let made = (paints, layers);
     if counts != made {
         return Some(format!("attributes {counts:?}, made {made:?}"));
     }
-    let painted: Vec<Placed> = row_pieces(screen, width, row as usize)
+    let painted: Vec<Placed> = row_pieces(screen, width, panels, row as usize)
         .iter()
         .filter(|piece| u32::from(piece.first) <= tile && tile < u32::from(piece.end))
         .enumerate()
@@ -161,18 +157,22 @@ fn contradiction(
     Some(format!("hidden by {other}, painted {painted:?}"))
 }
 
-impl Display for Reason {
-    fn fmt(&self, out: &mut Formatter) -> std::fmt::Result {
-        let (_, words) = self.words();
-        match self {
-            Self::Hidden(by) => write!(out, "{words}, attribute {by}"),
-            Self::Shown(place) => write!(out, "{words}, place {place}"),
-            _ => write!(out, "{words}"),
-        }
-    }
-}
-
 impl Reason {
+    /// Its text for the asked attribute, which ends in that one's panel if there is such an attribute. What hides has a panel of its own.
+    fn text(self, panels: &Panels, kind: Kind, number: u32) -> String {
+        let (_, words) = self.words();
+        let words = match self {
+            Self::Unknown => return words.into(),
+            Self::Hidden(by) => {
+                let other = panels.of(false, u32::try_from(by).expect("few"));
+                format!("{words}, attribute {by} of panel {other}")
+            }
+            Self::Shown(place) => format!("{words}, place {place}"),
+            Self::Uncovered | Self::CutAway | Self::Untouched => words.into(),
+        };
+        format!("{words}, panel {}", panels.of(kind == Kind::Layer, number))
+    }
+
     /// Its place in the order, and its words.
     fn words(self) -> (u8, &'static str) {
         match self {
@@ -220,9 +220,10 @@ impl Display for Tally {
 mod tests {
     use super::{contradiction, stream, Answerer, Question};
     use crate::generate::draft::{clipped, filter, layer, solid, Draft, HALF};
+    use crate::scene::scene;
     use crate::viewport::Mode;
     use crate::walk::Player;
-    use crate::why::{Kind, Reason, Reasons};
+    use crate::why::{reasons, Kind, Reason, Reasons};
     use crate::width::{Width, NO_WIDTHS};
 
     /// A draw over tiles 10 to 64 of row 0, hidden on tiles 32 to 64 by the next; a layer over row 1, a clip on tiles 0 to 8 that cuts its draw to
@@ -258,13 +259,13 @@ mod tests {
 
     #[test]
     fn every_attribute_has_a_line() {
-        let lines = "draw 0: no segment covers the tile\n\
-             draw 1: no segment covers the tile\n\
-             draw 2: no segment covers the tile\n\
-             draw 3: shown, place 0\n\
-             draw 4: cut away by a clip box\n\
-             layer 0: shown, place 1\n\
-             layer 1: shown, place 2\n";
+        let lines = "draw 0: no segment covers the tile, panel 0\n\
+             draw 1: no segment covers the tile, panel 0\n\
+             draw 2: no segment covers the tile, panel 0\n\
+             draw 3: shown, place 0, panel 0\n\
+             draw 4: cut away by a clip box, panel 0\n\
+             layer 0: shown, place 1, panel 0\n\
+             layer 1: shown, place 2, panel 0\n";
         assert_eq!(all(&recording().bytes(), 1, 7), lines);
         let empty = Draft::new(256, 8).rooted((0, 0)).bytes();
         assert_eq!(all(&empty, 0, 0), "");
@@ -282,7 +283,7 @@ mod tests {
                 32,
                 Kind::Draw,
                 1,
-                "hidden by a newer depth fill, attribute 2",
+                "hidden by a newer depth fill, attribute 2 of panel 0",
             ),
             (0, 32, Kind::Draw, 2, "shown, place 0"),
             (1, 3, Kind::Draw, 4, "shown, place 2"),
@@ -301,11 +302,53 @@ mod tests {
             (0, 0, Kind::Layer, 2, "unknown attribute"),
         ] {
             let said = one(bytes, row, tile, kind, number);
+            let panel = match line {
+                "unknown attribute" => "",
+                _ => ", panel 0",
+            };
             assert_eq!(
                 said,
-                format!("{line}\n"),
+                format!("{line}{panel}\n"),
                 "row {row} tile {tile} {kind} {number}"
             );
+        }
+    }
+
+    /// The same recording with panels: the asked attribute's, and before it that of what hides.
+    #[test]
+    fn a_reason_ends_in_its_panel() {
+        let mut draft = recording();
+        draft.draw_panels = vec![10, 11, 12, 255];
+        draft.layer_panels = vec![20, 21, 22];
+        let scene = scene(&draft, Mode::Exact);
+        let mut player = Player::new(Mode::Exact, 1);
+        player.play_scene(&scene).expect("accepted");
+        for (row, tile, kind, number, line) in [
+            (0, 0, Kind::Draw, 0, "shown, place 0, panel 20"),
+            (0, 2, Kind::Draw, 0, "no segment covers the tile, panel 20"),
+            (0, 31, Kind::Draw, 1, "shown, place 0, panel 11"),
+            (
+                0,
+                32,
+                Kind::Draw,
+                1,
+                "hidden by a newer depth fill, attribute 2 of panel 12, panel 11",
+            ),
+            (1, 3, Kind::Draw, 3, "shown, place 0, panel 255"),
+            (1, 4, Kind::Draw, 4, "cut away by a clip box, panel 255"),
+            (
+                0,
+                0,
+                Kind::Layer,
+                0,
+                "row never touched by the closing layer, panel 21",
+            ),
+            (1, 3, Kind::Layer, 1, "shown, place 3, panel 22"),
+            (0, 0, Kind::Layer, 2, "unknown attribute"),
+        ] {
+            let reasons = reasons(&scene, Width::Of128, row, tile).expect("on the screen");
+            let said = reasons.of(kind, number).text(player.panels(), kind, number);
+            assert_eq!(said, line, "row {row} tile {tile} {kind} {number}");
         }
     }
 
@@ -350,9 +393,9 @@ mod tests {
         ] {
             let mut answerer = Answerer::new(Player::new(Mode::Exact, 1).at(pixels));
             let said = |line: &str| match line {
-                "-" => "no segment covers the tile".to_string(),
-                "by 2" => format!("{hidden} 2"),
-                other => other.to_string(),
+                "-" => "no segment covers the tile, panel 0".to_string(),
+                "by 2" => format!("{hidden} 2 of panel 0, panel 0"),
+                other => format!("{other}, panel 0"),
             };
             let own: String = (0..)
                 .zip(lines)
@@ -442,13 +485,13 @@ mod tests {
     fn the_painting_contradicts_what_is_false() {
         let mut player = Player::new(Mode::Exact, 1);
         let bytes = recording().bytes();
-        let screen = player.play(&bytes).expect("accepted");
+        player.play(&bytes).expect("accepted");
         let (no, untouched) = (Reason::Uncovered, Reason::Untouched);
         let (by, shown) = (Reason::Hidden, Reason::Shown);
         let layers = vec![untouched, no];
         let agrees = |draws: &[Reason]| {
             let (draws, layers) = (draws.to_vec(), layers.clone());
-            contradiction(&Reasons { draws, layers }, screen, Width::Of128, 0, 32).is_none()
+            contradiction(&Reasons { draws, layers }, &player, 0, 32).is_none()
         };
         assert!(agrees(&[no, by(2), shown(0), no, no]));
         assert!(!agrees(&[no, by(1), shown(0), no, no]));

@@ -2,6 +2,7 @@
 //! at each width, and in every run the two must agree.
 
 use crate::painting::Piece;
+use crate::panels::Panels;
 use crate::peniko::BlendMode;
 use crate::record::RecordedFill;
 use crate::screen::{Command, DepthFill, Part, Range, Row, Screen};
@@ -103,7 +104,13 @@ impl Summary {
 
 /// What painting a row of so many tiles gives: depth fills last to first with write, then the commands. The ids are those of the paint and of the
 /// layer attributes.
-pub(crate) fn pieces(row: &Row, ids: [&[u32]; 2], across: u32, width: u32) -> Vec<Piece> {
+pub(crate) fn pieces(
+    row: &Row,
+    ids: [&[u32]; 2],
+    panels: &Panels,
+    across: u32,
+    width: u32,
+) -> Vec<Piece> {
     let mut words = vec![0; buckets(across, width) as usize];
     let mut pieces = Vec::new();
     let short = |n: u32| u16::try_from(n).expect("on the screen");
@@ -118,6 +125,7 @@ pub(crate) fn pieces(row: &Row, ids: [&[u32]; 2], across: u32, width: u32) -> Ve
                 end: short(end),
                 alpha: None,
                 nesting: 0,
+                panel: panels.of(false, fill.attribute),
             });
         }
     }
@@ -136,6 +144,7 @@ pub(crate) fn pieces(row: &Row, ids: [&[u32]; 2], across: u32, width: u32) -> Ve
                         end: short(end),
                         alpha: fill.alpha.map(|alpha| alpha + 16 * (first - fill.tiles.0)),
                         nesting,
+                        panel: panels.of(fill.layer, fill.attribute),
                     });
                 }
             }

@@ -28,6 +28,9 @@ pub(crate) struct Scene {
     pub(crate) layers: Vec<RecordedLayer>,
     pub(crate) filters: FilterContext,
     pub(crate) root: Vec<Node>,
+    /// The panel of each draw and of each layer.
+    pub(crate) draw_panels: Vec<u32>,
+    pub(crate) layer_panels: Vec<u32>,
 }
 
 impl Scene {
@@ -63,6 +66,8 @@ pub(crate) fn scene(r: &Recording, mode: Mode) -> Scene {
             .collect(),
         filters,
         root: nodes[range(r.root[0], r.root[1])].to_vec(),
+        draw_panels: (0..r.draws.len()).map(|i| r.draw_panel(i)).collect(),
+        layer_panels: (0..r.layers.len()).map(|i| r.layer_panel(i)).collect(),
     }
 }
 

@@ -1,6 +1,7 @@
 //! What is asked of the original's coarse stage, whatever the width of its buckets.
 
 use crate::painting::Piece;
+use crate::panels::Panels;
 use crate::record::RecordedFill;
 use crate::scene::Scene;
 use std::sync::Arc;
@@ -65,7 +66,8 @@ pub(crate) trait Screen {
     fn rows(&self) -> usize;
     fn row(&self, row: usize) -> Row;
     /// The row's pieces in painting order; with `skip` a command for which `can_skip_depth` says yes is not searched.
-    fn pieces(&self, row: usize, skip: bool) -> Vec<Piece>;
+    /// The original knows no panels: each piece has that of its attribute.
+    fn pieces(&self, row: usize, skip: bool, panels: &Panels) -> Vec<Piece>;
     fn can_skip(&self, row: usize, tiles: Range, id: u32) -> bool;
     fn paint_attrs(&self) -> Vec<PaintAttr>;
     fn layer_attrs(&self) -> Vec<LayerAttr>;

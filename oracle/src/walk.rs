@@ -2,6 +2,7 @@
 
 use crate::file;
 use crate::limits::{within, ROOM};
+use crate::panels::{draws, Panels};
 use crate::peniko::BlendMode;
 use crate::record::RecordedFill;
 use crate::rules::Ledger;
@@ -21,6 +22,7 @@ pub struct Player {
     /// None for a number of pixels that no bucket has: then every recording is refused.
     width: Option<Width>,
     first_id: u32,
+    panels: Panels,
 }
 
 impl Player {
@@ -31,6 +33,7 @@ impl Player {
             mode,
             width: Some(Width::Of128),
             first_id,
+            panels: Panels::default(),
         }
     }
 
@@ -55,22 +58,32 @@ impl Player {
         Ok(scene(&recording, self.mode))
     }
 
-    /// The screen that a recording ends as, or the number that refuses it. What its fills left in the rows must be what the own account has.
+    /// The screen that a recording ends as, or the number that refuses it.
     pub(crate) fn play(&mut self, bytes: &[u8]) -> Result<&dyn Screen, u32> {
         let scene = self.judged(bytes)?;
+        self.play_scene(&scene)
+    }
+
+    /// The same of a good recording. What its steps left in the rows and as attributes must be what the own accounts have.
+    pub(crate) fn play_scene(&mut self, scene: &Scene) -> Result<&dyn Screen, u32> {
         let mut ledger = Ledger::new(scene.viewport, self.width().tiles());
         let screen = &mut *self.screen;
+        let panels = &mut self.panels;
         screen.reset(scene.given);
+        panels.clear();
         must_hold(screen, scene.viewport);
         screen.set_next_id(self.first_id);
-        walk(&scene, &mut |step| {
-            if let Step::Fill(draw) = step {
+        walk(scene, &mut |step| {
+            if let Step::Fill(draw, _) = step {
                 ledger.fill(screen, draw, scene.strips_of(draw), &scene.paints);
             }
-            take(screen, &scene, step);
-            limits(screen)
+            take(screen, scene, &step);
+            limits(screen)?;
+            account(panels, screen, scene, &step);
+            Ok(())
         })?;
         ledger.must_agree(screen);
+        panels.must_agree(screen);
         Ok(&*self.screen)
     }
 
@@ -79,7 +92,12 @@ impl Player {
         &*self.screen
     }
 
-    /// The same by the Rust's own walk on a new screen, for a recording that is not refused.
+    /// The panels of what is on it.
+    pub(crate) fn panels(&self) -> &Panels {
+        &self.panels
+    }
+
+    /// The screen that a recording ends as by the Rust's own walk, on a new one, for a recording that is not refused.
     pub(crate) fn play_whole(&self, bytes: &[u8]) -> Box<dyn Screen> {
         let scene = self.judged(bytes).expect("an accepted recording");
         let mut screen = self.width().screen(scene.given);
@@ -90,12 +108,12 @@ impl Player {
     }
 }
 
-/// One step of a recording's walk.
+/// One step of a recording's walk, with the panel of its draw or layer.
 pub(crate) enum Step<'a> {
-    Fill(&'a RecordedFill),
-    Push(&'a RecordedLayer),
+    Fill(&'a RecordedFill, u32),
+    Push(&'a RecordedLayer, u32),
     /// The fill of a filter layer that has a pixmap.
-    Filter(&'a Arc<Pixmap>, FilterLayerPlacement),
+    Filter(&'a Arc<Pixmap>, FilterLayerPlacement, u32),
     Pop(&'a RecordedLayer),
 }
 
@@ -113,8 +131,8 @@ fn walk_nodes(
     step: &mut impl FnMut(Step) -> Result<(), u32>,
 ) -> Result<(), u32> {
     for node in nodes {
-        for draw in node.draws_in(&scene.draws) {
-            step(Step::Fill(draw))?;
+        for i in node.draws.clone() {
+            step(Step::Fill(&scene.draws[i], scene.draw_panels[i]))?;
         }
         if let Some(id) = node.layer {
             walk_layer(scene, id as usize, step)?;
@@ -128,20 +146,20 @@ fn walk_layer(
     id: usize,
     step: &mut impl FnMut(Step) -> Result<(), u32>,
 ) -> Result<(), u32> {
-    let layer = &scene.layers[id];
+    let (layer, panel) = (&scene.layers[id], scene.layer_panels[id]);
     match &layer.kind {
         RecordedLayerKind::Regular => {
-            step(Step::Push(layer))?;
+            step(Step::Push(layer, panel))?;
             walk_nodes(scene, &layer.nodes, step)?;
             step(Step::Pop(layer))
         }
         RecordedLayerKind::Filter { placement } => {
             let buffer = needs_buffer(layer);
             if buffer {
-                step(Step::Push(layer))?;
+                step(Step::Push(layer, panel))?;
             }
             if let Some(pixmap) = scene.filters.filter_layer(id) {
-                step(Step::Filter(&pixmap, *placement))?;
+                step(Step::Filter(&pixmap, *placement, panel))?;
             }
             if buffer {
                 step(Step::Pop(layer))?;
@@ -161,16 +179,29 @@ fn needs_buffer(layer: &RecordedLayer) -> bool {
 }
 
 /// A step by the Rust's own calls.
-fn take(screen: &mut dyn Screen, scene: &Scene, step: Step) {
-    match step {
-        Step::Fill(draw) => {
+fn take(screen: &mut dyn Screen, scene: &Scene, step: &Step) {
+    match *step {
+        Step::Fill(draw, _) => {
             screen.fill(draw, scene.origin(), scene.strips_of(draw), &scene.paints);
         }
-        Step::Push(layer) => screen.push(&layer.props),
-        Step::Filter(pixmap, placement) => {
+        Step::Push(layer, _) => screen.push(&layer.props),
+        Step::Filter(pixmap, placement, _) => {
             screen.filter(pixmap.clone(), placement, scene.paints.len());
         }
         Step::Pop(_) => screen.pop(&scene.strips),
+    }
+}
+
+/// A step that was done, in the account of panels. The box that fills are cut to is the same before and after a filter fill.
+fn account(panels: &mut Panels, screen: &dyn Screen, scene: &Scene, step: &Step) {
+    match *step {
+        Step::Fill(draw, panel) => panels.fill(panel, draw.strip_range.len()),
+        Step::Push(_, panel) => panels.push(panel),
+        Step::Filter(_, placement, panel) => {
+            let drawn = draws(placement.dest_bbox(), scene.origin(), screen.clip_box());
+            panels.filter(panel, drawn);
+        }
+        Step::Pop(_) => panels.pop(),
     }
 }
 

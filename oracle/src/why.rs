@@ -120,9 +120,9 @@ struct Entry {
 impl Look<'_> {
     fn take(&mut self, step: Step) {
         match step {
-            Step::Fill(draw) => self.fill(draw),
-            Step::Push(layer) => self.push(layer),
-            Step::Filter(_, placement) => self.filter(placement),
+            Step::Fill(draw, _) => self.fill(draw),
+            Step::Push(layer, _) => self.push(layer),
+            Step::Filter(_, placement, _) => self.filter(placement),
             Step::Pop(layer) => self.pop(layer),
         }
     }

@@ -6,7 +6,7 @@ use Rattle.rules.specs.Boxes.{Box, box}
 use Rattle.rules.specs.Blends.{Blend}
 use Rattle.rules.specs.Segments.{Segment}
 use Rattle.rules.specs.Inputs.{Paint, Draw, Clip, Filter}
-use Rattle.rules.specs.Recording.{LayerRec, Node, Recording, pixmap-of}
+use Rattle.rules.specs.Recording.{LayerRec, Node, Recording, pixmap-of, no-panel}
 use Rattle.file_form.specs.declared.Layout.{Layout}
 use Rattle.file_form.specs.Each.{each}
 
@@ -30,6 +30,7 @@ module _ (ws : List ℕ) (p : ℕ) where
         paint = word 3;
         blend = record { mix = word 4; compose = word 5 };
         mask = word 6;
+        panel = no-panel;
       }
 
   unfoldable pub clip-from : Clip
@@ -51,6 +52,7 @@ module _ (ws : List ℕ) (p : ℕ) where
         flag = word 7;
         clip = clip-from;
         filter = filter-from;
+        panel = no-panel;
       }
 
   unfoldable pub node-from : Node

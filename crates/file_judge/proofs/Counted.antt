@@ -11,7 +11,7 @@ use Rattle.rules.specs.Lists.{every}
 use Rattle.rules.specs.Segments.{Segment, good-segment}
 use Rattle.rules.specs.Blends.{good-blend}
 use Rattle.rules.specs.Spans.{good-range}
-use Rattle.rules.specs.Inputs.{Paint, good-paint, Draw, good-draw, draw-paint, good-thread, good-handle}
+use Rattle.rules.specs.Inputs.{Paint, good-paint, Draw, good-draw, draw-paint, good-thread, good-handle, good-panel}
 use Rattle.rules.specs.Recording.{Recording, recording, good-records, good-order, good-layer-rec, good-node}
 use Rattle.file_form.specs.declared.Layout.{Layout}
 use Rattle.file_form.specs.Each.{each}
@@ -30,16 +30,16 @@ every-getD test (x ∷ xs) (suc i) d h q = every-getD test xs i d (omega arith) 
 
 -- where every paint is good, a draw's own paint is good too
 module _ (ps : List Paint) (ss : List Segment) (q : every good-paint ps ≡ true) where
-  by-place : (d : Draw) (t : Bool) → ltb (d .paint) (length ps) ≡ t → (x y z : Bool)
-      → (x && t && good-paint (draw-paint ps d) && y && z) ≡ (x && t && y && z)
-  by-place d true e true y z = rw (every-getD good-paint ps (d .paint) (record { opaque = 0; handle = 0 }) (ltb-true _ _ e) q)
-  by-place d true e false y z = refl
-  by-place d false e true y z = refl
-  by-place d false e false y z = refl
+  by-place : (d : Draw) (t : Bool) → ltb (d .paint) (length ps) ≡ t → (x y z u : Bool)
+      → (x && t && good-paint (draw-paint ps d) && y && z && u) ≡ (x && t && y && z && u)
+  by-place d true e true y z u = rw (every-getD good-paint ps (d .paint) (record { opaque = 0; handle = 0 }) (ltb-true _ _ e) q)
+  by-place d true e false y z u = refl
+  by-place d false e true y z u = refl
+  by-place d false e false y z u = refl
 
   own-paint : (d : Draw) → good-draw ps ss d ≡ draw-fields (length ps) (length ss) d
   unfolding draw-fields
-  own-paint d = by-place d _ refl (good-thread (d .thread) && good-range (d .start) (d .end) (length ss)) (good-blend (d .blend)) (good-handle (d .mask))
+  own-paint d = by-place d _ refl (good-thread (d .thread) && good-range (d .start) (d .end) (length ss)) (good-blend (d .blend)) (good-handle (d .mask)) (good-panel (d .panel))
 
   pub own-paints : (ds : List Draw) → every (good-draw ps ss) ds ≡ every (draw-fields (length ps) (length ss)) ds
   own-paints [] = refl

@@ -9,8 +9,8 @@ use lib.Dec.{eqb}
 use borrow.Author.Tests.{le-leb, lt-leb}
 use Rattle.rules.specs.Boxes.{Box, box, good-box, good-dest}
 use Rattle.rules.specs.Lists.{every}
-use Rattle.rules.specs.Inputs.{good-pixmap}
-use Rattle.rules.specs.Recording.{pixmap-of, zero-clip, zero-filter}
+use Rattle.rules.specs.Inputs.{good-pixmap, good-panel}
+use Rattle.rules.specs.Recording.{pixmap-of, no-panel, zero-clip, zero-filter}
 use Rattle.rules.proofs.laws.Pixmaps.{none-is, good-is}
 use Rattle.file_form.specs.Each.{each}
 use Rattle.file_form.specs.Places.{clip-from, filter-from}
@@ -35,6 +35,11 @@ four-inside true true true true false f g = refl
 four-inside true true true true true false g = refl
 four-inside true true true true true true false = refl
 four-inside true true true true true true true = refl
+
+-- a file has no panel, and its test of 0 is passed
+pub no-panel-test : (b : Bool) → b ≡ (b && good-panel no-panel)
+no-panel-test true = refl
+no-panel-test false = refl
 
 -- the word of a picture: its handle + 1, or 0
 pub fine-pixmap : (n : ℕ) → n ≤ 2147483648 → good-pixmap (pixmap-of n) ≡ true

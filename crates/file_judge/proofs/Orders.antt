@@ -11,7 +11,7 @@ use Rattle.rules.specs.Boxes.{good-box}
 use Rattle.rules.specs.Blends.{good-blend}
 use Rattle.rules.specs.Segments.{Segment, good-segment}
 use Rattle.rules.specs.Spans.{good-range}
-use Rattle.rules.specs.Inputs.{Draw, Clip, good-clip, good-filter, good-thread, good-handle}
+use Rattle.rules.specs.Inputs.{Draw, Clip, good-clip, good-filter, good-thread, good-handle, good-panel}
 use Rattle.rules.specs.Recording.{Recording, LayerRec, recording, good-records, good-order, zero-clip}
 use Rattle.segments.specs.Segs.{segs-of}
 use Rattle.file_form.specs.declared.Layout.{Layout}
@@ -37,7 +37,9 @@ draw-in paints segments d e =
     let r = good-range (d .start) (d .end) segments in
     let p = ltb (d .paint) paints in
     let b = good-blend (d .blend) in
-    let h4 = both (t && r && p && b) (good-handle (d .mask)) e in
+    let m = good-handle (d .mask) in
+    let h5 = both (t && r && p && b && m) (good-panel (d .panel)) e in
+    let h4 = both (t && r && p && b) m (h5 .0) in
     let h3 = both (t && r && p) b (h4 .0) in
     let h2 = both (t && r) p (h3 .0) in
     both t r (h2 .0) .1
@@ -65,7 +67,8 @@ clip-in nodes segments y e =
     let b = good-blend (y .blend) in
     let m = good-handle (y .mask) in
     let g = leb (y .flag) 1 in
-    let h6 = both (k && r && b && m && g && clip-part segments y) (filter-part y) e in
+    let h7 = both (k && r && b && m && g && clip-part segments y && filter-part y) (good-panel (y .panel)) e in
+    let h6 = both (k && r && b && m && g && clip-part segments y) (filter-part y) (h7 .0) in
     let h5 = both (k && r && b && m && g) (clip-part segments y) (h6 .0) in
     by-flag segments y _ refl (h5 .1)
 

@@ -11,7 +11,7 @@ use Rattle.rules.specs.Blends as rule
 use Rattle.rules.specs.Blends.{good-blend}
 use Rattle.rules.specs.Segments.{Segment, ordered}
 use Rattle.rules.specs.Spans.{good-range}
-use Rattle.rules.specs.Inputs.{Draw, draw-segments, Clip, good-clip, good-filter, good-handle, good-thread}
+use Rattle.rules.specs.Inputs.{Draw, draw-segments, Clip, good-clip, good-filter, good-handle, good-thread, good-panel}
 use Rattle.rules.specs.Recording.{Recording, LayerRec, Node, zero-clip, zero-filter, good-records, good-order}
 
 abbrev pub blend : ℕ → ℕ → rule.Blend
@@ -34,6 +34,7 @@ draw-fields paints segments d =
     && ltb (d .paint) paints
     && good-blend (d .blend)
     && good-handle (d .mask)
+    && good-panel (d .panel)
 
 unfoldable pub clip-fields : ℕ → Clip → Bool
 clip-fields segments c = good-clip c && leb (c .end) segments
@@ -53,6 +54,7 @@ layer-fields nodes segments l =
     && leb (l .flag) 1
     && clip-part segments l
     && filter-part l
+    && good-panel (l .panel)
 
 unfoldable pub node-fields : ℕ → ℕ → Node → Bool
 node-fields draws layers n = good-range (n .start) (n .end) draws && leb (n .layer) layers

@@ -8,7 +8,7 @@ use lib.ListN.{length, getD}
 use lib.Dec.{leb, eqb}
 use borrow.Author.Tests.{leb-true}
 use Rattle.rules.specs.Spans.{good-range}
-use Rattle.rules.specs.Inputs.{good-handle, good-filter}
+use Rattle.rules.specs.Inputs.{good-handle, good-filter, good-panel}
 use Rattle.rules.specs.Blends.{good-blend}
 use Rattle.rules.specs.Recording.{Recording, LayerRec, Node, good-layer-rec, good-clip-rec, zero-clip, zero-filter, layer-rec}
 use Rattle.file_form.specs.declared.Layout.{Layout}
@@ -35,7 +35,9 @@ walkable r y e =
     let m = good-handle (y .mask) in
     let f = leb (y .flag) 1 in
     let c = cond (eqb (y .flag) 1) (good-clip-rec r (y .clip)) (zero-clip (y .clip)) in
-    let h6 = both (k && g && b && m && f && c) (cond (eqb (y .kind) 1) (good-filter (y .filter)) (zero-filter (y .filter))) e in
+    let x = cond (eqb (y .kind) 1) (good-filter (y .filter)) (zero-filter (y .filter)) in
+    let h7 = both (k && g && b && m && f && c && x) (good-panel (y .panel)) e in
+    let h6 = both (k && g && b && m && f && c) x (h7 .0) in
     let h5 = both (k && g && b && m && f) c (h6 .0) in
     let h4 = both (k && g && b && m) f (h5 .0) in
     let h3 = both (k && g && b) m (h4 .0) in

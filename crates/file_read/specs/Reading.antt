@@ -22,7 +22,15 @@ blend-in b = record { mix = b .mix; compose = b .compose }
 
 abbrev pub draw-in : rule.Draw → Draw
 draw-in d =
-    record { thread = d .thread; start = d .start; «end» = d .end; paint = d .paint; blend = blend-in (d .blend); mask = d .mask }
+    record {
+      thread = d .thread;
+      start = d .start;
+      «end» = d .end;
+      paint = d .paint;
+      blend = blend-in (d .blend);
+      mask = d .mask;
+      panel = d .panel;
+    }
 
 -- a NaN's pattern, else 0
 abbrev pub pattern-of : ℕ → ℕ
@@ -45,6 +53,7 @@ props-in p =
       nan = pattern-of (p .opacity);
       mask = p .mask;
       clip = clip-in (p .clip);
+      panel = p .panel;
     }
 
 -- the rules' properties that given ones say: the bits of the opacity, a NaN's pattern for a NaN
@@ -55,6 +64,7 @@ props-said p =
       opacity = cond (isNan (p .opacity)) (p .nan) (toBits binary32 (p .opacity));
       mask = p .mask;
       clip = clip-of (p .clip);
+      panel = p .panel;
     }
 
 abbrev pub float-1 : Float

@@ -14,6 +14,9 @@ use screen_layers::LayerProps;
 use sizes::wide;
 use step_fill::Draw;
 
+// A file has no panel numbers: its draws and layers have this one.
+const NO_PANEL: u32 = 0;
+
 // The draw at a place.
 pub fn draw_at(w: &[u32], at: usize) -> Draw
     requires { ⌜ at + 7 ≤ length (now w) ⌝ }
@@ -30,6 +33,7 @@ pub fn draw_at(w: &[u32], at: usize) -> Draw
         paint: w[at + 3],
         blend,
         mask: w[at + 6],
+        panel: NO_PANEL,
     }
 }
 
@@ -88,6 +92,7 @@ pub fn props_at(w: &[u32], at: usize) -> LayerProps
         nan: pattern_of(bits),
         mask: w[at + 6],
         clip,
+        panel: NO_PANEL,
     }
 }
 

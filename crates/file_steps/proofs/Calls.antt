@@ -57,11 +57,11 @@ module _ (t : Tables) (n : ℕ) (s u : Screen) (w v : Words) where
   unfolding call-at
   pop-step la lb op oq pas las lbs fps ss e = rw (← e)
 
-  pub filter-step : (la : List ℕ) (op : List Float) (pas pbs las : List ℕ) (fps fqs : List ℤ) (f : rule.Filter) (k : ℕ)
-      → answer n (filter.lent u v pbs fqs) ≡ filtered (given (placement-in f) (f .pixmap) k) (filter.lent s w pas fps)
-      → answer n (work-into t (work u v la op pbs las fqs)) ≡ call-at (a-filter k f) (work-into t (work s w la op pas las fps))
+  pub filter-step : (la : List ℕ) (op : List Float) (pas pbs las : List ℕ) (fps fqs : List ℤ) (f : rule.Filter) (k q : ℕ)
+      → answer n (filter.lent u v pbs fqs) ≡ filtered (given (placement-in f) (f .pixmap) k q) (filter.lent s w pas fps)
+      → answer n (work-into t (work u v la op pbs las fqs)) ≡ call-at (a-filter k f q) (work-into t (work s w la op pas las fps))
   unfolding call-at
-  filter-step la op pas pbs las fps fqs f k e = rw (← e)
+  filter-step la op pas pbs las fps fqs f k q e = rw (← e)
 
   -- a run of fills, among the words that steps write
   pub fills-work : (la : List ℕ) (op : List Float) (pas pbs las : List ℕ) (fps : List ℤ) (F : ScreenLent → Answer ScreenLent)

@@ -2,11 +2,11 @@
 use Prim.Native.Nat.{ℕ, _+_, _*_, _≤_, _<_}
 use native.Mathlib.Omega.{arith}
 use mathlib.Core.Path.{_≡_, sym, _∙_}
-use mathlib.Core.List.{List}
+use mathlib.Core.List.{List, []}
 use lib.ListN.{length, getD}
 use Rattle.rules.specs.Lists.{join, slice}
 use Rattle.rules.specs.Answers.{answer}
-use Rattle.rules.specs.Blends.{default-blend}
+use Rattle.rules.specs.Recording.{draw-rec}
 use Rattle.rules.specs.Inputs as rule
 use Rattle.rules.proofs.Words.{paint-words, segment-words}
 use Rattle.rules.specs.Walk.{each}
@@ -22,8 +22,8 @@ use Rattle.file_steps.proofs.Runs.{ended, refused, turned}
 use Rattle.file_steps.proofs.Calls.{fill-step}
 use Rattle.file_steps.proofs.Lists.{draws-count, draw-there}
 
-some-draw : rule.Draw
-some-draw = record { thread = 0; start = 0; end = 0; paint = 0; blend = default-blend; mask = 0 }
+abbrev some-draw : rule.Draw
+some-draw = draw-rec []
 
 -- what is left of the draws from i on, after y, says what all of them say, after x
 pub record Left (l : Layout) (ws : List ℕ) (a b : ℕ) (x : fills.FillLent) (i : ℕ) (y : fills.FillLent) : Type 0 where

@@ -17,7 +17,7 @@ module _ (r : Recording) (y : LayerRec) where
   pushing = call-at (a-push (props-of y))
 
   abbrev drawing : ScreenLent → Answer ScreenLent
-  drawing = call-at (a-filter (length (r .paints)) (y .filter))
+  drawing = call-at (a-filter (length (r .paints)) (y .filter) (y .panel))
 
   abbrev popping : ScreenLent → Answer ScreenLent
   popping = call-at (a-pop (r .segments))

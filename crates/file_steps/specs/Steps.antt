@@ -73,7 +73,7 @@ unfoldable pub call-at : Step → ScreenLent → Answer ScreenLent
 call-at (a-fill ps ss d) l = with-value (fill-into (l .tables)) (filled (fill-part l) (join paint-words ps) (join segment-words ss) (draw-in d))
 call-at (a-push p) l = with-value (push-into (l .tables)) (pushed (props-in p) (push-part l))
 call-at (a-pop ss) l = pop-into (l .tables) (popped (l .screen) (pop-part l) (join segment-words ss))
-call-at (a-filter n f) l = with-value (filter-into (l .tables)) (filtered (given (placement-in f) (f .pixmap) n) (filter-part l))
+call-at (a-filter n f q) l = with-value (filter-into (l .tables)) (filtered (given (placement-in f) (f .pixmap) n q) (filter-part l))
 
 -- the fill of a recording's draw
 abbrev pub draw-step : Recording → rule.Draw → ScreenLent → Answer ScreenLent

@@ -159,7 +159,7 @@ pub fn pop_at(
     )
 }
 
-// The filter fill of the layer at a place.
+// The filter fill of the layer at a place, which has the given panel.
 fn filter_at(
     screen: Screen,
     w: &[u32],
@@ -170,10 +170,11 @@ fn filter_at(
     fills: &mut [u32],
     paint_attrs: &mut [u32],
     filter_paints: &mut [i32],
+    panel: u32,
 ) -> Built
     requires { ⌜ Fits (now w) l × (at + 22 ≤ length (now w)) ⌝ }
     ensures { λ r. ⌜ answer (r .number) (filter.lent (r .screen) (words (now (rows .exit)) (now (render .exit)) (now (fills .exit))) (now («paint_attrs» .exit)) (now («filter_paints» .exit)))
-        ≡ filtered (given (placement-in (filter-from (now (w .entry)) at)) (filter-from (now (w .entry)) at .pixmap) (length (recorded l (now (w .entry)) .paints)))
+        ≡ filtered (given (placement-in (filter-from (now (w .entry)) at)) (filter-from (now (w .entry)) at .pixmap) (length (recorded l (now (w .entry)) .paints)) panel)
         (filter.lent screen (words (now (rows .entry)) (now (render .entry)) (now (fills .entry))) (now («paint_attrs» .entry)) (now («filter_paints» .entry))) ⌝ }
 {
     let paints = l.paints;
@@ -189,6 +190,7 @@ fn filter_at(
         placement,
         pixmap,
         paints.count as u32,
+        panel,
     )
 }
 
@@ -224,6 +226,7 @@ pub fn walk_filter(
             fills,
             paint_attrs,
             filter_paints,
+            props.panel,
         );
     }
     let pushed = push_layer(screen, rows, render, fills, layers, opacities, props);
@@ -241,6 +244,7 @@ pub fn walk_filter(
         fills,
         paint_attrs,
         filter_paints,
+        props.panel,
     );
     if drawn.number != DONE {
         return drawn;

@@ -23,9 +23,8 @@ use Rattle.step_push.specs.Push as push
 use Rattle.step_push.specs.Push.{pushed}
 use Rattle.step_pop.specs.Pop as pop
 use Rattle.step_pop.specs.Pop.{popped}
-use Rattle.step_filter.specs.declared.Placement.{Placement}
 use Rattle.step_filter.specs.Filter as filter
-use Rattle.step_filter.specs.Filter.{given, filtered}
+use Rattle.step_filter.specs.Filter.{FilterGiven, filtered}
 use Rattle.paint_screen.specs.Beginning.{canvas, beginning}
 use Rattle.host_screen.specs.declared.Held.{Held}
 use Rattle.host_screen.specs.declared.Held.the-variants as held
@@ -71,10 +70,10 @@ push-built st st' s s' r n flag h rn sw p w w' ls ls' os os' e =
 
 -- .. of a filter fill, which the picture's flag lets through
 pub filter-built : (st st' : List ℕ) (s s' : Screen) (r n flag : ℕ) → held.Good s ≡ screen-of (leb flag 1) st → r ≡ n → st' ≡ screen-words s'
-    → (p : Placement) (m : Option ℕ) (k : ℕ) (w w' : Words) (pas pas' : List ℕ) (fps fps' : List ℤ)
-    → answer n (filter.lent s' w' pas' fps') ≡ filtered (given p m k) (filter.lent s w pas fps) → answer r (st', w', pas', fps') ≡ filter-call flag p m k st w pas fps
+    → (g : FilterGiven) (w w' : Words) (pas pas' : List ℕ) (fps fps' : List ℤ)
+    → answer n (filter.lent s' w' pas' fps') ≡ filtered g (filter.lent s w pas fps) → answer r (st', w', pas', fps') ≡ filter-call flag g st w pas fps
 unfolding filter-call
-filter-built st st' s s' r n flag h rn sw p m k w w' pas pas' fps fps' e =
+filter-built st st' s s' r n flag h rn sw g w w' pas pas' fps fps' e =
     rw (rn, sw)
     (ap filter-left e
-    ∙ ap (λ (x : Held). at-held x st (st, w, pas, fps) (λ (s : Screen). filter-left (filtered (given p m k) (filter.lent s w pas fps)))) h)
+    ∙ ap (λ (x : Held). at-held x st (st, w, pas, fps) (λ (s : Screen). filter-left (filtered g (filter.lent s w pas fps)))) h)

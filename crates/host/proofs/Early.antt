@@ -10,6 +10,7 @@ use lib.Dec.{leb, ltb, eqb}
 use lib.Ieee.{Float}
 use lib.IntN.{ℤ}
 use borrow.Author.Tests.{eqb-true, eqb-false, lt-ltb, le-ltb}
+use Rattle.sizes.specs.Sizes.{piece-size, open-layer-table, opacity-count, paint-attr-table, filter-paint-table}
 use Rattle.sizes.specs.Widths.{bucket-tiles}
 use Rattle.rules.specs.Answers.{Answer, answer, first-of, Done, BadRecord, BadOrder, BadRun, Open, NoRoom}
 use Rattle.rules.specs.Spans.{Span, bad-range}
@@ -109,7 +110,7 @@ pub push-early : (p : LayerProps) (l : push.PushLent)
 unfolding pushed push.push-number plan
 push-early p l =
     lists-early (judged (l .screen) (length (l .words .state)) (length (l .words .render)) (length (l .words .fills)))
-    (eqb (length (l .layers)) 256 && eqb (length (l .opacities)) 1040 && good-pattern (p .opacity) (p .nan))
+    (eqb (length (l .layers)) open-layer-table && eqb (length (l .opacities)) opacity-count && good-pattern (p .opacity) (p .nan))
     ∙ step-early (push.first-number p l) _ _ _ (plan-late (a-push _) [] _)
     ∙ ap before-4 (sym (settle-number (push.push-number p l) _ _))
 
@@ -118,8 +119,8 @@ pub filter-early : (g : filter.FilterGiven) (l : filter.FilterLent)
 unfolding filtered filter.filter-number plan
 filter-early g l =
     lists-early (judged (l .screen) (length (l .words .state)) (length (l .words .render)) (length (l .words .fills)))
-    (eqb (length (l .paint-attrs)) 8192 && eqb (length (l .filter-paints)) 1024)
-    ∙ step-early (filter.first-number l) _ _ _ (plan-late (a-filter _ _) [] _)
+    (eqb (length (l .paint-attrs)) paint-attr-table && eqb (length (l .filter-paints)) filter-paint-table)
+    ∙ step-early (filter.first-number l) _ _ _ (plan-late (a-filter _ _ _) [] _)
     ∙ ap before-4 (sym (settle-number (filter.filter-number g l) _ _))
 
 first-early : (k : ℕ) (x y : Bool) → before-4 k ≡ before-4 (first-of ((not (eqb k Done), k) ∷ (x, BadRecord) ∷ (y, BadRecord) ∷ []))
@@ -153,7 +154,7 @@ begin-early k = ap before-4 (sym (settle-number (begin-number (k .screen) (lengt
 row-late : (o : Option rules.Painted) (d p l : List ℕ) → Late (paint.settled o d p l .answer .number)
 unfolding paint.settled
 row-late none d p l = λ e. omega arith
-row-late (some o) d p l = by (ltb (length l / 6) (length (o .pieces))) (λ y. rw y (λ e. omega arith)) (λ z. rw z late-done)
+row-late (some o) d p l = by (ltb (length l / piece-size) (length (o .pieces))) (λ y. rw y (λ e. omega arith)) (λ z. rw z late-done)
 
 out-number : (b : Bool) (n : ℕ) (o p : paint.StepOut) → p .answer .number ≡ n → cond b (o .answer .number) n ≡ cond b o p .answer .number
 out-number true n o p e = refl

@@ -9,6 +9,7 @@ use lib.ListN.{length}
 use lib.Dec.{eqb, ltb}
 use borrow.Author.Tests.{ne-eqb, eqb-true}
 use borrow.Rule.Slice.PartMut.{put-same}
+use Rattle.sizes.specs.Sizes.{piece-size}
 use Rattle.sizes.specs.declared.width.Width.{Width}
 use Rattle.sizes.specs.Widths.{bucket-tiles, width-of}
 use Rattle.rules.specs.Answers.{Answer, answer, first-of, settle, Done, BadRun, NoRoom}
@@ -130,7 +131,7 @@ row-kept : (o : Option rules.Painted) (d p l : List ℕ) → (paint.settled o d 
     → (paint.settled o d p l .depth ≡ d) × (paint.settled o d p l .painting ≡ p) × (paint.settled o d p l .list ≡ l)
 unfolding paint.settled
 row-kept none d p l q = (refl, refl, refl)
-row-kept (some o) d p l q = by (ltb (length l / 6) (length (o .pieces))) q
+row-kept (some o) d p l q = by (ltb (length l / piece-size) (length (o .pieces))) q
   where
     by : (b : Bool) → (cond b (paint.out (paint.refused NoRoom) d p l) (paint.left o l) .answer .number ≡ 0 → ⊥)
         → (cond b (paint.out (paint.refused NoRoom) d p l) (paint.left o l) .depth ≡ d) × (cond b (paint.out (paint.refused NoRoom) d p l) (paint.left o l) .painting ≡ p) × (cond b (paint.out (paint.refused NoRoom) d p l) (paint.left o l) .list ≡ l)

@@ -17,7 +17,7 @@ use Rattle.host_screen.specs.declared.Held.the-variants as held
 use Rattle.host_screen.specs.State.{screen-words, screen-of, refused-at, before-4, at-held}
 use Rattle.host_screen.proofs.Words.{refused-on}
 use Rattle.host.specs.Border.{arenas, file-number}
-use Rattle.host.specs.Reasons.{reason-words, result-left, asked, why-left, why-in}
+use Rattle.host.specs.Reasons.{reason-words, reason-size, result-left, asked, why-left, why-in}
 use Rattle.host.proofs.Stories.{explained-is-early}
 
 module _ (file : List ℕ) (q : Setup) (row tile layer attribute : ℕ) (st : List ℕ) (t : Tables) (res : List ℕ) where
@@ -25,12 +25,12 @@ module _ (file : List ℕ) (q : Setup) (row tile layer attribute : ℕ) (st : Li
   abbrev at-screen : Screen → Answer (List ℕ × Tables × List ℕ)
   at-screen s = why-left res (explained file q row tile (asked layer attribute) (lent s t))
 
-  pub why-unheld : (n : ℕ) → held.Nothing ≡ screen-of (leb layer 1 && eqb (length res) 2) st
+  pub why-unheld : (n : ℕ) → held.Nothing ≡ screen-of (leb layer 1 && eqb (length res) reason-size) st
       → n ≡ refused-at st (λ (s : Screen). file-number file q (arenas (length (t .render)) (length (t .fills)) (length (t .depth))))
       → answer n (st, t, res) ≡ why-in file q row tile layer attribute st t res
   unfolding why-in
   why-unheld n h f =
-      refused-on (screen-of (leb layer 1 && eqb (length res) 2) st) st (st, t, res) at-screen
+      refused-on (screen-of (leb layer 1 && eqb (length res) reason-size) st) st (st, t, res) at-screen
       (λ (s : Screen). file-number file q (arenas (length (t .render)) (length (t .fills)) (length (t .depth)))) n h f
       (λ (s : Screen).
       let e = explained file q row tile (asked layer attribute) (lent s t) in
@@ -38,7 +38,7 @@ module _ (file : List ℕ) (q : Setup) (row tile layer attribute : ℕ) (st : Li
 
   -- st stands for s; afterwards the call has the screen s', the words st' are its, and res' is what the number leaves of the result
   pub why-built : (st' : List ℕ) (s s' : Screen) (t' : Tables) (r n : ℕ) (x : Reason) (res' : List ℕ)
-      → held.Good s ≡ screen-of (leb layer 1 && eqb (length res) 2) st → st' ≡ screen-words s' → answer r res' ≡ result-left n x res
+      → held.Good s ≡ screen-of (leb layer 1 && eqb (length res) reason-size) st → st' ≡ screen-words s' → answer r res' ≡ result-left n x res
       → explained-as n (lent s' t') x ≡ explained file q row tile (asked layer attribute) (lent s t)
       → answer r (st', t', res') ≡ why-in file q row tile layer attribute st t res
   unfolding why-in

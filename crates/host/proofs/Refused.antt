@@ -27,9 +27,8 @@ use Rattle.step_push.specs.Push as push
 use Rattle.step_push.specs.Push.{pushed}
 use Rattle.step_pop.specs.Pop as pop
 use Rattle.step_pop.specs.Pop.{popped}
-use Rattle.step_filter.specs.declared.Placement.{Placement}
 use Rattle.step_filter.specs.Filter as filter
-use Rattle.step_filter.specs.Filter.{given, filtered}
+use Rattle.step_filter.specs.Filter.{FilterGiven, filtered}
 use Rattle.paint_screen.specs.Judging.{begin-number}
 use Rattle.paint_screen.specs.Beginning.{Canvas, canvas, begun, beginning}
 use Rattle.host_screen.specs.declared.Held.{Held}
@@ -89,11 +88,10 @@ push-refused flag p st w ls os q =
     (λ (s : Screen). pushed p (push.lent s w ls os)) (λ (s : Screen). (refl, refl))
     (λ (s : Screen). settled (push.push-number p (push.lent s w ls os)) (push.lent s w ls os) (push.after p (push.lent s w ls os))) (screen-of (leb flag 1) st) refl q
 
-pub filter-refused : (flag : ℕ) (p : Placement) (pixmap : Option ℕ) (n : ℕ) (st : List ℕ) (w : Words) (pas : List ℕ) (fps : List ℤ) → Refused (filter-call flag p pixmap n st w pas fps)
-    → filter-call flag p pixmap n st w pas fps .value ≡ (st, w, pas, fps)
+pub filter-refused : (flag : ℕ) (g : FilterGiven) (st : List ℕ) (w : Words) (pas : List ℕ) (fps : List ℤ) → Refused (filter-call flag g st w pas fps)
+    → filter-call flag g st w pas fps .value ≡ (st, w, pas, fps)
 unfolding filter-call filtered
-filter-refused flag p pixmap n st w pas fps q =
-    let g = given p pixmap n in
+filter-refused flag g st w pas fps q =
     unchanged {T = Words × List ℕ × List ℤ} {F = List ℕ × Words × List ℕ × List ℤ} (λ (ws : List ℕ) (t : Words × List ℕ × List ℤ). (ws, t .0, t .1, t .2))
     (λ (l : filter.FilterLent). l .screen) (λ (l : filter.FilterLent). (l .words, l .paint-attrs, l .filter-paints)) (leb flag 1) st (w, pas, fps)
     (λ (s : Screen). filter.lent s w pas fps) (λ (s : Screen). filtered g (filter.lent s w pas fps)) (λ (s : Screen). (refl, refl))

@@ -6,6 +6,7 @@ use Prim.Native.Nat.{ℕ}
 use lib.ListN.{length, set}
 use lib.Dec.{eqb}
 use borrow.Author.Tests.{eq-eqb, ne-eqb}
+use Rattle.sizes.specs.Sizes.{open-layer-table, opacity-count, paint-attr-table, layer-attr-table, filter-paint-table}
 use Rattle.sizes.specs.declared.width.Width.{Width}
 use Rattle.sizes.specs.Widths.{bucket-tiles, width-of}
 use Rattle.rules.specs.Answers.{Answer, answer, BadViewport, BadRecord}
@@ -32,10 +33,10 @@ use Rattle.host_screen.proofs.Lists.{by-length}
 
 -- words stored over as many
 pub sizes-stored : (a b c d e : ℕ) (xs : List ℕ) → length xs ≡ 10
-    → set (set (set (set (set (set (set (set (set (set xs 0 a) 1 b) 2 c) 3 d) 4 e) 5 256) 6 1040) 7 8192) 8 6144) 9 1024 ≡ a ∷ b ∷ c ∷ d ∷ e ∷ fixed
+    → set (set (set (set (set (set (set (set (set (set xs 0 a) 1 b) 2 c) 3 d) 4 e) 5 open-layer-table) 6 opacity-count) 7 paint-attr-table) 8 layer-attr-table) 9 filter-paint-table ≡ a ∷ b ∷ c ∷ d ∷ e ∷ fixed
 sizes-stored a b c d e =
     by-length 10
-    (λ (xs : List ℕ). set (set (set (set (set (set (set (set (set (set xs 0 a) 1 b) 2 c) 3 d) 4 e) 5 256) 6 1040) 7 8192) 8 6144) 9 1024 ≡ a ∷ b ∷ c ∷ d ∷ e ∷ fixed)
+    (λ (xs : List ℕ). set (set (set (set (set (set (set (set (set (set xs 0 a) 1 b) 2 c) 3 d) 4 e) 5 open-layer-table) 6 opacity-count) 7 paint-attr-table) 8 layer-attr-table) 9 filter-paint-table ≡ a ∷ b ∷ c ∷ d ∷ e ∷ fixed)
     (λ f g h i j k l m n o. refl)
 
 -- the count of some runs, and their list

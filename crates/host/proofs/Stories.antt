@@ -88,26 +88,26 @@ module _ (w : ℕ) (v : Box) (row tile : ℕ) where
   pop-late [] ss t = settle-late NoLayer t t (λ e. omega arith)
   pop-late (l ∷ ls) ss t = ids-late (ltb last-id (t .next)) (leb most-attrs (t .layers)) t _
 
-  fill-late : (own : List Segment) (e : Bool) (t : Telling) → Late (tell-fill w v row tile own e t .number)
+  fill-late : (own : List Segment) (e : Bool) (q : ℕ) (t : Telling) → Late (tell-fill w v row tile own e q t .number)
   unfolding tell-fill
-  fill-late own e t = ids-late (ltb last-id (t .next)) (not (is-empty own) && leb most-attrs (t .paints)) t _
+  fill-late own e q t = ids-late (ltb last-id (t .next)) (not (is-empty own) && leb most-attrs (t .paints)) t _
 
   push-late : (p : Props) (t : Telling) → Late (tell-push w v row tile p t .number)
   unfolding tell-push
   push-late p t = deep-late (leb most-layers (length (t .opened))) t _
 
-  picture-late : (f : Filter) (t : Telling) → Late (tell-filter w v row tile f t .number)
+  picture-late : (f : Filter) (q : ℕ) (t : Telling) → Late (tell-filter w v row tile f q t .number)
   unfolding tell-filter
-  picture-late f t = by (draws-nothing f (filter-box v (clip-box v (t .opened)) f))
+  picture-late f q t = by (draws-nothing f (filter-box v (clip-box v (t .opened)) f))
       (λ y. rw y late-done)
       (λ n. rw n (ids-late (ltb last-id (t .next)) (leb most-attrs (t .paints) || leb most-filters (t .filters)) t _))
 
   step-late : (x : Step) (t : Telling) → Late (tell-at w v row tile x t .number)
   unfolding tell-at
-  step-late (a-fill ps ss d) t = fill-late _ _ t
+  step-late (a-fill ps ss d) t = fill-late _ _ _ t
   step-late (a-push p) t = push-late p t
   step-late (a-pop ss) t = pop-late (t .opened) ss t
-  step-late (a-filter n f) t = picture-late f t
+  step-late (a-filter n f q) t = picture-late f q t
 
 -- the call after an accepted recording, on a screen of the frame f
 module _ (row tile : ℕ) (a : Asked) (l : ScreenLent) where

@@ -26,9 +26,8 @@ use Rattle.step_push.specs.Push as push
 use Rattle.step_push.specs.Push.{pushed}
 use Rattle.step_pop.specs.Pop as pop
 use Rattle.step_pop.specs.Pop.{popped}
-use Rattle.step_filter.specs.declared.Placement.{Placement}
 use Rattle.step_filter.specs.Filter as filter
-use Rattle.step_filter.specs.Filter.{given, filtered}
+use Rattle.step_filter.specs.Filter.{FilterGiven, filtered}
 use Rattle.paint_command.specs.Painting as paint
 use Rattle.paint_screen.specs.Judging.{begin-number, runs-number, skip-number}
 use Rattle.paint_screen.specs.Beginning.{canvas, beginning}
@@ -82,12 +81,12 @@ module _ (st : List ℕ) (n : ℕ) where
       refused-on (screen-of true st) st (st, l) (λ (s : Screen). pop-left (popped s l ss))
       (λ (s : Screen). judged s (length (l .words .state)) (length (l .words .render)) (length (l .words .fills))) n h q (λ (s : Screen). pop-early s l ss)
 
-  pub filter-unheld : (flag : ℕ) (p : Placement) (pixmap : Option ℕ) (k : ℕ) (w : Words) (pas : List ℕ) (fps : List ℤ) → held.Nothing ≡ screen-of (leb flag 1) st
-      → n ≡ refused-at st (λ (s : Screen). judged s (length (w .state)) (length (w .render)) (length (w .fills))) → answer n (st, w, pas, fps) ≡ filter-call flag p pixmap k st w pas fps
+  pub filter-unheld : (flag : ℕ) (g : FilterGiven) (w : Words) (pas : List ℕ) (fps : List ℤ) → held.Nothing ≡ screen-of (leb flag 1) st
+      → n ≡ refused-at st (λ (s : Screen). judged s (length (w .state)) (length (w .render)) (length (w .fills))) → answer n (st, w, pas, fps) ≡ filter-call flag g st w pas fps
   unfolding filter-call
-  filter-unheld flag p pixmap k w pas fps h q =
-      refused-on (screen-of (leb flag 1) st) st (st, w, pas, fps) (λ (s : Screen). filter-left (filtered (given p pixmap k) (filter.lent s w pas fps)))
-      (λ (s : Screen). judged s (length (w .state)) (length (w .render)) (length (w .fills))) n h q (λ (s : Screen). filter-early (given p pixmap k) (filter.lent s w pas fps))
+  filter-unheld flag g w pas fps h q =
+      refused-on (screen-of (leb flag 1) st) st (st, w, pas, fps) (λ (s : Screen). filter-left (filtered g (filter.lent s w pas fps)))
+      (λ (s : Screen). judged s (length (w .state)) (length (w .render)) (length (w .fills))) n h q (λ (s : Screen). filter-early g (filter.lent s w pas fps))
 
   pub begin-unheld : (d p : List ℕ) → held.Nothing ≡ screen-of true st → n ≡ refused-at st (λ (s : Screen). begin-number s (length d) (length p)) → answer n (st, d, p) ≡ begin-call st d p
   unfolding begin-call

@@ -27,7 +27,7 @@ use Rattle.step_pop.specs.Pop as pop
 use Rattle.step_pop.specs.Pop.{popped}
 use Rattle.step_filter.specs.declared.Placement.{Placement}
 use Rattle.step_filter.specs.Filter as filter
-use Rattle.step_filter.specs.Filter.{given, filtered}
+use Rattle.step_filter.specs.Filter.{FilterGiven, filtered}
 use Rattle.file_read.specs.Reading.{props-in}
 use Rattle.host_screen.specs.declared.SetupWords.{SetupWords}
 use Rattle.host_screen.specs.State.{screen-words, on}
@@ -53,9 +53,17 @@ unfoldable pub recording-call : List ℕ → SetupWords → List ℕ → Tables 
 recording-call file w st t = in-setup (asked-setup w) (unasked-number file (no-setup w)) (st, t) (λ q. recording-in file q st t)
 
 -- the rows and the paint attributes
-abbrev pub draw : ℕ → ℕ → ℕ → ℕ → ℕ → ℕ → ℕ → Draw
-draw thread start end paint mix compose mask =
-    record { thread = thread; start = start; «end» = end; paint = paint; blend = record { mix = mix; compose = compose }; mask = mask }
+abbrev pub draw : ℕ → ℕ → ℕ → ℕ → ℕ → ℕ → ℕ → ℕ → Draw
+draw thread start end paint mix compose mask panel =
+    record {
+      thread = thread;
+      start = start;
+      «end» = end;
+      paint = paint;
+      blend = record { mix = mix; compose = compose };
+      mask = mask;
+      panel = panel;
+    }
 
 abbrev pub fill-left : Answer fills.FillLent → Answer (List ℕ × Words × List ℕ)
 fill-left a = answer (a .number) (screen-words (a .value .screen), a .value .words, a .value .paint-attrs)
@@ -64,10 +72,18 @@ unfoldable pub fill-call : List ℕ → List ℕ → Draw → List ℕ → Words
 fill-call ps ss d st w pas = on true st (st, w, pas) (λ s. fill-left (filled (fills.lent s w pas) ps ss d))
 
 -- A layer's properties; the opacity as its bits, a clip where the flag is 1.
-abbrev pub props : ℕ → ℕ → ℕ → ℕ → ℕ → rule.Clip → LayerProps
-props mix compose opacity mask flag clip =
-    props-in
-    (record { blend = record { mix = mix; compose = compose }; opacity = opacity; mask = mask; clip = cond (eqb flag 1) (some clip) none })
+abbrev pub said-props : ℕ → ℕ → ℕ → ℕ → ℕ → rule.Clip → ℕ → rule.Props
+said-props mix compose opacity mask flag clip panel =
+    record {
+      blend = record { mix = mix; compose = compose };
+      opacity = opacity;
+      mask = mask;
+      clip = cond (eqb flag 1) (some clip) none;
+      panel = panel;
+    }
+
+abbrev pub props : ℕ → ℕ → ℕ → ℕ → ℕ → rule.Clip → ℕ → LayerProps
+props mix compose opacity mask flag clip panel = props-in (said-props mix compose opacity mask flag clip panel)
 
 abbrev pub clip : ℕ → ℕ → ℕ → ℕ → ℕ → ℕ → ℕ → rule.Clip
 clip x0 y0 x1 y1 start end thread = record { bounds = box x0 y0 x1 y1; start = start; end = end; thread = thread }
@@ -97,6 +113,6 @@ placement dest x y = record { dest = dest; «source_x» = x; «source_y» = y }
 abbrev pub filter-left : Answer filter.FilterLent → Answer (List ℕ × Words × List ℕ × List ℤ)
 filter-left a = answer (a .number) (screen-words (a .value .screen), a .value .words, a .value .paint-attrs, a .value .filter-paints)
 
-unfoldable pub filter-call : ℕ → Placement → Option ℕ → ℕ → List ℕ → Words → List ℕ → List ℤ → Answer (List ℕ × Words × List ℕ × List ℤ)
-filter-call flag p pixmap n st w pas fps =
-    on (leb flag 1) st (st, w, pas, fps) (λ s. filter-left (filtered (given p pixmap n) (filter.lent s w pas fps)))
+unfoldable pub filter-call : ℕ → FilterGiven → List ℕ → Words → List ℕ → List ℤ → Answer (List ℕ × Words × List ℕ × List ℤ)
+filter-call flag g st w pas fps =
+    on (leb flag 1) st (st, w, pas, fps) (λ s. filter-left (filtered g (filter.lent s w pas fps)))

@@ -15,14 +15,18 @@ use Rattle.host_screen.specs.State.{screen-words, on}
 use Rattle.host_screen.specs.Asked.{asked-setup, no-setup, in-setup}
 use Rattle.host.specs.Border.{unasked-number}
 
--- the case, and the attribute that hides or the place in the tile's list
+-- the case, the attribute that hides or the place in the tile's list, the asked attribute's panel, the panel of the attribute that hides
 abbrev pub reason-words : Reason → List ℕ
-reason-words unknown-attribute = 0 ∷ 0 ∷ []
-reason-words no-segment = 1 ∷ 0 ∷ []
-reason-words cut-away = 2 ∷ 0 ∷ []
-reason-words row-untouched = 3 ∷ 0 ∷ []
-reason-words (hidden-by a) = 4 ∷ a ∷ []
-reason-words (shown-at p) = 5 ∷ p ∷ []
+reason-words unknown-attribute = 0 ∷ 0 ∷ 0 ∷ 0 ∷ []
+reason-words (no-segment q) = 1 ∷ 0 ∷ q ∷ 0 ∷ []
+reason-words (cut-away q) = 2 ∷ 0 ∷ q ∷ 0 ∷ []
+reason-words (row-untouched q) = 3 ∷ 0 ∷ q ∷ 0 ∷ []
+reason-words (hidden-by a b q) = 4 ∷ a ∷ q ∷ b ∷ []
+reason-words (shown-at p q) = 5 ∷ p ∷ q ∷ 0 ∷ []
+
+-- how many
+abbrev pub reason-size : ℕ
+reason-size = 4
 
 -- the result's words: written where the number is 0
 abbrev pub result-left : ℕ → Reason → List ℕ → Answer (List ℕ)
@@ -37,10 +41,10 @@ why-left result e =
     let left = result-left (e .number) (e .reason) result in
     answer (left .number) (screen-words (e .lent .screen), e .lent .tables, left .value)
 
--- In a setup. A word that says neither draw nor layer is refused, and so is a result that has not two words
+-- In a setup. A word that says neither draw nor layer is refused, and so is a result of another length
 unfoldable pub why-in : List ℕ → Setup → ℕ → ℕ → ℕ → ℕ → List ℕ → Tables → List ℕ → Answer (List ℕ × Tables × List ℕ)
 why-in file q row tile layer attribute st t result =
-    on (leb layer 1 && eqb (length result) 2) st (st, t, result)
+    on (leb layer 1 && eqb (length result) reason-size) st (st, t, result)
     (λ (s : Screen). why-left result (explained file q row tile (asked layer attribute) (lent s t)))
 
 -- as a host's words ask

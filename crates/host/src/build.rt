@@ -28,7 +28,7 @@ ghost use Rattle.rules.specs.Answers.{answer};
 ghost use Rattle.row.specs.Words.{words};
 ghost use Rattle.screen.specs.Tables.{tables};
 ghost use Rattle.step_pop.specs.Pop.{lent};
-ghost use Rattle.step_filter.specs.Filter.{picture-of};
+ghost use Rattle.step_filter.specs.Filter.{picture-of, given};
 ghost use Rattle.host_screen.specs.State.{rect};
 ghost use Rattle.host.specs.Building.{reset-call, recording-call, draw, fill-call, clip, props, push-call, pop-call, placement, picture, filter-call};
 
@@ -148,9 +148,10 @@ pub extern "C" fn coarse_fill(
     mix: u32,
     compose: u32,
     mask: u32,
+    panel: u32,
 ) -> u32
     ensures { λ r. ⌜ answer r (now (state .exit), words (now (rows .exit)) (now (render .exit)) (now (fills .exit)), now («paint_attrs» .exit))
-        ≡ fill-call (now (paints .entry)) (now (segments .entry)) (draw thread start «end» paint mix compose mask) (now (state .entry)) (words (now (rows .entry)) (now (render .entry)) (now (fills .entry))) (now («paint_attrs» .entry)) ⌝ }
+        ≡ fill-call (now (paints .entry)) (now (segments .entry)) (draw thread start «end» paint mix compose mask panel) (now (state .entry)) (words (now (rows .entry)) (now (render .entry)) (now (fills .entry))) (now («paint_attrs» .entry)) ⌝ }
 {
     let Held::Good(screen) = screen_of(state, true) else {
         return refuse_build(state, rows.len(), render.len(), fills.len());
@@ -163,6 +164,7 @@ pub extern "C" fn coarse_fill(
         paint,
         blend,
         mask,
+        panel,
     };
     let built = fill(
         screen,
@@ -191,8 +193,9 @@ fn props_of(
     start: u32,
     end: u32,
     thread: u32,
+    panel: u32,
 ) -> LayerProps
-    ensures { λ r. ⌜ r ≡ props mix compose opacity mask flag (clip x0 y0 x1 y1 start «end» thread) ⌝ }
+    ensures { λ r. ⌜ r ≡ props mix compose opacity mask flag (clip x0 y0 x1 y1 start «end» thread) panel ⌝ }
 {
     let layer = [
         0,
@@ -218,7 +221,9 @@ fn props_of(
         0,
         0,
     ];
-    props_at(&layer, 0)
+    let mut props = props_at(&layer, 0);
+    props.panel = panel;
+    props
 }
 
 // Rule 8. The opacity is the bits of an f32; flag 1: the clip has a box, a range of segments and a thread, 0: there is none.
@@ -242,9 +247,10 @@ pub extern "C" fn coarse_push_layer(
     start: u32,
     end: u32,
     thread: u32,
+    panel: u32,
 ) -> u32
     ensures { λ r. ⌜ answer r (now (state .exit), words (now (rows .exit)) (now (render .exit)) (now (fills .exit)), now (layers .exit), now (opacities .exit))
-        ≡ push-call flag (props mix compose opacity mask flag (clip x0 y0 x1 y1 start «end» thread)) (now (state .entry)) (words (now (rows .entry)) (now (render .entry)) (now (fills .entry))) (now (layers .entry)) (now (opacities .entry)) ⌝ }
+        ≡ push-call flag (props mix compose opacity mask flag (clip x0 y0 x1 y1 start «end» thread) panel) (now (state .entry)) (words (now (rows .entry)) (now (render .entry)) (now (fills .entry))) (now (layers .entry)) (now (opacities .entry)) ⌝ }
 {
     let Held::Good(screen) = screen_of(state, flag <= 1) else {
         return refuse_build(state, rows.len(), render.len(), fills.len());
@@ -262,6 +268,7 @@ pub extern "C" fn coarse_push_layer(
         start,
         end,
         thread,
+        panel,
     );
     let built = push_layer(screen, rows, render, fills, layers, opacities, props);
     leave(state, built)
@@ -308,7 +315,7 @@ fn pixmap_of(flag: u32, handle: u32) -> Pixmap
     Pixmap::Present(handle)
 }
 
-// Rule 11: a picture drawn into a box, from a source origin; paint_count is the length of the paint list. has_pixmap 1: the picture is the one
+// Rule 11: a picture drawn into a box, from a source origin; paint_count is the length of the paint list, panel the layer's. has_pixmap 1: the picture is the one
 // whose handle is pixmap, 0: there is none.
 #[no_mangle]
 pub extern "C" fn coarse_filter_fill(
@@ -327,9 +334,10 @@ pub extern "C" fn coarse_filter_fill(
     has_pixmap: u32,
     pixmap: u32,
     paint_count: u32,
+    panel: u32,
 ) -> u32
     ensures { λ r. ⌜ answer r (now (state .exit), words (now (rows .exit)) (now (render .exit)) (now (fills .exit)), now («paint_attrs» .exit), now («filter_paints» .exit))
-        ≡ filter-call «has_pixmap» (placement (rect x0 y0 x1 y1) «source_x» «source_y») (picture «has_pixmap» pixmap) «paint_count» (now (state .entry)) (words (now (rows .entry)) (now (render .entry)) (now (fills .entry))) (now («paint_attrs» .entry)) (now («filter_paints» .entry)) ⌝ }
+        ≡ filter-call «has_pixmap» (given (placement (rect x0 y0 x1 y1) «source_x» «source_y») (picture «has_pixmap» pixmap) «paint_count» panel) (now (state .entry)) (words (now (rows .entry)) (now (render .entry)) (now (fills .entry))) (now («paint_attrs» .entry)) (now («filter_paints» .entry)) ⌝ }
 {
     let Held::Good(screen) = screen_of(state, has_pixmap <= 1) else {
         return refuse_build(state, rows.len(), render.len(), fills.len());
@@ -351,6 +359,7 @@ pub extern "C" fn coarse_filter_fill(
         placement,
         picture,
         paint_count,
+        panel,
     );
     leave(state, built)
 }

@@ -49,7 +49,7 @@ pub extern "C" fn coarse_begin_painting(
     leave(state, built)
 }
 
-// The next stored command of a row. result: 1 if none was left, else 0; how many pieces are listed, six words each.
+// The next stored command of a row. result: 1 if none was left, else 0; how many pieces are listed.
 #[no_mangle]
 pub extern "C" fn coarse_paint_step(
     state: &[u32],
@@ -96,7 +96,7 @@ pub extern "C" fn coarse_paint_step(
 }
 
 // A row's steps from where it stands to its end, or up to the first whose pieces have no room left. result: 1 if the row has come to its end,
-// else 0; how many pieces are listed, six words each.
+// else 0; how many pieces are listed.
 #[no_mangle]
 pub extern "C" fn coarse_paint_row(
     state: &[u32],

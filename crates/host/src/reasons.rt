@@ -23,36 +23,65 @@ ghost use Rattle.rules.specs.Answers.{answer};
 ghost use Rattle.screen.specs.Tables.{tables};
 ghost use Rattle.host_screen.specs.State.{screen-words};
 ghost use Rattle.tile_reason.specs.Reasons.{reason-of};
-ghost use Rattle.host.specs.Reasons.{reason-words, result-left, why-call};
+ghost use Rattle.host.specs.Reasons.{reason-words, reason-size, result-left, why-call};
 
-// A reason's case, and the attribute that hides or the place in the tile's list; else 0.
+// The words of a reason.
+const REASON: usize = 4;
+
+// A reason's case; the attribute that hides or the place in the tile's list, else 0; the asked attribute's panel; that of the one that hides, else 0.
 struct ReasonWords {
     case: u32,
     number: u32,
+    panel: u32,
+    hider_panel: u32,
 }
 
 fn words_of(reason: Reason) -> ReasonWords
-    ensures { λ r. ⌜ (r .case ∷ r .number ∷ []) ≡ reason-words (reason-of reason) ⌝ }
+    ensures { λ r. ⌜ (r .case ∷ r .number ∷ r .panel ∷ r .«hider_panel» ∷ []) ≡ reason-words (reason-of reason) ⌝ }
 {
     match reason {
-        Reason::UnknownAttribute => ReasonWords { case: 0, number: 0 },
-        Reason::NoSegment => ReasonWords { case: 1, number: 0 },
-        Reason::CutAway => ReasonWords { case: 2, number: 0 },
-        Reason::RowUntouched => ReasonWords { case: 3, number: 0 },
-        Reason::HiddenBy(attribute) => ReasonWords {
-            case: 4,
-            number: attribute,
+        Reason::UnknownAttribute => ReasonWords {
+            case: 0,
+            number: 0,
+            panel: 0,
+            hider_panel: 0,
         },
-        Reason::ShownAt(place) => ReasonWords {
+        Reason::NoSegment(panel) => ReasonWords {
+            case: 1,
+            number: 0,
+            panel,
+            hider_panel: 0,
+        },
+        Reason::CutAway(panel) => ReasonWords {
+            case: 2,
+            number: 0,
+            panel,
+            hider_panel: 0,
+        },
+        Reason::RowUntouched(panel) => ReasonWords {
+            case: 3,
+            number: 0,
+            panel,
+            hider_panel: 0,
+        },
+        Reason::HiddenBy(by) => ReasonWords {
+            case: 4,
+            number: by.attribute,
+            panel: by.panel,
+            hider_panel: by.hider_panel,
+        },
+        Reason::ShownAt(at) => ReasonWords {
             case: 5,
-            number: place,
+            number: at.place,
+            panel: at.panel,
+            hider_panel: 0,
         },
     }
 }
 
-// Where the question is answered, the reason's two words.
+// Where the question is answered, the reason's words.
 fn put_reason(told: Explained, result: &mut [u32]) -> u32
-    requires { ⌜ length (now result) ≡ 2 ⌝ }
+    requires { ⌜ length (now result) ≡ reason-size ⌝ }
     ensures { λ r. ⌜ answer r (now (result .exit)) ≡ result-left (told .number) (reason-of (told .reason)) (now (result .entry)) ⌝ }
 {
     let number = told.number;
@@ -63,22 +92,24 @@ fn put_reason(told: Explained, result: &mut [u32]) -> u32
     let words = words_of(reason);
     result[0] = words.case;
     result[1] = words.number;
+    result[2] = words.panel;
+    result[3] = words.hider_panel;
     DONE
 }
 
-// A question says draw or layer, and has two words for its answer.
+// A question says draw or layer, and has the words for its answer.
 fn is_good_question(layer: u32, n: usize) -> bool
-    ensures { λ r. ⌜ r ≡ (leb layer 1 && eqb n 2) ⌝ }
+    ensures { λ r. ⌜ r ≡ (leb layer 1 && eqb n reason-size) ⌝ }
 {
     if 1 < layer {
         return false;
     }
-    n == 2
+    n == REASON
 }
 
 // A recording is bucketed, and answers for a draw's attribute (layer 0) or a layer's (1) at one tile. result: the reason's case (0 unknown attribute,
-// 1 no segment, 2 cut away, 3 row untouched, 4 hidden, 5 shown), and the attribute that hides or the place in the tile's list. The setup is
-// refused as by the recording call.
+// 1 no segment, 2 cut away, 3 row untouched, 4 hidden, 5 shown), the attribute that hides or the place in the tile's list, the asked attribute's
+// panel, and that of the attribute that hides. The setup is refused as by the recording call.
 #[no_mangle]
 pub extern "C" fn coarse_why(
     state: &mut [u32],

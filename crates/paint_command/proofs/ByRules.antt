@@ -13,14 +13,14 @@ use Rattle.sizes.specs.Widths.{bucket-tiles}
 use Rattle.rules.specs.Commands.{Command, paint-fill, layer-fill, push-buf, pop-buf, DepthFill}
 use Rattle.rules.specs.Depth.{Summary}
 use Rattle.rules.specs.Rows.{Row}
-use Rattle.rules.specs.Attributes.{PaintAttr, LayerAttr, Attrs}
+use Rattle.rules.specs.Attributes.{PaintAttr, LayerAttr, Attrs, no-paint, no-layer}
 use Rattle.rules.specs.Painting as rules
-use Rattle.rules.specs.Painting.{Painter, paint-id, layer-id, no-fill, paint-depth, paint-fill-runs, paint-command, paint-when, paint-step}
-use Rattle.paint_command.specs.Painting.{word, attrs-at, RowLent, lent, painter-at, good-command, fill-shown, command-shown, depth-step, command-step, depth-fill-at, command-at, bad-row, next-step, painted-row}
+use Rattle.rules.specs.Painting.{Painter, paint-id, paint-panel, layer-id, layer-panel, no-fill, paint-depth, paint-fill-runs, paint-command, paint-when, paint-step}
+use Rattle.paint_command.specs.Painting.{word, paint-at, layer-at, attrs-at, RowLent, lent, painter-at, good-command, fill-shown, command-shown, depth-step, command-step, depth-fill-at, command-at, bad-row, next-step, painted-row}
 use Rattle.paint_runs.specs.Summaries.{summary-at, Sound, Included}
 use Rattle.paint_command.specs.Standing.{Stands, PainterReady, Holds}
 use Rattle.paint_runs.proofs.Skips.{same-runs, sound-after}
-use Rattle.paint_command.proofs.Judging.{length-count, no-paint, no-layer, paint-id-is, layer-id-is}
+use Rattle.paint_command.proofs.Judging.{length-count, paint-is, layer-is}
 
 -- attributes that a step cannot tell apart
 pub record Same (a b : Attrs) : Type 0 where
@@ -28,36 +28,38 @@ pub record Same (a b : Attrs) : Type 0 where
   pub layer-count : length (a .layers) ≡ length (b .layers)
   pub paint-ids : (i : ℕ) → paint-id a i ≡ paint-id b i
   pub layer-ids : (i : ℕ) → layer-id a i ≡ layer-id b i
+  pub paint-panels : (i : ℕ) → paint-panel a i ≡ paint-panel b i
+  pub layer-panels : (i : ℕ) → layer-panel a i ≡ layer-panel b i
 
 module _ (v : ℕ) (a b : Attrs) (s : Same a b) (p : Painter) where
   same-depth : (f : DepthFill) → paint-depth v a f p ≡ paint-depth v b f p
   unfolding paint-depth
-  same-depth f = rw (s .paint-ids (f .attribute))
+  same-depth f = rw (s .paint-ids (f .attribute), s .paint-panels (f .attribute))
 
   same-command : (c : Command) → paint-command v a c p ≡ paint-command v b c p
   unfolding paint-command paint-fill-runs
-  same-command (paint-fill t x i) = rw (s .paint-ids i)
-  same-command (layer-fill t x i) = rw (s .layer-ids i)
+  same-command (paint-fill t x i) = rw (s .paint-ids i, s .paint-panels i)
+  same-command (layer-fill t x i) = rw (s .layer-ids i, s .layer-panels i)
   same-command (push-buf t) = refl
   same-command pop-buf = refl
 
   same-shown : (u : Summary) (c : Command) → command-shown v a u c p ≡ command-shown v b u c p
   unfolding command-shown fill-shown paint-command
-  same-shown u (paint-fill t x i) = rw (s .paint-ids i)
-  same-shown u (layer-fill t x i) = rw (s .layer-ids i)
+  same-shown u (paint-fill t x i) = rw (s .paint-ids i, s .paint-panels i)
+  same-shown u (layer-fill t x i) = rw (s .layer-ids i, s .layer-panels i)
   same-shown u (push-buf t) = refl
   same-shown u pop-buf = refl
 
   same-good : (n : ℕ) (c : Command) → good-command a n c ≡ good-command b n c
-  same-good n (paint-fill t x i) = rw (s .paint-count, s .paint-ids i)
-  same-good n (layer-fill t x i) = rw (s .layer-count, s .layer-ids i)
+  same-good n (paint-fill t x i) = rw (s .paint-count, s .paint-ids i, s .paint-panels i)
+  same-good n (layer-fill t x i) = rw (s .layer-count, s .layer-ids i, s .layer-panels i)
   same-good n (push-buf t) = refl
   same-good n pop-buf = refl
 
   same-depth-step : (o : Option DepthFill) → depth-step v a p o ≡ depth-step v b p o
   unfolding depth-step
   same-depth-step none = refl
-  same-depth-step (some f) = rw (s .paint-count, s .paint-ids (f .attribute), same-depth f)
+  same-depth-step (some f) = rw (s .paint-count, s .paint-ids (f .attribute), s .paint-panels (f .attribute), same-depth f)
 
   same-command-step : (u : Summary) (o : Option Command) → command-step v a u p o ≡ command-step v b u p o
   unfolding command-step
@@ -90,39 +92,44 @@ module _ (a : Attrs) (ps : List ℕ) (paints : ℕ) (ls : List ℕ) (layers : �
   unfolding attrs-at
   length-layers = rw (length-map) (length-count 0 layers)
 
-  past-paint : (b : Attrs) (i : ℕ) → length (b .paints) ≤ i → paint-id b i ≡ 0
-  past-paint b i q = ap (λ (x : PaintAttr). x .id) (List·getD-eq-default (b .paints) no-paint q)
+  -- what is read of an attribute that is there, and of one that is not
+  module _ (f : PaintAttr → ℕ) (e : (i : ℕ) → i < paints → f (paint-at ps i) ≡ f (getD (a .paints) i no-paint)) where
+    past-paint : (b : Attrs) (i : ℕ) → length (b .paints) ≤ i → f (getD (b .paints) i no-paint) ≡ f no-paint
+    past-paint b i q = ap f (List·getD-eq-default (b .paints) no-paint q)
 
-  past-layer : (b : Attrs) (i : ℕ) → length (b .layers) ≤ i → layer-id b i ≡ 0
-  past-layer b i q = ap (λ (x : LayerAttr). x .id) (List·getD-eq-default (b .layers) no-layer q)
+    same-of-paint : (i : ℕ) → f (getD (attrs-at ps paints ls layers .paints) i no-paint) ≡ f (getD (a .paints) i no-paint)
+    same-of-paint i = go (ltb i paints) refl
+      where
+        go : (t : Bool) → ltb i paints ≡ t → f (getD (attrs-at ps paints ls layers .paints) i no-paint) ≡ f (getD (a .paints) i no-paint)
+        go true q = let g = ltb-true i paints q in ap f (paint-is ps paints ls layers i g) ∙ e i g
+        go false q =
+            let g = ltb-false i paints q in
+            past-paint (attrs-at ps paints ls layers) i (rw length-paints g)
+            ∙ sym (past-paint a i (omega (arith, h .paint-count)))
 
-  same-paint-id : (i : ℕ) → paint-id (attrs-at ps paints ls layers) i ≡ paint-id a i
-  same-paint-id i = go (ltb i paints) refl
-    where
-      go : (t : Bool) → ltb i paints ≡ t → paint-id (attrs-at ps paints ls layers) i ≡ paint-id a i
-      go true e = let g = ltb-true i paints e in paint-id-is ps paints ls layers i g ∙ h .paint-ids i g
-      go false e =
-          let g = ltb-false i paints e in
-          past-paint (attrs-at ps paints ls layers) i (rw length-paints g)
-          ∙ sym (past-paint a i (omega (arith, h .paint-count)))
+  module _ (f : LayerAttr → ℕ) (e : (i : ℕ) → i < layers → f (layer-at ls i) ≡ f (getD (a .layers) i no-layer)) where
+    past-layer : (b : Attrs) (i : ℕ) → length (b .layers) ≤ i → f (getD (b .layers) i no-layer) ≡ f no-layer
+    past-layer b i q = ap f (List·getD-eq-default (b .layers) no-layer q)
 
-  same-layer-id : (i : ℕ) → layer-id (attrs-at ps paints ls layers) i ≡ layer-id a i
-  same-layer-id i = go (ltb i layers) refl
-    where
-      go : (t : Bool) → ltb i layers ≡ t → layer-id (attrs-at ps paints ls layers) i ≡ layer-id a i
-      go true e = let g = ltb-true i layers e in layer-id-is ps paints ls layers i g ∙ h .layer-ids i g
-      go false e =
-          let g = ltb-false i layers e in
-          past-layer (attrs-at ps paints ls layers) i (rw length-layers g)
-          ∙ sym (past-layer a i (omega (arith, h .layer-count)))
+    same-of-layer : (i : ℕ) → f (getD (attrs-at ps paints ls layers .layers) i no-layer) ≡ f (getD (a .layers) i no-layer)
+    same-of-layer i = go (ltb i layers) refl
+      where
+        go : (t : Bool) → ltb i layers ≡ t → f (getD (attrs-at ps paints ls layers .layers) i no-layer) ≡ f (getD (a .layers) i no-layer)
+        go true q = let g = ltb-true i layers q in ap f (layer-is ps paints ls layers i g) ∙ e i g
+        go false q =
+            let g = ltb-false i layers q in
+            past-layer (attrs-at ps paints ls layers) i (rw length-layers g)
+            ∙ sym (past-layer a i (omega (arith, h .layer-count)))
 
   pub held : Same (attrs-at ps paints ls layers) a
   held =
       record {
         paint-count = length-paints ∙ h .paint-count;
         layer-count = length-layers ∙ h .layer-count;
-        paint-ids = same-paint-id;
-        layer-ids = same-layer-id;
+        paint-ids = same-of-paint (λ (x : PaintAttr). x .id) (h .paint-ids);
+        layer-ids = same-of-layer (λ (x : LayerAttr). x .id) (h .layer-ids);
+        paint-panels = same-of-paint (λ (x : PaintAttr). x .panel) (h .paint-panels);
+        layer-panels = same-of-layer (λ (x : LayerAttr). x .panel) (h .layer-panels);
       }
 
 -- where the summary is sound a command is the rules'

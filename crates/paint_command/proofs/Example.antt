@@ -8,7 +8,6 @@ use native.Mathlib.Omega.{arith}
 use lib.ListN.{getD}
 use Rattle.sizes.specs.declared.width.Width.the-variants.{W128}
 use Rattle.sizes.specs.Widths.{bucket-tiles}
-use Rattle.rules.specs.Blends.{default-blend}
 use Rattle.rules.specs.Spans.{span}
 use Rattle.rules.specs.Rows.{Row}
 use Rattle.rules.specs.Attributes.{Attrs}
@@ -17,13 +16,13 @@ use Rattle.cmd.specs.Reading.{command-of, depth-fill-of}
 use Rattle.rules.specs.Depth.{no-depth, can-skip, bucket-runs, runs-in, runs, visible-runs, write-runs, written}
 use Rattle.rules.specs.Painting.{no-fill, paint-depth, paint-command}
 use Rattle.paint_pieces.specs.declared.Painted.{Painted}
-use Rattle.paint_command.specs.Painting.{attrs-at, painter-at, good-paint, command-at, depth-fill-at, lent, StepOut, out, refused, settled, fill-shown, command-shown, depth-step, command-step, next-step, painted-row}
+use Rattle.paint_command.specs.Painting.{paint-with, attrs-at, painter-at, good-paint, command-at, depth-fill-at, lent, StepOut, out, refused, settled, fill-shown, command-shown, depth-step, command-step, next-step, painted-row}
 use Rattle.paint_runs.specs.Summaries.{shown-runs}
 use Rattle.paint_command.specs.Standing.{Stands, PainterReady}
 
--- one paint attribute and one layer attribute, with the ids 1 and 2
+-- one paint attribute and one layer attribute, with the ids 1 and 2 and the panels 5 and 6
 attrs : Attrs
-attrs = attrs-at (0 ∷ 0 ∷ 3 ∷ 0 ∷ 1 ∷ 0 ∷ 0 ∷ 0 ∷ []) 1 (0 ∷ 3 ∷ 0 ∷ 2 ∷ 0 ∷ 0 ∷ []) 1
+attrs = attrs-at (0 ∷ 0 ∷ 3 ∷ 0 ∷ 1 ∷ 0 ∷ 0 ∷ 0 ∷ 5 ∷ []) 1 (0 ∷ 3 ∷ 0 ∷ 2 ∷ 0 ∷ 0 ∷ 6 ∷ []) 1
 
 told : ℕ → Painted
 told n = record { number = 0; finished = false; pieces = n }
@@ -32,13 +31,13 @@ told n = record { number = 0; finished = false; pieces = n }
 row : List ℕ → List ℕ → List ℕ → StepOut
 row d p l = painted-row (bucket-tiles W128) attrs (lent (1 ∷ 1 ∷ []) (1 ∷ 655392 ∷ 0 ∷ 0 ∷ []) (65538 ∷ 0 ∷ []) d p l)
 
-first : row (0 ∷ 0 ∷ []) (0 ∷ 0 ∷ []) (9 ∷ 9 ∷ 9 ∷ 9 ∷ 9 ∷ 9 ∷ 9 ∷ [])
-    ≡ out (told 1) (0 ∷ 1 ∷ []) (1 ∷ 0 ∷ []) (1 ∷ 0 ∷ 32 ∷ 64 ∷ 0 ∷ 0 ∷ 9 ∷ [])
+first : row (0 ∷ 0 ∷ []) (0 ∷ 0 ∷ []) (9 ∷ 9 ∷ 9 ∷ 9 ∷ 9 ∷ 9 ∷ 9 ∷ 9 ∷ [])
+    ≡ out (told 1) (0 ∷ 1 ∷ []) (1 ∷ 0 ∷ []) (1 ∷ 0 ∷ 32 ∷ 64 ∷ 0 ∷ 0 ∷ 5 ∷ 9 ∷ [])
 unfolding attrs row told attrs-at painted-row next-step depth-step command-step settled paint-depth paint-command command-shown fill-shown shown-runs can-skip depth-fill-of command-of written write-runs visible-runs runs runs-in bucket-runs
 first = refl
 
-second : row (0 ∷ 1 ∷ []) (1 ∷ 0 ∷ []) (9 ∷ 9 ∷ 9 ∷ 9 ∷ 9 ∷ 9 ∷ 9 ∷ [])
-    ≡ out (told 1) (0 ∷ 1 ∷ []) (2 ∷ 0 ∷ []) (1 ∷ 0 ∷ 10 ∷ 32 ∷ 0 ∷ 0 ∷ 9 ∷ [])
+second : row (0 ∷ 1 ∷ []) (1 ∷ 0 ∷ []) (9 ∷ 9 ∷ 9 ∷ 9 ∷ 9 ∷ 9 ∷ 9 ∷ 9 ∷ [])
+    ≡ out (told 1) (0 ∷ 1 ∷ []) (2 ∷ 0 ∷ []) (1 ∷ 0 ∷ 10 ∷ 32 ∷ 0 ∷ 0 ∷ 5 ∷ 9 ∷ [])
 unfolding attrs row told attrs-at painted-row next-step depth-step command-step settled paint-depth paint-command command-shown fill-shown shown-runs can-skip depth-fill-of command-of written write-runs visible-runs runs runs-in bucket-runs
 second = refl
 
@@ -48,7 +47,7 @@ unfolding attrs row told attrs-at painted-row next-step depth-step command-step 
 third = refl
 
 -- a list that is too short; a nesting and a number of steps that no row has
-short : row (0 ∷ 0 ∷ []) (0 ∷ 0 ∷ []) (9 ∷ 9 ∷ 9 ∷ 9 ∷ 9 ∷ []) ≡ out (refused 14) (0 ∷ 0 ∷ []) (0 ∷ 0 ∷ []) (9 ∷ 9 ∷ 9 ∷ 9 ∷ 9 ∷ [])
+short : row (0 ∷ 0 ∷ []) (0 ∷ 0 ∷ []) (9 ∷ 9 ∷ 9 ∷ 9 ∷ 9 ∷ 9 ∷ []) ≡ out (refused 14) (0 ∷ 0 ∷ []) (0 ∷ 0 ∷ []) (9 ∷ 9 ∷ 9 ∷ 9 ∷ 9 ∷ 9 ∷ [])
 unfolding attrs row told attrs-at painted-row next-step depth-step command-step settled paint-depth paint-command command-shown fill-shown shown-runs can-skip depth-fill-of command-of written write-runs visible-runs runs runs-in bucket-runs
 short = refl
 
@@ -61,19 +60,32 @@ unfolding attrs row told attrs-at painted-row next-step depth-step command-step 
 past = refl
 
 -- an alpha fill of the layer over tiles 10 to 100, at nesting 2, where bucket 1 holds the larger id 7: its index moves by 16 a tile
-alpha : painted-row (bucket-tiles W128) attrs (lent (1 ∷ 0 ∷ 32 ∷ 64 ∷ 7 ∷ []) (4 ∷ 655460 ∷ 5 ∷ 0 ∷ []) [] (0 ∷ 7 ∷ 0 ∷ 0 ∷ []) (0 ∷ 2 ∷ []) (9 ∷ 9 ∷ 9 ∷ 9 ∷ 9 ∷ 9 ∷ 9 ∷ 9 ∷ 9 ∷ 9 ∷ 9 ∷ 9 ∷ []))
-    ≡ out (told 2) (0 ∷ 7 ∷ 0 ∷ 0 ∷ []) (1 ∷ 2 ∷ []) (4 ∷ 0 ∷ 10 ∷ 32 ∷ 5 ∷ 2 ∷ 4 ∷ 0 ∷ 64 ∷ 100 ∷ 869 ∷ 2 ∷ [])
+alpha : painted-row (bucket-tiles W128) attrs (lent (1 ∷ 0 ∷ 32 ∷ 64 ∷ 7 ∷ []) (4 ∷ 655460 ∷ 5 ∷ 0 ∷ []) [] (0 ∷ 7 ∷ 0 ∷ 0 ∷ []) (0 ∷ 2 ∷ []) (9 ∷ 9 ∷ 9 ∷ 9 ∷ 9 ∷ 9 ∷ 9 ∷ 9 ∷ 9 ∷ 9 ∷ 9 ∷ 9 ∷ 9 ∷ 9 ∷ []))
+    ≡ out (told 2) (0 ∷ 7 ∷ 0 ∷ 0 ∷ []) (1 ∷ 2 ∷ []) (4 ∷ 0 ∷ 10 ∷ 32 ∷ 5 ∷ 2 ∷ 6 ∷ 4 ∷ 0 ∷ 64 ∷ 100 ∷ 869 ∷ 2 ∷ 6 ∷ [])
 unfolding attrs row told attrs-at painted-row next-step depth-step command-step settled paint-depth paint-command command-shown fill-shown shown-runs can-skip depth-fill-of command-of written write-runs visible-runs runs runs-in bucket-runs
 alpha = refl
 
+-- the largest panel and the number after it, which no panel has: of a depth fill, of a fill, of a layer's fill
+panelled : ℕ → List ℕ → List ℕ → List ℕ → List ℕ → StepOut
+panelled q s re fi p =
+    painted-row (bucket-tiles W128) (attrs-at (0 ∷ 0 ∷ 3 ∷ 0 ∷ 1 ∷ 0 ∷ 0 ∷ 0 ∷ q ∷ []) 1 (0 ∷ 3 ∷ 0 ∷ 2 ∷ 0 ∷ 0 ∷ q ∷ []) 1)
+    (lent s re fi (0 ∷ 0 ∷ []) p [])
+
+no-panel : (panelled 256 (1 ∷ 1 ∷ []) (1 ∷ 655392 ∷ 0 ∷ 0 ∷ []) (65538 ∷ 0 ∷ []) (0 ∷ 0 ∷ []) .answer ≡ refused 4)
+    × (panelled 256 (1 ∷ 1 ∷ []) (1 ∷ 655392 ∷ 0 ∷ 0 ∷ []) (65538 ∷ 0 ∷ []) (1 ∷ 0 ∷ []) .answer ≡ refused 4)
+    × (panelled 256 (1 ∷ 0 ∷ []) (3 ∷ 655392 ∷ 0 ∷ 0 ∷ []) [] (0 ∷ 0 ∷ []) .answer ≡ refused 4)
+unfolding panelled attrs-at painted-row next-step depth-step command-step settled paint-depth paint-command command-shown fill-shown shown-runs can-skip depth-fill-of command-of written write-runs visible-runs runs runs-in bucket-runs
+no-panel = (refl, refl, refl)
+
+last-panel : (panelled 255 (1 ∷ 1 ∷ []) (1 ∷ 655392 ∷ 0 ∷ 0 ∷ []) (65538 ∷ 0 ∷ []) (0 ∷ 0 ∷ []) .answer ≡ refused 14)
+    × (panelled 255 (1 ∷ 1 ∷ []) (1 ∷ 655392 ∷ 0 ∷ 0 ∷ []) (65538 ∷ 0 ∷ []) (1 ∷ 0 ∷ []) .answer ≡ refused 14)
+    × (panelled 255 (1 ∷ 0 ∷ []) (3 ∷ 655392 ∷ 0 ∷ 0 ∷ []) [] (0 ∷ 0 ∷ []) .answer ≡ refused 14)
+unfolding panelled attrs-at painted-row next-step depth-step command-step settled paint-depth paint-command command-shown fill-shown shown-runs can-skip depth-fill-of command-of written write-runs visible-runs runs runs-in bucket-runs
+last-panel = (refl, refl, refl)
+
 -- the example's words stand for its row, so that the laws on such rows speak of it
 known : Attrs
-known =
-    record {
-      paints = record { paint = 0; blend = default-blend; mask = 0; id = 1; thread = 0; origin-x = 0; origin-y = 0 } ∷ [];
-      layers = [];
-      filters = [];
-    }
+known = record { paints = paint-with 1 5 ∷ []; layers = []; filters = [] }
 
 on-row : Row
 on-row =

@@ -9,6 +9,7 @@ use native.Mathlib.Omega.{arith}
 use lib.ListN.{length, length-map}
 use lib.Dec.{ltb, eqb}
 use borrow.Author.Tests.{le-leb, ne-eqb}
+use Rattle.sizes.specs.Sizes.{piece-size}
 use Rattle.rules.specs.Answers.{settle}
 use Rattle.rules.specs.Attributes.{no-attrs}
 use Rattle.rules.specs.Spans.{Span, bad-range}
@@ -42,29 +43,29 @@ same-map f g h (x ∷ xs) = rw (h x, same-map f g h xs)
 
 module _ (D P l : List ℕ) (o : rules.Painted) where
   -- no room for the pieces
-  pub no-room : ltb (length l / 6) (length (o .pieces)) ≡ true → out (refused 14) D P l ≡ settled (some o) D P l
+  pub no-room : ltb (length l / piece-size) (length (o .pieces)) ≡ true → out (refused 14) D P l ≡ settled (some o) D P l
   unfolding settled
   no-room e = rw e
 
   -- room for them
-  pub room : (D′ P′ l′ : List ℕ) (n : ℕ) → ltb (length l / 6) (length (o .pieces)) ≡ false → o .finished ≡ false
+  pub room : (D′ P′ l′ : List ℕ) (n : ℕ) → ltb (length l / piece-size) (length (o .pieces)) ≡ false → o .finished ≡ false
       → n ≡ length (o .pieces) → D′ ≡ o .painter .buckets → P′ ≡ o .painter .steps ∷ o .painter .nesting ∷ [] → l′ ≡ laid (o .pieces) l
       → out (listed n) D′ P′ l′ ≡ settled (some o) D P l
   unfolding settled
   room D′ P′ l′ n e f q d p h = rw (e, f, q, d, p, h)
 
 -- a fill's call over its span, on the part of the list that is lent for runs
-module _ (width : Width) (D P l ys : List ℕ) (u : Summary) (layer : Bool) (id i : ℕ) (t : TileSpan) (a : Alpha) (h : t .first ≤ t .end) (g : t .end ≤ 8192)
+module _ (width : Width) (D P l ys : List ℕ) (u : Summary) (layer : Bool) (id i panel : ℕ) (t : TileSpan) (a : Alpha) (h : t .first ≤ t .end) (g : t .end ≤ 8192)
     (r : Runs) (e : listing-out r ys ≡ depth.listing (rule.listed false (length (lent l) / 2) (shown-runs (bucket-tiles width) u D id (tiles t))) (lent l)) where
   runs : List Span
   runs = shown-runs (bucket-tiles width) u D id (tiles t)
 
-  told : depth.out r ys ≡ depth.listing (rule.listed false (length l / 6) runs) (lent l)
+  told : depth.out r ys ≡ depth.listing (rule.listed false (length l / piece-size) runs) (lent l)
   unfolding runs
   told = e ∙ rw (lent-room l)
 
   pub fill-refused : (p : Painted) → (r .number ≡ 0 → ⊥) → p ≡ refused (r .number)
-      → out p D P (back l ys) ≡ settled (some (fill-shown (bucket-tiles width) no-attrs u layer id i (tiles t) (alpha a) (painter-at D P))) D P l
+      → out p D P (back l ys) ≡ settled (some (fill-shown (bucket-tiles width) no-attrs u layer id i panel (tiles t) (alpha a) (painter-at D P))) D P l
   unfolding fill-shown runs
   fill-refused p q o =
       let w = when-refused runs l ys r told q in
@@ -75,10 +76,10 @@ module _ (width : Width) (D P l ys : List ℕ) (u : Summary) (layer : Bool) (id 
     found = when-listed runs l ys r told q
 
     abbrev pub brush : Brush
-    brush = record { layer = layer; «attrs_idx» = i; first = t .first; alpha = a; nesting = word P 1 }
+    brush = record { layer = layer; «attrs_idx» = i; first = t .first; alpha = a; nesting = word P 1; panel = panel }
 
     pub fill-ready : Moves a (t .end - t .first)
-        → (6 * r .count ≤ length (back l ys)) × ((k : ℕ) → k < r .count → Fits 1 brush (run-at (back l ys) k))
+        → (piece-size * r .count ≤ length (back l ys)) × ((k : ℕ) → k < r .count → Fits 1 brush (run-at (back l ys) k))
     unfolding runs
     fill-ready m = (
       listed-room runs l (r .count) (back l ys) found,
@@ -88,10 +89,10 @@ module _ (width : Width) (D P l ys : List ℕ) (u : Summary) (layer : Bool) (id 
     pub fill-done : (p : Painted) (P′ l′ : List ℕ) → advanced p P′ ≡ advanced (listed (r .count)) ((word P 0 + 1) ∷ word P 1 ∷ [])
         → l′ ≡ laid (map (piece 1 brush) (runs-at (r .count) (back l ys))) (back l ys)
         → out p D P′ l′
-        ≡ settled (some (fill-shown (bucket-tiles width) no-attrs u layer id i (tiles t) (alpha a) (painter-at D P))) D P l
+        ≡ settled (some (fill-shown (bucket-tiles width) no-attrs u layer id i panel (tiles t) (alpha a) (painter-at D P))) D P l
     unfolding fill-shown runs
     fill-done p P′ l′ o v =
-        let f : Span → Piece = fill-piece (bucket-tiles width) no-attrs layer i (tiles t) (alpha a) (word P 1) in
+        let f : Span → Piece = fill-piece (bucket-tiles width) no-attrs layer i panel (tiles t) (alpha a) (word P 1) in
         let same : map (piece 1 brush) runs ≡ map f runs = same-map (piece 1 brush) f (λ x. simp mul-one) runs in
         ap (λ (x : Advanced). out (x .answer) D (x .painting) l′) o
         ∙ room D P l _ D ((word P 0 + 1) ∷ word P 1 ∷ []) l′ (r .count)
@@ -103,7 +104,7 @@ module _ (width : Width) (D P l ys : List ℕ) (u : Summary) (layer : Bool) (id 
         (listed-spread runs l (r .count) (back l ys) found 1 brush l′ v ∙ ap (λ (x : List Piece). laid x l) same)
 
 -- a depth fill's call over its buckets, which writes
-module _ (width : Width) (D P l ys D′ : List ℕ) (id i : ℕ) (b : BucketRange) (h : b .first ≤ b .end) (g : b .end ≤ length D) (k : 0 < id)
+module _ (width : Width) (D P l ys D′ : List ℕ) (id i panel : ℕ) (b : BucketRange) (h : b .first ≤ b .end) (g : b .end ≤ length D) (k : 0 < id)
     (r : Runs) (e : depth.out-write r ys D′ ≡ depth.writing D id (buckets b) (lent l)) where
   unset : List Span
   unset = write-runs D (buckets b)
@@ -111,11 +112,11 @@ module _ (width : Width) (D P l ys D′ : List ℕ) (id i : ℕ) (b : BucketRang
   good : (bad-range (length D) (buckets b) || eqb id 0) ≡ false
   good = rw (le-leb _ _ h, le-leb _ _ g, ne-eqb id 0 (λ z. omega arith))
 
-  told-write : depth.out r ys ≡ depth.listing (rule.listed false (length l / 6) unset) (lent l)
+  told-write : depth.out r ys ≡ depth.listing (rule.listed false (length l / piece-size) unset) (lent l)
   unfolding write-answer unset
   told-write = ap (λ (o : depth.OutWrite). o .listed) e ∙ rw (good, lent-room l)
 
-  after : (t : Bool) → ltb (length l / 6) (length unset) ≡ t → D′ ≡ cond t D (written D id (buckets b))
+  after : (t : Bool) → ltb (length l / piece-size) (length unset) ≡ t → D′ ≡ cond t D (written D id (buckets b))
   unfolding write-answer write-after unset
   after t q = ap (λ (o : depth.OutWrite). o .depth) e ∙ rw (good, lent-room l, q) (go t)
     where
@@ -127,7 +128,7 @@ module _ (width : Width) (D P l ys D′ : List ℕ) (id i : ℕ) (b : BucketRang
 
   -- the depth fill's step
   abbrev pub marked : rules.Painted
-  marked = gives (map (depth-piece (bucket-tiles width) no-attrs i) (write-runs D (buckets b))) (written D id (buckets b)) (word P 0 + 1) (word P 1)
+  marked = gives (map (depth-piece (bucket-tiles width) no-attrs i panel) (write-runs D (buckets b))) (written D id (buckets b)) (word P 0 + 1) (word P 1)
 
   pub depth-refused : (p : Painted) → (r .number ≡ 0 → ⊥) → p ≡ refused (r .number)
       → out p D′ P (back l ys) ≡ settled (some marked) D P l
@@ -141,10 +142,10 @@ module _ (width : Width) (D P l ys D′ : List ℕ) (id i : ℕ) (b : BucketRang
     found-unset = when-listed unset l ys r told-write q
 
     abbrev pub depth-brush : Brush
-    depth-brush = record { layer = false; «attrs_idx» = i; first = 0; alpha = Solid; nesting = 0 }
+    depth-brush = record { layer = false; «attrs_idx» = i; first = 0; alpha = Solid; nesting = 0; panel = panel }
 
     pub depth-ready : b .end ≤ 65535
-        → (6 * r .count ≤ length (back l ys)) × ((k : ℕ) → k < r .count → Fits (bucket-tiles width) depth-brush (run-at (back l ys) k))
+        → (piece-size * r .count ≤ length (back l ys)) × ((k : ℕ) → k < r .count → Fits (bucket-tiles width) depth-brush (run-at (back l ys) k))
     unfolding unset
     depth-ready m = (
       listed-room unset l (r .count) (back l ys) found-unset,

@@ -10,6 +10,7 @@ use lib.ListN.{length}
 use lib.Dec.{ltb}
 use borrow.Author.Tests.{le-ltb}
 use Rattle.sizes.specs.declared.width.Width.{Width}
+use Rattle.sizes.specs.Sizes.{piece-size}
 use Rattle.sizes.specs.Widths.{bucket-tiles}
 use Rattle.rules.specs.Spans.{Span}
 use Rattle.rules.specs.Commands.{Command, paint-fill, layer-fill, push-buf, pop-buf, DepthFill}
@@ -45,12 +46,12 @@ module _ (width : Width) (a : Attrs) (ps : List ℕ) (paints : ℕ) (ls : List �
   pub by-rules : painted-row v (attrs-at ps paints ls layers) (lent s re fi D P l) ≡ settled (some (paint-step v a r (painter-at D P))) D P l
   by-rules = same-row v (attrs-at ps paints ls layers) a (held a ps paints ls layers h) (lent s re fi D P l) ∙ stands
 
-  fits : length (paint-step v a r (painter-at D P) .pieces) ≤ length l / 6
+  fits : length (paint-step v a r (painter-at D P) .pieces) ≤ length l / piece-size
       → settled (some (paint-step v a r (painter-at D P))) D P l ≡ left (paint-step v a r (painter-at D P)) l
   unfolding settled
   fits m = rw (le-ltb _ _ m)
 
-  pub by-rules-done : length (paint-step v a r (painter-at D P) .pieces) ≤ length l / 6
+  pub by-rules-done : length (paint-step v a r (painter-at D P) .pieces) ≤ length l / piece-size
       → painted-row v (attrs-at ps paints ls layers) (lent s re fi D P l) ≡ left (paint-step v a r (painter-at D P)) l
   by-rules-done m = by-rules ∙ fits m
 
@@ -65,7 +66,7 @@ Settled o d p l =
 settles : (o : Option rules.Painted) (d p l : List ℕ) → Settled (settled o d p l) d p l
 unfolding settled
 settles none d p l = inr (inl refl, (refl, refl, refl))
-settles (some o) d p l = go (ltb (length l / 6) (length (o .pieces)))
+settles (some o) d p l = go (ltb (length l / piece-size) (length (o .pieces)))
   where
     go : (t : Bool) → Settled (cond t (out (refused 14) d p l) (left o l)) d p l
     go true = inr (inr refl, (refl, refl, refl))
@@ -137,7 +138,7 @@ SameLong o d = (length (o .depth) ≡ length d) × (length (o .painting) ≡ 2)
 settled-long : (o : Option rules.Painted) (d p l : List ℕ) → length p ≡ 2 → Long (length d) o → SameLong (settled o d p l) d
 unfolding settled
 settled-long none d p l e h = (refl, e)
-settled-long (some o) d p l e h = go (ltb (length l / 6) (length (o .pieces)))
+settled-long (some o) d p l e h = go (ltb (length l / piece-size) (length (o .pieces)))
   where
     go : (t : Bool) → SameLong (cond t (out (refused 14) d p l) (left o l)) d
     go true = (refl, e)

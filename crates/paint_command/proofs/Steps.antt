@@ -7,7 +7,9 @@ use Prim.Native.Nat.{ℕ, _≤_, _<_, _+_, _-_, _*_, _/_}
 use native.Mathlib.Omega.{arith}
 use lib.ListN.{length}
 use lib.Dec.{ltb}
-use borrow.Author.Tests.{lt-ltb, le-ltb, ltb-true}
+use borrow.Author.Tests.{lt-ltb, le-ltb}
+use Rattle.sizes.specs.Sizes.{piece-size}
+use Rattle.rules.specs.Inputs.{good-panel}
 use Rattle.rules.specs.Attributes.{Attrs, no-attrs}
 use Rattle.rules.specs.Spans.{Span}
 use Rattle.rules.specs.Commands as rule
@@ -33,10 +35,10 @@ use Rattle.cmd.specs.Good.{GoodAlpha, GoodCommand}
 use Rattle.cmd.proofs.BothWays.{depth-reads-good, reads-good}
 use Rattle.paint_pieces.specs.declared.Painted.{Painted}
 use Rattle.paint_pieces.specs.Answers.{Advanced, advanced}
-use Rattle.paint_command.specs.Painting.{word, attrs-at, RowLent, lent, StepOut, out, painter-at, good-id, given, fill-shown, command-shown, depth-step, command-step, depth-fill-at, command-at, bad-row, next-step, refused, listed, settled, painted-row}
+use Rattle.paint_command.specs.Painting.{word, paint-at, layer-at, attrs-at, RowLent, lent, StepOut, out, painter-at, paint-given, layer-given, fill-shown, command-shown, depth-step, command-step, depth-fill-at, command-at, bad-row, next-step, refused, listed, settled, painted-row}
 use Rattle.paint_runs.specs.Summaries.{good-summary, summary-at}
 use Rattle.paint_pieces.proofs.Two.{two-same}
-use Rattle.paint_command.proofs.Judging.{given-none, given-some, paint-id-is, layer-id-is, good-paint-is, good-layer-is}
+use Rattle.paint_command.proofs.Judging.{given-none, good-paint-is, good-layer-is, paint-given-good, paint-given-id, paint-given-panel, layer-given-good, layer-given-id, layer-given-panel}
 
 module _ (D P l : List ℕ) where
   -- no step: 4
@@ -49,15 +51,7 @@ module _ (D P l : List ℕ) where
       → out (record { number = 0; finished = b; pieces = 0 }) D (q .steps ∷ q .nesting ∷ []) l
       ≡ settled (some (record { finished = b; pieces = []; painter = q })) D P l
   unfolding settled
-  bare b q e = rw (le-ltb (length l / 6) 0 (omega arith), e)
-
--- below: what an id that is given says of the attribute
-below : (i n id : ℕ) → (ltb i n && good-id id) ≡ true → i < n
-below i n id h = go (ltb i n) refl h
-  where
-    go : (t : Bool) → ltb i n ≡ t → (t && good-id id) ≡ true → i < n
-    go true e q = ltb-true i n e
-    go false e q = let z : _≡_ {A = ℕ} 0 1 = cc in absurd (omega arith)
+  bare b q e = rw (le-ltb (length l / piece-size) 0 (omega arith), e)
 
 -- at `wide` tiles a bucket
 module _ (wide : ℕ) (ps : List ℕ) (paints : ℕ) (ls : List ℕ) (layers : ℕ) (D P l : List ℕ) where
@@ -71,75 +65,66 @@ module _ (wide : ℕ) (ps : List ℕ) (paints : ℕ) (ls : List ℕ) (layers : �
     depth-unread p e q = forged D P l _ p (ap (depth-step wide attrs (painter-at D P)) (sym h ∙ ap read-depth-of e)) q
 
     module _ (f : DepthFill) (e : r ≡ read-depth.Fill f) (id : ℕ)
-        (g : id ≡ given (ltb (f .«attrs_idx») paints) (word ps (8 * f .«attrs_idx» + 4))) where
+        (g : id ≡ paint-given ps paints (f .«attrs_idx»)) where
       is-fill : o ≡ some (depth-fill f)
       is-fill = sym h ∙ ap read-depth-of e
 
       pub depth-forged : (p : Painted) → id ≡ 0 → p ≡ refused 4 → out p D P l ≡ settled (depth-step wide attrs (painter-at D P) o) D P l
       unfolding depth-step
       depth-forged p z q =
-          let bad = given-none (ltb (f .«attrs_idx») paints) (word ps (8 * f .«attrs_idx» + 4)) (sym g ∙ z) in
+          let bad = given-none (ltb (f .«attrs_idx») paints && good-panel (paint-at ps (f .«attrs_idx») .panel)) (paint-at ps (f .«attrs_idx») .id) (sym g ∙ z) in
           forged D P l _ p (rw (is-fill, good-paint-is ps paints ls layers (f .«attrs_idx») ∙ bad)) q
 
-      pub depth-taken : (x : StepOut) → (id ≡ 0 → ⊥)
+      pub depth-taken : (x : StepOut) → (id ≡ 0 → ⊥) → (k panel : ℕ) → k ≡ f .«attrs_idx» → panel ≡ paint-at ps k .panel
           → x
           ≡ settled
           (some
-          (gives (map (depth-piece wide no-attrs (f .«attrs_idx»)) (write-runs D (buckets (f .buckets)))) (written D id (buckets (f .buckets))) (word P 0 + 1) (word P 1)))
+          (gives (map (depth-piece wide no-attrs (f .«attrs_idx») panel) (write-runs D (buckets (f .buckets)))) (written D id (buckets (f .buckets))) (word P 0 + 1) (word P 1)))
           D P l
           → x ≡ settled (depth-step wide attrs (painter-at D P) o) D P l
       unfolding depth-step paint-depth
-      depth-taken x nz q =
+      depth-taken x nz k panel y n q =
           let i = f .«attrs_idx» in
-          let good = given-some (ltb i paints) (word ps (8 * i + 4)) (λ z. nz (g ∙ z)) in
-          let same : id ≡ rules.paint-id attrs i =
-          g ∙ good .1 ∙ sym (paint-id-is ps paints ls layers i (below i paints (word ps (8 * i + 4)) (good .0)))
-          in
-          q ∙ rw (is-fill, good-paint-is ps paints ls layers i ∙ good .0, same)
+          q
+          ∙ rw (is-fill, paint-given-good ps paints ls layers i id nz g, paint-given-id ps paints ls layers i id nz g, paint-given-panel ps paints ls layers i id nz g k panel y n)
 
   -- a command's fill, of a paint ..
   module _ (v : Summary) (c : RenderCmd) (f : Fill) (e : c ≡ PaintFill f) (id : ℕ)
-      (g : id ≡ given (ltb (f .«attrs_idx») paints) (word ps (8 * f .«attrs_idx» + 4))) where
+      (g : id ≡ paint-given ps paints (f .«attrs_idx»)) where
     pub paint-forged : (p : Painted) → id ≡ 0 → p ≡ refused 4
         → out p D P l ≡ settled (command-step wide attrs v (painter-at D P) (some (command c))) D P l
     unfolding command-step
     paint-forged p z q =
-        let bad = given-none (ltb (f .«attrs_idx») paints) (word ps (8 * f .«attrs_idx» + 4)) (sym g ∙ z) in
+        let bad = given-none (ltb (f .«attrs_idx») paints && good-panel (paint-at ps (f .«attrs_idx») .panel)) (paint-at ps (f .«attrs_idx») .id) (sym g ∙ z) in
         forged D P l _ p (rw (e, good-paint-is ps paints ls layers (f .«attrs_idx») ∙ bad)) q
 
-    pub paint-taken : (x : StepOut) → (id ≡ 0 → ⊥)
-        → x ≡ settled (some (fill-shown wide no-attrs v false id (f .«attrs_idx») (tiles (f .span)) (alpha (f .alpha)) (painter-at D P))) D P l
+    pub paint-taken : (x : StepOut) → (id ≡ 0 → ⊥) → (k panel : ℕ) → k ≡ f .«attrs_idx» → panel ≡ paint-at ps k .panel
+        → x ≡ settled (some (fill-shown wide no-attrs v false id (f .«attrs_idx») panel (tiles (f .span)) (alpha (f .alpha)) (painter-at D P))) D P l
         → x ≡ settled (command-step wide attrs v (painter-at D P) (some (command c))) D P l
     unfolding command-step command-shown fill-shown
-    paint-taken x nz q =
+    paint-taken x nz k panel y n q =
         let i = f .«attrs_idx» in
-        let good = given-some (ltb i paints) (word ps (8 * i + 4)) (λ z. nz (g ∙ z)) in
-        let same : id ≡ rules.paint-id attrs i =
-        g ∙ good .1 ∙ sym (paint-id-is ps paints ls layers i (below i paints (word ps (8 * i + 4)) (good .0)))
-        in
-        q ∙ rw (e, good-paint-is ps paints ls layers i ∙ good .0, same)
+        q
+        ∙ rw (e, paint-given-good ps paints ls layers i id nz g, paint-given-id ps paints ls layers i id nz g, paint-given-panel ps paints ls layers i id nz g k panel y n)
 
   -- .. and of a layer
   module _ (v : Summary) (c : RenderCmd) (f : Fill) (e : c ≡ LayerFill f) (id : ℕ)
-      (g : id ≡ given (ltb (f .«attrs_idx») layers) (word ls (6 * f .«attrs_idx» + 3))) where
+      (g : id ≡ layer-given ls layers (f .«attrs_idx»)) where
     pub layer-forged : (p : Painted) → id ≡ 0 → p ≡ refused 4
         → out p D P l ≡ settled (command-step wide attrs v (painter-at D P) (some (command c))) D P l
     unfolding command-step
     layer-forged p z q =
-        let bad = given-none (ltb (f .«attrs_idx») layers) (word ls (6 * f .«attrs_idx» + 3)) (sym g ∙ z) in
+        let bad = given-none (ltb (f .«attrs_idx») layers && good-panel (layer-at ls (f .«attrs_idx») .panel)) (layer-at ls (f .«attrs_idx») .id) (sym g ∙ z) in
         forged D P l _ p (rw (e, good-layer-is ps paints ls layers (f .«attrs_idx») ∙ bad)) q
 
-    pub layer-taken : (x : StepOut) → (id ≡ 0 → ⊥)
-        → x ≡ settled (some (fill-shown wide no-attrs v true id (f .«attrs_idx») (tiles (f .span)) (alpha (f .alpha)) (painter-at D P))) D P l
+    pub layer-taken : (x : StepOut) → (id ≡ 0 → ⊥) → (k panel : ℕ) → k ≡ f .«attrs_idx» → panel ≡ layer-at ls k .panel
+        → x ≡ settled (some (fill-shown wide no-attrs v true id (f .«attrs_idx») panel (tiles (f .span)) (alpha (f .alpha)) (painter-at D P))) D P l
         → x ≡ settled (command-step wide attrs v (painter-at D P) (some (command c))) D P l
     unfolding command-step command-shown fill-shown
-    layer-taken x nz q =
+    layer-taken x nz k panel y n q =
         let i = f .«attrs_idx» in
-        let good = given-some (ltb i layers) (word ls (6 * i + 3)) (λ z. nz (g ∙ z)) in
-        let same : id ≡ rules.layer-id attrs i =
-        g ∙ good .1 ∙ sym (layer-id-is ps paints ls layers i (below i layers (word ls (6 * i + 3)) (good .0)))
-        in
-        q ∙ rw (e, good-layer-is ps paints ls layers i ∙ good .0, same)
+        q
+        ∙ rw (e, layer-given-good ps paints ls layers i id nz g, layer-given-id ps paints ls layers i id nz g, layer-given-panel ps paints ls layers i id nz g k panel y n)
 
   -- buffers
   module _ (v : Summary) (c : RenderCmd) (b : Recorded) (e : c ≡ PushBuf b) where

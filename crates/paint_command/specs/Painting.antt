@@ -3,31 +3,39 @@ use Prim.Native.Nat.{ℕ, _+_, _-_, _*_, _/_}
 use mathlib.Core.Bool.{Bool, true, false, _&&_, _||_, not, cond}
 use mathlib.Core.List.{List, [], _∷_, map}
 use mathlib.Core.Option.{Option, none, some}
-use lib.ListN.{length, getD}
+use lib.ListN.{length}
 use lib.Dec.{leb, ltb}
-use Rattle.sizes.specs.Sizes.{most-layers, last-id}
+use Rattle.sizes.specs.Sizes.{most-layers, last-id, paint-attr-size, paint-id-at, paint-panel-at, layer-attr-size, layer-id-at, layer-panel-at, piece-size}
 use Rattle.rules.specs.Lists.{count-from}
 use Rattle.rules.specs.Blends.{default-blend}
 use Rattle.rules.specs.Answers.{Done, BadRecord, NoRoom}
 use Rattle.rules.specs.Spans.{Span}
+use Rattle.rules.specs.Inputs.{good-panel}
 use Rattle.rules.specs.Depth.{Summary}
 use Rattle.rules.specs.Commands.{Command, paint-fill, layer-fill, push-buf, pop-buf, DepthFill}
 use Rattle.cmd.specs.Reading.{command-of, depth-fill-of, only-if}
 use Rattle.rules.specs.Attributes.{PaintAttr, LayerAttr, Attrs}
 use Rattle.rules.specs.Painting as rules
-use Rattle.rules.specs.Painting.{Painter, paint-id, layer-id, gives, fill-piece, paint-depth, paint-command}
+use Rattle.rules.specs.Painting.{Painter, paint-id, paint-panel, layer-id, layer-panel, gives, fill-piece, paint-depth, paint-command}
 use Rattle.paint_pieces.specs.declared.Painted.{Painted}
 use Rattle.paint_pieces.specs.Pieces.{laid}
 pub use Rattle.paint_pieces.specs.Answers.{word, refused, listed}
 use Rattle.paint_runs.specs.Summaries.{good-summary, summary-at, shown-runs}
 
--- The attributes as far as a step reads them: their ids, word 4 of 8 and word 3 of 6.
+-- The attributes as far as a step reads them: an id and a panel ..
+abbrev pub paint-with : ℕ → ℕ → PaintAttr
+paint-with id q =
+    record { paint = 0; blend = default-blend; mask = 0; id = id; thread = 0; origin-x = 0; origin-y = 0; panel = q }
+
+abbrev pub layer-with : ℕ → ℕ → LayerAttr
+layer-with id q = record { blend = default-blend; opacity = 0; mask = 0; id = id; thread = 0; panel = q }
+
+-- .. at place i of a table
 abbrev pub paint-at : List ℕ → ℕ → PaintAttr
-paint-at ws i =
-    record { paint = 0; blend = default-blend; mask = 0; id = word ws (8 * i + 4); thread = 0; origin-x = 0; origin-y = 0 }
+paint-at ws i = paint-with (word ws (paint-attr-size * i + paint-id-at)) (word ws (paint-attr-size * i + paint-panel-at))
 
 abbrev pub layer-at : List ℕ → ℕ → LayerAttr
-layer-at ws i = record { blend = default-blend; opacity = 0; mask = 0; id = word ws (6 * i + 3); thread = 0 }
+layer-at ws i = layer-with (word ws (layer-attr-size * i + layer-id-at)) (word ws (layer-attr-size * i + layer-panel-at))
 
 unfoldable pub attrs-at : List ℕ → ℕ → List ℕ → ℕ → Attrs
 attrs-at ps paints ls layers =
@@ -63,17 +71,24 @@ painter-at d p = record { buckets = d; steps = word p 0; nesting = word p 1 }
 abbrev pub good-id : ℕ → Bool
 good-id id = ltb 0 id && leb id last-id
 
--- an id, or 0 if its attribute is not there or it is not good
+-- an id, or 0 if its attribute does not stand or it is not good
 unfoldable pub given : Bool → ℕ → ℕ
-given there id = cond (there && good-id id) id 0
+given stands id = cond (stands && good-id id) id 0
+
+-- .. of the attribute at place i of a table with n of them: it stands if it is there with a panel
+abbrev pub paint-given : List ℕ → ℕ → ℕ → ℕ
+paint-given ws n i = given (ltb i n && good-panel (paint-at ws i .panel)) (paint-at ws i .id)
+
+abbrev pub layer-given : List ℕ → ℕ → ℕ → ℕ
+layer-given ws n i = given (ltb i n && good-panel (layer-at ws i .panel)) (layer-at ws i .id)
 
 module _ (attrs : Attrs) where
-  -- an attribute that is there, with such an id
+  -- an attribute that is there, with a panel and with such an id
   abbrev pub good-paint : ℕ → Bool
-  good-paint i = ltb i (length (attrs .paints)) && good-id (paint-id attrs i)
+  good-paint i = ltb i (length (attrs .paints)) && good-panel (paint-panel attrs i) && good-id (paint-id attrs i)
 
   abbrev pub good-layer : ℕ → Bool
-  good-layer i = ltb i (length (attrs .layers)) && good-id (layer-id attrs i)
+  good-layer i = ltb i (length (attrs .layers)) && good-panel (layer-panel attrs i) && good-id (layer-id attrs i)
 
   -- a fill whose attribute is good, a push below nesting 16, a pop above nesting 0
   abbrev pub good-command : ℕ → Command → Bool
@@ -84,18 +99,18 @@ module _ (attrs : Attrs) where
 
 -- at v tiles a bucket
 module _ (v : ℕ) (attrs : Attrs) where
-  -- a fill gives the runs that are shown, for its attribute's id
-  unfoldable pub fill-shown : Summary → Bool → ℕ → ℕ → Span → Option ℕ → Painter → rules.Painted
-  fill-shown u l id i s a p =
-      gives (map (fill-piece v attrs l i s a (p .nesting)) (shown-runs v u (p .buckets) id s))
+  -- a fill gives the runs that are shown, for its attribute's id; q: its panel
+  unfoldable pub fill-shown : Summary → Bool → ℕ → ℕ → ℕ → Span → Option ℕ → Painter → rules.Painted
+  fill-shown u l id i q s a p =
+      gives (map (fill-piece v attrs l i q s a (p .nesting)) (shown-runs v u (p .buckets) id s))
       (p .buckets)
       (p .steps + 1)
       (p .nesting)
 
   -- a command by the rules, its fill's runs by the row's summary
   unfoldable pub command-shown : Summary → Command → Painter → rules.Painted
-  command-shown u (paint-fill s a i) p = fill-shown u false (paint-id attrs i) i s a p
-  command-shown u (layer-fill s a i) p = fill-shown u true (layer-id attrs i) i s a p
+  command-shown u (paint-fill s a i) p = fill-shown u false (paint-id attrs i) i (paint-panel attrs i) s a p
+  command-shown u (layer-fill s a i) p = fill-shown u true (layer-id attrs i) i (layer-panel attrs i) s a p
   command-shown u (push-buf s) p = paint-command v attrs (push-buf s) p
   command-shown u pop-buf p = paint-command v attrs pop-buf p
 
@@ -146,7 +161,7 @@ left o l =
 
 unfoldable pub settled : Option rules.Painted → List ℕ → List ℕ → List ℕ → StepOut
 settled none d p l = out (refused BadRecord) d p l
-settled (some o) d p l = cond (ltb (length l / 6) (length (o .pieces))) (out (refused NoRoom) d p l) (left o l)
+settled (some o) d p l = cond (ltb (length l / piece-size) (length (o .pieces))) (out (refused NoRoom) d p l) (left o l)
 
 unfoldable pub painted-row : ℕ → Attrs → RowLent → StepOut
 painted-row v attrs w = settled (next-step v attrs w) (w .depth) (w .painting) (w .list)

@@ -9,9 +9,9 @@ use Rattle.sizes.specs.Sizes.{most-layers}
 use Rattle.rules.specs.Commands.{pop-buf}
 use Rattle.rules.specs.Rows.{Row}
 use Rattle.rules.specs.Attributes.{Attrs}
-use Rattle.rules.specs.Painting.{Painter, paint-id, layer-id, no-fill}
+use Rattle.rules.specs.Painting.{Painter, paint-id, paint-panel, layer-id, layer-panel, no-fill}
 use Rattle.paint_runs.specs.Summaries.{good-summary}
-use Rattle.paint_command.specs.Painting.{word, command-at, depth-fill-at, good-paint, good-command}
+use Rattle.paint_command.specs.Painting.{word, paint-at, layer-at, command-at, depth-fill-at, good-paint, good-command}
 
 -- the counts, a summary within bounds, and at each place the row's command or depth fill; n buckets
 pub record Stands (attrs : Attrs) (n : ℕ) (r : Row) (state render fills : List ℕ) : Type 0 where
@@ -31,9 +31,11 @@ pub record PainterReady (attrs : Attrs) (r : Row) (p : Painter) : Type 0 where
   pub good-next : length (r .fills) ≤ p .steps → p .steps - length (r .fills) < length (r .commands)
       → good-command attrs (p .nesting) (getD (r .commands) (p .steps - length (r .fills)) pop-buf) ≡ true
 
--- the tables hold the attributes' ids
+-- the tables hold the attributes' ids and panels
 pub record Holds (attrs : Attrs) (paint-table : List ℕ) (paints : ℕ) (layer-table : List ℕ) (layers : ℕ) : Type 0 where
   pub paint-count : paints ≡ length (attrs .paints)
   pub layer-count : layers ≡ length (attrs .layers)
-  pub paint-ids : (i : ℕ) → i < paints → word paint-table (8 * i + 4) ≡ paint-id attrs i
-  pub layer-ids : (i : ℕ) → i < layers → word layer-table (6 * i + 3) ≡ layer-id attrs i
+  pub paint-ids : (i : ℕ) → i < paints → paint-at paint-table i .id ≡ paint-id attrs i
+  pub paint-panels : (i : ℕ) → i < paints → paint-at paint-table i .panel ≡ paint-panel attrs i
+  pub layer-ids : (i : ℕ) → i < layers → layer-at layer-table i .id ≡ layer-id attrs i
+  pub layer-panels : (i : ℕ) → i < layers → layer-at layer-table i .panel ≡ layer-panel attrs i

@@ -9,6 +9,7 @@ use paint_pieces::advance;
 use paint_pieces::refused;
 use paint_pieces::spread;
 use paint_runs::shown_runs;
+use sizes::PIECE;
 use sizes::answers::DONE;
 use sizes::width::Width;
 use span::Alpha;
@@ -32,14 +33,15 @@ pub fn paint_depth(
     painting: &mut [u32],
     fill: DepthFill,
     id: u32,
+    panel: u32,
     list: &mut [u32],
     width: Width,
 ) -> Painted
     requires { ⌜ (fill .buckets .first ≤ fill .buckets .«end») × (fill .buckets .«end» ≤ length (now depth)) × (fill .buckets .«end» ≤ 65535) × (0 < id) ⌝ }
     requires { ⌜ (length (now painting) ≡ 2) × (word (now painting) 0 < 4294967295) ⌝ }
-    ensures { λ r. ⌜ out r (now (depth .exit)) (now (painting .exit)) (now (list .exit)) ≡ settled (some (gives (map (depth-piece (bucket-tiles width) no-attrs (fill .«attrs_idx»)) (write-runs (now (depth .entry)) (buckets (fill .buckets)))) (written (now (depth .entry)) id (buckets (fill .buckets))) (word (now (painting .entry)) 0 + 1) (word (now (painting .entry)) 1))) (now (depth .entry)) (now (painting .entry)) (now (list .entry)) ⌝ }
+    ensures { λ r. ⌜ out r (now (depth .exit)) (now (painting .exit)) (now (list .exit)) ≡ settled (some (gives (map (depth-piece (bucket-tiles width) no-attrs (fill .«attrs_idx») panel) (write-runs (now (depth .entry)) (buckets (fill .buckets)))) (written (now (depth .entry)) id (buckets (fill .buckets))) (word (now (painting .entry)) 0 + 1) (word (now (painting .entry)) 1))) (now (depth .entry)) (now (painting .entry)) (now (list .entry)) ⌝ }
 {
-    let room = list.len() / 6;
+    let room = list.len() / PIECE;
     let range = fill.buckets;
     let found = unset_runs_and_write(depth, range, id, &mut list[..2 * room]);
     let number = found.number;
@@ -53,6 +55,7 @@ pub fn paint_depth(
         first: 0,
         alpha: Alpha::Solid,
         nesting: 0,
+        panel,
     };
     spread(list, n, width.tiles(), brush);
     let nesting = painting[1];
@@ -67,14 +70,15 @@ pub fn paint_fill(
     layer: bool,
     fill: Fill,
     id: u32,
+    panel: u32,
     list: &mut [u32],
     width: Width,
 ) -> Painted
     requires { ⌜ (fill .span .first ≤ fill .span .«end») × (fill .span .«end» ≤ tile-end) × Moves (fill .alpha) (fill .span .«end» - fill .span .first) × (length (now depth) ≤ 65535) ⌝ }
     requires { ⌜ (length (now painting) ≡ 2) × (word (now painting) 0 < 4294967295) ⌝ }
-    ensures { λ r. ⌜ out r (now (depth .entry)) (now (painting .exit)) (now (list .exit)) ≡ settled (some (fill-shown (bucket-tiles width) no-attrs (summary sum) layer id (fill .«attrs_idx») (tiles (fill .span)) (alpha (fill .alpha)) (painter-at (now (depth .entry)) (now (painting .entry))))) (now (depth .entry)) (now (painting .entry)) (now (list .entry)) ⌝ }
+    ensures { λ r. ⌜ out r (now (depth .entry)) (now (painting .exit)) (now (list .exit)) ≡ settled (some (fill-shown (bucket-tiles width) no-attrs (summary sum) layer id (fill .«attrs_idx») panel (tiles (fill .span)) (alpha (fill .alpha)) (painter-at (now (depth .entry)) (now (painting .entry))))) (now (depth .entry)) (now (painting .entry)) (now (list .entry)) ⌝ }
 {
-    let room = list.len() / 6;
+    let room = list.len() / PIECE;
     let span = fill.span;
     let found = shown_runs(depth, sum, span, id, &mut list[..2 * room], width);
     let number = found.number;
@@ -90,6 +94,7 @@ pub fn paint_fill(
         first: span.first,
         alpha: start,
         nesting,
+        panel,
     };
     spread(list, n, 1, brush);
     advance(painting, nesting, n)

@@ -2,7 +2,9 @@
 use crate::fills::paint_depth;
 use crate::fills::paint_fill;
 use cmd::attrs::layer_id;
+use cmd::attrs::layer_panel;
 use cmd::attrs::paint_id;
+use cmd::attrs::paint_panel;
 use cmd::command::CmdWords;
 use cmd::command::ReadCmd;
 use cmd::command::RenderCmd;
@@ -17,6 +19,7 @@ use paint_runs::summary_of;
 use sizes::DEPTHS;
 use sizes::LAST_ID;
 use sizes::MOST_LAYERS;
+use sizes::PANEL_END;
 use sizes::RENDERS;
 use sizes::answers::BAD_RECORD;
 use sizes::answers::DONE;
@@ -28,13 +31,12 @@ ghost use mathlib.Core.List.{[]};
 ghost use mathlib.Core.Option.{some};
 ghost use Prim.Native.Nat.{_+_, _*_, _≤_, _<_};
 ghost use lib.ListN.{length};
-ghost use lib.Dec.{ltb};
 ghost use Rattle.sizes.specs.Sizes.{most-room, most-attrs, row-size, paint-attr-table, layer-attr-table};
 ghost use Rattle.sizes.specs.Widths.{bucket-tiles};
 ghost use Rattle.cmd.specs.Commands.{command, read-of};
 ghost use Rattle.cmd.specs.Good.{GoodCommand};
 ghost use Rattle.depth.specs.Answers.{summary};
-ghost use Rattle.paint_command.specs.Painting.{word, attrs-at, lent, out, painter-at, given, depth-step, command-step, depth-fill-at, command-at, settled, painted-row};
+ghost use Rattle.paint_command.specs.Painting.{word, attrs-at, lent, out, painter-at, given, paint-given, layer-given, depth-step, command-step, depth-fill-at, command-at, settled, painted-row};
 
 // The id if a draw can have taken it, else 0.
 fn taken(id: u32) -> u32
@@ -43,13 +45,16 @@ fn taken(id: u32) -> u32
     if id <= LAST_ID { id } else { 0 }
 }
 
-// The id of a paint attribute, 0 if the attribute is not there or has no id.
+// The id of a paint attribute, 0 if the attribute is not there or its id or panel is not good.
 fn paint_taken(paint_attrs: &[u32], paints: u32, i: u32) -> u32
     requires { ⌜ (length (now «paint_attrs») ≡ paint-attr-table) × (paints ≤ most-attrs) ⌝ }
-    ensures { λ r. ⌜ r ≡ given (ltb i paints) (word (now («paint_attrs» .entry)) (8 * i + 4)) ⌝ }
+    ensures { λ r. ⌜ r ≡ paint-given (now («paint_attrs» .entry)) paints i ⌝ }
 {
     if i < paints {
-        return taken(paint_id(paint_attrs, wide(i)));
+        let k = wide(i);
+        if paint_panel(paint_attrs, k) < PANEL_END {
+            return taken(paint_id(paint_attrs, k));
+        }
     }
     0
 }
@@ -57,10 +62,13 @@ fn paint_taken(paint_attrs: &[u32], paints: u32, i: u32) -> u32
 // The same of a layer attribute.
 fn layer_taken(layer_attrs: &[u32], layers: u32, i: u32) -> u32
     requires { ⌜ (length (now «layer_attrs») ≡ layer-attr-table) × (layers ≤ most-attrs) ⌝ }
-    ensures { λ r. ⌜ r ≡ given (ltb i layers) (word (now («layer_attrs» .entry)) (6 * i + 3)) ⌝ }
+    ensures { λ r. ⌜ r ≡ layer-given (now («layer_attrs» .entry)) layers i ⌝ }
 {
     if i < layers {
-        return taken(layer_id(layer_attrs, wide(i)));
+        let k = wide(i);
+        if layer_panel(layer_attrs, k) < PANEL_END {
+            return taken(layer_id(layer_attrs, k));
+        }
     }
     0
 }
@@ -81,10 +89,9 @@ fn step_depth(
     ensures { λ r. ⌜ out r (now (depth .exit)) (now (painting .exit)) (now (list .exit)) ≡ settled (depth-step (bucket-tiles width) (attrs-at (now («paint_attrs» .entry)) paints [] 0) (painter-at (now (depth .entry)) (now (painting .entry))) (depth-fill-at (length (now (depth .entry))) (now (fills .entry)) k)) (now (depth .entry)) (now (painting .entry)) (now (list .entry)) ⌝ }
 {
     let at = 2 * k;
-    let words = DepthWords {
-        span: fills[at],
-        attrs_idx: fills[at + 1],
-    };
+    let span = fills[at];
+    let attrs_idx = fills[at + 1];
+    let words = DepthWords { span, attrs_idx };
     match words.read(depth.len() as u32) {
         ReadDepth::Bad => refused(BAD_RECORD),
         ReadDepth::Fill(fill) => {
@@ -92,7 +99,8 @@ fn step_depth(
             if id == 0 {
                 return refused(BAD_RECORD);
             }
-            paint_depth(depth, painting, fill, id, list, width)
+            let panel = paint_panel(paint_attrs, wide(fill.attrs_idx));
+            paint_depth(depth, painting, fill, id, panel, list, width)
         }
     }
 }
@@ -120,14 +128,16 @@ fn step_command(
             if id == 0 {
                 return refused(BAD_RECORD);
             }
-            paint_fill(depth, painting, sum, false, fill, id, list, width)
+            let panel = paint_panel(paint_attrs, wide(fill.attrs_idx));
+            paint_fill(depth, painting, sum, false, fill, id, panel, list, width)
         }
         RenderCmd::LayerFill(fill) => {
             let id = layer_taken(layer_attrs, layers, fill.attrs_idx);
             if id == 0 {
                 return refused(BAD_RECORD);
             }
-            paint_fill(depth, painting, sum, true, fill, id, list, width)
+            let panel = layer_panel(layer_attrs, wide(fill.attrs_idx));
+            paint_fill(depth, painting, sum, true, fill, id, panel, list, width)
         }
         RenderCmd::PushBuf(_) => {
             let nesting = painting[1];

@@ -5,6 +5,7 @@ use Prim.Native.Nat.{ℕ, zero, suc, _≤_, _<_, _+_, _-_, _*_}
 use native.Mathlib.Omega.{arith}
 use lib.ListN.{length, take, drop, length-append, length-map}
 use lib.Seq.{length-take-le, drop-at}
+use Rattle.sizes.specs.Sizes.{piece-size}
 use Rattle.rules.specs.Lists.{join}
 use Rattle.rules.specs.Spans.{Span}
 use Rattle.rules.specs.Depth.{tiles-of}
@@ -23,7 +24,7 @@ map-append : {A B : Type 0} (f : A → B) (xs ys : List A) → map f (xs ++ ys) 
 map-append f [] ys = refl
 map-append f (x ∷ xs) ys = rw (map-append f xs ys)
 
-pub length-pieces : (ps : List Piece) → length (join piece-words ps) ≡ 6 * length ps
+pub length-pieces : (ps : List Piece) → length (join piece-words ps) ≡ piece-size * length ps
 length-pieces [] = refl
 length-pieces (p ∷ ps) = let h = length-pieces ps in omega arith
 
@@ -43,36 +44,36 @@ module _ (w : ℕ) (b : Brush) where
 
   -- the list once the first k runs are pieces too
   pub words : ℕ → List ℕ → List ℕ
-  words k l = join piece-words (map piece (runs-at k l)) ++ drop (6 * k) l
+  words k l = join piece-words (map piece (runs-at k l)) ++ drop (piece-size * k) l
 
   -- k runs of n are still to become pieces
   pub record Spreading (l₀ : List ℕ) (n k : ℕ) (l : List ℕ) : Type 0 where
     pub kept : length l ≡ length l₀
-    pub room : 6 * k ≤ length l
+    pub room : piece-size * k ≤ length l
     pub fits : (j : ℕ) → j < k → Fits w b (run-at l j)
     pub rest : words k l ≡ words n l₀
 
-  pub spread-first : (l : List ℕ) (n : ℕ) → 6 * n ≤ length l → ((j : ℕ) → j < n → Fits w b (run-at l j)) → Spreading l n n l
+  pub spread-first : (l : List ℕ) (n : ℕ) → piece-size * n ≤ length l → ((j : ℕ) → j < n → Fits w b (run-at l j)) → Spreading l n n l
   spread-first l n h g = record { kept = refl; room = h; fits = g; rest = refl }
 
-  module _ (l : List ℕ) (k : ℕ) (h : 6 * suc k ≤ length l) where
+  module _ (l : List ℕ) (k : ℕ) (h : piece-size * suc k ≤ length l) where
     next : List ℕ
-    next = words-at l (6 * k) (piece-words (piece (run-at l k)))
+    next = words-at l (piece-size * k) (piece-words (piece (run-at l k)))
 
     same-run : (j : ℕ) → j < k → run-at l j ≡ run-at next j
     unfolding next
     same-run j g =
-        let below = at-below l (6 * k) (piece-words (piece (run-at l k))) (omega arith) 0 in
+        let below = at-below l (piece-size * k) (piece-words (piece (run-at l k))) (omega arith) 0 in
         rw (below (2 * j) (omega arith), below (2 * j + 1) (omega arith))
 
-    front : length (take (6 * k) l) ≡ 6 * k
-    front = length-take-le (6 * k) l (omega arith)
+    front : length (take (piece-size * k) l) ≡ piece-size * k
+    front = length-take-le (piece-size * k) l (omega arith)
 
-    behind : drop (6 * k) next ≡ piece-words (piece (run-at l k)) ++ drop (6 * suc k) l
+    behind : drop (piece-size * k) next ≡ piece-words (piece (run-at l k)) ++ drop (piece-size * suc k) l
     unfolding next
     behind =
-        let six : 6 * k + 6 ≡ 6 * suc k = omega arith in
-        rw (append-assoc, drop-at (take (6 * k) l) _ (6 * k) front, six)
+        let next-place : piece-size * k + piece-size ≡ piece-size * suc k = omega arith in
+        rw (append-assoc, drop-at (take (piece-size * k) l) _ (piece-size * k) front, next-place)
 
     step : words (suc k) l ≡ words k next
     unfolding words runs-at
@@ -83,8 +84,8 @@ module _ (w : ℕ) (b : Brush) where
     unfolding next
     turn l₀ n s =
         record {
-          kept = length-at l (6 * k) (piece-words (piece (run-at l k))) (omega arith) ∙ s .kept;
-          room = rw (length-at l (6 * k) (piece-words (piece (run-at l k))) (omega arith)) (omega arith);
+          kept = length-at l (piece-size * k) (piece-words (piece (run-at l k))) (omega arith) ∙ s .kept;
+          room = rw (length-at l (piece-size * k) (piece-words (piece (run-at l k))) (omega arith)) (omega arith);
           fits = λ j g. subst (Fits w b) (same-run j g) (s .fits j (omega arith));
           rest = sym step ∙ s .rest;
         }
@@ -93,7 +94,7 @@ module _ (w : ℕ) (b : Brush) where
     pub spread-fits : 0 < k → Fits w b (run-at l (k - 1))
     spread-fits h = s .fits (k - 1) (omega arith)
 
-    pub spread-again : (l′ : List ℕ) → 0 < k → l′ ≡ words-at l (6 * (k - 1)) (piece-words (piece (run-at l (k - 1)))) → Spreading l₀ n (k - 1) l′
+    pub spread-again : (l′ : List ℕ) → 0 < k → l′ ≡ words-at l (piece-size * (k - 1)) (piece-words (piece (run-at l (k - 1)))) → Spreading l₀ n (k - 1) l′
     unfolding next
     spread-again l′ h e =
         let one : k ≡ suc (k - 1) = omega arith in
@@ -104,5 +105,5 @@ module _ (w : ℕ) (b : Brush) where
     spread-end h =
         let none : k ≡ 0 = omega arith in
         let e : words 0 l ≡ words n l₀ = subst (λ (m : ℕ). words m l ≡ words n l₀) none (s .rest) in
-        let long : length (join piece-words (map piece (runs-at n l₀))) ≡ 6 * n = length-pieces (map piece (runs-at n l₀)) ∙ rw (length-map, length-runs n l₀) in
+        let long : length (join piece-words (map piece (runs-at n l₀))) ≡ piece-size * n = length-pieces (map piece (runs-at n l₀)) ∙ rw (length-map, length-runs n l₀) in
         e ∙ rw long

@@ -22,10 +22,10 @@ abbrev pub index-of : Option ℕ → ℕ
 index-of none = 0
 index-of (some a) = a
 
--- six words: tag, attribute, first tile, end tile, alpha index or 0, nesting
+-- a piece's words: tag, attribute, first tile, end tile, alpha index or 0, nesting, panel
 abbrev pub piece-words : Piece → List ℕ
 piece-words p =
-    tag-of (p .layer) (p .alpha) ∷ p .attribute ∷ p .tiles .first ∷ p .tiles .end ∷ index-of (p .alpha) ∷ p .nesting ∷ []
+    tag-of (p .layer) (p .alpha) ∷ p .attribute ∷ p .tiles .first ∷ p .tiles .end ∷ index-of (p .alpha) ∷ p .nesting ∷ p .panel ∷ []
 
 -- the pieces at a list's start; what stands after them stays
 abbrev pub laid : List Piece → List ℕ → List ℕ
@@ -40,6 +40,7 @@ brush-piece b r =
       tiles = r;
       alpha = moved (alpha (b .alpha)) (r .first - b .first);
       nesting = b .nesting;
+      panel = b .panel;
     }
 
 -- a run at w tiles a unit, whose piece's numbers are all a u32's

@@ -1,11 +1,13 @@
-// What a painting step leaves: pieces in the list, six words each, one step more, and its answer. Parts: where a function asks something, its
+// What a painting step leaves: pieces in the list, one step more, and its answer. Parts: where a function asks something, its
 // callers have judged it.
+use sizes::PIECE;
 use sizes::answers::DONE;
 use span::Alpha;
 ghost use mathlib.Core.Path.{_≡_};
 ghost use mathlib.Core.List.{[], _∷_, map};
 ghost use Prim.Native.Nat.{ℕ, _+_, _*_, _-_, _≤_, _<_};
 ghost use lib.ListN.{length};
+ghost use Rattle.sizes.specs.Sizes.{piece-size};
 ghost use Rattle.rules.specs.Spans.{Span, span};
 ghost use Rattle.rules.specs.Depth.{tiles-of};
 ghost use Rattle.span.specs.Spans.{alpha, Moves};
@@ -13,7 +15,7 @@ ghost use Rattle.cmd.specs.Attrs.{words-at};
 ghost use Rattle.paint_pieces.specs.Pieces.{tag-of, index-of, piece-words, brush-piece, Fits, run-at, runs-at, laid};
 ghost use Rattle.paint_pieces.specs.Answers.{word, refused, listed, advanced};
 
-// number: document 01's answer. finished: no step was left. pieces: how many stand in the list, six words each.
+// number: document 01's answer. finished: no step was left. pieces: how many stand in the list.
 pub struct Painted {
     pub number: u32,
     pub finished: bool,
@@ -51,6 +53,7 @@ pub struct Brush {
     pub first: u32,
     pub alpha: Alpha,
     pub nesting: u32,
+    pub panel: u32,
 }
 
 // Paint or layer, solid or alpha.
@@ -73,35 +76,46 @@ fn index(at: Alpha) -> u32
     }
 }
 
-// Six words at place k of the list.
-pub fn put_words(list: &mut [u32], k: usize, a: u32, b: u32, c: u32, d: u32, e: u32, f: u32)
-    requires { ⌜ 6 * k + 6 ≤ length (now list) ⌝ }
-    ensures { λ _. ⌜ now (list .exit) ≡ words-at (now (list .entry)) (6 * k) (a ∷ b ∷ c ∷ d ∷ e ∷ f ∷ []) ⌝ }
+// A piece's words at place k of the list.
+pub fn put_words(list: &mut [u32], k: usize, a: u32, b: u32, c: u32, d: u32, e: u32, f: u32, g: u32)
+    requires { ⌜ piece-size * k + piece-size ≤ length (now list) ⌝ }
+    ensures { λ _. ⌜ now (list .exit) ≡ words-at (now (list .entry)) (piece-size * k) (a ∷ b ∷ c ∷ d ∷ e ∷ f ∷ g ∷ []) ⌝ }
 {
-    let at = 6 * k;
+    let at = PIECE * k;
     list[at] = a;
     list[at + 1] = b;
     list[at + 2] = c;
     list[at + 3] = d;
     list[at + 4] = e;
     list[at + 5] = f;
+    list[at + 6] = g;
 }
 
 // The piece over the tiles a to b goes to place k of the list.
 fn put_piece(list: &mut [u32], k: usize, brush: Brush, a: u32, b: u32)
-    requires { ⌜ (6 * k + 6 ≤ length (now list)) × (brush .first ≤ a) × Moves (brush .alpha) (a - brush .first) ⌝ }
-    ensures { λ _. ⌜ now (list .exit) ≡ words-at (now (list .entry)) (6 * k) (piece-words (brush-piece brush (span a b))) ⌝ }
+    requires { ⌜ (piece-size * k + piece-size ≤ length (now list)) × (brush .first ≤ a) × Moves (brush .alpha) (a - brush .first) ⌝ }
+    ensures { λ _. ⌜ now (list .exit) ≡ words-at (now (list .entry)) (piece-size * k) (piece-words (brush-piece brush (span a b))) ⌝ }
 {
     let start = brush.alpha;
     let alpha = start.moved(a - brush.first);
     let kind = tag(brush.layer, alpha);
     let place = index(alpha);
-    put_words(list, k, kind, brush.attrs_idx, a, b, place, brush.nesting);
+    put_words(
+        list,
+        k,
+        kind,
+        brush.attrs_idx,
+        a,
+        b,
+        place,
+        brush.nesting,
+        brush.panel,
+    );
 }
 
 // The n runs at the list's start, in units of `width` tiles, become n pieces, from the last to the first.
 pub fn spread(list: &mut [u32], n: usize, width: u32, brush: Brush)
-    requires { ⌜ (6 * n ≤ length (now list)) × ((k : ℕ) → k < n → Fits width brush (run-at (now list) k)) ⌝ }
+    requires { ⌜ (piece-size * n ≤ length (now list)) × ((k : ℕ) → k < n → Fits width brush (run-at (now list) k)) ⌝ }
     ensures { λ _. ⌜ now (list .exit) ≡ laid (map (λ (r : Span). brush-piece brush (tiles-of width r)) (runs-at n (now (list .entry)))) (now (list .entry)) ⌝ }
 {
     let mut left = n;

@@ -8,6 +8,7 @@ use native.Mathlib.Omega.{arith}
 use lib.ListN.{length, drop}
 use lib.Dec.{eqb}
 use borrow.Author.Tests.{eq-eqb, eqb-true}
+use Rattle.sizes.specs.Sizes.{paint-attr-table, layer-attr-table}
 use Rattle.sizes.specs.Widths.{bucket-tiles}
 use Rattle.rules.specs.Answers as rules
 use Rattle.rules.specs.Answers.{answer}
@@ -85,8 +86,8 @@ module _ (s : Screen) (r : ℕ) (a : Attributes) (l : RowLent) where
       let de = eqb (length (l .depth)) (count s * wide s) in
       let ro = eqb (length (l .state)) (count s * 54) in
       let pa = eqb (length (l .painting)) (count s * 2) in
-      let ps = eqb (length (a .paints)) 8192 in
-      let ls = eqb (length (a .layers)) 6144 in
+      let ps = eqb (length (a .paints)) paint-attr-table in
+      let ls = eqb (length (a .layers)) layer-attr-table in
       let t = step-there s r (re && fi && de) (ro && pa && ps && ls) h in
       let k : (ro && pa && ps) ≡ true = and-left (ro && pa && ps) ls (t .passed .tables) in (
         t .there,

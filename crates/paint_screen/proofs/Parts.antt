@@ -9,6 +9,7 @@ use lib.Seq.{length-take-le}
 use lib.Dec.{eqb, leb}
 use borrow.Author.Tests.{eq-eqb, ne-eqb, eqb-true, leb-true}
 use borrow.Rule.Slice.PartMut.{putMid}
+use Rattle.sizes.specs.Sizes.{paint-attr-table, layer-attr-table}
 use Rattle.row_screen.proofs.Laws.{within, small}
 use Rattle.screen.specs.declared.Screen.{Screen}
 use Rattle.screen.specs.Screens.{good-screen}
@@ -69,8 +70,8 @@ ready s r a l h =
     let de = eqb (length (l .depth)) (n * wide s) in
     let ro = eqb (length (l .state)) (n * 54) in
     let pa = eqb (length (l .painting)) (n * 2) in
-    let ps = eqb (length (a .paints)) 8192 in
-    let ls = eqb (length (a .layers)) 6144 in
+    let ps = eqb (length (a .paints)) paint-attr-table in
+    let ls = eqb (length (a .layers)) layer-attr-table in
     let t = step-there s r (re && fi && de) (ro && pa && ps && ls) h in
     let o = t .passed in
     let g : (re && fi) ≡ true = and-left (re && fi) de (o .arenas) in

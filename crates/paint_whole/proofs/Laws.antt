@@ -5,6 +5,7 @@ use mathlib.Core.List.{List}
 use Prim.Native.Nat.{ℕ, zero, suc, _+_, _*_, _≤_, _<_}
 use native.Mathlib.Omega.{arith}
 use lib.ListN.{drop}
+use Rattle.sizes.specs.Sizes.{piece-size}
 use Rattle.rules.specs.Lists.{times}
 use Rattle.screen.specs.declared.Screen.{Screen}
 use Rattle.paint_command.specs.Painting.{RowLent, lent, StepOut}
@@ -52,7 +53,7 @@ module _ (s : Screen) (r : ℕ) (a : Attributes) (l : RowLent) where
     one-alone : (g : StepOut) → Alone g → Alone (one-more (call-step s r a (l .state) (l .render) (l .fills)) g)
     unfolding one-more
     one-alone g i =
-        let o = step-alone s r a (lent (l .state) (l .render) (l .fills) (g .depth) (g .painting) (drop (6 * g .answer .pieces) (g .list))) q h d in
+        let o = step-alone s r a (lent (l .state) (l .render) (l .fills) (g .depth) (g .painting) (drop (piece-size * g .answer .pieces) (g .list))) q h d in
         (o .0 ∙ i .0, o .1 ∙ i .1)
 
     times-alone : (n : ℕ) (g : StepOut) → Alone g → Alone (times n (one-more (call-step s r a (l .state) (l .render) (l .fills))) g)

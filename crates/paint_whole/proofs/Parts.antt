@@ -11,6 +11,7 @@ use lib.Seq.{length-take-le, take-at, drop-at}
 use lib.Dec.{ltb}
 use borrow.Author.Tests.{eq-eqb, ne-eqb}
 use borrow.Rule.Slice.PartMut.{putMid, put-same, take-put}
+use Rattle.sizes.specs.Sizes.{piece-size}
 use Rattle.sizes.specs.Widths.{bucket-tiles}
 use Rattle.rules.specs.Attributes.{Attrs}
 use Rattle.rules.specs.Painting as rules
@@ -102,12 +103,12 @@ module _ (s : Screen) (r : ℕ) (a : Attributes) (l : RowLent) (z : number s r a
 
   one-mine : (g : StepOut) → Long g → one-more called (in-place s r l g) ≡ in-place s r l (one-more mine g)
   unfolding one-more
-  one-mine g h = rw (call-mine (g .depth) (g .painting) (drop (6 * g .answer .pieces) (g .list)) (h .0) (h .1))
+  one-mine g h = rw (call-mine (g .depth) (g .painting) (drop (piece-size * g .answer .pieces) (g .list)) (h .0) (h .1))
 
   one-long : (g : StepOut) → Long g → Long (one-more mine g)
   unfolding one-more
   one-long g h =
-      let o = same-lengths (bucket-tiles (s .width)) b (lent (own s r l .state) (own s r l .render) (own s r l .fills) (g .depth) (g .painting) (drop (6 * g .answer .pieces) (g .list))) (h .1) in
+      let o = same-lengths (bucket-tiles (s .width)) b (lent (own s r l .state) (own s r l .render) (own s r l .fills) (g .depth) (g .painting) (drop (piece-size * g .answer .pieces) (g .list))) (h .1) in
       (o .0 ∙ h .0, o .1)
 
   run-mine : (f k : ℕ) (g : StepOut) → Long g → run called f k (in-place s r l g) ≡ in-place s r l (run mine f k g)
@@ -155,7 +156,7 @@ again o = out (record { number = o .answer .number; finished = o .answer .finish
 settled-again : (x : Option rules.Painted) (d p l : List ℕ) → again (settled x d p l) ≡ settled x d p l
 unfolding settled
 settled-again none d p l = refl
-settled-again (some o) d p l = go (ltb (length l / 6) (length (o .pieces)))
+settled-again (some o) d p l = go (ltb (length l / piece-size) (length (o .pieces)))
   where
     go : (b : Bool) → again (cond b (out (refused 14) d p l) (left o l)) ≡ cond b (out (refused 14) d p l) (left o l)
     go true = refl

@@ -1,6 +1,6 @@
 -- A row's steps one by one. Assumes nothing.
 use mathlib.Core.Path.{_≡_, refl, sym, ap, _∙_}
-use mathlib.Core.Bool.{Bool, true, false, _&&_, not, cond}
+use mathlib.Core.Bool.{Bool, true, false, _&&_}
 use mathlib.Core.List.{List, _++_, append-nil}
 use mathlib.Core.Option.{Option, none, some}
 use Prim.Native.Nat.{ℕ, zero, suc, _+_, _-_, _*_, _/_, _≤_, _<_}
@@ -10,6 +10,7 @@ use lib.Seq.{take-all, drop-length}
 use lib.Dec.{ltb, eqb}
 use borrow.Author.Tests.{ltb-false, eq-eqb, ne-eqb}
 use borrow.Rule.Slice.PartMut.{putMid, post-is}
+use Rattle.sizes.specs.Sizes.{piece-size}
 use Rattle.rules.specs.Attributes.{Attrs}
 use Rattle.rules.specs.Painting as rules
 use Rattle.paint_pieces.specs.declared.Painted.{Painted}
@@ -18,16 +19,16 @@ use Rattle.paint_whole.specs.Running.{goes-on, ended, one-more, run, own
 use Rattle.paint_whole.specs.Kinds.{Onward}
 
 -- a step's pieces have room in its list
-settled-few : (x : Option rules.Painted) (d p l : List ℕ) → 6 * settled x d p l .answer .pieces ≤ length l
+settled-few : (x : Option rules.Painted) (d p l : List ℕ) → piece-size * settled x d p l .answer .pieces ≤ length l
 unfolding settled
 settled-few none d p l = omega arith
-settled-few (some o) d p l = go (ltb (length l / 6) (length (o .pieces))) refl
+settled-few (some o) d p l = go (ltb (length l / piece-size) (length (o .pieces))) refl
   where
-    go : (b : Bool) → ltb (length l / 6) (length (o .pieces)) ≡ b → 6 * settled (some o) d p l .answer .pieces ≤ length l
+    go : (b : Bool) → ltb (length l / piece-size) (length (o .pieces)) ≡ b → piece-size * settled (some o) d p l .answer .pieces ≤ length l
     go true e = rw e (omega arith)
-    go false e = rw e (omega (arith, ltb-false (length l / 6) (length (o .pieces)) e))
+    go false e = rw e (omega (arith, ltb-false (length l / piece-size) (length (o .pieces)) e))
 
-row-few : (v : ℕ) (a : Attrs) (w : RowLent) → 6 * painted-row v a w .answer .pieces ≤ length (w .list)
+row-few : (v : ℕ) (a : Attrs) (w : RowLent) → piece-size * painted-row v a w .answer .pieces ≤ length (w .list)
 unfolding painted-row
 row-few v a w = settled-few _ _ _ (w .list)
 
@@ -43,23 +44,23 @@ module _ (xs : List ℕ) (a : ℕ) (h : a ≤ length xs) where
   lent-after = take-all (length xs - a) (drop a xs) all-after
 
 -- one step more of a row's own words
-module _ (v : ℕ) (a : Attrs) (s re fi d p xs : List ℕ) (n : ℕ) (h : 6 * n ≤ length xs) (q : Painted) (e g ys : List ℕ)
-    (f : out q e g ys ≡ painted-row v a (lent s re fi d p (take (length xs - 6 * n) (drop (6 * n) xs)))) where
-  same : out q e g ys ≡ own-step v a s re fi d p (drop (6 * n) xs)
-  same = f ∙ rw (lent-after xs (6 * n) h)
+module _ (v : ℕ) (a : Attrs) (s re fi d p xs : List ℕ) (n : ℕ) (h : piece-size * n ≤ length xs) (q : Painted) (e g ys : List ℕ)
+    (f : out q e g ys ≡ painted-row v a (lent s re fi d p (take (length xs - piece-size * n) (drop (piece-size * n) xs)))) where
+  same : out q e g ys ≡ own-step v a s re fi d p (drop (piece-size * n) xs)
+  same = f ∙ rw (lent-after xs (piece-size * n) h)
 
-  pub one-done : out (record { number = q .number; finished = q .finished; pieces = n + q .pieces }) e g (putMid (6 * n) (length xs - 6 * n) xs ys)
+  pub one-done : out (record { number = q .number; finished = q .finished; pieces = n + q .pieces }) e g (putMid (piece-size * n) (length xs - piece-size * n) xs ys)
       ≡ one-more (own-step v a s re fi) (out (listed n) d p xs)
   unfolding one-more
   one-done =
-      rw (back-after xs (6 * n) h ys)
-      (ap (λ (o : StepOut). out (record { number = o .answer .number; finished = o .answer .finished; pieces = n + o .answer .pieces }) (o .depth) (o .painting) (take (6 * n) xs ++ o .list)) same)
+      rw (back-after xs (piece-size * n) h ys)
+      (ap (λ (o : StepOut). out (record { number = o .answer .number; finished = o .answer .finished; pieces = n + o .answer .pieces }) (o .depth) (o .painting) (take (piece-size * n) xs ++ o .list)) same)
 
-  pub one-few : 6 * (n + q .pieces) ≤ length xs
+  pub one-few : piece-size * (n + q .pieces) ≤ length xs
   one-few =
-      let i : q .pieces ≡ own-step v a s re fi d p (drop (6 * n) xs) .answer .pieces = ap (λ (o : StepOut). o .answer .pieces) same in
-      let j : 6 * q .pieces ≤ length (drop (6 * n) xs) = rw i (row-few v a (lent s re fi d p (drop (6 * n) xs))) in
-      omega (arith, j, length-drop (6 * n) xs)
+      let i : q .pieces ≡ own-step v a s re fi d p (drop (piece-size * n) xs) .answer .pieces = ap (λ (o : StepOut). o .answer .pieces) same in
+      let j : piece-size * q .pieces ≤ length (drop (piece-size * n) xs) = rw i (row-few v a (lent s re fi d p (drop (piece-size * n) xs))) in
+      omega (arith, j, length-drop (piece-size * n) xs)
 
 -- the steps of a row, from the first to the last
 module _ (step : List ℕ → List ℕ → List ℕ → StepOut) where

@@ -1,12 +1,12 @@
 -- Commands that one look settles, and runs of such commands.
 use Prim.Native.Nat.{ℕ, _+_, _-_, _*_, _/_, _%_, _≤_, _<_}
 use mathlib.Core.Path.{_≡_}
-use mathlib.Core.Bool.{Bool, true, false, _&&_, not, cond}
+use mathlib.Core.Bool.{Bool, true, false, not, cond}
 use mathlib.Core.List.{List, [], _∷_, map}
 use mathlib.Core.Option.{none, some}
-use lib.ListN.{length, getD}
+use lib.ListN.{length}
 use lib.Dec.{leb, ltb, eqb}
-use Rattle.sizes.specs.Sizes.{tile-end, tile-alphas, most-layers}
+use Rattle.sizes.specs.Sizes.{tile-end, tile-alphas, most-layers, piece-size}
 use Rattle.rules.specs.Lists.{join}
 use Rattle.rules.specs.Spans.{Span, span, common}
 use Rattle.rules.specs.Depth.{Summary, is-visible, runs-in, tiles-of}
@@ -14,13 +14,17 @@ use Rattle.cmd.specs.Reading.{word-span, command-of}
 use Rattle.rules.specs.Attributes.{Attrs}
 use Rattle.depth.specs.Listing.{over}
 use Rattle.paint_runs.specs.Summaries.{good-summary, shown-runs}
-use Rattle.paint_command.specs.Painting.{word, given, StepOut, out, listed, command-step, settled}
-use Rattle.paint_whole.specs.Running.{own-step, run}
+use Rattle.paint_command.specs.Painting.{word, paint-at, layer-at, paint-given, layer-given, StepOut, out, listed, command-step, settled}
+use Rattle.paint_whole.specs.Running.{run}
 
 -- the id of a fill's attribute, a paint's or a layer's by the tag; 0 if it is not good
 abbrev pub id-given : List ℕ → ℕ → List ℕ → ℕ → ℕ → ℕ → ℕ
 id-given ps paints ls layers t i =
-    cond (leb t 2) (given (ltb i paints) (word ps (8 * i + 4))) (given (ltb i layers) (word ls (6 * i + 3)))
+    cond (leb t 2) (paint-given ps paints i) (layer-given ls layers i)
+
+-- .. and its panel
+abbrev pub panel-in : List ℕ → List ℕ → ℕ → ℕ → ℕ
+panel-in ps ls t i = cond (leb t 2) (paint-at ps i .panel) (layer-at ls i .panel)
 
 -- words 2 to 4 of a row's record as its summary
 abbrev pub summary-by : ℕ → ℕ → ℕ → Summary
@@ -81,11 +85,15 @@ pub record FillSaid (v : ℕ) (u : Summary) (D : List ℕ) (id t w x kind stop j
 abbrev pub moved-index : ℕ → ℕ → ℕ → ℕ
 moved-index t x n = cond (eqb (t % 2) 1) x (x + tile-alphas * n)
 
--- the six words of a fill's run, cut to its tiles
-abbrev pub run-words : ℕ → ℕ → ℕ → ℕ → ℕ → ℕ → Span → List ℕ
-run-words v t i w x m r =
+-- the words of a fill's run, cut to its tiles; p: the panel
+abbrev pub run-words : ℕ → ℕ → ℕ → ℕ → ℕ → ℕ → ℕ → Span → List ℕ
+run-words v t i w x m p r =
     let c = common (word-span w) (tiles-of v r) in
-    t ∷ i ∷ c .first ∷ c .end ∷ moved-index t x (c .first - w / 65536) ∷ m ∷ []
+    t ∷ i ∷ c .first ∷ c .end ∷ moved-index t x (c .first - w / 65536) ∷ m ∷ p ∷ []
+
+-- .. and of all of a fill
+abbrev pub whole-words : ℕ → ℕ → ℕ → ℕ → ℕ → ℕ → List ℕ
+whole-words t i w x m p = t ∷ i ∷ (w / 65536) ∷ (w % 65536) ∷ x ∷ m ∷ p ∷ []
 
 -- at v tiles a bucket
 module _ (v : ℕ) (attrs : Attrs) (u : Summary) (D : List ℕ) (m t w x i : ℕ) where
@@ -94,20 +102,20 @@ module _ (v : ℕ) (attrs : Attrs) (u : Summary) (D : List ℕ) (m t w x i : ℕ
   step-to q P l = settled (command-step v attrs u (record { buckets = D; steps = q; nesting = m }) (command-of t w x i)) D P l
 
   -- a fill that is shown in part: what the look has seen of it, and its pieces
-  pub record PartSaid (seen : Bool) (stop id : ℕ) : Type 0 where
+  pub record PartSaid (seen : Bool) (stop id panel : ℕ) : Type 0 where
     pub looked : Looked v D id w seen stop
     pub good : Fills t w x
-    pub pieces : (q : ℕ) (P l : List ℕ) → 6 * length (runs-met v D id w) ≤ length l
-        → step-to q P l ≡ out (listed (length (runs-met v D id w))) D ((q + 1) ∷ m ∷ []) (over (join (run-words v t i w x m) (runs-met v D id w)) l)
+    pub pieces : (q : ℕ) (P l : List ℕ) → piece-size * length (runs-met v D id w) ≤ length l
+        → step-to q P l ≡ out (listed (length (runs-met v D id w))) D ((q + 1) ∷ m ∷ []) (over (join (run-words v t i w x m panel) (runs-met v D id w)) l)
 
   -- what is said of a command: 1 one piece with all of the fill, 2 no piece, 3 nesting up, 4 nesting down, 5 and 6 a fill that is shown in part; 0 says nothing
-  pub record Said (kind stop id : ℕ) : Type 0 where
-    pub whole : kind ≡ 1 → (q : ℕ) (P l : List ℕ) → 6 ≤ length l
-        → step-to q P l ≡ out (listed 1) D ((q + 1) ∷ m ∷ []) (over (t ∷ i ∷ (w / 65536) ∷ (w % 65536) ∷ x ∷ m ∷ []) l)
+  pub record Said (kind stop id panel : ℕ) : Type 0 where
+    pub whole : kind ≡ 1 → (q : ℕ) (P l : List ℕ) → piece-size ≤ length l
+        → step-to q P l ≡ out (listed 1) D ((q + 1) ∷ m ∷ []) (over (whole-words t i w x m panel) l)
     pub hidden : kind ≡ 2 → (q : ℕ) (P l : List ℕ) → step-to q P l ≡ out (listed 0) D ((q + 1) ∷ m ∷ []) l
     pub pushed : kind ≡ 3 → (m < most-layers) × ((q : ℕ) (P l : List ℕ) → step-to q P l ≡ out (listed 0) D ((q + 1) ∷ (m + 1) ∷ []) l)
     pub popped : kind ≡ 4 → (0 < m) × ((q : ℕ) (P l : List ℕ) → step-to q P l ≡ out (listed 0) D ((q + 1) ∷ (m - 1) ∷ []) l)
-    pub partly : 4 < kind → PartSaid (eqb kind 5) stop id
+    pub partly : 4 < kind → PartSaid (eqb kind 5) stop id panel
 
 -- a row's counts have room, and its summary is in order
 pub record Calm (s re fi : List ℕ) : Type 0 where
@@ -138,5 +146,5 @@ pub record Reaches (step : List ℕ → List ℕ → List ℕ → StepOut) (D : 
   pub after : a .at ≤ b .at
   pub onward : Onward step (b .at - a .at) (stands D d a) (stands D d b)
   pub shallow : b .nesting ≤ most-layers
-  pub few : 6 * b .pieces ≤ length (b .list)
+  pub few : piece-size * b .pieces ≤ length (b .list)
   pub long : length (b .list) ≡ length (a .list)

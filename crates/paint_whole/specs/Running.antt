@@ -4,6 +4,7 @@ use mathlib.Core.Bool.{Bool, _&&_, not, cond}
 use mathlib.Core.List.{List, _++_}
 use lib.ListN.{take, drop}
 use lib.Dec.{eqb}
+use Rattle.sizes.specs.Sizes.{piece-size}
 use Rattle.rules.specs.Answers.{Done}
 use Rattle.rules.specs.Attributes.{Attrs}
 use Rattle.screen.specs.declared.Screen.{Screen}
@@ -28,9 +29,9 @@ module _ (step : List ℕ → List ℕ → List ℕ → StepOut) where
   unfoldable pub one-more : StepOut → StepOut
   one-more g =
       let n = g .answer .pieces in
-      let o = step (g .depth) (g .painting) (drop (6 * n) (g .list)) in
+      let o = step (g .depth) (g .painting) (drop (piece-size * n) (g .list)) in
       out (record { number = o .answer .number; finished = o .answer .finished; pieces = n + o .answer .pieces }) (o .depth) (o .painting)
-      (take (6 * n) (g .list) ++ o .list)
+      (take (piece-size * n) (g .list) ++ o .list)
 
   -- at most f steps more, after k, until one is refused or says finished
   unfoldable pub run : ℕ → ℕ → StepOut → StepOut

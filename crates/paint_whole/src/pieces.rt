@@ -1,4 +1,4 @@
-// Pieces in the list, six words each. Parts: where a function asks something, its callers have judged it.
+// Pieces in the list. Parts: where a function asks something, its callers have judged it.
 use paint_pieces::put_words;
 use sizes::TILE_ALPHAS;
 use sizes::wide;
@@ -6,10 +6,9 @@ use sizes::width::Width;
 use span::larger;
 use span::smaller;
 ghost use mathlib.Core.Path.{_≡_};
-ghost use mathlib.Core.List.{[], _∷_};
 ghost use Prim.Native.Nat.{_+_, _-_, _*_, _/_, _%_, _≤_, _<_};
 ghost use lib.ListN.{length};
-ghost use Rattle.sizes.specs.Sizes.{tile-alphas};
+ghost use Rattle.sizes.specs.Sizes.{tile-alphas, piece-size};
 ghost use Rattle.rules.specs.Lists.{join};
 ghost use Rattle.rules.specs.Spans.{span};
 ghost use Rattle.rules.specs.Depth.{is-visible, runs-in};
@@ -38,18 +37,19 @@ fn put_run(
     tiles: u32,
     alpha: u32,
     level: u32,
+    panel: u32,
     a: usize,
     b: usize,
     width: Width,
 )
-    requires { ⌜ (6 * k + 6 ≤ length (now list)) × Fills tag tiles alpha × (a < high-met (bucket-tiles width) tiles) × (b ≤ high-met (bucket-tiles width) tiles) ⌝ }
-    ensures { λ _. ⌜ now (list .exit) ≡ words-at (now (list .entry)) (6 * k) (run-words (bucket-tiles width) tag i tiles alpha level (span a b)) ⌝ }
+    requires { ⌜ (piece-size * k + piece-size ≤ length (now list)) × Fills tag tiles alpha × (a < high-met (bucket-tiles width) tiles) × (b ≤ high-met (bucket-tiles width) tiles) ⌝ }
+    ensures { λ _. ⌜ now (list .exit) ≡ words-at (now (list .entry)) (piece-size * k) (run-words (bucket-tiles width) tag i tiles alpha level panel (span a b)) ⌝ }
 {
     let first = tiles / 65536;
     let from = larger(first, width.times(a as u32));
     let to = smaller(tiles % 65536, width.times(b as u32));
     let index = moved_index(tag, alpha, from - first);
-    put_words(list, k, tag, i, from, to, index, level);
+    put_words(list, k, tag, i, from, to, index, level, panel);
 }
 
 // The runs of a fill from bucket `start` to e, as pieces from place k of the list on; it gives the place after them. Whether bucket `start`
@@ -67,12 +67,13 @@ fn put_runs(
     tiles: u32,
     alpha: u32,
     level: u32,
+    panel: u32,
     width: Width,
 ) -> usize
     requires { ⌜ (start < e) × (e ≤ length (now depth)) × (is-visible id (word (now depth) start) ≡ shown) ⌝ }
-    requires { ⌜ Fills tag tiles alpha × (e ≡ high-met (bucket-tiles width) tiles) × (6 * (k + length (runs-in (is-visible id) (now depth) (span start e))) ≤ length (now list)) ⌝ }
+    requires { ⌜ Fills tag tiles alpha × (e ≡ high-met (bucket-tiles width) tiles) × (piece-size * (k + length (runs-in (is-visible id) (now depth) (span start e))) ≤ length (now list)) ⌝ }
     ensures { λ r. ⌜ r ≡ k + length (runs-in (is-visible id) (now (depth .entry)) (span start e)) ⌝ }
-    ensures { λ _. ⌜ now (list .exit) ≡ words-at (now (list .entry)) (6 * k) (join (run-words (bucket-tiles width) tag i tiles alpha level) (runs-in (is-visible id) (now (depth .entry)) (span start e))) ⌝ }
+    ensures { λ _. ⌜ now (list .exit) ≡ words-at (now (list .entry)) (piece-size * k) (join (run-words (bucket-tiles width) tag i tiles alpha level panel) (runs-in (is-visible id) (now (depth .entry)) (span start e))) ⌝ }
 {
     let mut at = start;
     let mut open = shown;
@@ -89,7 +90,7 @@ fn put_runs(
                 }
                 next += 1;
             };
-            put_run(list, n, tag, i, tiles, alpha, level, at, stop, width);
+            put_run(list, n, tag, i, tiles, alpha, level, panel, at, stop, width);
             n += 1;
             at = stop;
             open = false;
@@ -117,16 +118,17 @@ pub fn put_fill(
     tiles: u32,
     alpha: u32,
     level: u32,
+    panel: u32,
     width: Width,
 ) -> usize
-    requires { ⌜ Looked (bucket-tiles width) (now depth) id tiles seen stop × Fills tag tiles alpha × (6 * (k + length (runs-met (bucket-tiles width) (now depth) id tiles)) ≤ length (now list)) ⌝ }
+    requires { ⌜ Looked (bucket-tiles width) (now depth) id tiles seen stop × Fills tag tiles alpha × (piece-size * (k + length (runs-met (bucket-tiles width) (now depth) id tiles)) ≤ length (now list)) ⌝ }
     ensures { λ r. ⌜ r ≡ k + length (runs-met (bucket-tiles width) (now (depth .entry)) id tiles) ⌝ }
-    ensures { λ _. ⌜ now (list .exit) ≡ words-at (now (list .entry)) (6 * k) (join (run-words (bucket-tiles width) tag i tiles alpha level) (runs-met (bucket-tiles width) (now (depth .entry)) id tiles)) ⌝ }
+    ensures { λ _. ⌜ now (list .exit) ≡ words-at (now (list .entry)) (piece-size * k) (join (run-words (bucket-tiles width) tag i tiles alpha level panel) (runs-met (bucket-tiles width) (now (depth .entry)) id tiles)) ⌝ }
 {
     let e = wide(width.above(tiles % 65536));
     if seen {
         let a = wide(width.below(tiles / 65536));
-        put_run(list, k, tag, i, tiles, alpha, level, a, stop, width);
+        put_run(list, k, tag, i, tiles, alpha, level, panel, a, stop, width);
         return put_runs(
             depth,
             stop,
@@ -140,6 +142,7 @@ pub fn put_fill(
             tiles,
             alpha,
             level,
+            panel,
             width,
         );
     }
@@ -156,6 +159,7 @@ pub fn put_fill(
         tiles,
         alpha,
         level,
+        panel,
         width,
     )
 }

@@ -10,8 +10,14 @@ use sizes::FIRST;
 use sizes::LARGEST;
 use sizes::LAST_ID;
 use sizes::LAYER_ATTR;
+use sizes::LAYER_ID;
+use sizes::LAYER_PANEL;
 use sizes::MOST_LAYERS;
 use sizes::PAINT_ATTR;
+use sizes::PAINT_ID;
+use sizes::PAINT_PANEL;
+use sizes::PANEL_END;
+use sizes::PIECE;
 use sizes::RENDERS;
 use sizes::TILE_ALPHAS;
 use sizes::TILE_END;
@@ -22,7 +28,7 @@ ghost use mathlib.Core.Bool.{true};
 ghost use mathlib.Core.List.{List};
 ghost use Prim.Native.Nat.{ℕ, _+_, _-_, _*_, _/_, _%_, _≤_, _<_};
 ghost use lib.ListN.{length};
-ghost use Rattle.sizes.specs.Sizes.{tile-end, most-layers, most-room, most-attrs, row-size, paint-attr-table, layer-attr-table};
+ghost use Rattle.sizes.specs.Sizes.{tile-end, most-layers, most-room, most-attrs, row-size, paint-attr-table, layer-attr-table, piece-size};
 ghost use Rattle.rules.specs.Attributes.{Attrs};
 ghost use Rattle.rules.specs.Spans.{span};
 ghost use Rattle.rules.specs.Depth.{Summary, can-skip};
@@ -30,7 +36,7 @@ ghost use Rattle.sizes.specs.Widths.{bucket-tiles};
 ghost use Rattle.paint_runs.specs.Summaries.{summary-at};
 ghost use Rattle.paint_command.specs.Painting.{word, given, attrs-at, out, listed};
 ghost use Rattle.paint_whole.specs.Running.{most, own-step};
-ghost use Rattle.paint_whole.specs.Kinds.{id-given, summary-by, good-index, SeenTo, HiddenTo, FillSaid, Said, Calm, place, Reaches, Onward};
+ghost use Rattle.paint_whole.specs.Kinds.{id-given, panel-in, summary-by, good-index, SeenTo, HiddenTo, FillSaid, Said, Calm, place, Reaches, Onward};
 
 // The id if a draw can have taken it, else 0.
 fn taken(id: u32) -> u32
@@ -39,28 +45,44 @@ fn taken(id: u32) -> u32
     if id <= LAST_ID { id } else { 0 }
 }
 
-// The id of a fill's attribute, 0 if the attribute is not there or has no id.
-fn id_of(
+// What is read of a fill's attribute: its id, 0 if the attribute is not there or its id or panel is not good; its panel.
+struct Mark {
+    id: u32,
+    panel: u32,
+}
+
+fn mark_of(
     tag: u32,
     i: u32,
     paint_attrs: &[u32],
     paints: u32,
     layer_attrs: &[u32],
     layers: u32,
-) -> u32
+) -> Mark
     requires { ⌜ (length (now «paint_attrs») ≡ paint-attr-table) × (paints ≤ most-attrs) × (length (now «layer_attrs») ≡ layer-attr-table) × (layers ≤ most-attrs) ⌝ }
-    ensures { λ r. ⌜ r ≡ id-given (now («paint_attrs» .entry)) paints (now («layer_attrs» .entry)) layers tag i ⌝ }
+    ensures { λ r. ⌜ r .id ≡ id-given (now («paint_attrs» .entry)) paints (now («layer_attrs» .entry)) layers tag i ⌝ }
+    ensures { λ r. ⌜ ((r .id ≡ 0 → ⊥) → r .panel ≡ panel-in (now («paint_attrs» .entry)) (now («layer_attrs» .entry)) tag i) ⌝ }
 {
     if tag <= 2 {
         if i < paints {
-            return taken(paint_attrs[PAINT_ATTR * wide(i) + 4]);
+            let at = PAINT_ATTR * wide(i);
+            let panel = paint_attrs[at + PAINT_PANEL];
+            if panel < PANEL_END {
+                let id = taken(paint_attrs[at + PAINT_ID]);
+                return Mark { id, panel };
+            }
         }
-        return 0;
+        return Mark { id: 0, panel: 0 };
     }
     if i < layers {
-        return taken(layer_attrs[LAYER_ATTR * wide(i) + 3]);
+        let at = LAYER_ATTR * wide(i);
+        let panel = layer_attrs[at + LAYER_PANEL];
+        if panel < PANEL_END {
+            let id = taken(layer_attrs[at + LAYER_ID]);
+            return Mark { id, panel };
+        }
     }
-    0
+    Mark { id: 0, panel: 0 }
 }
 
 // A solid fill has no alpha index, another one that can be moved over the whole width.
@@ -121,12 +143,20 @@ fn hidden_end(depth: &[u32], a: usize, e: usize, id: u32) -> usize
     i
 }
 
-// What one look shows of a command. kind: 0 nothing; of a fill that all of it is shown, 1, or nothing, 2; 3 nesting up, 4 nesting down;
-// of a fill with this id that it is shown up to bucket `stop`, which hides it, 5, or hidden up to bucket `stop`, which shows it, 6.
+// What one look shows of a fill. kind: 0 nothing; all of it is shown, 1, or nothing, 2; of one with this id that it is shown up to
+// bucket `stop`, which hides it, 5, or hidden up to bucket `stop`, which shows it, 6.
+struct FillLook {
+    kind: u32,
+    stop: usize,
+    id: u32,
+}
+
+// .. of a command: 3 nesting up, 4 nesting down; a fill's attribute has this panel.
 struct Look {
     kind: u32,
     stop: usize,
     id: u32,
+    panel: u32,
 }
 
 // What one look shows of a fill's words; 0 where it is not sure.
@@ -140,28 +170,28 @@ fn sure_fill(
     largest: u32,
     depth: &[u32],
     width: Width,
-) -> Look
+) -> FillLook
     requires { ⌜ length (now depth) ≤ 65535 ⌝ }
     ensures { λ r. ⌜ FillSaid (bucket-tiles width) (summary-by from to largest) (now (depth .entry)) id tag tiles alpha (r .kind) (r .stop) (r .id) ⌝ }
 {
     let first = tiles / 65536;
     let end = tiles % 65536;
     if end <= first {
-        return Look {
+        return FillLook {
             kind: 0,
             stop: 0,
             id: 0,
         };
     }
     if TILE_END < end {
-        return Look {
+        return FillLook {
             kind: 0,
             stop: 0,
             id: 0,
         };
     }
     if !is_good_index(tag, alpha, end - first) {
-        return Look {
+        return FillLook {
             kind: 0,
             stop: 0,
             id: 0,
@@ -169,14 +199,14 @@ fn sure_fill(
     }
     let e = wide(width.above(end));
     if depth.len() < e {
-        return Look {
+        return FillLook {
             kind: 0,
             stop: 0,
             id: 0,
         };
     }
     if is_apart(from, to, largest, first, end, id) {
-        return Look {
+        return FillLook {
             kind: 1,
             stop: 0,
             id: 0,
@@ -185,7 +215,7 @@ fn sure_fill(
     let a = wide(width.below(first));
     if depth[a] <= id {
         if e <= a + 1 {
-            return Look {
+            return FillLook {
                 kind: 1,
                 stop: 0,
                 id: 0,
@@ -193,16 +223,16 @@ fn sure_fill(
         }
         let stop = seen_end(depth, a, e, id);
         if e <= stop {
-            return Look {
+            return FillLook {
                 kind: 1,
                 stop: 0,
                 id: 0,
             };
         }
-        return Look { kind: 5, stop, id };
+        return FillLook { kind: 5, stop, id };
     }
     if e <= a + 1 {
-        return Look {
+        return FillLook {
             kind: 2,
             stop: 0,
             id: 0,
@@ -210,13 +240,13 @@ fn sure_fill(
     }
     let end_hidden = hidden_end(depth, a, e, id);
     if e <= end_hidden {
-        return Look {
+        return FillLook {
             kind: 2,
             stop: 0,
             id: 0,
         };
     }
-    Look {
+    FillLook {
         kind: 6,
         stop: end_hidden,
         id,
@@ -225,7 +255,7 @@ fn sure_fill(
 
 // What a buffer's words show; 0 where they are not sure.
 fn sure_buffer(tag: u32, tiles: u32, alpha: u32, i: u32, nesting: u32) -> u32
-    ensures { λ r. ⌜ ((v : ℕ) (a : Attrs) (u : Summary) (D : List ℕ) → Said v a u D nesting tag tiles alpha i r 0 0) ⌝ }
+    ensures { λ r. ⌜ ((v : ℕ) (a : Attrs) (u : Summary) (D : List ℕ) → Said v a u D nesting tag tiles alpha i r 0 0 0) ⌝ }
 {
     if alpha != 0 {
         return 0;
@@ -280,7 +310,7 @@ fn sure_kind(
     width: Width,
 ) -> Look
     requires { ⌜ (length (now «paint_attrs») ≡ paint-attr-table) × (paints ≤ most-attrs) × (length (now «layer_attrs») ≡ layer-attr-table) × (layers ≤ most-attrs) × (length (now depth) ≤ 65535) ⌝ }
-    ensures { λ r. ⌜ Said (bucket-tiles width) (attrs-at (now («paint_attrs» .entry)) paints (now («layer_attrs» .entry)) layers) (summary-by from to largest) (now (depth .entry)) nesting tag tiles alpha i (r .kind) (r .stop) (r .id) ⌝ }
+    ensures { λ r. ⌜ Said (bucket-tiles width) (attrs-at (now («paint_attrs» .entry)) paints (now («layer_attrs» .entry)) layers) (summary-by from to largest) (now (depth .entry)) nesting tag tiles alpha i (r .kind) (r .stop) (r .id) (r .panel) ⌝ }
 {
     if 4 < tag {
         let kind = sure_buffer(tag, tiles, alpha, i, nesting);
@@ -288,6 +318,7 @@ fn sure_kind(
             kind,
             stop: 0,
             id: 0,
+            panel: 0,
         };
     }
     if tag == 0 {
@@ -295,17 +326,26 @@ fn sure_kind(
             kind: 0,
             stop: 0,
             id: 0,
+            panel: 0,
         };
     }
-    let id = id_of(tag, i, paint_attrs, paints, layer_attrs, layers);
+    let mark = mark_of(tag, i, paint_attrs, paints, layer_attrs, layers);
+    let id = mark.id;
     if id == 0 {
         return Look {
             kind: 0,
             stop: 0,
             id: 0,
+            panel: 0,
         };
     }
-    sure_fill(tag, tiles, alpha, id, from, to, largest, depth, width)
+    let look = sure_fill(tag, tiles, alpha, id, from, to, largest, depth, width);
+    Look {
+        kind: look.kind,
+        stop: look.stop,
+        id: look.id,
+        panel: mark.panel,
+    }
 }
 
 // Where a run of commands ended: the place of the next command, the pieces listed, the nesting, what the look showed of that command.
@@ -335,10 +375,10 @@ fn run_sure(
 ) -> Reached
     requires { ⌜ (length (now «paint_attrs») ≡ paint-attr-table) × (paints ≤ most-attrs) × (length (now «layer_attrs») ≡ layer-attr-table) × (layers ≤ most-attrs) × (length (now depth) ≤ 65535) ⌝ }
     requires { ⌜ (length (now state) ≡ row-size) × Calm (now state) (now render) (now fills) × (length (now render) ≤ 4 * most-room) ⌝ }
-    requires { ⌜ (start ≤ stop) × (stop ≤ word (now state) 0) × (nesting ≤ most-layers) × (6 * pieces ≤ length (now list)) ⌝ }
+    requires { ⌜ (start ≤ stop) × (stop ≤ word (now state) 0) × (nesting ≤ most-layers) × (piece-size * pieces ≤ length (now list)) ⌝ }
     ensures { λ r. ⌜ Reaches (own-step (bucket-tiles width) (attrs-at (now («paint_attrs» .entry)) paints (now («layer_attrs» .entry)) layers) (now (state .entry)) (now (render .entry)) (now (fills .entry))) (now (depth .entry)) (word (now (state .entry)) 1) (place start pieces nesting (now (list .entry))) (place (r .at) (r .pieces) (r .nesting) (now (list .exit))) ⌝ }
     ensures { λ r. ⌜ r .at ≤ stop ⌝ }
-    ensures { λ r. ⌜ (4 < r .look .kind → (r .at < stop) × Said (bucket-tiles width) (attrs-at (now («paint_attrs» .entry)) paints (now («layer_attrs» .entry)) layers) (summary-at (now (state .entry))) (now (depth .entry)) (r .nesting) (word (now (render .entry)) (4 * r .at)) (word (now (render .entry)) (4 * r .at + 1)) (word (now (render .entry)) (4 * r .at + 2)) (word (now (render .entry)) (4 * r .at + 3)) (r .look .kind) (r .look .stop) (r .look .id)) ⌝ }
+    ensures { λ r. ⌜ (4 < r .look .kind → (r .at < stop) × Said (bucket-tiles width) (attrs-at (now («paint_attrs» .entry)) paints (now («layer_attrs» .entry)) layers) (summary-at (now (state .entry))) (now (depth .entry)) (r .nesting) (word (now (render .entry)) (4 * r .at)) (word (now (render .entry)) (4 * r .at + 1)) (word (now (render .entry)) (4 * r .at + 2)) (word (now (render .entry)) (4 * r .at + 3)) (r .look .kind) (r .look .stop) (r .look .id) (r .look .panel)) ⌝ }
 {
     let from = state[FIRST];
     let to = state[END];
@@ -370,7 +410,7 @@ fn run_sure(
         );
         let kind = look.kind;
         if kind == 1 {
-            if list.len() < 6 * n + 6 {
+            if list.len() < PIECE * n + PIECE {
                 return Reached {
                     at,
                     pieces: n,
@@ -379,10 +419,21 @@ fn run_sure(
                         kind: 0,
                         stop: 0,
                         id: 0,
+                        panel: 0,
                     },
                 };
             }
-            put_words(list, n, tag, i, tiles / 65536, tiles % 65536, alpha, level);
+            put_words(
+                list,
+                n,
+                tag,
+                i,
+                tiles / 65536,
+                tiles % 65536,
+                alpha,
+                level,
+                look.panel,
+            );
             n += 1;
             at += 1;
             continue;
@@ -416,6 +467,7 @@ fn run_sure(
             kind: 0,
             stop: 0,
             id: 0,
+            panel: 0,
         },
     }
 }
@@ -440,7 +492,7 @@ fn run_commands(
 ) -> Reached
     requires { ⌜ (length (now «paint_attrs») ≡ paint-attr-table) × (paints ≤ most-attrs) × (length (now «layer_attrs») ≡ layer-attr-table) × (layers ≤ most-attrs) × (length (now depth) ≤ 65535) ⌝ }
     requires { ⌜ (length (now state) ≡ row-size) × Calm (now state) (now render) (now fills) × (length (now render) ≤ 4 * most-room) ⌝ }
-    requires { ⌜ (start ≤ stop) × (stop ≤ word (now state) 0) × (nesting ≤ most-layers) × (6 * pieces ≤ length (now list)) ⌝ }
+    requires { ⌜ (start ≤ stop) × (stop ≤ word (now state) 0) × (nesting ≤ most-layers) × (piece-size * pieces ≤ length (now list)) ⌝ }
     ensures { λ r. ⌜ Reaches (own-step (bucket-tiles width) (attrs-at (now («paint_attrs» .entry)) paints (now («layer_attrs» .entry)) layers) (now (state .entry)) (now (render .entry)) (now (fills .entry))) (now (depth .entry)) (word (now (state .entry)) 1) (place start pieces nesting (now (list .entry))) (place (r .at) (r .pieces) (r .nesting) (now (list .exit))) ⌝ }
     ensures { λ r. ⌜ r .at ≤ stop ⌝ }
 {
@@ -472,7 +524,7 @@ fn run_commands(
         let k = 4 * next;
         let tiles = render[k + 1];
         let so_far = reached.pieces;
-        if list.len() - 6 * so_far < 6 * most_runs(tiles, width) {
+        if list.len() - PIECE * so_far < PIECE * most_runs(tiles, width) {
             return reached;
         }
         level = reached.nesting;
@@ -488,6 +540,7 @@ fn run_commands(
             tiles,
             render[k + 2],
             level,
+            look.panel,
             width,
         );
         at = next + 1;
@@ -530,9 +583,9 @@ pub fn run_plain(
 ) -> Gone
     requires { ⌜ (length (now state) ≡ row-size) × (length (now render) ≤ 4 * most-room) × (length (now fills) ≤ 2 * most-room) × (length (now depth) ≤ 65535) × (length (now painting) ≡ 2) ⌝ }
     requires { ⌜ (length (now «paint_attrs») ≡ paint-attr-table) × (paints ≤ most-attrs) × (length (now «layer_attrs») ≡ layer-attr-table) × (layers ≤ most-attrs) ⌝ }
-    requires { ⌜ (6 * pieces ≤ length (now list)) × (limit ≤ most) ⌝ }
+    requires { ⌜ (piece-size * pieces ≤ length (now list)) × (limit ≤ most) ⌝ }
     ensures { λ r. ⌜ Onward (own-step (bucket-tiles width) (attrs-at (now («paint_attrs» .entry)) paints (now («layer_attrs» .entry)) layers) (now (state .entry)) (now (render .entry)) (now (fills .entry))) (r .steps) (out (listed pieces) (now (depth .entry)) (now (painting .entry)) (now (list .entry))) (out (listed (r .pieces)) (now (depth .entry)) (now (painting .exit)) (now (list .exit))) ⌝ }
-    ensures { λ r. ⌜ (r .steps ≤ limit) × (6 * r .pieces ≤ length (now (list .entry))) ⌝ }
+    ensures { λ r. ⌜ (r .steps ≤ limit) × (piece-size * r .pieces ≤ length (now (list .entry))) ⌝ }
 {
     let depths = state[DEPTHS];
     let done = painting[0];

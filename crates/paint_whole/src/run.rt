@@ -2,12 +2,13 @@
 use crate::plain::run_plain;
 use paint_command::step_row;
 use paint_pieces::Painted;
+use sizes::PIECE;
 use sizes::answers::DONE;
 use sizes::width::Width;
 ghost use mathlib.Core.Path.{_≡_};
 ghost use Prim.Native.Nat.{_*_, _≤_};
 ghost use lib.ListN.{length};
-ghost use Rattle.sizes.specs.Sizes.{most-room, most-attrs, row-size, paint-attr-table, layer-attr-table};
+ghost use Rattle.sizes.specs.Sizes.{most-room, most-attrs, row-size, paint-attr-table, layer-attr-table, piece-size};
 ghost use Rattle.sizes.specs.Widths.{bucket-tiles};
 ghost use Rattle.paint_command.specs.Painting.{attrs-at, lent, out, listed};
 ghost use Rattle.paint_whole.specs.Running.{most, one-more, own-step, own-run};
@@ -29,11 +30,11 @@ fn step_on(
 ) -> Painted
     requires { ⌜ (length (now state) ≡ row-size) × (length (now render) ≤ 4 * most-room) × (length (now fills) ≤ 2 * most-room) × (length (now depth) ≤ 65535) × (length (now painting) ≡ 2) ⌝ }
     requires { ⌜ (length (now «paint_attrs») ≡ paint-attr-table) × (paints ≤ most-attrs) × (length (now «layer_attrs») ≡ layer-attr-table) × (layers ≤ most-attrs) ⌝ }
-    requires { ⌜ 6 * pieces ≤ length (now list) ⌝ }
+    requires { ⌜ piece-size * pieces ≤ length (now list) ⌝ }
     ensures { λ r. ⌜ out r (now (depth .exit)) (now (painting .exit)) (now (list .exit)) ≡ one-more (own-step (bucket-tiles width) (attrs-at (now («paint_attrs» .entry)) paints (now («layer_attrs» .entry)) layers) (now (state .entry)) (now (render .entry)) (now (fills .entry))) (out (listed pieces) (now (depth .entry)) (now (painting .entry)) (now (list .entry))) ⌝ }
-    ensures { λ r. ⌜ 6 * r .pieces ≤ length (now (list .entry)) ⌝ }
+    ensures { λ r. ⌜ piece-size * r .pieces ≤ length (now (list .entry)) ⌝ }
 {
-    let at = 6 * pieces;
+    let at = PIECE * pieces;
     let step = step_row(
         state,
         render,

@@ -13,7 +13,7 @@ use Rattle.rules.specs.Answers.{answer, Done, BadRecord, NoLayer}
 use Rattle.rules.specs.Boxes.{Box, meet, to-local, rows-of, rows-in, span-of, scene-tiles}
 use Rattle.rules.specs.Spans.{Span, Stretch, cut-to, span}
 use Rattle.rules.specs.Segments.{Segment, Cut, localised, on-row, stretch-of, cut-in, cuts}
-use Rattle.rules.specs.Inputs.{Paint, Draw, Clip, Props, Filter, good-filter, draw-segments}
+use Rattle.rules.specs.Inputs.{Paint, Draw, Clip, Props, Filter, good-filter-fill, draw-segments}
 use Rattle.rules.specs.Rows.{Row, fresh-row, row-ops}
 use Rattle.rules.specs.Plans.{Frame, bucket, Layer, State, Step, a-fill, a-push, a-pop, a-filter, Act, paint, opaque, touch, close, pop, Put, on, Plan, still, clip-box, box-of, draw-act, draw-puts, plan-fill, layer-box, touches-all, plan-push, clip-segments, close-puts, closing, plan-pop, filter-box, draws-nothing, filter-puts, plan-filter-in, plan-filter, plan}
 use Rattle.rules.specs.Steps.{Screen, reset, do-act, do-puts, done, refusal, perform, touched, call}
@@ -148,28 +148,28 @@ module _ (s : State) (n : Nested (s .layers)) where
   unfolding plan-push
   push-rows p rs h i = record { few = omega (arith, h i .few); boxed = (λ g. absurd (omega (arith, h i .few)), h i .boxed) }
 
-  filter-in-in : (b : Box) → Under b (s .layers) → (count : ℕ) (f : Filter) → All (PutIn (s .layers)) (plan-filter-in b count f s .puts)
+  filter-in-in : (b : Box) → Under b (s .layers) → (count : ℕ) (f : Filter) (q : ℕ) → All (PutIn (s .layers)) (plan-filter-in b count f q s .puts)
   unfolding plan-filter-in filter-puts
-  filter-in-in b u count f =
+  filter-in-in b u count f q =
       all-over (on (paint (span-of b) none (length (s .attrs .paints)))) (λ i h. inside (on (paint (span-of b) none (length (s .attrs .paints))) i) (in-all i b (s .layers) u n h)) (rows-inside b)
 
-  filter-layers : (count : ℕ) (f : Filter) → plan-filter count f s .layers ≡ s .layers
+  filter-layers : (count : ℕ) (f : Filter) (q : ℕ) → plan-filter count f q s .layers ≡ s .layers
   unfolding plan-filter plan-filter-in
-  filter-layers count f = go (not (good-filter f && leb count 4096)) (draws-nothing f (filter-box (s .frame .viewport) (box-of s) f))
+  filter-layers count f q = go (not (good-filter-fill count f q)) (draws-nothing f (filter-box (s .frame .viewport) (box-of s) f))
     where
-      go : (t u : Bool) → cond t (still BadRecord s) (cond u (still Done s) (plan-filter-in (filter-box (s .frame .viewport) (box-of s) f) count f s)) .layers ≡ s .layers
+      go : (t u : Bool) → cond t (still BadRecord s) (cond u (still Done s) (plan-filter-in (filter-box (s .frame .viewport) (box-of s) f) count f q s)) .layers ≡ s .layers
       go true u = refl
       go false true = refl
       go false false = refl
 
-  filter-in : (count : ℕ) (f : Filter) → All (PutIn (s .layers)) (plan-filter count f s .puts)
+  filter-in : (count : ℕ) (f : Filter) (q : ℕ) → All (PutIn (s .layers)) (plan-filter count f q s .puts)
   unfolding plan-filter
-  filter-in count f = go (not (good-filter f && leb count 4096)) (draws-nothing f (filter-box (s .frame .viewport) (box-of s) f))
+  filter-in count f q = go (not (good-filter-fill count f q)) (draws-nothing f (filter-box (s .frame .viewport) (box-of s) f))
     where
-      go : (t u : Bool) → All (PutIn (s .layers)) (cond t (still BadRecord s) (cond u (still Done s) (plan-filter-in (filter-box (s .frame .viewport) (box-of s) f) count f s)) .puts)
+      go : (t u : Bool) → All (PutIn (s .layers)) (cond t (still BadRecord s) (cond u (still Done s) (plan-filter-in (filter-box (s .frame .viewport) (box-of s) f) count f q s)) .puts)
       go true u = nil
       go false true = nil
-      go false false = filter-in-in (filter-box (s .frame .viewport) (box-of s) f) (meet-under (s .frame .viewport) (to-local (s .frame .viewport) (f .dest)) (s .layers)) count f
+      go false false = filter-in-in (filter-box (s .frame .viewport) (box-of s) f) (meet-under (s .frame .viewport) (to-local (s .frame .viewport) (f .dest)) (s .layers)) count f q
 
 -- a pop: closing fills change no levels, and each touched row loses its innermost
 pub data Closes : Put → Type 0 where
@@ -307,9 +307,9 @@ unfolding plan
 done-keeps (a-fill ps ss d) s r = fill-keeps ps ss d s r
 done-keeps (a-push p) s r = keep-plan (plan-push p (s .state)) s (push-nested (s .state) (r .nested) p) (push-in (s .state) (r .nested) p) (push-rows (s .state) (r .nested) p (s .rows) (r .rows))
 done-keeps (a-pop ss) s r = keep-pop (s .state .layers) ss s refl r
-done-keeps (a-filter count f) s r =
-    let e = filter-layers (s .state) (r .nested) count f in
-    keep-plan (plan-filter count f (s .state)) s (rw e (r .nested)) (rw e (filter-in (s .state) (r .nested) count f)) (rw e (r .rows))
+done-keeps (a-filter count f q) s r =
+    let e = filter-layers (s .state) (r .nested) count f q in
+    keep-plan (plan-filter count f q (s .state)) s (rw e (r .nested)) (rw e (filter-in (s .state) (r .nested) count f q)) (rw e (r .rows))
 
 -- every step, refused or done
 pub call-reaching : (x : Step) (s : Screen Row) → Reaching s → Reaching (call Row row-ops x s .value)

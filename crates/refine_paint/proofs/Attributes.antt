@@ -1,30 +1,39 @@
 -- Attributes that are added leave those before them as they were, so rows stay fair. Assumes nothing.
-use mathlib.Core.Path.{_≡_, refl, ap}
-use mathlib.Core.Bool.{true}
+use mathlib.Core.Path.{_≡_, refl, ap, _∙_}
+use mathlib.Core.Bool.{Bool, true, _&&_}
 use mathlib.Core.List.{List, [], _∷_, _++_}
 use Prim.Native.Nat.{ℕ, _≤_, _<_}
 use native.Mathlib.Omega.{arith}
 use lib.Dec.{ltb}
-use lib.ListN.{length, length-append, List·getD-append}
+use lib.ListN.{length, getD, length-append, List·getD-append}
 use lib.Seq.{getD-append-seam}
 use borrow.Author.Tests.{ltb-true, lt-ltb, le-leb}
+use Rattle.sizes.specs.Sizes.{last-id}
+use Rattle.rules.specs.Inputs.{good-panel}
 use Rattle.rules.specs.Commands.{Command, paint-fill, layer-fill, push-buf, pop-buf}
-use Rattle.rules.specs.Attributes.{PaintAttr, LayerAttr, FilterPaint, Attrs}
+use Rattle.rules.specs.Attributes.{PaintAttr, LayerAttr, FilterPaint, Attrs, no-paint, no-layer}
 use Rattle.rules.specs.Rows.{Row}
-use Rattle.rules.specs.Painting.{paint-id, layer-id}
-use Rattle.rules.proofs.All.{both, all-map}
+use Rattle.rules.specs.Painting.{paint-id, paint-panel, layer-id, layer-panel}
+use Rattle.rules.proofs.All.{and-left, all-map}
 use Rattle.paint_command.specs.Painting.{good-id, good-paint, good-layer}
 use Rattle.refine_paint.specs.Fair.{FairCommand, Fair}
+
+-- an attribute at place i of n that is good where it stands
+abbrev good-paint-at : ℕ → ℕ → PaintAttr → Bool
+good-paint-at i n x = ltb i n && good-panel (x .panel) && good-id (x .id)
+
+abbrev good-layer-at : ℕ → ℕ → LayerAttr → Bool
+good-layer-at i n x = ltb i n && good-panel (x .panel) && good-id (x .id)
 
 -- b has the attributes of a, and perhaps more after them
 pub record Extends (a b : Attrs) : Type 0 where
   pub more-paints : length (a .paints) ≤ length (b .paints)
   pub more-layers : length (a .layers) ≤ length (b .layers)
-  pub paint-ids : (i : ℕ) → i < length (a .paints) → paint-id b i ≡ paint-id a i
-  pub layer-ids : (i : ℕ) → i < length (a .layers) → layer-id b i ≡ layer-id a i
+  pub paints-kept : (i : ℕ) → i < length (a .paints) → getD (b .paints) i no-paint ≡ getD (a .paints) i no-paint
+  pub layers-kept : (i : ℕ) → i < length (a .layers) → getD (b .layers) i no-layer ≡ getD (a .layers) i no-layer
 
 pub same-attrs : (a : Attrs) → Extends a a
-same-attrs a = record { more-paints = omega arith; more-layers = omega arith; paint-ids = λ i h. refl; layer-ids = λ i h. refl }
+same-attrs a = record { more-paints = omega arith; more-layers = omega arith; paints-kept = λ i h. refl; layers-kept = λ i h. refl }
 
 module _ (ps : List PaintAttr) (ls : List LayerAttr) (fs gs : List FilterPaint) where
   abbrev old : Attrs
@@ -39,17 +48,20 @@ module _ (ps : List PaintAttr) (ls : List LayerAttr) (fs gs : List FilterPaint) 
         record {
           more-paints = rw length-append (omega arith);
           more-layers = omega arith;
-          paint-ids = λ i h. ap (λ (y : PaintAttr). y .id) (List·getD-append ps (x ∷ []) _ i h);
-          layer-ids = λ i h. refl;
+          paints-kept = λ i h. List·getD-append ps (x ∷ []) _ i h;
+          layers-kept = λ i h. refl;
         }
 
-    pub paint-new : paint-id painted (length ps) ≡ x .id
-    paint-new = ap (λ (y : PaintAttr). y .id) (getD-append-seam ps x [] _)
+    new-paint : getD (ps ++ (x ∷ [])) (length ps) no-paint ≡ x
+    new-paint = getD-append-seam ps x [] _
 
-    pub paint-good : 1 ≤ x .id → x .id ≤ 1048576 → good-paint painted (length ps) ≡ true
-    paint-good l h =
+    pub paint-new : paint-id painted (length ps) ≡ x .id
+    paint-new = ap (λ (y : PaintAttr). y .id) new-paint
+
+    pub paint-good : 1 ≤ x .id → x .id ≤ last-id → good-panel (x .panel) ≡ true → good-paint painted (length ps) ≡ true
+    paint-good l h g =
         let k : length ps < length (ps ++ (x ∷ [])) = rw length-append (omega arith) in
-        rw (lt-ltb _ _ k, paint-new, lt-ltb 0 (x .id) l, le-leb (x .id) 1048576 h)
+        ap (good-paint-at (length ps) (length (ps ++ (x ∷ [])))) new-paint ∙ rw (lt-ltb _ _ k, g, lt-ltb 0 (x .id) l, le-leb (x .id) last-id h)
 
   module _ (x : LayerAttr) where
     abbrev layered : Attrs
@@ -60,34 +72,45 @@ module _ (ps : List PaintAttr) (ls : List LayerAttr) (fs gs : List FilterPaint) 
         record {
           more-paints = omega arith;
           more-layers = rw length-append (omega arith);
-          paint-ids = λ i h. refl;
-          layer-ids = λ i h. ap (λ (y : LayerAttr). y .id) (List·getD-append ls (x ∷ []) _ i h);
+          paints-kept = λ i h. refl;
+          layers-kept = λ i h. List·getD-append ls (x ∷ []) _ i h;
         }
 
-    layer-new : layer-id layered (length ls) ≡ x .id
-    layer-new = ap (λ (y : LayerAttr). y .id) (getD-append-seam ls x [] _)
+    new-layer : getD (ls ++ (x ∷ [])) (length ls) no-layer ≡ x
+    new-layer = getD-append-seam ls x [] _
 
-    pub layer-good : 1 ≤ x .id → x .id ≤ 1048576 → good-layer layered (length ls) ≡ true
-    layer-good l h =
+    pub layer-good : 1 ≤ x .id → x .id ≤ last-id → good-panel (x .panel) ≡ true → good-layer layered (length ls) ≡ true
+    layer-good l h g =
         let k : length ls < length (ls ++ (x ∷ [])) = rw length-append (omega arith) in
-        rw (lt-ltb _ _ k, layer-new, lt-ltb 0 (x .id) l, le-leb (x .id) 1048576 h)
+        ap (good-layer-at (length ls) (length (ls ++ (x ∷ [])))) new-layer ∙ rw (lt-ltb _ _ k, g, lt-ltb 0 (x .id) l, le-leb (x .id) last-id h)
+
+-- a good attribute is there
+module _ (a : Attrs) (i : ℕ) where
+  pub paint-there : good-paint a i ≡ true → i < length (a .paints)
+  paint-there g =
+      let t = ltb i (length (a .paints)) in
+      ltb-true _ _ (and-left t (good-panel (paint-panel a i)) (and-left (t && good-panel (paint-panel a i)) (good-id (paint-id a i)) g))
+
+  layer-there : good-layer a i ≡ true → i < length (a .layers)
+  layer-there g =
+      let t = ltb i (length (a .layers)) in
+      ltb-true _ _ (and-left t (good-panel (layer-panel a i)) (and-left (t && good-panel (layer-panel a i)) (good-id (layer-id a i)) g))
 
 module _ (a b : Attrs) (e : Extends a b) where
-  paint-there : (i : ℕ) → good-paint a i ≡ true → i < length (a .paints)
-  paint-there i g = ltb-true _ _ (both (ltb i (length (a .paints))) (good-id (paint-id a i)) g .0)
+  same-id : (i : ℕ) → good-paint a i ≡ true → paint-id b i ≡ paint-id a i
+  same-id i g = ap (λ (x : PaintAttr). x .id) (e .paints-kept i (paint-there a i g))
 
   paint-more : (i : ℕ) → good-paint a i ≡ true → good-paint b i ≡ true
   paint-more i g =
-      let h = paint-there i g in
+      let h = paint-there a i g in
       let k : i < length (b .paints) = omega (arith, e .more-paints) in
-      rw (lt-ltb _ _ k, e .paint-ids i h) (both (ltb i (length (a .paints))) (good-id (paint-id a i)) g .1)
+      ap (good-paint-at i (length (b .paints))) (e .paints-kept i h) ∙ rw (lt-ltb _ _ k) (rw (lt-ltb _ _ h) at g)
 
   layer-more : (i : ℕ) → good-layer a i ≡ true → good-layer b i ≡ true
   layer-more i g =
-      let o = both (ltb i (length (a .layers))) (good-id (layer-id a i)) g in
-      let h : i < length (a .layers) = ltb-true _ _ (o .0) in
+      let h = layer-there a i g in
       let k : i < length (b .layers) = omega (arith, e .more-layers) in
-      rw (lt-ltb _ _ k, e .layer-ids i h) (o .1)
+      ap (good-layer-at i (length (b .layers))) (e .layers-kept i h) ∙ rw (lt-ltb _ _ k) (rw (lt-ltb _ _ h) at g)
 
   command-more : (c : Command) → FairCommand a c → FairCommand b c
   command-more (paint-fill s x i) h = record { good = h .good; attributed = paint-more i (h .attributed) }
@@ -103,7 +126,7 @@ module _ (a b : Attrs) (e : Extends a b) where
             all-map (λ f o. record {
               good = o .good;
               attributed = paint-more (f .attribute) (o .attributed);
-              included = rw (e .paint-ids (f .attribute) (paint-there (f .attribute) (o .attributed))) (o .included);
+              included = rw (same-id (f .attribute) (o .attributed)) (o .included);
             }) (h .fills);
         unions = h .unions;
         nested = h .nested;

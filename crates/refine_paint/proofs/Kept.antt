@@ -12,7 +12,7 @@ use Rattle.rules.specs.Boxes as boxes
 use Rattle.rules.specs.Rows.{Row, fresh-row, row-ops}
 use Rattle.rules.specs.Plans.{Frame, bucket, buckets-across, Step}
 use Rattle.rules.specs.Steps.{Screen, reset, done, refusal, perform, touched, call}
-use Rattle.rules.proofs.All.{All, nil, cons}
+use Rattle.rules.proofs.All.{All, nil, cons, all-map}
 use Rattle.rules.proofs.laws.Bounds.{plan-ok}
 use Rattle.rules.proofs.laws.Maps.{planned}
 use Rattle.row.specs.Words.{Words}
@@ -49,7 +49,7 @@ done-fair x s o h n i =
     let p = planned Row row-ops x s in
     let ts = touched Row row-ops (length (s .state .layers)) 0 (s .rows) in
     let k = buckets-across (s .state .frame) in
-    puts-fair (s .state .frame .width) (p .attrs) k (length (p .layers)) (n .deep) (plan-fair (s .state) (o .built .framed) (o .viewport) (o .some-id) x ts (n .own) (n .ids))
+    puts-fair (s .state .frame .width) (p .attrs) k (length (p .layers)) (n .deep) (plan-fair (s .state) (o .built .framed) (o .viewport) (o .some-id) (all-map (λ l g. g .props) (o .layers)) x ts (n .own) (n .ids))
     (plan-ok (s .state) (o .built .framed) x ts (n .own)) (s .rows) (fine-at (o .built .fine))
     (λ j. fair-more (s .state .attrs) (p .attrs) (plan-extends (s .state) x ts) (bucket (s .state .frame)) k (getD (s .rows) j fresh-row) (h j)) i
 

@@ -6,6 +6,7 @@ use mathlib.Core.List.{List}
 use Prim.Native.Nat.{ℕ, _/_}
 use lib.Dec.{eqb}
 use lib.ListN.{length, length-replicate}
+use Rattle.sizes.specs.Sizes.{piece-size}
 use Rattle.rules.specs.Answers.{answer, Done}
 use Rattle.rules.specs.Boxes.{good-viewport}
 use Rattle.rules.specs.Boxes as boxes
@@ -75,6 +76,6 @@ module _ (k : Canvas) (w : WholeCanvas k) where
   pub step-painted : (i : ℕ) (l : List ℕ)
       → stepped (words .screen) i (attributes (words .tables .paint-attrs) (words .tables .layer-attrs))
       (lent (words .tables .rows) (words .tables .render) (words .tables .fills) (words .tables .depth) (words .tables .painting) l)
-      ≡ given-out (paint-call i (length l / 6) k) l
+      ≡ given-out (paint-call i (length l / piece-size) k) l
   unfolding lent-of
   step-painted i l = step-by k w i l

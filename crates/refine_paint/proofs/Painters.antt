@@ -1,6 +1,6 @@
 -- Painters that begin and painting steps make are ready for the next step, on a fair row. Assumes nothing.
 use mathlib.Core.Path.{_≡_, refl, sym, ap, _∙_}
-use mathlib.Core.Bool.{Bool, true, false, cond}
+use mathlib.Core.Bool.{Bool, true, false, _&&_, cond}
 use mathlib.Core.List.{List, [], _∷_}
 use mathlib.Core.Option.{Option, none, some}
 use Prim.Native.Nat.{ℕ, zero, suc, _+_, _-_, _≤_, _<_}
@@ -12,9 +12,10 @@ use Rattle.rules.specs.Lists.{is-none, is-empty}
 use Rattle.rules.specs.Spans.{Span, span}
 use Rattle.rules.specs.Depth.{Summary, written}
 use Rattle.rules.specs.Commands.{Command, paint-fill, layer-fill, push-buf, pop-buf, DepthFill}
+use Rattle.rules.specs.Inputs.{good-panel}
 use Rattle.rules.specs.Attributes.{Attrs}
 use Rattle.rules.specs.Rows.{Row}
-use Rattle.rules.specs.Painting.{Painter, begin, paint-id, no-fill, paint-depth, paint-fill-runs, paint-command, paint-when, paint-step}
+use Rattle.rules.specs.Painting.{Painter, begin, paint-id, paint-panel, no-fill, paint-depth, paint-fill-runs, paint-command, paint-when, paint-step}
 use Rattle.rules.proofs.All.{All, cons, both, never, all-at, all-map}
 use Rattle.refine_row.specs.Encode.{first-of, end-of, state-of, Fine}
 use Rattle.paint_runs.specs.Summaries.{summary-at, Sound}
@@ -78,7 +79,7 @@ some-there (x ∷ xs) h = refl
 pub taken : (a : Attrs) (i : ℕ) → good-paint a i ≡ true → 0 < paint-id a i
 taken a i g =
     let id = paint-id a i in
-    ltb-true _ _ (both (ltb 0 id) (leb id 1048576) (both (ltb i (length (a .paints))) (good-id id) g .1) .0)
+    ltb-true _ _ (both (ltb 0 id) (leb id 1048576) (both (ltb i (length (a .paints)) && good-panel (paint-panel a i)) (good-id id) g .1) .0)
 
 -- .. as each depth fill's of a fair row has
 pub all-taken : {v : ℕ} (a : Attrs) (n : ℕ) (r : Row) → Fair v a n r → All (λ (f : DepthFill). 1 ≤ paint-id a (f .attribute)) (r .fills)

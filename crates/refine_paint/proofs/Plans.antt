@@ -1,26 +1,27 @@
 -- What steps put on rows is fair under the attributes that they leave. Assumes nothing.
 use mathlib.Core.Path.{_≡_, refl}
 use mathlib.Core.Bool.{Bool, true, false, _&&_, not, cond}
-use mathlib.Core.List.{List, [], _∷_}
+use mathlib.Core.List.{List, [], _∷_, _++_}
 use mathlib.Core.Option.{Option, none, some}
 use Prim.Native.Nat.{ℕ, _+_, _-_, _/_, _%_, _≤_, _<_, min, max}
 use native.Mathlib.Omega.{arith}
 use lib.Dec.{leb, ltb, eqb}
-use lib.ListN.{length}
-use borrow.Author.Tests.{leb-false, ltb-true, eqb-true}
+use lib.ListN.{length, getD}
+use borrow.Author.Tests.{leb-false, ltb-true, eqb-true, not-false}
 use Rattle.sizes.specs.declared.width.Width.{Width}
 use Rattle.sizes.specs.Widths.{bucket-tiles}
+use Rattle.sizes.specs.Sizes.{last-id}
 use Rattle.rules.specs.Lists.{some-of, is-empty}
 use Rattle.rules.specs.Answers.{Done, BadRecord}
 use Rattle.rules.specs.Boxes.{Box, width, height, by-4, good-box, bounded, good-viewport, empty-box, rows-in, span-of, scene-tiles}
 use Rattle.rules.specs.Spans.{Span, span, Stretch, common, moved, meeting, cut-at, cut-when, cut-to}
 use Rattle.rules.specs.Segments.{Segment, good-segment, alpha-of, stretch-of, Cut, localised, cut-in, cuts}
-use Rattle.rules.specs.Inputs.{Paint, Draw, Clip, Props, Filter, good-filter, draw-segments, draw-paint, good-fill}
+use Rattle.rules.specs.Inputs.{Paint, Draw, Clip, Props, Filter, good-panel, good-draw, few-paints, good-props, good-filter, good-filter-fill, draw-segments, draw-paint, good-fill}
 use Rattle.rules.specs.Blends.{Blend, default-blend}
-use Rattle.rules.specs.Attributes.{FilterPaint, Attrs}
+use Rattle.rules.specs.Attributes.{PaintAttr, LayerAttr, FilterPaint, Attrs, no-paint, no-layer, no-attrs}
 use Rattle.rules.specs.Painting.{paint-id}
-use Rattle.rules.specs.Plans.{buckets-across, Layer, State, Step, a-fill, a-push, a-pop, a-filter, paint, touch, close, pop, on, Put, still, clip-box, box-of, with-paint, with-layer, eligible, draw-act, draw-puts, plan-fill, layer-box, touches-all, plan-push, clip-segments, clip-fits, close-puts, closing, clip-thread, plan-pop, filter-box, filter-paint, draws-nothing, filter-puts, plan-filter-in, plan-filter, plan}
-use Rattle.rules.proofs.All.{All, nil, cons, head, both, neither, all-if, all-append, all-mapped, all-join}
+use Rattle.rules.specs.Plans.{buckets-across, Layer, State, Step, a-fill, a-push, a-pop, a-filter, paint, touch, close, pop, on, Put, still, clip-box, box-of, with-paint, with-layer, eligible, draw-act, draw-puts, plan-fill, layer-box, touches-all, plan-push, clip-segments, clip-fits, close-puts, closing, plan-pop, filter-box, filter-paint, draws-nothing, filter-puts, plan-filter-in, plan-filter, plan}
+use Rattle.rules.proofs.All.{All, nil, cons, head, both, and-left, and-right, neither, all-if, all-append, all-mapped, all-join}
 use Rattle.rules.proofs.laws.Bounds.{Framed, Inside, judged-facts, good-facts, dest-facts, box-inside}
 use Rattle.rules.proofs.laws.Widths.{each}
 use Rattle.cmd.specs.Good.{GoodSpan, GoodAlpha}
@@ -134,40 +135,72 @@ module _ (u : Width) (a : Attrs) (w : ℕ) where
       all-if (some-of (eqb (k .row)) ts)
       (cons {x = on (close (k .stretch .tiles) (k .stretch .alpha) i) (k .row)} (record { act = record { good = (h .tiles, h .alpha); attributed = p } }) (closes-fair i p ts hs)) (closes-fair i p ts hs)
 
-module _ (s : State) (f : Framed s) (g : good-viewport (s .frame .viewport) ≡ true) (one : 1 ≤ s .next) where
+-- the attribute that a step adds: what it adds to none
+abbrev bare : State → State
+bare s = record { frame = s .frame; next = s .next; attrs = no-attrs; layers = s .layers }
+
+abbrev paint-of : State → ℕ → Blend → ℕ → ℕ → ℕ → PaintAttr
+paint-of s p b m th q = getD (with-paint (bare s) p b m th q [] .paints) 0 no-paint
+
+abbrev layer-of : State → Props → LayerAttr
+layer-of s p = getD (with-layer (bare s) p .layers) 0 no-layer
+
+-- .. has a panel
+and-false : (t : Bool) → (t && false) ≡ false
+and-false true = refl
+and-false false = refl
+
+draw-panel : (ps : List Paint) (ss : List Segment) (d : Draw) → not (good-fill ps ss d) ≡ false → good-panel (d .panel) ≡ true
+draw-panel ps ss d e = go (good-panel (d .panel)) refl
+  where
+    good : good-draw ps ss d ≡ true
+    good = and-right (few-paints (length ps)) (good-draw ps ss d) (not-false (good-fill ps ss d) e)
+
+    go : (t : Bool) → good-panel (d .panel) ≡ t → t ≡ true
+    go true q = refl
+    go false q = (rw (q, and-false) at good)
+
+props-panel : (p : Props) → good-props p ≡ true → good-panel (p .panel) ≡ true
+props-panel p g = go (good-panel (p .panel)) refl
+  where
+    go : (t : Bool) → good-panel (p .panel) ≡ t → t ≡ true
+    go true q = refl
+    go false q = (rw (q, and-false) at g)
+
+abbrev GoodProps : Layer → Type 0
+GoodProps l = good-props (l .props) ≡ true
+
+module _ (s : State) (f : Framed s) (g : good-viewport (s .frame .viewport) ≡ true) (one : 1 ≤ s .next) (props : All GoodProps (s .layers)) where
   abbrev v : Box
   v = s .frame .viewport
 
   abbrev FairPuts : Attrs → List Put → Type 0
   FairPuts a ps = All (FairPut (s .frame .width) a (buckets-across (s .frame))) ps
 
-  new-paint : (p : ℕ) (b : Blend) (m th : ℕ) (fs : List FilterPaint) → s .next ≤ 1048576 → good-paint (with-paint s p b m th fs) (length (s .attrs .paints)) ≡ true
-  new-paint p b m th fs h =
-      paint-good (s .attrs .paints) (s .attrs .layers) [] []
-      (record { paint = p; blend = b; mask = m; id = s .next; thread = th; origin-x = s .frame .viewport .x0; origin-y = s .frame .viewport .y0 }) one h
+  new-paint : (p : ℕ) (b : Blend) (m th q : ℕ) (fs : List FilterPaint) → s .next ≤ last-id → good-panel q ≡ true → good-paint (with-paint s p b m th q fs) (length (s .attrs .paints)) ≡ true
+  new-paint p b m th q fs h k = paint-good (s .attrs .paints) (s .attrs .layers) [] [] (paint-of s p b m th q) one h k
 
-  new-paint-id : (p : ℕ) (b : Blend) (m th : ℕ) (fs : List FilterPaint) → paint-id (with-paint s p b m th fs) (length (s .attrs .paints)) ≡ s .next
-  new-paint-id p b m th fs =
-      paint-new (s .attrs .paints) (s .attrs .layers) [] []
-      (record { paint = p; blend = b; mask = m; id = s .next; thread = th; origin-x = s .frame .viewport .x0; origin-y = s .frame .viewport .y0 })
+  new-paint-id : (p : ℕ) (b : Blend) (m th q : ℕ) (fs : List FilterPaint) → paint-id (with-paint s p b m th q fs) (length (s .attrs .paints)) ≡ s .next
+  new-paint-id p b m th q fs = paint-new (s .attrs .paints) (s .attrs .layers) [] [] (paint-of s p b m th q)
 
-  new-layer : (p : Props) → s .next ≤ 1048576 → good-layer (with-layer s p) (length (s .attrs .layers)) ≡ true
-  new-layer p h =
-      layer-good (s .attrs .paints) (s .attrs .layers) [] []
-      (record { blend = p .blend; opacity = p .opacity; mask = p .mask; id = s .next; thread = clip-thread (p .clip) }) one h
+  new-layer : (p : Props) → s .next ≤ last-id → good-panel (p .panel) ≡ true → good-layer (with-layer s p) (length (s .attrs .layers)) ≡ true
+  new-layer p h k = layer-good (s .attrs .paints) (s .attrs .layers) [] [] (layer-of s p) one h k
 
   fill-fair : (ps : List Paint) (ss : List Segment) (d : Draw) → plan-fill ps ss d s .refused ≡ Done → plan-fill ps ss d s .next ≤ 1048577 → FairPuts (plan-fill ps ss d s .attrs) (plan-fill ps ss d s .puts)
   unfolding plan-fill cuts draw-puts
   fill-fair ps ss d e n = go (draw-segments ss d) (judged-facts (not (good-fill ps ss d)) (draw-segments ss d) e .1)
     where
+      panel : good-panel (d .panel) ≡ true
+      panel = draw-panel ps ss d (judged-facts (not (good-fill ps ss d)) (draw-segments ss d) e .0)
+
       go : (own : List Segment) → All (λ (x : Segment). good-segment x ≡ true) own
-          → FairPuts (cond (is-empty own) (s .attrs) (with-paint s (d .paint) (d .blend) (d .mask) (d .thread) []))
+          → FairPuts (cond (is-empty own) (s .attrs) (with-paint s (d .paint) (d .blend) (d .mask) (d .thread) (d .panel) []))
           (draw-puts (eligible (is-empty (s .layers)) (draw-paint ps d) d) (length (s .attrs .paints)) (s .next) (cuts v (box-of s) own))
       go [] a = nil
       go (x ∷ xs) a =
-          draws-fair (s .frame .width) (with-paint s (d .paint) (d .blend) (d .mask) (d .thread) []) (width v / 4) (eligible (is-empty (s .layers)) (draw-paint ps d) d) (length (s .attrs .paints)) (s .next)
-          (new-paint (d .paint) (d .blend) (d .mask) (d .thread) [] (omega arith))
-          (new-paint-id (d .paint) (d .blend) (d .mask) (d .thread) [])
+          draws-fair (s .frame .width) (with-paint s (d .paint) (d .blend) (d .mask) (d .thread) (d .panel) []) (width v / 4) (eligible (is-empty (s .layers)) (draw-paint ps d) d) (length (s .attrs .paints)) (s .next)
+          (new-paint (d .paint) (d .blend) (d .mask) (d .thread) (d .panel) [] (omega arith) panel)
+          (new-paint-id (d .paint) (d .blend) (d .mask) (d .thread) (d .panel) [])
           (cuts-fair v (box-of s) g (box-inside s f .right) a)
 
   push-fair : (p : Props) → FairPuts (plan-push p s .attrs) (plan-push p s .puts)
@@ -189,14 +222,14 @@ module _ (s : State) (f : Framed s) (g : good-viewport (s .frame .viewport) ≡ 
   closing-fair a none own parent i ss ts p h r o = all-mapped (on (close (span-of own) none i)) (λ x. record { act = record { good = (h, tt); attributed = p } }) ts
   closing-fair a (some c) own parent i ss ts p h r o = closes-fair (s .frame .width) a (width v / 4) i p ts (cuts-fair v parent g r o)
 
-  pop-fair : (ls : List Layer) (ss : List Segment) (ts : List ℕ) → All (λ (l : Layer). Inside v (l .bounds)) ls → plan-pop ls ss ts s .refused ≡ Done → plan-pop ls ss ts s .next ≤ 1048577
+  pop-fair : (ls : List Layer) (ss : List Segment) (ts : List ℕ) → All (λ (l : Layer). Inside v (l .bounds)) ls → All GoodProps ls → plan-pop ls ss ts s .refused ≡ Done → plan-pop ls ss ts s .next ≤ 1048577
       → FairPuts (plan-pop ls ss ts s .attrs) (plan-pop ls ss ts s .puts)
   unfolding plan-pop
-  pop-fair [] ss ts a e n = nil
-  pop-fair (l ∷ ls) ss ts (cons i is) e n =
+  pop-fair [] ss ts a q e n = nil
+  pop-fair (l ∷ ls) ss ts (cons i is) (cons q qs) e n =
       all-append
       (closing-fair (with-layer s (l .props)) (l .props .clip) (l .bounds) (clip-box v ls) (length (s .attrs .layers)) ss ts
-      (new-layer (l .props) (omega arith)) (inside-fair (l .bounds) i) (clip-right ls is)
+      (new-layer (l .props) (omega arith) (props-panel (l .props) q)) (inside-fair (l .bounds) i) (clip-right ls is)
       (judged-facts (not (clip-fits (l .props .clip) ss)) (clip-segments (l .props .clip) ss) e .1))
       (all-mapped (on pop) (λ x. record { act = tt }) ts)
 
@@ -206,67 +239,64 @@ module _ (s : State) (f : Framed s) (g : good-viewport (s .frame .viewport) ≡ 
       let i = box-inside s f in
       record { left = omega (arith, b .across, b .right, i .left); right = omega (arith, i .right); bottom = omega (arith, i .bottom) }
 
-  filter-in-fair : (b : Box) (count : ℕ) (q : Filter) → Inside v b → plan-filter-in b count q s .next ≤ 1048577 → FairPuts (plan-filter-in b count q s .attrs) (plan-filter-in b count q s .puts)
+  filter-in-fair : (b : Box) (count : ℕ) (q : Filter) (z : ℕ) → Inside v b → good-panel z ≡ true → plan-filter-in b count q z s .next ≤ 1048577
+      → FairPuts (plan-filter-in b count q z s .attrs) (plan-filter-in b count q z s .puts)
   unfolding plan-filter-in filter-puts
-  filter-in-fair b count q i n =
-      let p = new-paint (count + length (s .attrs .filters)) default-blend 0 0 (filter-paint q ∷ []) (omega arith) in
+  filter-in-fair b count q z i k n =
+      let p = new-paint (count + length (s .attrs .filters)) default-blend 0 0 z (filter-paint q ∷ []) (omega arith) k in
       all-mapped (on (paint (span-of b) none (length (s .attrs .paints)))) (λ x. record { act = record { good = (inside-fair b i, tt); attributed = p } }) (rows-in b)
 
-  filter-fair : (count : ℕ) (q : Filter) → plan-filter count q s .next ≤ 1048577 → FairPuts (plan-filter count q s .attrs) (plan-filter count q s .puts)
+  filter-fair : (count : ℕ) (q : Filter) (z : ℕ) → plan-filter count q z s .next ≤ 1048577 → FairPuts (plan-filter count q z s .attrs) (plan-filter count q z s .puts)
   unfolding plan-filter
-  filter-fair count q n = go (good-filter q && leb count 4096) (draws-nothing q (filter-box v (box-of s) q)) refl n
+  filter-fair count q z n = go (good-filter-fill count q z) (draws-nothing q (filter-box v (box-of s) q)) refl n
     where
-      go : (t u : Bool) → (good-filter q && leb count 4096) ≡ t
-          → cond (not t) (still BadRecord s) (cond u (still Done s) (plan-filter-in (filter-box v (box-of s) q) count q s)) .next ≤ 1048577
-          → FairPuts (cond (not t) (still BadRecord s) (cond u (still Done s) (plan-filter-in (filter-box v (box-of s) q) count q s)) .attrs)
-          (cond (not t) (still BadRecord s) (cond u (still Done s) (plan-filter-in (filter-box v (box-of s) q) count q s)) .puts)
+      go : (t u : Bool) → good-filter-fill count q z ≡ t
+          → cond (not t) (still BadRecord s) (cond u (still Done s) (plan-filter-in (filter-box v (box-of s) q) count q z s)) .next ≤ 1048577
+          → FairPuts (cond (not t) (still BadRecord s) (cond u (still Done s) (plan-filter-in (filter-box v (box-of s) q) count q z s)) .attrs)
+          (cond (not t) (still BadRecord s) (cond u (still Done s) (plan-filter-in (filter-box v (box-of s) q) count q z s)) .puts)
       go false u e m = nil
       go true true e m = nil
-      go true false e m = filter-in-fair (filter-box v (box-of s) q) count q (filter-inside q (both (good-filter q) (leb count 4096) e .0)) m
+      go true false e m =
+          let h = both (good-filter q && few-paints count) (good-panel z) e in
+          filter-in-fair (filter-box v (box-of s) q) count q z (filter-inside q (and-left (good-filter q) (few-paints count) (h .0))) (h .1) m
 
   pub plan-fair : (x : Step) (ts : List ℕ) → plan x ts s .refused ≡ Done → plan x ts s .next ≤ 1048577 → FairPuts (plan x ts s .attrs) (plan x ts s .puts)
   unfolding plan
   plan-fair (a-fill ps ss d) ts e n = fill-fair ps ss d e n
   plan-fair (a-push p) ts e n = push-fair p
-  plan-fair (a-pop ss) ts e n = pop-fair (s .layers) ss ts (f .boxes) e n
-  plan-fair (a-filter count q) ts e n = filter-fair count q n
+  plan-fair (a-pop ss) ts e n = pop-fair (s .layers) ss ts (f .boxes) props e n
+  plan-fair (a-filter count q z) ts e n = filter-fair count q z n
 
 -- the attributes that a plan leaves
 module _ (s : State) where
-  paint-added : (p : ℕ) (b : Blend) (m th : ℕ) (fs : List FilterPaint) → Extends (s .attrs) (with-paint s p b m th fs)
-  paint-added p b m th fs =
-      let e = paint-extends (s .attrs .paints) (s .attrs .layers) [] []
-      (record { paint = p; blend = b; mask = m; id = s .next; thread = th; origin-x = s .frame .viewport .x0; origin-y = s .frame .viewport .y0 }) in
-      record { more-paints = e .more-paints; more-layers = e .more-layers; paint-ids = e .paint-ids; layer-ids = e .layer-ids }
+  paint-added : (p : ℕ) (b : Blend) (m th q : ℕ) (fs : List FilterPaint) → Extends (s .attrs) (with-paint s p b m th q fs)
+  paint-added p b m th q fs = paint-extends (s .attrs .paints) (s .attrs .layers) (s .attrs .filters) (s .attrs .filters ++ fs) (paint-of s p b m th q)
 
   fill-extends : (ps : List Paint) (ss : List Segment) (d : Draw) → Extends (s .attrs) (plan-fill ps ss d s .attrs)
   unfolding plan-fill
   fill-extends ps ss d = go (is-empty (draw-segments ss d))
     where
-      go : (t : Bool) → Extends (s .attrs) (cond t (s .attrs) (with-paint s (d .paint) (d .blend) (d .mask) (d .thread) []))
+      go : (t : Bool) → Extends (s .attrs) (cond t (s .attrs) (with-paint s (d .paint) (d .blend) (d .mask) (d .thread) (d .panel) []))
       go true = same-attrs (s .attrs)
-      go false = paint-added (d .paint) (d .blend) (d .mask) (d .thread) []
+      go false = paint-added (d .paint) (d .blend) (d .mask) (d .thread) (d .panel) []
 
   pop-extends : (ls : List Layer) (ss : List Segment) (ts : List ℕ) → Extends (s .attrs) (plan-pop ls ss ts s .attrs)
   unfolding plan-pop
   pop-extends [] ss ts = same-attrs (s .attrs)
-  pop-extends (l ∷ ls) ss ts =
-      let e = layer-extends (s .attrs .paints) (s .attrs .layers) [] []
-      (record { blend = l .props .blend; opacity = l .props .opacity; mask = l .props .mask; id = s .next; thread = clip-thread (l .props .clip) }) in
-      record { more-paints = e .more-paints; more-layers = e .more-layers; paint-ids = e .paint-ids; layer-ids = e .layer-ids }
+  pop-extends (l ∷ ls) ss ts = layer-extends (s .attrs .paints) (s .attrs .layers) (s .attrs .filters) (s .attrs .filters) (layer-of s (l .props))
 
-  filter-extends : (count : ℕ) (q : Filter) → Extends (s .attrs) (plan-filter count q s .attrs)
+  filter-extends : (count : ℕ) (q : Filter) (z : ℕ) → Extends (s .attrs) (plan-filter count q z s .attrs)
   unfolding plan-filter plan-filter-in
-  filter-extends count q = go (not (good-filter q && leb count 4096)) (draws-nothing q (filter-box (s .frame .viewport) (box-of s) q))
+  filter-extends count q z = go (not (good-filter-fill count q z)) (draws-nothing q (filter-box (s .frame .viewport) (box-of s) q))
     where
-      go : (t u : Bool) → Extends (s .attrs) (cond t (still BadRecord s) (cond u (still Done s) (plan-filter-in (filter-box (s .frame .viewport) (box-of s) q) count q s)) .attrs)
+      go : (t u : Bool) → Extends (s .attrs) (cond t (still BadRecord s) (cond u (still Done s) (plan-filter-in (filter-box (s .frame .viewport) (box-of s) q) count q z s)) .attrs)
       go true u = same-attrs (s .attrs)
       go false true = same-attrs (s .attrs)
-      go false false = paint-added (count + length (s .attrs .filters)) default-blend 0 0 (filter-paint q ∷ [])
+      go false false = paint-added (count + length (s .attrs .filters)) default-blend 0 0 z (filter-paint q ∷ [])
 
   pub plan-extends : (x : Step) (ts : List ℕ) → Extends (s .attrs) (plan x ts s .attrs)
   unfolding plan plan-push
   plan-extends (a-fill ps ss d) ts = fill-extends ps ss d
   plan-extends (a-push p) ts = same-attrs (s .attrs)
   plan-extends (a-pop ss) ts = pop-extends (s .layers) ss ts
-  plan-extends (a-filter count q) ts = filter-extends count q
+  plan-extends (a-filter count q z) ts = filter-extends count q z

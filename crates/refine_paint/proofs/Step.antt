@@ -9,6 +9,7 @@ use lib.Dec.{leb, ltb, eqb}
 use lib.ListN.{length, getD, set}
 use lib.Seq.{take-at, drop-at}
 use borrow.Author.Tests.{ne-eqb, eq-eqb, lt-leb, leb-false, ltb-false}
+use Rattle.sizes.specs.Sizes.{paint-attr-size, paint-id-at, paint-panel-at, paint-attr-table, layer-attr-size, layer-id-at, layer-panel-at, layer-attr-table, piece-size}
 use Rattle.rules.specs.Lists.{join, is-empty}
 use Rattle.rules.specs.Answers.{settle, Done, BadRun, Open, NoRoom}
 use Rattle.rules.specs.Boxes as boxes
@@ -57,15 +58,17 @@ set-same [] i d h = absurd (omega arith)
 set-same (p ∷ ps) zero d h = refl
 set-same (p ∷ ps) (suc i) d h = ap (λ (t : List Painter). p ∷ t) (set-same ps i d (omega arith))
 
--- the tables hold the attributes' ids
+-- the tables hold the attributes' ids and panels
 holds : (s : rule.Screen Row) → Holds (s .state .attrs) (attributes-of s .paints) (length (s .state .attrs .paints)) (attributes-of s .layers) (length (s .state .attrs .layers))
 unfolding table
 holds s =
     record {
       paint-count = refl;
       layer-count = refl;
-      paint-ids = λ i h. join-at paint-attr-words 8 (λ x. refl) (s .state .attrs .paints) _ i 4 _ h (omega arith);
-      layer-ids = λ i h. join-at attr-words 6 (λ x. refl) (s .state .attrs .layers) _ i 3 _ h (omega arith);
+      paint-ids = λ i h. join-at paint-attr-words paint-attr-size (λ x. refl) (s .state .attrs .paints) _ i paint-id-at _ h (omega arith);
+      layer-ids = λ i h. join-at attr-words layer-attr-size (λ x. refl) (s .state .attrs .layers) _ i layer-id-at _ h (omega arith);
+      paint-panels = λ i h. join-at paint-attr-words paint-attr-size (λ x. refl) (s .state .attrs .paints) _ i paint-panel-at _ h (omega arith);
+      layer-panels = λ i h. join-at attr-words layer-attr-size (λ x. refl) (s .state .attrs .layers) _ i layer-panel-at _ h (omega arith);
     }
 
 -- 12 without such a row, 13 where painting does not go on
@@ -96,11 +99,11 @@ module _ (k : calls.Canvas) (w : WholeCanvas k) (i : ℕ) (l : List ℕ) where
       let h = neither f1 f2 (neither (f1 || f2) (ltb 256 (length (s .state .attrs .filters))) (w .sound .attrs) .0) in
       (ltb-false _ _ (h .0), ltb-false _ _ (h .1))
 
-  paints-long : length (attributes-of s .paints) ≡ 8192
-  paints-long = table-length 0 8192 (join paint-attr-words (s .state .attrs .paints)) (omega (arith, join-length paint-attr-words 8 (λ x. refl) (s .state .attrs .paints), few .0))
+  paints-long : length (attributes-of s .paints) ≡ paint-attr-table
+  paints-long = table-length 0 paint-attr-table (join paint-attr-words (s .state .attrs .paints)) (omega (arith, join-length paint-attr-words paint-attr-size (λ x. refl) (s .state .attrs .paints), few .0))
 
-  layers-long : length (attributes-of s .layers) ≡ 6144
-  layers-long = table-length 0 6144 (join attr-words (s .state .attrs .layers)) (omega (arith, join-length attr-words 6 (λ x. refl) (s .state .attrs .layers), few .1))
+  layers-long : length (attributes-of s .layers) ≡ layer-attr-table
+  layers-long = table-length 0 layer-attr-table (join attr-words (s .state .attrs .layers)) (omega (arith, join-length attr-words layer-attr-size (λ x. refl) (s .state .attrs .layers), few .1))
 
   step-judged : number (screen-of (s .state) (k .begun)) i (attributes-of s) (words-of k l) ≡ cond (leb (length (s .rows)) i) BadRun (cond (calls.paints-on k) Done Open)
   unfolding step-number
@@ -159,9 +162,9 @@ module _ (k : calls.Canvas) (w : WholeCanvas k) (i : ℕ) (l : List ℕ) where
         step-by-rules (screen-of (s .state) (k .begun)) i (attributes-of s) (words-of k l) done-number a (holds s) r g q u ∙ rw (own-depth, own-painting)
 
     -- 14 alters nothing; done, the row's painter is the rules'
-    step-out : in-place (screen-of (s .state) (k .begun)) i (words-of k l) (settled (some o) (p .buckets) (standing-in p) l) ≡ given-out (paint-call i (length l / 6) k) l
+    step-out : in-place (screen-of (s .state) (k .begun)) i (words-of k l) (settled (some o) (p .buckets) (standing-in p) l) ≡ given-out (paint-call i (length l / piece-size) k) l
     unfolding settled paint-call
-    step-out = rw (lt-leb (length (s .rows)) i h, b, on) (go (ltb (length l / 6) (length (o .pieces))))
+    step-out = rw (lt-leb (length (s .rows)) i h, b, on) (go (ltb (length l / piece-size) (length (o .pieces))))
       where
         kept : (f : Painter → List ℕ) (m : ℕ) → All (λ (x : Painter). length (f x) ≡ m) (k .painters) → with-part m i (join f (k .painters)) (f p) ≡ join f (k .painters)
         kept f m a = put-join f m a i p there ∙ ap (join f) (set-same (k .painters) i (begin 0) there)
@@ -177,7 +180,7 @@ module _ (k : calls.Canvas) (w : WholeCanvas k) (i : ℕ) (l : List ℕ) where
         go false = rw (put-join buckets-in n (w .wide) i (o .painter) there, put-join standing-in 2 (all-standing (k .painters)) i (o .painter) there)
 
   abbrev Same : Type 0
-  Same = stepped (screen-of (s .state) (k .begun)) i (attributes-of s) (words-of k l) ≡ given-out (paint-call i (length l / 6) k) l
+  Same = stepped (screen-of (s .state) (k .begun)) i (attributes-of s) (words-of k l) ≡ given-out (paint-call i (length l / piece-size) k) l
 
   missing : leb (length (s .rows)) i ≡ true → Same
   unfolding stepped paint-call
@@ -188,7 +191,7 @@ module _ (k : calls.Canvas) (w : WholeCanvas k) (i : ℕ) (l : List ℕ) where
   not-begun e f = rw (step-judged, e, f)
 
   -- The call at the words: the rules' number, pieces and painter, and nothing else altered.
-  pub step-by : stepped (screen-of (s .state) (k .begun)) i (attributes-of s) (words-of k l) ≡ given-out (paint-call i (length l / 6) k) l
+  pub step-by : stepped (screen-of (s .state) (k .begun)) i (attributes-of s) (words-of k l) ≡ given-out (paint-call i (length l / piece-size) k) l
   step-by = go (leb (length (s .rows)) i) (calls.paints-on k) refl refl
     where
       go : (t b : Bool) → leb (length (s .rows)) i ≡ t → calls.paints-on k ≡ b → Same

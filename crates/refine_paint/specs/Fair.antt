@@ -1,5 +1,5 @@
 -- What holds of every row that a reset and steps make, and painting reads: its commands and depth fills are those that words can stand for,
--- their attributes are there with ids that draws took, buffers are balanced, and the summary includes each depth fill.
+-- their attributes are there with panels and ids that draws took, buffers are balanced, and the summary includes each depth fill.
 use Prim.Native.Nat.{ℕ, suc, _-_, _<_}
 use mathlib.Core.Path.{_≡_}
 use mathlib.Core.Bool.{true}
@@ -18,7 +18,7 @@ use Rattle.cmd.specs.Good.{GoodCommand, GoodDepthFill, GoodPush}
 use Rattle.paint_runs.specs.Summaries.{Included}
 use Rattle.paint_command.specs.Painting.{good-paint, good-layer}
 
--- a command's attribute, if it has one, is there, with an id from 1 to 1,048,576
+-- a command's attribute, if it has one, is there, with a panel and an id from 1 to 1,048,576
 abbrev pub Attributed : Attrs → Command → Type 0
 Attributed a (paint-fill s x i) = good-paint a i ≡ true
 Attributed a (layer-fill s x i) = good-layer a i ≡ true

@@ -21,8 +21,9 @@ use Rattle.row_screen.specs.Arena.{lay}
 use Rattle.row_judge.specs.Building.{rows-at, screen-at, good-rows, step-number}
 use Rattle.refine_row.specs.Encode.{encode}
 use Rattle.refine_row.proofs.Refines.{refines}
+use Rattle.rules.specs.Attributes.{no-paint}
 use Rattle.screen.specs.declared.Screen.{Screen}
-use Rattle.screen.specs.Screens.{some-paint, some-filter, layer-in, state-of, screen-after}
+use Rattle.screen.specs.Screens.{some-filter, layer-in, state-of, screen-after}
 use Rattle.refine_steps.specs.Sound.{Sound}
 use Rattle.refine_steps.specs.Lent.{screen-of, rows-of}
 use Rattle.refine_steps.proofs.Judged.{rows-cut}
@@ -49,7 +50,7 @@ pub record Alike (s : State) (p q : Plan) : Type 0 where
   pub puts : p .puts ≡ q .puts
   pub deep : length (p .layers) ≡ length (q .layers)
   pub clip : clip-box (s .frame .viewport) (p .layers) ≡ clip-box (s .frame .viewport) (q .layers)
-  pub paints : Grown some-paint (s .attrs .paints) (p .attrs .paints) (q .attrs .paints)
+  pub paints : Grown no-paint (s .attrs .paints) (p .attrs .paints) (q .attrs .paints)
   pub layers : length (p .attrs .layers) ≡ length (q .attrs .layers)
   pub filters : Grown some-filter (s .attrs .filters) (p .attrs .filters) (q .attrs .filters)
 

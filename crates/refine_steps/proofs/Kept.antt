@@ -14,13 +14,13 @@ use Rattle.rules.specs.Boxes.{Box, width, height, by-4, good-box, bounded, good
 use Rattle.rules.specs.Spans.{Span, span, Stretch, common, meeting, cut-at, cut-when, cut-to}
 use Rattle.rules.specs.Segments.{Segment, good-segment, stretch-of, Cut, localised, cut-in, cuts}
 use Rattle.rules.specs.Blends.{good-blend}
-use Rattle.rules.specs.Inputs.{Paint, Draw, Clip, Props, good-handle, all-good, good-props, Filter, good-filter, draw-segments, good-fill}
+use Rattle.rules.specs.Inputs.{Paint, Draw, Clip, Props, good-handle, good-panel, few-paints, all-good, good-props, Filter, good-filter, good-filter-fill, draw-segments, good-fill}
 use Rattle.rules.specs.Attributes.{attrs-full}
 use Rattle.rules.specs.Rows.{Row, fresh-row, row-ops}
 use Rattle.rules.specs.Plans.{Frame, bucket, Layer, State, Step, a-fill, a-push, a-pop, a-filter, paint, touch, close, pop, on, Put, Plan, still, clip-box, box-of, draw-act, draw-puts, plan-fill, layer-box, touches-all, plan-push, clip-segments, clip-fits, close-puts, closing, plan-pop, filter-box, draws-nothing, filter-puts, plan-filter-in, plan-filter, plan}
 use Rattle.rules.specs.Steps.{Screen, reset, do-puts, done, row-passes, passes, refusal, perform, touched, call}
 use Rattle.rules.specs.Walk.{good-room}
-use Rattle.rules.proofs.All.{All, nil, cons, head, tail, both, neither, never, all-if, all-append, all-mapped, all-join}
+use Rattle.rules.proofs.All.{All, nil, cons, head, tail, both, and-left, and-right, neither, never, all-if, all-append, all-mapped, all-join}
 use Rattle.rules.proofs.laws.Changes.{puts-on, puts-length, untouched}
 use Rattle.rules.proofs.laws.Maps.{paints, splits, touches, closes, pops, planned}
 use Rattle.rules.proofs.laws.Bounds.{Framed, Inside, judged-facts, good-facts, bounded-facts, clip-facts, dest-facts, box-inside}
@@ -136,26 +136,26 @@ module _ (s : State) (f : Framed s) where
       let i = box-inside s f in
       record { left = omega (arith, b .across, b .right, i .left); right = omega (arith, i .right); bottom = omega (arith, i .bottom) }
 
-  filter-in-fine : (b : Box) (count : ℕ) (q : Filter) → Inside (s .frame .viewport) b → All PutFine (plan-filter-in b count q s .puts)
+  filter-in-fine : (b : Box) (count : ℕ) (q : Filter) (j : ℕ) → Inside (s .frame .viewport) b → All PutFine (plan-filter-in b count q j s .puts)
   unfolding plan-filter-in filter-puts
-  filter-in-fine b count q i = all-mapped (on (paint (span-of b) none (length (s .attrs .paints)))) (λ x. record { act = paints (inside-fine b i); id = omega arith }) (rows-in b)
+  filter-in-fine b count q j i = all-mapped (on (paint (span-of b) none (length (s .attrs .paints)))) (λ x. record { act = paints (inside-fine b i); id = omega arith }) (rows-in b)
 
-  filter-fine : (count : ℕ) (q : Filter) → All PutFine (plan-filter count q s .puts)
+  filter-fine : (count : ℕ) (q : Filter) (j : ℕ) → All PutFine (plan-filter count q j s .puts)
   unfolding plan-filter
-  filter-fine count q = go (good-filter q && leb count 4096) (draws-nothing q (filter-box (s .frame .viewport) (box-of s) q)) refl
+  filter-fine count q j = go (good-filter-fill count q j) (draws-nothing q (filter-box (s .frame .viewport) (box-of s) q)) refl
     where
-      go : (t u : Bool) → (good-filter q && leb count 4096) ≡ t
-          → All PutFine (cond (not t) (still BadRecord s) (cond u (still Done s) (plan-filter-in (filter-box (s .frame .viewport) (box-of s) q) count q s)) .puts)
+      go : (t u : Bool) → good-filter-fill count q j ≡ t
+          → All PutFine (cond (not t) (still BadRecord s) (cond u (still Done s) (plan-filter-in (filter-box (s .frame .viewport) (box-of s) q) count q j s)) .puts)
       go false u e = nil
       go true true e = nil
-      go true false e = filter-in-fine (filter-box (s .frame .viewport) (box-of s) q) count q (filter-inside q (both (good-filter q) (leb count 4096) e .0))
+      go true false e = filter-in-fine (filter-box (s .frame .viewport) (box-of s) q) count q j (filter-inside q (and-left (good-filter q) (few-paints count) (and-left (good-filter q && few-paints count) (good-panel j) e)))
 
   plan-fine : (x : Step) (ts : List ℕ) → plan x ts s .refused ≡ Done → plan x ts s .next ≤ 1048577 → All PutFine (plan x ts s .puts)
   unfolding plan
   plan-fine (a-fill ps ss d) ts e n = fill-fine ps ss d e n
   plan-fine (a-push p) ts e n = push-fine p
   plan-fine (a-pop ss) ts e n = pop-fine (s .layers) ss ts (f .boxes) e
-  plan-fine (a-filter count q) ts e n = filter-fine count q
+  plan-fine (a-filter count q j) ts e n = filter-fine count q j
 
 -- a plan that nothing refuses
 pub record Passing (p : Plan) (t : Screen Row) : Type 0 where
@@ -274,7 +274,7 @@ module _ (s : State) (g : good-viewport (s .frame .viewport) ≡ true) (a : All 
   unfolding plan-push
   push-layers p e =
       let q : good-props p ≡ true = not-refused (good-props p) e in
-      let c : all-good (p .clip) ≡ true = both (good-blend (p .blend) && good-handle (p .mask)) (all-good (p .clip)) q .1 in
+      let c : all-good (p .clip) ≡ true = and-right (good-blend (p .blend) && good-handle (p .mask)) (all-good (p .clip)) (and-left (good-blend (p .blend) && good-handle (p .mask) && all-good (p .clip)) (good-panel (p .panel)) q) in
       cons {x = record { props = p; bounds = layer-box (s .frame .viewport) (box-of s) (p .clip) }}
       (record { props = q; bounds = layer-good (s .frame .viewport) g (box-of s) (p .clip) c (clip-good (s .frame .viewport) g (s .layers) a) }) a
 
@@ -283,11 +283,11 @@ module _ (s : State) (g : good-viewport (s .frame .viewport) ≡ true) (a : All 
   pop-layers [] ss ts e = a
   pop-layers (l ∷ ls) ss ts e = tail (rw e at a)
 
-  filter-layers : (count : ℕ) (q : Filter) → All (Good (s .frame .viewport)) (plan-filter count q s .layers)
+  filter-layers : (count : ℕ) (q : Filter) (j : ℕ) → All (Good (s .frame .viewport)) (plan-filter count q j s .layers)
   unfolding plan-filter plan-filter-in
-  filter-layers count q = go (not (good-filter q && leb count 4096)) (draws-nothing q (filter-box (s .frame .viewport) (box-of s) q))
+  filter-layers count q j = go (not (good-filter-fill count q j)) (draws-nothing q (filter-box (s .frame .viewport) (box-of s) q))
     where
-      go : (t u : Bool) → All (Good (s .frame .viewport)) (cond t (still BadRecord s) (cond u (still Done s) (plan-filter-in (filter-box (s .frame .viewport) (box-of s) q) count q s)) .layers)
+      go : (t u : Bool) → All (Good (s .frame .viewport)) (cond t (still BadRecord s) (cond u (still Done s) (plan-filter-in (filter-box (s .frame .viewport) (box-of s) q) count q j s)) .layers)
       go true u = a
       go false true = a
       go false false = a
@@ -297,7 +297,7 @@ module _ (s : State) (g : good-viewport (s .frame .viewport) ≡ true) (a : All 
   plan-layers (a-fill ps ss d) ts e = a
   plan-layers (a-push p) ts e = push-layers p e
   plan-layers (a-pop ss) ts e = pop-layers (s .layers) ss ts refl
-  plan-layers (a-filter count q) ts e = filter-layers count q
+  plan-layers (a-filter count q j) ts e = filter-layers count q j
 
   -- no step gives an id back
   pop-next : (ls : List Layer) (ss : List Segment) (ts : List ℕ) → s .next ≤ plan-pop ls ss ts s .next
@@ -305,11 +305,11 @@ module _ (s : State) (g : good-viewport (s .frame .viewport) ≡ true) (a : All 
   pop-next [] ss ts = omega arith
   pop-next (l ∷ ls) ss ts = omega arith
 
-  filter-next : (count : ℕ) (q : Filter) → s .next ≤ plan-filter count q s .next
+  filter-next : (count : ℕ) (q : Filter) (j : ℕ) → s .next ≤ plan-filter count q j s .next
   unfolding plan-filter plan-filter-in
-  filter-next count q = go (not (good-filter q && leb count 4096)) (draws-nothing q (filter-box (s .frame .viewport) (box-of s) q))
+  filter-next count q j = go (not (good-filter-fill count q j)) (draws-nothing q (filter-box (s .frame .viewport) (box-of s) q))
     where
-      go : (t u : Bool) → s .next ≤ cond t (still BadRecord s) (cond u (still Done s) (plan-filter-in (filter-box (s .frame .viewport) (box-of s) q) count q s)) .next
+      go : (t u : Bool) → s .next ≤ cond t (still BadRecord s) (cond u (still Done s) (plan-filter-in (filter-box (s .frame .viewport) (box-of s) q) count q j s)) .next
       go true u = omega arith
       go false true = omega arith
       go false false = omega arith
@@ -319,7 +319,7 @@ module _ (s : State) (g : good-viewport (s .frame .viewport) ≡ true) (a : All 
   plan-next (a-fill ps ss d) ts = omega arith
   plan-next (a-push p) ts = omega arith
   plan-next (a-pop ss) ts = pop-next (s .layers) ss ts
-  plan-next (a-filter count q) ts = filter-next count q
+  plan-next (a-filter count q j) ts = filter-next count q j
 
 -- the calls
 abbrev after : Step → Screen Row → Screen Row

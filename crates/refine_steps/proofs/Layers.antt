@@ -8,14 +8,16 @@ use lib.Dec.{leb}
 use lib.ListN.{length, getD}
 use lib.Seq.{getD-append-add}
 use borrow.Author.Tests.{le-leb, eq-eqb}
+use Rattle.sizes.specs.Sizes.{open-layer-size}
 use Rattle.rules.specs.Boxes.{Box, good-viewport, good-box}
 use Rattle.rules.specs.Blends.{good-blend}
-use Rattle.rules.specs.Inputs.{Clip, good-handle, good-thread, all-good, good-props}
+use Rattle.rules.specs.Inputs.{Clip, good-handle, good-thread, good-panel, all-good, good-props}
 use Rattle.rules.specs.Plans.{Layer, clip-box}
 use Rattle.rules.proofs.All.{All, cons, both}
 use Rattle.screen.proofs.Laws as screens
 use Rattle.screen_layers.specs.declared.OpenLayer.{OpenLayer}
 use Rattle.screen_layers.specs.Layers.{layer-words, layer-at, open-at, good-layer, good-own-box}
+use Rattle.screen_layers.proofs.Laws.{kept}
 use Rattle.step_pop.specs.Pop.{layers-in, good-open}
 use Rattle.file_read.specs.Reading.{pattern-of}
 use Rattle.refine_steps.specs.Sound.{Good}
@@ -25,14 +27,10 @@ use Rattle.refine_steps.proofs.Steps.{layers-length}
 
 -- a layer without its opacity, which stands apart
 abbrev pub bare : Layer → Layer
-bare l = record { props = record { blend = l .props .blend; opacity = 0; mask = l .props .mask; clip = l .props .clip }; bounds = l .bounds }
+bare l = kept l (l .props .clip)
 
--- with another clip
-abbrev clipped : Layer → Option Clip → Layer
-clipped l c = record { props = record { blend = l .props .blend; opacity = l .props .opacity; mask = l .props .mask; clip = c }; bounds = l .bounds }
-
-module _ (xs ys : List ℕ) (k : ℕ) (e : length xs ≡ 16 * k) where
-  word-there : (i : ℕ) → getD (xs ++ ys) (16 * k + i) 0 ≡ getD ys i 0
+module _ (xs ys : List ℕ) (k : ℕ) (e : length xs ≡ open-layer-size * k) where
+  word-there : (i : ℕ) → getD (xs ++ ys) (open-layer-size * k + i) 0 ≡ getD ys i 0
   word-there i = rw (← e, getD-append-add)
 
   layer-there : layer-at (xs ++ ys) k ≡ layer-at ys 0
@@ -46,30 +44,31 @@ module _ (l : Layer) (n : ℕ) (rest : List ℕ) where
   layer-read : layer-at (layer-words l n ++ rest) 0 ≡ bare l
   layer-read = go (l .props .clip)
     where
-      go : (c : Option Clip) → layer-at (layer-words (clipped l c) n ++ rest) 0 ≡ bare (clipped l c)
+      go : (c : Option Clip) → layer-at (layer-words (kept l c) n ++ rest) 0 ≡ kept l c
       go none = refl
       go (some c) = refl
 
   nan-read : open-at (layer-words l n ++ rest) 0 .nan ≡ n
   nan-read = go (l .props .clip)
     where
-      go : (c : Option Clip) → open-at (layer-words (clipped l c) n ++ rest) 0 .nan ≡ n
+      go : (c : Option Clip) → open-at (layer-words (kept l c) n ++ rest) 0 .nan ≡ n
       go none = refl
       go (some c) = refl
 
   open-read : good-props (l .props) ≡ true → good-layer (open-at (layer-words l n ++ rest) 0) ≡ true
   unfolding good-layer
   open-read g =
-      let h2 = both (good-blend (l .props .blend) && good-handle (l .props .mask)) (all-good (l .props .clip)) g in
+      let h3 = both (good-blend (l .props .blend) && good-handle (l .props .mask) && all-good (l .props .clip)) (good-panel (l .props .panel)) g in
+      let h2 = both (good-blend (l .props .blend) && good-handle (l .props .mask)) (all-good (l .props .clip)) (h3 .0) in
       let h1 = both (good-blend (l .props .blend)) (good-handle (l .props .mask)) (h2 .0) in
-      go (l .props .clip) (h1 .0) (h1 .1) (h2 .1)
+      go (l .props .clip) (h1 .0) (h1 .1) (h2 .1) (h3 .1)
     where
-      go : (c : Option Clip) → good-blend (l .props .blend) ≡ true → good-handle (l .props .mask) ≡ true → all-good c ≡ true → good-layer (open-at (layer-words (clipped l c) n ++ rest) 0) ≡ true
-      go none p q r = rw (p, q)
-      go (some c) p q r =
+      go : (c : Option Clip) → good-blend (l .props .blend) ≡ true → good-handle (l .props .mask) ≡ true → all-good c ≡ true → good-panel (l .props .panel) ≡ true → good-layer (open-at (layer-words (kept l c) n ++ rest) 0) ≡ true
+      go none p q r s = rw (p, q, s)
+      go (some c) p q r s =
           let k2 = both (good-box (c .bounds) && leb (c .start) (c .end)) (good-thread (c .thread)) r in
           let k1 = both (good-box (c .bounds)) (leb (c .start) (c .end)) (k2 .0) in
-          rw (p, q, k1 .1, k2 .1)
+          rw (p, q, k1 .1, k2 .1, s)
 
 -- all the open layers
 pub layers-read : (ls : List Layer) (rest : List ℕ) → layers-in (layers-words ls ++ rest) (length ls) ≡ map bare ls

@@ -9,11 +9,13 @@ use lib.ListN.{length, getD, drop, set, replicate, length-append, length-replica
 use lib.Ieee.{Float, binary32, ofBits, nan}
 use lib.Seq.{drop-at, set-append-left}
 use borrow.Author.Tests.{eqb-true, eq-eqb, ltb-false}
+use Rattle.sizes.specs.Sizes.{open-layer-size, open-layer-table, layer-attr-size, layer-attr-table}
 use Rattle.rules.specs.Lists.{join}
 use Rattle.rules.specs.Answers.{answer, settle, Done, NoLayer}
 use Rattle.rules.specs.Boxes.{rows-in}
 use Rattle.rules.specs.Segments.{Segment}
-use Rattle.rules.specs.Attributes.{LayerAttr, Attrs, attrs-full}
+use Rattle.rules.specs.Inputs.{Props}
+use Rattle.rules.specs.Attributes.{LayerAttr, Attrs, attrs-full, no-paint, no-layer}
 use Rattle.screen.specs.Attributes.{layer-attr-words}
 use Rattle.rules.proofs.Words.{segment-words}
 use Rattle.rules.specs.Rows.{Row, row-ops}
@@ -28,9 +30,10 @@ use Rattle.row_judge.specs.Building.{rows-at}
 use Rattle.step_pop_rows.specs.Closing.{touched-in, good-pops}
 use Rattle.refine_row.proofs.Refines.{refines}
 use Rattle.screen.specs.declared.Screen.{Screen}
-use Rattle.screen.specs.Screens.{some-paint, some-layer, some-filter, state-of, screen-after}
+use Rattle.screen.specs.Screens.{some-filter, state-of, screen-after}
 use Rattle.screen.specs.Tables.{Tables, ScreenLent, float-0}
 use Rattle.screen_layers.specs.Layers.{no-words, open-at}
+use Rattle.screen_layers.proofs.Laws.{words-length}
 use Rattle.step_pop.specs.Pop as pop
 use Rattle.step_pop.specs.Pop.{layers-in, own-rows, good-open, good-lengths, popped}
 use Rattle.file_read.specs.Reading.{pattern-of}
@@ -44,12 +47,16 @@ use Rattle.refine_steps.proofs.Kept.{passing}
 use Rattle.refine_steps.proofs.Judged.{rows-cut, judged-done}
 use Rattle.refine_steps.proofs.Alike.{Alike, plan-rows, plan-screen, number-is}
 use Rattle.refine_steps.proofs.Planned.{same-grown}
-use Rattle.refine_steps.proofs.Steps.{layer-length, map-length, layers-length, layers-long, opacities-count, opacities-length, few-attrs, opacities-long}
+use Rattle.refine_steps.proofs.Steps.{map-length, layers-length, layers-long, opacities-count, opacities-length, few-attrs, opacities-long}
 use Rattle.refine_steps.proofs.Layers.{bare, bare-clip, bare-length, layers-read, layers-good, nan-there}
 use Rattle.refine_steps.proofs.Pops.{pops-good}
 
 abbrev screen : Frame → ℕ → Attrs → List Layer → List Row → rule.Screen Row
 screen f n a ls rows = record { state = record { frame = f; next = n; attrs = a; layers = ls }; rows = rows }
+
+-- the attribute of a layer that closes with the id n
+abbrev attr-of : ℕ → Props → LayerAttr
+attr-of n p = record { blend = p .blend; opacity = p .opacity; mask = p .mask; id = n; thread = clip-thread (p .clip); panel = p .panel }
 
 map-more : {A B : Type 0} (g : A → B) (xs : List A) (x : A) → map g (xs ++ (x ∷ [])) ≡ map g xs ++ (g x ∷ [])
 map-more g [] x = refl
@@ -61,11 +68,11 @@ module _ (f : Frame) (n : ℕ) (a : Attrs) (rows : List Row) (b : Bool) (de pa :
   at ls = lent-of (screen f n a ls rows) b de pa
 
   abbrev layers-table : List Layer → List ℕ
-  layers-table ls = table 0 256 (layers-words ls)
+  layers-table ls = table 0 open-layer-table (layers-words ls)
 
   read : (ls : List Layer) → layers-in (layers-table ls) (length ls) ≡ map bare ls
   unfolding table
-  read ls = layers-read ls (replicate (256 - length (layers-words ls)) 0)
+  read ls = layers-read ls (replicate (open-layer-table - length (layers-words ls)) 0)
 
   -- the state that a pop reads
   abbrev inner : List Layer → State
@@ -88,12 +95,12 @@ module _ (f : Frame) (n : ℕ) (a : Attrs) (rows : List Row) (b : Bool) (de pa :
     unfolding plan
     theirs-ok e = plan-ok (screen f n a ls rows .state) (h .built .framed) (a-pop ss) (touched Row row-ops (length ls) 0 rows) e
 
-    attrs-long : length (table 0 6144 (join attr-words (a .layers))) ≡ 6144
-    attrs-long = table-length 0 6144 (join attr-words (a .layers)) (omega (arith, join-length attr-words 6 (λ x. refl) (a .layers), few-attrs (screen f n a ls rows) h b de pa .1))
+    attrs-long : length (table 0 layer-attr-table (join attr-words (a .layers))) ≡ layer-attr-table
+    attrs-long = table-length 0 layer-attr-table (join attr-words (a .layers)) (omega (arith, join-length attr-words layer-attr-size (λ x. refl) (a .layers), few-attrs (screen f n a ls rows) h b de pa .1))
 
     open-good : good-open (f .viewport) (layers-table ls) (length ls) ≡ true
     unfolding table
-    open-good = layers-good (f .viewport) ls (h .viewport) (h .layers) (replicate (256 - length (layers-words ls)) 0)
+    open-good = layers-good (f .viewport) ls (h .viewport) (h .layers) (replicate (open-layer-table - length (layers-words ls)) 0)
 
     first-none : pop.first (screen-of (screen f n a ls rows .state) b) (pop-part (at ls)) (join segment-words ss) ≡ 0
     unfolding pop.first lent-of good-lengths
@@ -132,18 +139,18 @@ module _ (f : Frame) (n : ℕ) (a : Attrs) (rows : List Row) (b : Bool) (de pa :
         puts = refl;
         deep = refl;
         clip = refl;
-        paints = same-grown some-paint (a .paints);
-        layers = length-replicate (length (a .layers)) some-layer;
+        paints = same-grown no-paint (a .paints);
+        layers = length-replicate (length (a .layers)) no-layer;
         filters = same-grown some-filter (a .filters);
       }
   alike (l ∷ ls) h =
       record {
         refused = refl;
         next = refl;
-        puts = rw (touched-same l ls h, bare-clip (f .viewport) ls, length-replicate (length (a .layers)) some-layer);
+        puts = rw (touched-same l ls h, bare-clip (f .viewport) ls, length-replicate (length (a .layers)) no-layer);
         deep = bare-length ls;
         clip = bare-clip (f .viewport) ls;
-        paints = same-grown some-paint (a .paints);
+        paints = same-grown no-paint (a .paints);
         layers = simp (length-append, length-replicate) refl;
         filters = same-grown some-filter (a .filters);
       }
@@ -179,7 +186,7 @@ module _ (f : Frame) (n : ℕ) (a : Attrs) (rows : List Row) (b : Bool) (de pa :
     before = screen f n a (l ∷ ls) rows
 
     abbrev the-attr : LayerAttr
-    the-attr = record { blend = l .props .blend; opacity = l .props .opacity; mask = l .props .mask; id = n; thread = clip-thread (l .props .clip) }
+    the-attr = attr-of n (l .props)
 
     last-place : suc (length ls) - 1 ≡ length ls
     last-place = omega arith
@@ -191,11 +198,11 @@ module _ (f : Frame) (n : ℕ) (a : Attrs) (rows : List Row) (b : Bool) (de pa :
     unfolding plan-pop
     theirs-leave = (refl, refl)
 
-    layers-left : words-at (layers-table (l ∷ ls)) (16 * (suc (length ls) - 1)) no-words ≡ layers-table ls
+    layers-left : words-at (layers-table (l ∷ ls)) (open-layer-size * (suc (length ls) - 1)) no-words ≡ layers-table ls
     unfolding layers-words
     layers-left =
         rw last-place
-        (table-clear 0 256 (16 * length ls) 16 (layers-words ls) (open-words l) (layers-length ls) (layer-length l (pattern-of (l .props .opacity))) (omega (arith, few)))
+        (table-clear 0 open-layer-table (open-layer-size * length ls) open-layer-size (layers-words ls) (open-words l) (layers-length ls) (words-length l (pattern-of (l .props .opacity))) (omega (arith, few)))
 
     abbrev its-opacity : Float
     its-opacity = ofBits binary32 (l .props .opacity)
@@ -221,24 +228,25 @@ module _ (f : Frame) (n : ℕ) (a : Attrs) (rows : List Row) (b : Bool) (de pa :
         ∙ rw (table-unset float-0 16 (length ls) (layers-opacities ls) its-opacity c few, map-more attr-opacity (a .layers) the-attr))
 
     drop-is : drop (length (a .layers)) (ours (l ∷ ls) .attrs .layers)
-        ≡ record { blend = l .props .blend; opacity = 0; mask = l .props .mask; id = n; thread = clip-thread (l .props .clip) } ∷ []
+        ≡ attr-of n (bare l .props) ∷ []
     unfolding plan-pop state-of
-    drop-is = drop-at (replicate (length (a .layers)) some-layer) _ (length (a .layers)) (length-replicate (length (a .layers)) some-layer)
+    drop-is = drop-at (replicate (length (a .layers)) no-layer) _ (length (a .layers)) (length-replicate (length (a .layers)) no-layer)
 
     nan-is : open-at (at (l ∷ ls) .tables .layers) (suc (length ls) - 1) .nan ≡ pattern-of (l .props .opacity)
     unfolding lent-of table
-    nan-is = rw last-place (nan-there l ls (replicate (256 - length (layers-words (l ∷ ls))) 0))
+    nan-is = rw last-place (nan-there l ls (replicate (open-layer-table - length (layers-words (l ∷ ls))) 0))
 
     new-is : pop.new-words (screen-of (before .state) b) (pop-part (at (l ∷ ls))) (join segment-words ss) ≡ attr-words the-attr
     new-is =
-        ap (λ (p : Plan). join layer-attr-words (drop (length (a .layers)) (p .attrs .layers)) ++ (open-at (at (l ∷ ls) .tables .layers) (suc (length ls) - 1) .nan ∷ [])) (plan-is (l ∷ ls) h)
-        ∙ ap (λ (xs : List LayerAttr). join layer-attr-words xs ++ (open-at (at (l ∷ ls) .tables .layers) (suc (length ls) - 1) .nan ∷ [])) drop-is
-        ∙ ap (λ (i : ℕ). layer-attr-words the-attr ++ (i ∷ [])) nan-is
+        let pattern = open-at (at (l ∷ ls) .tables .layers) (suc (length ls) - 1) .nan in
+        ap (λ (p : Plan). join (λ (x : LayerAttr). layer-attr-words x pattern) (drop (length (a .layers)) (p .attrs .layers))) (plan-is (l ∷ ls) h)
+        ∙ ap (λ (xs : List LayerAttr). join (λ (x : LayerAttr). layer-attr-words x pattern) xs) drop-is
+        ∙ ap (layer-attr-words the-attr) nan-is
 
-    attrs-left : words-at (table 0 6144 (join attr-words (a .layers))) (6 * length (a .layers)) (attr-words the-attr) ≡ table 0 6144 (join attr-words (a .layers ++ (the-attr ∷ [])))
+    attrs-left : words-at (table 0 layer-attr-table (join attr-words (a .layers))) (layer-attr-size * length (a .layers)) (attr-words the-attr) ≡ table 0 layer-attr-table (join attr-words (a .layers ++ (the-attr ∷ [])))
     attrs-left =
         rw (join-append attr-words (a .layers) (the-attr ∷ []))
-        (table-more 0 6144 (6 * length (a .layers)) (join attr-words (a .layers)) (attr-words the-attr) (join-length attr-words 6 (λ x. refl) (a .layers)))
+        (table-more 0 layer-attr-table (layer-attr-size * length (a .layers)) (join attr-words (a .layers)) (attr-words the-attr) (join-length attr-words layer-attr-size (λ x. refl) (a .layers)))
 
     room-left : refusal Row row-ops (theirs (l ∷ ls)) (done Row row-ops (theirs (l ∷ ls)) before) ≡ Done → length (a .layers) < 1024
     room-left e =

@@ -25,7 +25,7 @@ pub stepped : (x : Step) (s : rule.Screen Row) → Sound s → (b : Bool) (de pa
 stepped (a-fill ps ss d) s h b de pa = fill-stepped s h b de pa ps ss d
 stepped (a-push p) s h b de pa = push-stepped s h b de pa p
 stepped (a-pop ss) s h b de pa = pop-stepped s h b de pa ss
-stepped (a-filter count f) s h b de pa = filter-stepped s h b de pa count f
+stepped (a-filter count f q) s h b de pa = filter-stepped s h b de pa count f q
 
 -- a sound screen, and words that hold it
 pub record Refines (s : rule.Screen Row) (l : ScreenLent) : Type 0 where

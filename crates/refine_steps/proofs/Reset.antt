@@ -11,6 +11,7 @@ use lib.ListN.{length, replicate}
 use borrow.Author.Tests.{eqb-true}
 use Rattle.rules.specs.Answers.{answer}
 use Rattle.rules.specs.Boxes.{good-viewport, rows-of}
+use Rattle.sizes.specs.Sizes.{open-layer-table, opacity-count, paint-attr-table, layer-attr-table, filter-paint-table}
 use Rattle.rules.specs.Lists.{join}
 use Rattle.screen.specs.Attributes.{paint-attr-words}
 use Rattle.rules.specs.Rows.{Row, fresh-row}
@@ -65,11 +66,11 @@ pub record Lengthy (l : Lengths) (n c d : ℕ) : Type 0 where
   pub render : l .render ≡ n * (4 * c)
   pub fills : l .fills ≡ n * (2 * d)
   pub rows : l .rows ≡ n * 54
-  pub layers : l .layers ≡ 256
-  pub opacities : l .opacities ≡ 1040
-  pub paints : l .«paint_attrs» ≡ 8192
-  pub attrs : l .«layer_attrs» ≡ 6144
-  pub filters : l .«filter_paints» ≡ 1024
+  pub layers : l .layers ≡ open-layer-table
+  pub opacities : l .opacities ≡ opacity-count
+  pub paints : l .«paint_attrs» ≡ paint-attr-table
+  pub attrs : l .«layer_attrs» ≡ layer-attr-table
+  pub filters : l .«filter_paints» ≡ filter-paint-table
 
 module _ (f : Frame) (l : ScreenLent) (z : judged-reset f (lengths (l .tables)) ≡ 0) where
   abbrev n : ℕ
@@ -89,11 +90,11 @@ module _ (f : Frame) (l : ScreenLent) (z : judged-reset f (lengths (l .tables)) 
       let a1 = both (eqb (k .render) (n * (4 * f .c))) (eqb (k .fills) (n * (2 * f .d))) (a2 .0) in
       let b2 = both (eqb (k .rows) (n * 54) && eqb (k .painting) (n * 2)) (good-fixed k) (judged-facts .2) in
       let b1 = both (eqb (k .rows) (n * 54)) (eqb (k .painting) (n * 2)) (b2 .0) in
-      let t1 = eqb (k .layers) 256 in
-      let t2 = eqb (k .opacities) 1040 in
-      let t3 = eqb (k .«paint_attrs») 8192 in
-      let t4 = eqb (k .«layer_attrs») 6144 in
-      let c4 = both (t1 && t2 && t3 && t4) (eqb (k .«filter_paints») 1024) (b2 .1) in
+      let t1 = eqb (k .layers) open-layer-table in
+      let t2 = eqb (k .opacities) opacity-count in
+      let t3 = eqb (k .«paint_attrs») paint-attr-table in
+      let t4 = eqb (k .«layer_attrs») layer-attr-table in
+      let c4 = both (t1 && t2 && t3 && t4) (eqb (k .«filter_paints») filter-paint-table) (b2 .1) in
       let c3 = both (t1 && t2 && t3) t4 (c4 .0) in
       let c2 = both (t1 && t2) t3 (c3 .0) in
       let c1 = both t1 t2 (c2 .0) in
@@ -130,25 +131,25 @@ module _ (f : Frame) (l : ScreenLent) (z : judged-reset f (lengths (l .tables)) 
   unfolding zeros
   rows-is = ap (λ (k : ℕ). replicate k 0) (lengthy .rows) ∙ sym (ap (λ (w : Words). w .state) fresh-rows)
 
-  layers-is : zeros 0 (l .tables .layers) ≡ table 0 256 (layers-words (fresh .state .layers))
+  layers-is : zeros 0 (l .tables .layers) ≡ table 0 open-layer-table (layers-words (fresh .state .layers))
   unfolding reset layers-words
-  layers-is = zeros-table 0 256 (l .tables .layers) (lengthy .layers)
+  layers-is = zeros-table 0 open-layer-table (l .tables .layers) (lengthy .layers)
 
   opacities-is : zeros float-0 (l .tables .opacities) ≡ table float-0 16 (layers-opacities (fresh .state .layers)) ++ table float-0 1024 (map attr-opacity (fresh .state .attrs .layers))
   unfolding reset layers-opacities
   opacities-is = two-tables float-0 16 1024 (l .tables .opacities) (lengthy .opacities)
 
-  paints-is : zeros 0 (l .tables .paint-attrs) ≡ table 0 8192 (join paint-attr-words (fresh .state .attrs .paints))
+  paints-is : zeros 0 (l .tables .paint-attrs) ≡ table 0 paint-attr-table (join paint-attr-words (fresh .state .attrs .paints))
   unfolding reset
-  paints-is = zeros-table 0 8192 (l .tables .paint-attrs) (lengthy .paints)
+  paints-is = zeros-table 0 paint-attr-table (l .tables .paint-attrs) (lengthy .paints)
 
-  attrs-is : zeros 0 (l .tables .layer-attrs) ≡ table 0 6144 (join attr-words (fresh .state .attrs .layers))
+  attrs-is : zeros 0 (l .tables .layer-attrs) ≡ table 0 layer-attr-table (join attr-words (fresh .state .attrs .layers))
   unfolding reset
-  attrs-is = zeros-table 0 6144 (l .tables .layer-attrs) (lengthy .attrs)
+  attrs-is = zeros-table 0 layer-attr-table (l .tables .layer-attrs) (lengthy .attrs)
 
-  filters-is : zeros (pos 0) (l .tables .filter-paints) ≡ table (pos 0) 1024 (join filter-paint-words (fresh .state .attrs .filters))
+  filters-is : zeros (pos 0) (l .tables .filter-paints) ≡ table (pos 0) filter-paint-table (join filter-paint-words (fresh .state .attrs .filters))
   unfolding reset
-  filters-is = zeros-table (pos 0) 1024 (l .tables .filter-paints) (lengthy .filters)
+  filters-is = zeros-table (pos 0) filter-paint-table (l .tables .filter-paints) (lengthy .filters)
 
   screen-is : fresh-screen f ≡ screen-of (fresh .state) false
   unfolding reset

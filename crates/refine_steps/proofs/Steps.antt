@@ -1,24 +1,25 @@
 -- Fills, filter fills and pushes on a sound screen's words. Assumes nothing.
 use mathlib.Core.Path.{_≡_, refl, ap, _∙_}
-use mathlib.Core.Bool.{Bool, true, false, _&&_, _||_, not, cond}
+use mathlib.Core.Bool.{Bool, true, false, _||_, not, cond}
 use mathlib.Core.List.{List, [], _∷_, _++_, map, append-nil}
 use mathlib.Core.Option.{Option, none, some}
 use Prim.Native.Nat.{ℕ, suc, _*_, _%_, _≤_, _<_}
 use native.Mathlib.Omega.{arith}
-use lib.Dec.{leb, ltb, eqb}
+use lib.Dec.{ltb, eqb}
 use lib.IntN.{pos}
 use lib.ListN.{length, drop, set, length-append}
 use lib.Seq.{set-append-left}
 use lib.Ieee.{Float, binary32, ofBits}
 use borrow.Author.Tests.{eqb-true, eq-eqb, ltb-false}
+use Rattle.sizes.specs.Sizes.{open-layer-size, open-layer-table, opacity-count, paint-attr-size, paint-attr-table, filter-paint-size, filter-paint-table}
 use Rattle.rules.specs.Lists.{join, is-empty}
 use Rattle.rules.specs.Answers.{answer, settle, Done, BadRecord}
 use Rattle.rules.specs.Segments.{Segment}
-use Rattle.rules.specs.Inputs.{Paint, Draw, draw-segments, Clip, Props, Filter, good-filter}
+use Rattle.rules.specs.Inputs.{Paint, Draw, draw-segments, Clip, Props, Filter, good-filter-fill}
 use Rattle.screen.specs.Attributes.{paint-attr-words}
 use Rattle.rules.proofs.Words.{paint-words, segment-words}
 use Rattle.rules.specs.Rows.{Row, row-ops}
-use Rattle.rules.specs.Plans.{Layer, State, a-fill, a-push, a-filter, Plan, still, box-of, with-paint, plan-fill, layer-box, plan-push, filter-box, draws-nothing, plan-filter-in, plan-filter, plan}
+use Rattle.rules.specs.Plans.{Layer, State, a-fill, a-push, a-filter, Plan, still, box-of, plan-fill, layer-box, plan-push, filter-box, draws-nothing, plan-filter-in, plan-filter, plan}
 use Rattle.rules.specs.Steps as rule
 use Rattle.rules.specs.Steps.{done, refusal, perform, call}
 use Rattle.rules.proofs.All.{All, neither}
@@ -32,6 +33,7 @@ use Rattle.step_filter.specs.Filter.{given, filter-number, filter-paint-words, 
 use Rattle.step_fill.specs.Fills as fills
 use Rattle.step_push.specs.Push as push
 use Rattle.screen_layers.specs.Layers.{props-of, clip-of, layer-words}
+use Rattle.screen_layers.proofs.Laws.{words-length}
 use Rattle.file_read.specs.Reading.{pattern-of, draw-in, clip-in, props-in}
 use Rattle.file_read.proofs.Given.{pattern-good}
 use Rattle.file_steps.specs.Steps.{placement-in, fill-part, fill-into, push-part, push-into, filter-part, filter-into, with-value, call-at}
@@ -42,7 +44,7 @@ use Rattle.refine_steps.proofs.Tables.{table-length, table-more, table-
 use Rattle.refine_steps.proofs.Kept.{passing}
 use Rattle.refine_steps.proofs.Judged.{judged-done}
 use Rattle.refine_steps.proofs.Alike.{box-same, Grown, grown-new, Alike, rows-is, plan-screen, step-is}
-use Rattle.refine_steps.proofs.Planned.{filter-alike, fill-alike, push-alike}
+use Rattle.refine_steps.proofs.Planned.{painted, filter-alike, fill-alike, push-alike}
 
 -- an answer at the words, from its number and what stands afterwards
 pub settled : {X : Type 0} (f : X → ScreenLent) (k n : ℕ) (x y : X) (s t : rule.Screen Row) (b : Bool) (de pa : List ℕ)
@@ -60,20 +62,13 @@ grown-table z n k f e {d} {old} {xs} {ys} g =
     rw (grown-new g, g .ours, join-append f old (g .new)) (table-more z n (k * length old) (join f old) (join f (g .new)) (join-length f k e old))
 
 -- the open layers' words and opacities, by their number
-pub layer-length : (l : Layer) (n : ℕ) → length (layer-words l n) ≡ 16
-layer-length l n = go (l .props .clip)
-  where
-    go : (c : Option Clip) → length (layer-words (record { props = record { blend = l .props .blend; opacity = l .props .opacity; mask = l .props .mask; clip = c }; bounds = l .bounds }) n) ≡ 16
-    go none = refl
-    go (some c) = refl
-
-pub layers-length : (ls : List Layer) → length (layers-words ls) ≡ 16 * length ls
+pub layers-length : (ls : List Layer) → length (layers-words ls) ≡ open-layer-size * length ls
 unfolding layers-words
 layers-length [] = refl
-layers-length (l ∷ ls) = length-append (layers-words ls) (open-words l) ∙ omega (arith, layer-length l (pattern-of (l .props .opacity)), layers-length ls)
+layers-length (l ∷ ls) = length-append (layers-words ls) (open-words l) ∙ omega (arith, words-length l (pattern-of (l .props .opacity)), layers-length ls)
 
-pub layers-long : (ls : List Layer) → length ls ≤ 16 → length (table 0 256 (layers-words ls)) ≡ 256
-layers-long ls d = table-length 0 256 (layers-words ls) (omega (arith, layers-length ls))
+pub layers-long : (ls : List Layer) → length ls ≤ 16 → length (table 0 open-layer-table (layers-words ls)) ≡ open-layer-table
+layers-long ls d = table-length 0 open-layer-table (layers-words ls) (omega (arith, layers-length ls))
 
 pub opacities-count : (ls : List Layer) → length (layers-opacities ls) ≡ length ls
 unfolding layers-opacities
@@ -100,34 +95,34 @@ module _ (s : rule.Screen Row) (h : Sound s) (b : Bool) (de pa : List ℕ) where
       let j = neither f1 f2 (k .0) in
       (ltb-false 1024 (length (st .attrs .paints)) (j .0), ltb-false 1024 (length (st .attrs .layers)) (j .1), ltb-false 256 (length (st .attrs .filters)) (k .1))
 
-  paints-long : length (table 0 8192 (join paint-attr-words (st .attrs .paints))) ≡ 8192
-  paints-long = table-length 0 8192 (join paint-attr-words (st .attrs .paints)) (omega (arith, join-length paint-attr-words 8 (λ a. refl) (st .attrs .paints), few-attrs .0))
+  paints-long : length (table 0 paint-attr-table (join paint-attr-words (st .attrs .paints))) ≡ paint-attr-table
+  paints-long = table-length 0 paint-attr-table (join paint-attr-words (st .attrs .paints)) (omega (arith, join-length paint-attr-words paint-attr-size (λ a. refl) (st .attrs .paints), few-attrs .0))
 
-  filters-long : length (table (pos 0) 1024 (join filter-paint-words (st .attrs .filters))) ≡ 1024
-  filters-long = table-length (pos 0) 1024 (join filter-paint-words (st .attrs .filters)) (omega (arith, join-length filter-paint-words 4 (λ a. refl) (st .attrs .filters), few-attrs .2))
+  filters-long : length (table (pos 0) filter-paint-table (join filter-paint-words (st .attrs .filters))) ≡ filter-paint-table
+  filters-long = table-length (pos 0) filter-paint-table (join filter-paint-words (st .attrs .filters)) (omega (arith, join-length filter-paint-words filter-paint-size (λ a. refl) (st .attrs .filters), few-attrs .2))
 
-  pub opacities-long : length (table float-0 16 (layers-opacities (st .layers)) ++ table float-0 1024 (map attr-opacity (st .attrs .layers))) ≡ 1040
+  pub opacities-long : length (table float-0 16 (layers-opacities (st .layers)) ++ table float-0 1024 (map attr-opacity (st .attrs .layers))) ≡ opacity-count
   opacities-long =
       let k : length (map attr-opacity (st .attrs .layers)) ≤ 1024 = rw map-length (few-attrs .1) in
       length-append (table float-0 16 (layers-opacities (st .layers))) (table float-0 1024 (map attr-opacity (st .attrs .layers)))
       ∙ omega (arith, opacities-length (st .layers) (h .deep), table-length float-0 1024 (map attr-opacity (st .attrs .layers)) k)
 
   -- a filter fill
-  module _ (count : ℕ) (f : Filter) where
+  module _ (count : ℕ) (f : Filter) (q : ℕ) where
     abbrev filter-plan : Plan
-    filter-plan = plan-filter count f st
+    filter-plan = plan-filter count f q st
 
     filter-ok : filter-plan .refused ≡ Done → All (PutOk BoundedSpan) (filter-plan .puts)
     unfolding plan
-    filter-ok e = plan-ok st (h .built .framed) (a-filter count f) [] e
+    filter-ok e = plan-ok st (h .built .framed) (a-filter count f q) [] e
 
-    filter-keeps : (plan-filter count f st .layers ≡ st .layers) × (plan-filter count f st .attrs .layers ≡ st .attrs .layers)
+    filter-keeps : (plan-filter count f q st .layers ≡ st .layers) × (plan-filter count f q st .attrs .layers ≡ st .attrs .layers)
     unfolding plan-filter plan-filter-in
-    filter-keeps = go (not (good-filter f && leb count 4096)) (draws-nothing f (filter-box (st .frame .viewport) (box-of st) f))
+    filter-keeps = go (not (good-filter-fill count f q)) (draws-nothing f (filter-box (st .frame .viewport) (box-of st) f))
       where
         go : (t u : Bool)
-            → (cond t (still BadRecord st) (cond u (still Done st) (plan-filter-in (filter-box (st .frame .viewport) (box-of st) f) count f st)) .layers ≡ st .layers)
-            × (cond t (still BadRecord st) (cond u (still Done st) (plan-filter-in (filter-box (st .frame .viewport) (box-of st) f) count f st)) .attrs .layers ≡ st .attrs .layers)
+            → (cond t (still BadRecord st) (cond u (still Done st) (plan-filter-in (filter-box (st .frame .viewport) (box-of st) f) count f q st)) .layers ≡ st .layers)
+            × (cond t (still BadRecord st) (cond u (still Done st) (plan-filter-in (filter-box (st .frame .viewport) (box-of st) f) count f q st)) .attrs .layers ≡ st .attrs .layers)
         go true u = (refl, refl)
         go false true = (refl, refl)
         go false false = (refl, refl)
@@ -136,32 +131,32 @@ module _ (s : rule.Screen Row) (h : Sound s) (b : Bool) (de pa : List ℕ) where
     unfolding lent-of
     filter-first = rw (judged-done s h b, eq-eqb _ _ paints-long, eq-eqb _ _ filters-long)
 
-    filter-is : filter-number (given (placement-in f) (f .pixmap) count) (filter-part (lent-of s b de pa)) ≡ refusal Row row-ops filter-plan (done Row row-ops filter-plan s)
+    filter-is : filter-number (given (placement-in f) (f .pixmap) count q) (filter-part (lent-of s b de pa)) ≡ refusal Row row-ops filter-plan (done Row row-ops filter-plan s)
     unfolding filter-number lent-of
     filter-is =
-        step-is s h b (plan-filter count f (state-of (screen-of st b))) filter-plan (filter-alike st b count f) filter-ok
+        step-is s h b (plan-filter count f q (state-of (screen-of st b))) filter-plan (filter-alike st b count f q) filter-ok
         (filter.first-number (filter-part (lent-of s b de pa))) filter-first
 
     filter-after : refusal Row row-ops filter-plan (done Row row-ops filter-plan s) ≡ Done
-        → filter-into (lent-of s b de pa .tables) (filter.after (given (placement-in f) (f .pixmap) count) (filter-part (lent-of s b de pa))) ≡ lent-of (done Row row-ops filter-plan s) false de pa
+        → filter-into (lent-of s b de pa .tables) (filter.after (given (placement-in f) (f .pixmap) count q) (filter-part (lent-of s b de pa))) ≡ lent-of (done Row row-ops filter-plan s) false de pa
     unfolding filter.after lent-of done
     filter-after e =
-        let a = filter-alike st b count f in
-        let p = plan-filter count f (state-of (screen-of st b)) in
+        let a = filter-alike st b count f q in
+        let p = plan-filter count f q (state-of (screen-of st b)) in
         rw (
           plan-screen s h b p filter-plan a filter-ok,
           rows-is s h b p filter-plan a filter-ok e,
-          grown-table 0 8192 8 paint-attr-words (λ x. refl) (a .paints),
-          grown-table (pos 0) 1024 4 filter-paint-words (λ x. refl) (a .filters),
+          grown-table 0 paint-attr-table paint-attr-size paint-attr-words (λ x. refl) (a .paints),
+          grown-table (pos 0) filter-paint-table filter-paint-size filter-paint-words (λ x. refl) (a .filters),
           filter-keeps .0,
           filter-keeps .1,
         )
 
-    pub filter-stepped : call-at (a-filter count f) (lent-of s b de pa) ≡ answer-of (call Row row-ops (a-filter count f) s) b de pa
+    pub filter-stepped : call-at (a-filter count f q) (lent-of s b de pa) ≡ answer-of (call Row row-ops (a-filter count f q) s) b de pa
     unfolding call-at filtered call perform plan
     filter-stepped =
-        settled (filter-into (lent-of s b de pa .tables)) (filter-number (given (placement-in f) (f .pixmap) count) (filter-part (lent-of s b de pa))) (refusal Row row-ops filter-plan (done Row row-ops filter-plan s))
-        (filter-part (lent-of s b de pa)) (filter.after (given (placement-in f) (f .pixmap) count) (filter-part (lent-of s b de pa))) s (done Row row-ops filter-plan s) b de pa filter-is refl filter-after
+        settled (filter-into (lent-of s b de pa .tables)) (filter-number (given (placement-in f) (f .pixmap) count q) (filter-part (lent-of s b de pa))) (refusal Row row-ops filter-plan (done Row row-ops filter-plan s))
+        (filter-part (lent-of s b de pa)) (filter.after (given (placement-in f) (f .pixmap) count q) (filter-part (lent-of s b de pa))) s (done Row row-ops filter-plan s) b de pa filter-is refl filter-after
 
   -- a fill
   module _ (ps : List Paint) (ss : List Segment) (d : Draw) where
@@ -177,8 +172,8 @@ module _ (s : rule.Screen Row) (h : Sound s) (b : Bool) (de pa : List ℕ) where
     fill-keeps = let k = go (is-empty (draw-segments ss d)) in (refl, k .0, k .1)
       where
         go : (t : Bool)
-            → (cond t (st .attrs) (with-paint st (d .paint) (d .blend) (d .mask) (d .thread) []) .layers ≡ st .attrs .layers)
-            × (cond t (st .attrs) (with-paint st (d .paint) (d .blend) (d .mask) (d .thread) []) .filters ≡ st .attrs .filters)
+            → (cond t (st .attrs) (painted st d) .layers ≡ st .attrs .layers)
+            × (cond t (st .attrs) (painted st d) .filters ≡ st .attrs .filters)
         go true = (refl, refl)
         go false = (refl, append-nil (st .attrs .filters))
 
@@ -207,7 +202,7 @@ module _ (s : rule.Screen Row) (h : Sound s) (b : Bool) (de pa : List ℕ) where
           segments-said ss,
           plan-screen s h b p the-fill a fill-ok,
           rows-is s h b p the-fill a fill-ok e,
-          grown-table 0 8192 8 paint-attr-words (λ x. refl) (a .paints),
+          grown-table 0 paint-attr-table paint-attr-size paint-attr-words (λ x. refl) (a .paints),
           fill-keeps .0,
           fill-keeps .1,
           fill-keeps .2,
@@ -236,7 +231,7 @@ module _ (s : rule.Screen Row) (h : Sound s) (b : Bool) (de pa : List ℕ) where
     clip-back (some c) = refl
 
     push-same : Alike st (push.plan-of (props-in p) (screen-of st b)) the-push
-    push-same = push-alike st b (props-of (props-in p)) p refl refl (clip-back (p .clip))
+    push-same = push-alike st b (props-of (props-in p)) p (rw (clip-back (p .clip))) refl (clip-back (p .clip))
 
     push-layers : (the-push .layers ≡ the-layer ∷ st .layers) × (the-push .attrs ≡ st .attrs)
     unfolding plan-push
@@ -256,10 +251,10 @@ module _ (s : rule.Screen Row) (h : Sound s) (b : Bool) (de pa : List ℕ) where
         step-is s h b (push.plan-of (props-in p) (screen-of st b)) the-push push-same push-ok
         (push.first-number (props-in p) (push-part (lent-of s b de pa))) push-first
 
-    new-layers : words-at (table 0 256 (layers-words (st .layers))) (16 * length (st .layers)) (push.top-words (push.plan-of (props-in p) (screen-of st b) .layers) (pattern-of (p .opacity)))
-        ≡ table 0 256 (layers-words (the-push .layers))
+    new-layers : words-at (table 0 open-layer-table (layers-words (st .layers))) (open-layer-size * length (st .layers)) (push.top-words (push.plan-of (props-in p) (screen-of st b) .layers) (pattern-of (p .opacity)))
+        ≡ table 0 open-layer-table (layers-words (the-push .layers))
     unfolding layers-words
-    new-layers = rw (top-is (pattern-of (p .opacity)), push-layers .0) (table-more 0 256 (16 * length (st .layers)) (layers-words (st .layers)) (open-words the-layer) (layers-length (st .layers)))
+    new-layers = rw (top-is (pattern-of (p .opacity)), push-layers .0) (table-more 0 open-layer-table (open-layer-size * length (st .layers)) (layers-words (st .layers)) (open-words the-layer) (layers-length (st .layers)))
 
     new-opacities : length (st .layers) < 16 → (ys : List Float)
         → set (table float-0 16 (layers-opacities (st .layers)) ++ ys) (length (st .layers)) (ofBits binary32 (p .opacity)) ≡ table float-0 16 (layers-opacities (the-push .layers)) ++ ys

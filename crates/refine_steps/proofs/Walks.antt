@@ -64,7 +64,7 @@ module _ (Q : ℕ → Type 0) (goes-on : Q Done) {S T : Type 0} (R : S → T →
     filter-agrees : (y : LayerRec) → Agrees (walk-filter S here r y) (walk-filter T there r y)
     unfolding walk-filter
     filter-agrees y =
-        then-agrees (then-agrees (when-agrees (needs-buffer (props-of y)) (step-agrees (a-push (props-of y)))) (step-agrees (a-filter (length (r .paints)) (y .filter))))
+        then-agrees (then-agrees (when-agrees (needs-buffer (props-of y)) (step-agrees (a-push (props-of y)))) (step-agrees (a-filter (length (r .paints)) (y .filter) (y .panel))))
         (when-agrees (needs-buffer (props-of y)) (step-agrees (a-pop (r .segments))))
 
     module _ {f : LayerRec → S → Answer S} {g : LayerRec → T → Answer T} (p : (y : LayerRec) → Agrees (f y) (g y)) where

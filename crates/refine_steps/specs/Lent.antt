@@ -46,7 +46,7 @@ layers-opacities (l ∷ ls) = layers-opacities ls ++ (ofBits binary32 (l .props 
 
 -- a layer attribute's words
 abbrev pub attr-words : LayerAttr → List ℕ
-attr-words a = layer-attr-words a ++ (pattern-of (a .opacity) ∷ [])
+attr-words a = layer-attr-words a (pattern-of (a .opacity))
 
 abbrev pub attr-opacity : LayerAttr → Float
 attr-opacity a = ofBits binary32 (a .opacity)

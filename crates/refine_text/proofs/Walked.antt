@@ -64,7 +64,7 @@ module _ {P : Screen Row → Type 0} where
   -- Every step of a walk keeps it, given what Own says of each layer record that the walk can reach.
   module _ (Own : LayerRec → Type 0) (r : Recording) (own : (k : ℕ) → Own (getD (r .layers) k (layer-rec [])))
       (fills : (d : Draw) → Keeps P (step (a-fill (r .paints) (r .segments) d))) (pushes : (y : LayerRec) → Own y → Keeps P (step (a-push (props-of y))))
-      (pops : Keeps P (step (a-pop (r .segments)))) (filters : (y : LayerRec) → Keeps P (step (a-filter (length (r .paints)) (y .filter)))) where
+      (pops : Keeps P (step (a-pop (r .segments)))) (filters : (y : LayerRec) → Keeps P (step (a-filter (length (r .paints)) (y .filter) (y .panel)))) where
     filter-keeps : (y : LayerRec) → Own y → Keeps P (walk-filter (Screen Row) step r y)
     unfolding walk-filter
     filter-keeps y o = then-keeps (then-keeps (when-keeps (needs-buffer (props-of y)) (pushes y o)) (filters y)) (when-keeps (needs-buffer (props-of y)) pops)
@@ -97,4 +97,4 @@ step-keeps x = record { kept = λ s h. record { sound = call-sound x s (h .sound
 pub walk-keeps : {k : Frame} (r : Recording) → Keeps (Kept k) (walk-all (Screen Row) step r)
 walk-keeps r =
     walk-keeps-by (λ y. Unit {0}) r (λ k. tt) (λ d. step-keeps (a-fill (r .paints) (r .segments) d)) (λ y o. step-keeps (a-push (props-of y))) (step-keeps (a-pop (r .segments)))
-    (λ y. step-keeps (a-filter (length (r .paints)) (y .filter)))
+    (λ y. step-keeps (a-filter (length (r .paints)) (y .filter) (y .panel)))

@@ -73,7 +73,7 @@ unfoldable pub Fits : Step → Story → Type 0
 Fits (a-fill ps ss d) o = judge-segments (not (good-fill ps ss d)) (draw-segments ss d) ≡ Done
 Fits (a-push p) o = Unit {0}
 Fits (a-pop ss) o = PopFits (o .open-layers) ss
-Fits (a-filter n f) o = Unit {0}
+Fits (a-filter n f q) o = Unit {0}
 
 module _ (w : ℕ) (v : Box) (row tile : ℕ) where
   push-inside : (p : Props) (o : Story) → Inside v row (o .open-layers) → Inside v row (tell-push w v row tile p o .open-layers)
@@ -89,8 +89,8 @@ module _ (w : ℕ) (v : Box) (row tile : ℕ) where
   pop-inside [] ss o f i = absurd f
   pop-inside (l ∷ ls) ss o f i = inside-rest v row i
 
-  filter-inside : (f : Filter) (o : Story) → Inside v row (o .open-layers) → Inside v row (tell-filter w v row tile f o .open-layers)
-  filter-inside f o i =
+  filter-inside : (f : Filter) (q : ℕ) (o : Story) → Inside v row (o .open-layers) → Inside v row (tell-filter w v row tile f q o .open-layers)
+  filter-inside f q o i =
       let c = box-now v (o .open-layers) in
       let b = filter-box v c f in
       by (draws-nothing f b)
@@ -103,7 +103,7 @@ module _ (w : ℕ) (v : Box) (row tile : ℕ) where
   step-inside ev (a-fill ps ss d) o f i = inside-touch v row _ i (reached-inside w v row tile (box-now v (o .open-layers)) ev (draw-segments ss d))
   step-inside ev (a-push p) o f i = push-inside p o i
   step-inside ev (a-pop ss) o f i = pop-inside (o .open-layers) ss o f i
-  step-inside ev (a-filter n q) o f i = filter-inside q o i
+  step-inside ev (a-filter n g q) o f i = filter-inside g q o i
 
   -- steps one after the other, each of which fits
   pub data Fitting : List Step → Story → Type 0 where

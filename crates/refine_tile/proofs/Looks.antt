@@ -11,6 +11,7 @@ use Rattle.rules.specs.Lists.{such, keep, some-of, is-empty, is-none, join}
 use Rattle.rules.specs.Boxes.{Box, scene-tiles}
 use Rattle.rules.specs.Spans.{span, covers, Stretch, shifted, moved, common, meeting, cut-at, cut-to}
 use Rattle.rules.specs.Segments.{Segment, good-segment, ordered, Cut, stretch-of, cut-in, cuts}
+use Rattle.rules.specs.Painting.{Entry}
 use Rattle.rules.specs.Plain.{Told, tell}
 use Rattle.rules.proofs.All.{All, nil, cons, head, never, and-left, and-right, and-both}
 use Rattle.rules_picture.proofs.Cases.{by, covers-yes, covers-low, covers-high}
@@ -225,18 +226,18 @@ module _ (w : ℕ) (v : Box) (row tile : ℕ) where
         (λ y. cut-inside ev s (cut-cases s) y)
         (λ n. let k : not (is-empty more) ≡ true = rw n at g in reached-inside ev ss k)
 
-    -- the entry of the one cut that covers the tile, as the look k has it
-    abbrev pub told-of : Bool → ℕ → ℕ → ℕ → Bool → Look → Told
-    told-of l i n id e k =
-        record {
-          entry = record { layer = l; attribute = i; alpha = k .alpha; nesting = n };
-          id = id;
-          hides = e && is-none (k .alpha) && k .whole;
-        }
+    -- an entry of attribute i of panel q, with an alpha index
+    abbrev entry-with : Bool → ℕ → ℕ → ℕ → Option ℕ → Entry
+    entry-with l i q n a = record { layer = l; attribute = i; alpha = a; nesting = n; panel = q }
 
-    told-seen : (l : Bool) (i n id : ℕ) (e : Bool) (ks : List Cut) → Single (kept-cuts ks)
-        → tell w v row tile l i n id e ks ≡ keep (some-of (keeping w v row tile) ks) (told-of l i n id e (seen no-look ks)) []
-    told-seen l i n id e ks s =
+    -- the entry of the one cut that covers the tile, as the look k has it
+    abbrev pub told-of : Bool → ℕ → ℕ → ℕ → ℕ → Bool → Look → Told
+    told-of l i q n id e k =
+        record { entry = entry-with l i q n (k .alpha); id = id; hides = e && is-none (k .alpha) && k .whole }
+
+    told-seen : (l : Bool) (i q n id : ℕ) (e : Bool) (ks : List Cut) → Single (kept-cuts ks)
+        → tell w v row tile l i q n id e ks ≡ keep (some-of (keeping w v row tile) ks) (told-of l i q n id e (seen no-look ks)) []
+    told-seen l i q n id e ks s =
         let a = seen-kept no-look no-look ks (record { kept = refl; alpha = refl; whole = refl }) in
         let k = sym (seen-some no-look ks ∙ or-false (some-of (keeping w v row tile) ks)) in
         go (kept-cuts ks) s (such-all (keeping w v row tile) ks) (k ∙ a .kept) (a .alpha) (a .whole)
@@ -245,21 +246,21 @@ module _ (w : ℕ) (v : Box) (row tile : ℕ) where
             → some-of (keeping w v row tile) ks ≡ seen no-look xs .kept → seen no-look ks .alpha ≡ seen no-look xs .alpha → seen no-look ks .whole ≡ seen no-look xs .whole
             → map
             (λ (k : Cut). record {
-              entry = record { layer = l; attribute = i; alpha = moved (k .stretch .alpha) (tile - k .stretch .tiles .first); nesting = n };
+              entry = entry-with l i q n (moved (k .stretch .alpha) (tile - k .stretch .tiles .first));
               id = id;
               hides = e && is-none (k .stretch .alpha) && is-whole w tile (k .stretch .tiles);
             })
             xs
-            ≡ keep (some-of (keeping w v row tile) ks) (told-of l i n id e (seen no-look ks)) []
-        go xs nothing a k p q = rw k
-        go xs (one x) a k p q = let y = head a in rw (k, p, q, y, none-moved (x .stretch .alpha) (tile - x .stretch .tiles .first))
+            ≡ keep (some-of (keeping w v row tile) ks) (told-of l i q n id e (seen no-look ks)) []
+        go xs nothing a k p h = rw k
+        go xs (one x) a k p h = let y = head a in rw (k, p, h, y, none-moved (x .stretch .alpha) (tile - x .stretch .tiles .first))
 
     -- the look over a judged list, and what the rules say
     pub record Looked (ss : List Segment) (k : Look) : Type 0 where
       pub covered : k .covered ≡ some-of (covering w v row tile) ss
       pub reached : k .reached ≡ not (is-empty (here-of (cuts v c ss)))
       pub kept : k .kept ≡ some-of (keeping w v row tile) (here-of (cuts v c ss))
-      pub told : (l : Bool) (i n id : ℕ) (e : Bool) → tell w v row tile l i n id e (here-of (cuts v c ss)) ≡ keep (k .covered && k .kept) (told-of l i n id e k) []
+      pub told : (l : Bool) (i q n id : ℕ) (e : Bool) → tell w v row tile l i q n id e (here-of (cuts v c ss)) ≡ keep (k .covered && k .kept) (told-of l i q n id e k) []
 
     pub looked : (ss : List Segment) → All (λ (s : Segment). good-segment s ≡ true) ss → ordered ss ≡ true → Looked ss (look w v row tile c no-look ss)
     looked ss g o =
@@ -270,7 +271,7 @@ module _ (w : ℕ) (v : Box) (row tile : ℕ) where
           covered = rw e;
           reached = rw e (seen-reached no-look ks ∙ or-false (not (is-empty ks)));
           kept = kept;
-          told = λ l i n id f. rw e
-              (told-seen l i n id f ks (single v c row tile ss g o)
+          told = λ l i q n id f. rw e
+              (told-seen l i q n id f ks (single v c row tile ss g o)
               ∙ rw (and-implied (some-of (covering w v row tile) ss) (seen no-look ks .kept) (λ y. kept-covered ss (sym (seen-some no-look ks ∙ or-false (some-of (keeping w v row tile) ks)) ∙ y)), seen-some no-look ks, or-false (some-of (keeping w v row tile) ks)));
         }

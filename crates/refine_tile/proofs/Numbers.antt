@@ -53,30 +53,32 @@ module _ (w : ℕ) (v : Box) (row tile : ℕ) where
     numbered : Numbered (o .paints) (o .layers) ks (u .paints) (u .layers)
     told : u .told ≡ o .told ++ told-all ks
 
-  fill-adds : (own : List Segment) (e : Bool) (ls : List OpenLayer) (o : Story) → (cov kep : Bool)
-      → let ts = tell w v row tile false (o .paints) (length (o .open-layers)) (o .next) e (here w v row tile (o .open-layers) own) in
-      Adds o
+  -- k: the account of a draw's attribute
+  fill-adds : (own : List Segment) (q : ℕ) (e : Bool) (ls : List OpenLayer) (o : Story) (k : Account) → k .layer ≡ false → k .attribute ≡ o .paints
+      → let ts = tell w v row tile false (o .paints) q (length (o .open-layers)) (o .next) e (here w v row tile (o .open-layers) own) in
+      k .told ≡ ts
+      → Adds o
       (record { next = o .next + 1; paints = cond (is-empty own) (o .paints) (o .paints + 1); layers = o .layers; open-layers = ls; told = o .told ++ ts })
-      (cond (is-empty own) [] (record { layer = false; attribute = o .paints; covered = cov; kept = kep; touched = true; told = ts } ∷ []))
+      (cond (is-empty own) [] (k ∷ []))
   unfolding cuts
-  fill-adds [] e ls o cov kep = record { numbered = all-numbered; told = refl }
-  fill-adds (s ∷ ss) e ls o cov kep = record { numbered = a-paint refl refl all-numbered; told = rw append-nil }
+  fill-adds [] q e ls o k l i t = record { numbered = all-numbered; told = refl }
+  fill-adds (s ∷ ss) q e ls o k l i t = record { numbered = a-paint l i all-numbered; told = rw (append-nil, t) }
 
   pop-adds : (ls : List OpenLayer) (ss : List Segment) (o : Story) → Adds o (tell-pop w v row tile ls ss o) (account-pop w v row tile ls ss o)
   pop-adds [] ss o = record { numbered = all-numbered; told = sym (append-nil (o .told)) }
   pop-adds (l ∷ ls) ss o = record { numbered = a-layer refl refl all-numbered; told = rw append-nil }
 
-  filter-adds : (f : Filter) (o : Story) → Adds o (tell-filter w v row tile f o) (account-filter w v row tile f o)
-  filter-adds f o = by (draws-nothing f (filter-box v (box-now v (o .open-layers)) f))
+  filter-adds : (f : Filter) (q : ℕ) (o : Story) → Adds o (tell-filter w v row tile f q o) (account-filter w v row tile f q o)
+  filter-adds f q o = by (draws-nothing f (filter-box v (box-now v (o .open-layers)) f))
       (λ y. rw y (record { numbered = all-numbered; told = sym (append-nil (o .told)) }))
       (λ n. rw n (record { numbered = a-paint refl refl all-numbered; told = rw append-nil }))
 
   step-adds : (x : Step) (o : Story) → Adds o (tell-step w v row tile x o) (account-step w v row tile x o)
   unfolding tell-step account-step
-  step-adds (a-fill ps ss d) o = fill-adds (draw-segments ss d) (eligible (is-empty (o .open-layers)) (draw-paint ps d) d) _ o _ _
+  step-adds (a-fill ps ss d) o = fill-adds (draw-segments ss d) (d .panel) (eligible (is-empty (o .open-layers)) (draw-paint ps d) d) _ o _ refl refl refl
   step-adds (a-push p) o = record { numbered = all-numbered; told = sym (append-nil (o .told)) }
   step-adds (a-pop ss) o = pop-adds (o .open-layers) ss o
-  step-adds (a-filter n f) o = filter-adds f o
+  step-adds (a-filter n f q) o = filter-adds f q o
 
   steps-add : (xs : List Step) (o : Story) → Adds o (tell-steps w v row tile xs o) (accounts w v row tile xs o)
   unfolding tell-steps accounts

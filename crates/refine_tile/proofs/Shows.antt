@@ -13,7 +13,7 @@ use Rattle.rules.specs.Plain.{Told, shown}
 use Rattle.rules.proofs.All.{All, cons, never}
 use Rattle.rules_picture.proofs.Cases.{by}
 use Rattle.rules_picture.proofs.Shown.{hides-of}
-use Rattle.rules_reason.specs.Reasons.{Asked, place-of, newest-hider}
+use Rattle.rules_reason.specs.Reasons.{Asked, place-of, hider-of, newest-hider}
 
 -- some entry hides
 abbrev pub hiding : List Told → Bool
@@ -43,7 +43,7 @@ shown-more [] u h = refl
 shown-more (t ∷ ts) u h = rw (hiding-same ts u h, shown-more ts u h) (by (hiding ts) (λ y. rw y) (λ n. rw n))
 
 -- the newest that hides
-pub hider-anew : (ts : List Told) (u : Told) → u .hides ≡ true → newest-hider (ts ++ (u ∷ [])) ≡ u .entry .attribute
+pub hider-anew : (ts : List Told) (u : Told) → u .hides ≡ true → newest-hider (ts ++ (u ∷ [])) ≡ hider-of u
 unfolding newest-hider
 hider-anew [] u h = refl
 hider-anew (t ∷ ts) u h = rw (hiding-yes ts u h) (hider-anew ts u h)

@@ -12,7 +12,7 @@ use Rattle.rules.specs.Lists.{is-empty}
 use Rattle.rules.specs.Answers.{first-of, Done, BadRecord, NoLayer, Deep, Ids, FullAttrs, FullRow, FullDepth}
 use Rattle.rules.specs.Boxes.{Box}
 use Rattle.rules.specs.Segments.{Segment}
-use Rattle.rules.specs.Inputs.{Paint, Draw, draw-segments, Props, Filter, good-filter, few-paints}
+use Rattle.rules.specs.Inputs.{Paint, Draw, draw-segments, Props, Filter, good-filter-fill}
 use Rattle.rules.specs.Attributes.{attrs-full}
 use Rattle.rules.specs.Rows.{Row, fresh-row, row-ops}
 use Rattle.rules.specs.Plans.{Frame, Layer, State, Step, a-fill, a-push, a-pop, a-filter, Plan, still, box-of, with-paint, layer-box, touches-all, filter-box, draws-nothing, plan-fill, plan-push, plan-pop, plan-filter-in, plan-filter, plan}
@@ -39,14 +39,14 @@ abbrev pub planned : Plan → State → State
 planned p s = record { frame = s .frame; next = p .next; attrs = p .attrs; layers = p .layers }
 
 -- the plan of a filter that isn't refused, in the box b
-filter-good : (n : ℕ) (f : Filter) (s : State) → plan-filter n f s .refused ≡ Done → (good-filter f && few-paints n) ≡ true
+filter-good : (n : ℕ) (f : Filter) (q : ℕ) (s : State) → plan-filter n f q s .refused ≡ Done → good-filter-fill n f q ≡ true
 unfolding plan-filter
-filter-good n f s j = by (good-filter f && few-paints n) (λ y. y) (λ z. let k : _≡_ {A = ℕ} BadRecord Done = rw z at j in absurd (omega arith))
+filter-good n f q s j = by (good-filter-fill n f q) (λ y. y) (λ z. let k : _≡_ {A = ℕ} BadRecord Done = rw z at j in absurd (omega arith))
 
-pub filter-planned : (n : ℕ) (f : Filter) (s : State) (b : Box) → filter-box (s .frame .viewport) (box-of s) f ≡ b → plan-filter n f s .refused ≡ Done
-    → plan-filter n f s ≡ cond (draws-nothing f b) (still Done s) (plan-filter-in b n f s)
+pub filter-planned : (n : ℕ) (f : Filter) (q : ℕ) (s : State) (b : Box) → filter-box (s .frame .viewport) (box-of s) f ≡ b → plan-filter n f q s .refused ≡ Done
+    → plan-filter n f q s ≡ cond (draws-nothing f b) (still Done s) (plan-filter-in b n f q s)
 unfolding plan-filter
-filter-planned n f s b e j = rw (filter-good n f s j) (ap (λ (c : Box). cond (draws-nothing f c) (still Done s) (plan-filter-in c n f s)) e)
+filter-planned n f q s b e j = rw (filter-good n f q s j) (ap (λ (c : Box). cond (draws-nothing f c) (still Done s) (plan-filter-in c n f q s)) e)
 
 pub done-state : (p : Plan) (s : Screen Row) → done Row row-ops p s .state ≡ planned p (s .state)
 unfolding done
@@ -58,7 +58,7 @@ module _ (w : ℕ) (v : Box) (row tile : ℕ) where
   unfolding plan-fill
   fill-stands ps ss d o s h =
       let own = draw-segments ss d in
-      let new = with-paint s (d .paint) (d .blend) (d .mask) (d .thread) [] in
+      let new = with-paint s (d .paint) (d .blend) (d .mask) (d .thread) (d .panel) [] in
       let p : length (cond (is-empty own) (s .attrs) new .paints) ≡ cond (is-empty own) (o .paints) (o .paints + 1) =
       by (is-empty own) (λ y. rw y (h .paints)) (λ n. rw (n, length-append) (ap (λ (m : ℕ). m + 1) (h .paints))) in
       let l : length (cond (is-empty own) (s .attrs) new .layers) ≡ o .layers = by (is-empty own) (λ y. rw y (h .layers)) (λ n. rw n (h .layers)) in
@@ -99,7 +99,7 @@ module _ (w : ℕ) (v : Box) (row tile : ℕ) where
         },
       )
 
-  filter-in-stands : (n : ℕ) (f : Filter) (o : Story) (s : State) (b : Box) (ts : List Told) → Stands v o s
+  filter-in-stands : (n : ℕ) (f : Filter) (q : ℕ) (o : Story) (s : State) (b : Box) (ts : List Told) → Stands v o s
       → Stands v
       (record {
         next = o .next + 1;
@@ -108,9 +108,9 @@ module _ (w : ℕ) (v : Box) (row tile : ℕ) where
         open-layers = touch-all (in-rows w v row tile b) (o .open-layers);
         told = ts;
       })
-      (planned (plan-filter-in b n f s) s)
+      (planned (plan-filter-in b n f q s) s)
   unfolding plan-filter-in
-  filter-in-stands n f o s b ts h =
+  filter-in-stands n f q o s b ts h =
       record {
         view = h .view;
         next = ap (λ (m : ℕ). m + 1) (h .next);
@@ -119,14 +119,14 @@ module _ (w : ℕ) (v : Box) (row tile : ℕ) where
         opened = h .opened ∙ sym (touched-layers (in-rows w v row tile b) (o .open-layers));
       }
 
-  filter-stands : (n : ℕ) (f : Filter) (o : Story) (s : State) → Stands v o s → plan-filter n f s .refused ≡ Done → Stands v (tell-filter w v row tile f o) (planned (plan-filter n f s) s)
-  filter-stands n f o s h j =
+  filter-stands : (n : ℕ) (f : Filter) (q : ℕ) (o : Story) (s : State) → Stands v o s → plan-filter n f q s .refused ≡ Done → Stands v (tell-filter w v row tile f q o) (planned (plan-filter n f q s) s)
+  filter-stands n f q o s h j =
       let b = filter-box v (box-now v (o .open-layers)) f in
       let e : filter-box (s .frame .viewport) (box-of s) f ≡ b = rw (h .view, h .opened) in
-      let p = filter-planned n f s b e j in
+      let p = filter-planned n f q s b e j in
       by (draws-nothing f b)
-      (λ y. let q : plan-filter n f s ≡ still Done s = p ∙ rw y in rw (y, q) h)
-      (λ m. let q : plan-filter n f s ≡ plan-filter-in b n f s = p ∙ rw m in rw (m, q) (filter-in-stands n f o s b _ h))
+      (λ y. let z : plan-filter n f q s ≡ still Done s = p ∙ rw y in rw (y, z) h)
+      (λ m. let z : plan-filter n f q s ≡ plan-filter-in b n f q s = p ∙ rw m in rw (m, z) (filter-in-stands n f q o s b _ h))
 
   -- a step that isn't refused for its inputs fits the story, and state and story go together after it
   pub step-stands : (x : Step) (js : List ℕ) (o : Story) (s : State) → Stands v o s → plan x js s .refused ≡ Done
@@ -135,7 +135,7 @@ module _ (w : ℕ) (v : Box) (row tile : ℕ) where
   step-stands (a-fill ps ss d) js o s h j = (unfold plan-fill in j, fill-stands ps ss d o s h)
   step-stands (a-push p) js o s h j = (tt, push-stands p o s h)
   step-stands (a-pop ss) js o s h j = pop-stands ss js o s h (o .open-layers) refl (s .layers) (h .opened) j
-  step-stands (a-filter n q) js o s h j = (tt, filter-stands n q o s h j)
+  step-stands (a-filter n f q) js o s h j = (tt, filter-stands n f q o s h j)
 
   -- a done step
   pub call-stands : (x : Step) (o : Story) (s : Screen Row) → Stands v o (s .state) → call Row row-ops x s .number ≡ Done

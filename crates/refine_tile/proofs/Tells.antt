@@ -9,7 +9,7 @@ use lib.ListN.{length, take, drop, length-append, length-map}
 use lib.Seq.{take-at, drop-append-add, drop-drop}
 use lib.Dec.{leb, ltb, eqb}
 use borrow.Author.Tests.{ltb-true, ltb-false, lt-leb, lt-ltb, le-ltb, eqb-true, eq-eqb}
-use Rattle.sizes.specs.Sizes.{most-layers, most-attrs, most-filters, last-id}
+use Rattle.sizes.specs.Sizes.{most-layers, most-attrs, most-filters, last-id, line-size}
 use Rattle.rules.specs.Lists.{is-empty}
 use Rattle.rules.specs.Answers.{Answer, answer, settle, first-of, Done, Ids, FullAttrs}
 use Rattle.rules.specs.Boxes.{Box}
@@ -26,7 +26,7 @@ use Rattle.rules_picture.proofs.Cases.{by, same-test}
 use Rattle.rules_picture.proofs.Shape.{Shape, not-yet, shape-most, shape-touch, shape-inner, shape-closed, shape-kept, touched-layers}
 use Rattle.rules_picture.proofs.Follows.{layer-in}
 use Rattle.cmd.specs.Attrs.{words-at}
-use Rattle.tile_steps.specs.Telling.{Telling, Line, line-words, alpha-words, no-look, look, with-line, tell-fill, tell-push, tell-pop, filtered, tell-filter, tell-at, in-row}
+use Rattle.tile_steps.specs.Telling.{Telling, Line, line-words, alpha-words, after-alpha, no-look, look, with-line, tell-fill, tell-push, tell-pop, filtered, tell-filter, tell-at, in-row}
 use Rattle.refine_tile.specs.Retold.{flat}
 use Rattle.refine_tile.proofs.Rows.{rows-met}
 use Rattle.refine_tile.proofs.Looks.{looked}
@@ -34,10 +34,10 @@ use Rattle.refine_tile.proofs.Inside.{PopFits, Fits}
 use Rattle.refine_tile.proofs.Lines.{fill-line, pop-line, filter-line, fill-lines, pop-lines, filter-lines, step-lines}
 use Rattle.refine_tile.proofs.Stories.{Stands, Limits, filter-planned}
 
-pub line-length : (l : Line) → length (line-words l) ≡ 6
+pub line-length : (l : Line) → length (line-words l) ≡ line-size
 line-length l = go (l .alpha)
   where
-    go : (a : Option ℕ) → length (cond (l .layer) 1 0 ∷ l .attribute ∷ l .standing ∷ alpha-words a (l .nesting ∷ [])) ≡ 6
+    go : (a : Option ℕ) → length (cond (l .layer) 1 0 ∷ l .attribute ∷ l .standing ∷ alpha-words a (after-alpha l)) ≡ line-size
     go none = refl
     go (some n) = refl
 
@@ -45,19 +45,19 @@ pub flat-append : (ls ms : List Line) → flat (ls ++ ms) ≡ flat ls ++ flat ms
 flat-append [] ms = refl
 flat-append (l ∷ ls) ms = rw (flat-append ls ms) (sym (append-assoc (line-words l) (flat ls) (flat ms)))
 
-pub flat-length : (ls : List Line) → length (flat ls) ≡ 6 * length ls
+pub flat-length : (ls : List Line) → length (flat ls) ≡ line-size * length ls
 flat-length [] = refl
 flat-length (l ∷ ls) = rw (length-append, line-length l, flat-length ls) (omega arith)
 
 -- the words ws with a line more
 one-line : (ls : List Line) (l : Line) (ws : List ℕ)
-    → words-at (flat ls ++ drop (6 * length ls) ws) (6 * length ls) (line-words l) ≡ flat (ls ++ (l ∷ [])) ++ drop (6 * length (ls ++ (l ∷ []))) ws
+    → words-at (flat ls ++ drop (line-size * length ls) ws) (line-size * length ls) (line-words l) ≡ flat (ls ++ (l ∷ [])) ++ drop (line-size * length (ls ++ (l ∷ []))) ws
 one-line ls l ws =
-    let n = 6 * length ls in
+    let n = line-size * length ls in
     let words = line-words l in
-    let more : n + length words ≡ 6 * length (ls ++ (l ∷ [])) = rw (line-length l, length-append) (omega arith) in
+    let more : n + length words ≡ line-size * length (ls ++ (l ∷ [])) = rw (line-length l, length-append) (omega arith) in
     let front : take n (flat ls ++ drop n ws) ≡ flat ls = take-at (flat ls) (drop n ws) n (flat-length ls) in
-    let back : drop (n + length words) (flat ls ++ drop n ws) ≡ drop (6 * length (ls ++ (l ∷ []))) ws =
+    let back : drop (n + length words) (flat ls ++ drop n ws) ≡ drop (line-size * length (ls ++ (l ∷ []))) ws =
     ap (λ (k : ℕ). drop (k + length words) (flat ls ++ drop n ws)) (sym (flat-length ls))
     ∙ drop-append-add (flat ls) (drop n ws) (length words)
     ∙ drop-drop (length words) n ws
@@ -65,7 +65,7 @@ one-line ls l ws =
     let whole : flat ls ++ words ≡ flat (ls ++ (l ∷ [])) = sym (flat-append ls (l ∷ []) ∙ ap (λ (x : List ℕ). flat ls ++ x) (append-nil words)) in
     ap (λ (x : List ℕ). x ++ words ++ drop (n + length words) (flat ls ++ drop n ws)) front
     ∙ ap (λ (x : List ℕ). flat ls ++ words ++ x) back
-    ∙ ap (λ (x : List ℕ). x ++ drop (6 * length (ls ++ (l ∷ []))) ws) whole
+    ∙ ap (λ (x : List ℕ). x ++ drop (line-size * length (ls ++ (l ∷ []))) ws) whole
 
 map-empty : (ls : List OpenLayer) → is-empty (map layer-in ls) ≡ is-empty ls
 map-empty [] = refl
@@ -86,7 +86,7 @@ telling ws o said m f =
       filters = f;
       levels = m;
       opened = map layer-in (o .open-layers);
-      lines = flat said ++ drop (6 * length said) ws;
+      lines = flat said ++ drop (line-size * length said) ws;
     }
 
 -- a done answer, with the story o after it
@@ -99,34 +99,34 @@ pub record After (ws : List ℕ) (o : Story) (said : List Line) (f : ℕ) (a : A
 module _ (w : ℕ) (v : Box) (row tile : ℕ) (ws : List ℕ) where
   -- a line at the end
   new-line : (o : Story) (said : List Line) (m f : ℕ) (l : Line) → length said ≡ o .paints + o .layers
-      → with-line w v row tile (telling ws o said m f) l ≡ flat (said ++ (l ∷ [])) ++ drop (6 * length (said ++ (l ∷ []))) ws
+      → with-line w v row tile (telling ws o said m f) l ≡ flat (said ++ (l ∷ [])) ++ drop (line-size * length (said ++ (l ∷ []))) ws
   new-line o said m f l c =
-      ap (λ (n : ℕ). words-at (flat said ++ drop (6 * length said) ws) (6 * n) (line-words l)) (sym c) ∙ one-line said l ws
+      ap (λ (n : ℕ). words-at (flat said ++ drop (line-size * length said) ws) (line-size * n) (line-words l)) (sym c) ∙ one-line said l ws
 
-  abbrev filled : List Segment → Bool → Story → Story
-  filled own e o =
+  abbrev filled : List Segment → Bool → ℕ → Story → Story
+  filled own e q o =
       let ks = here w v row tile (o .open-layers) own in
       record {
         next = o .next + 1;
         paints = cond (is-empty own) (o .paints) (o .paints + 1);
         layers = o .layers;
         open-layers = touch-all (not (is-empty ks)) (o .open-layers);
-        told = o .told ++ tell w v row tile false (o .paints) (length (o .open-layers)) (o .next) e ks;
+        told = o .told ++ tell w v row tile false (o .paints) q (length (o .open-layers)) (o .next) e ks;
       }
 
-  abbrev own-lines : List Segment → Bool → Story → List Line
-  own-lines own e o = cond (is-empty own) [] (fill-line w v row tile (box-now v (o .open-layers)) own e (o .paints) (length (o .open-layers)) ∷ [])
+  abbrev own-lines : List Segment → Bool → ℕ → Story → List Line
+  own-lines own e q o = cond (is-empty own) [] (fill-line w v row tile (box-now v (o .open-layers)) own e (o .paints) (length (o .open-layers)) q ∷ [])
 
-  fill-after : (own : List Segment) (e : Bool) (o : Story) (said : List Line) (m f : ℕ) → Shape (o .open-layers) m → length said ≡ o .paints + o .layers
+  fill-after : (own : List Segment) (e : Bool) (q : ℕ) (o : Story) (said : List Line) (m f : ℕ) → Shape (o .open-layers) m → length said ≡ o .paints + o .layers
       → look w v row tile (box-now v (o .open-layers)) no-look own .reached ≡ not (is-empty (here w v row tile (o .open-layers) own))
       → ltb last-id (o .next) ≡ false → (not (is-empty own) && leb most-attrs (o .paints)) ≡ false
-      → After ws (filled own e o) (said ++ own-lines own e o) f (tell-fill w v row tile own e (telling ws o said m f))
+      → After ws (filled own e q o) (said ++ own-lines own e q o) f (tell-fill w v row tile own e q (telling ws o said m f))
   unfolding tell-fill cuts
-  fill-after [] e o said m f s c r i p = record { levels = m; is = rw (i, append-nil said); shape = s; count = rw (append-nil said) c }
-  fill-after (x ∷ xs) e o said m f s c r i p =
+  fill-after [] e q o said m f s c r i p = record { levels = m; is = rw (i, append-nil said); shape = s; count = rw (append-nil said) c }
+  fill-after (x ∷ xs) e q o said m f s c r i p =
       let own = x ∷ xs in
       let ls = o .open-layers in
-      let l = fill-line w v row tile (box-now v ls) own e (o .paints) (length ls) in
+      let l = fill-line w v row tile (box-now v ls) own e (o .paints) (length ls) q in
       let b = not (is-empty (here w v row tile ls own)) in
       record {
         levels = cond b (length ls) m;
@@ -175,7 +175,7 @@ module _ (w : ℕ) (v : Box) (row tile : ℕ) (ws : List ℕ) where
   unfolding tell-pop PopFits
   pop-after [] ss o said m f q j s c i p = absurd j
   pop-after (l ∷ ls) ss o said m f q j s c i p =
-      let line = pop-line w v row tile (l .layer .props .clip) (l .layer .bounds) (box-now v ls) ss (l .touched) (o .layers) (suc (length ls)) in
+      let line = pop-line w v row tile (l .layer .props .clip) (l .layer .bounds) (box-now v ls) ss (l .touched) (o .layers) (suc (length ls)) (l .layer .props .panel) in
       let many : length (map layer-in ls) ≡ length ls = length-map ls layer-in in
       record {
         levels = min m (length ls);
@@ -194,13 +194,13 @@ module _ (w : ℕ) (v : Box) (row tile : ℕ) (ws : List ℕ) where
         told = ts;
       }
 
-  filter-in-after : (b : Box) (q : Filter) (ts : List Told) (o : Story) (said : List Line) (m f : ℕ) → Shape (o .open-layers) m → length said ≡ o .paints + o .layers
+  filter-in-after : (b : Box) (g : Filter) (q : ℕ) (ts : List Told) (o : Story) (said : List Line) (m f : ℕ) → Shape (o .open-layers) m → length said ≡ o .paints + o .layers
       → ltb last-id (o .next) ≡ false → (leb most-attrs (o .paints) || leb most-filters f) ≡ false
-      → After ws (filter-filled b ts o) (said ++ (filter-line w v row tile b q (o .paints) (length (o .open-layers)) ∷ [])) (f + 1)
-      (settle (first-of ((ltb last-id (o .next), Ids) ∷ (leb most-attrs (o .paints) || leb most-filters f, FullAttrs) ∷ [])) (telling ws o said m f) (filtered w v row tile b q (telling ws o said m f)))
-  filter-in-after b q ts o said m f s c i p =
+      → After ws (filter-filled b ts o) (said ++ (filter-line w v row tile b g (o .paints) (length (o .open-layers)) q ∷ [])) (f + 1)
+      (settle (first-of ((ltb last-id (o .next), Ids) ∷ (leb most-attrs (o .paints) || leb most-filters f, FullAttrs) ∷ [])) (telling ws o said m f) (filtered w v row tile b g q (telling ws o said m f)))
+  filter-in-after b g q ts o said m f s c i p =
       let ls = o .open-layers in
-      let line = filter-line w v row tile b q (o .paints) (length ls) in
+      let line = filter-line w v row tile b g (o .paints) (length ls) q in
       let t = in-rows w v row tile b in
       let in-too : in-row b row ≡ t = sym (rows-met b row) in
       record {
@@ -238,11 +238,11 @@ module _ (w : ℕ) (v : Box) (row tile : ℕ) (ws : List ℕ) where
   fill-step : (ps : List Paint) (ss : List Segment) (d : Draw) (o : Story) (s : State) (said : List Line) (m : ℕ) → Stands v o s → Limits (plan-fill ps ss d s)
       → judge-segments (not (good-fill ps ss d)) (draw-segments ss d) ≡ Done → Shape (o .open-layers) m → length said ≡ o .paints + o .layers
       → After ws (story.tell-fill w v row tile ps ss d o) (said ++ fill-lines w v row tile ps ss d o) (length (plan-fill ps ss d s .attrs .filters))
-      (tell-fill w v row tile (draw-segments ss d) (eligible (is-empty (map layer-in (o .open-layers))) (draw-paint ps d) d) (telling ws o said m (length (s .attrs .filters))))
+      (tell-fill w v row tile (draw-segments ss d) (eligible (is-empty (map layer-in (o .open-layers))) (draw-paint ps d) d) (d .panel) (telling ws o said m (length (s .attrs .filters))))
   unfolding plan-fill
   fill-step ps ss d o s said m h q j c n =
       let own = draw-segments ss d in
-      let new = with-paint s (d .paint) (d .blend) (d .mask) (d .thread) [] in
+      let new = with-paint s (d .paint) (d .blend) (d .mask) (d .thread) (d .panel) [] in
       let e = eligible (is-empty (o .open-layers)) (draw-paint ps d) d in
       let (_, good, ord) = judged-facts (not (good-fill ps ss d)) own j in
       let i : ltb last-id (o .next) ≡ false = id-left (o .next) (rw (h .next) at (q .ids)) in
@@ -256,7 +256,7 @@ module _ (w : ℕ) (v : Box) (row tile : ℕ) (ws : List ℕ) where
       let x = h .paints in
       rw z (lt-leb most-attrs (o .paints) (omega arith))) in
       rw (same, map-empty (o .open-layers))
-      (fill-after w v row tile ws own e o said m (length (s .attrs .filters)) c n (looked w v row tile (box-now v (o .open-layers)) own good ord .reached) i p)
+      (fill-after w v row tile ws own e (d .panel) o said m (length (s .attrs .filters)) c n (looked w v row tile (box-now v (o .open-layers)) own good ord .reached) i p)
 
   push-step : (p : Props) (o : Story) (s : State) (said : List Line) (m : ℕ) → Stands v o s → Limits (plan-push p s) → Shape (o .open-layers) m → length said ≡ o .paints + o .layers
       → After ws (story.tell-push w v row tile p o) (said ++ []) (length (plan-push p s .attrs .filters)) (tell-push w v row tile p (telling ws o said m (length (s .attrs .filters))))
@@ -279,38 +279,38 @@ module _ (w : ℕ) (v : Box) (row tile : ℕ) (ws : List ℕ) where
       let x = h .layers in
       rw y (pop-after w v row tile ws (l ∷ ls) ss o said m (length (s .attrs .filters)) e f c n i (lt-leb most-attrs (o .layers) (omega arith)))
 
-  filter-some : (k : ℕ) (g : Filter) (b : Box) (ts : List Told) (o : Story) (s : State) (said : List Line) (m : ℕ) → Stands v o s → Limits (plan-filter-in b k g s) → Shape (o .open-layers) m → length said ≡ o .paints + o .layers
+  filter-some : (k : ℕ) (g : Filter) (u : ℕ) (b : Box) (ts : List Told) (o : Story) (s : State) (said : List Line) (m : ℕ) → Stands v o s → Limits (plan-filter-in b k g u s) → Shape (o .open-layers) m → length said ≡ o .paints + o .layers
       → let t = telling ws o said m (length (s .attrs .filters)) in
-      After ws (filter-filled w v row tile ws b ts o) (said ++ (filter-line w v row tile b g (o .paints) (length (o .open-layers)) ∷ [])) (length (plan-filter-in b k g s .attrs .filters))
-      (settle (first-of ((ltb last-id (o .next), Ids) ∷ (leb most-attrs (o .paints) || leb most-filters (length (s .attrs .filters)), FullAttrs) ∷ [])) t (filtered w v row tile b g t))
+      After ws (filter-filled w v row tile ws b ts o) (said ++ (filter-line w v row tile b g (o .paints) (length (o .open-layers)) u ∷ [])) (length (plan-filter-in b k g u s .attrs .filters))
+      (settle (first-of ((ltb last-id (o .next), Ids) ∷ (leb most-attrs (o .paints) || leb most-filters (length (s .attrs .filters)), FullAttrs) ∷ [])) t (filtered w v row tile b g u t))
   unfolding plan-filter-in
-  filter-some k g b ts o s said m h q c n =
+  filter-some k g u b ts o s said m h q c n =
       let i : ltb last-id (o .next) ≡ false = id-left (o .next) (rw (h .next) at (q .ids)) in
-      let z = few (with-paint s (k + length (s .attrs .filters)) default-blend 0 0 (filter-paint g ∷ [])) (q .attrs) in
+      let z = few (with-paint s (k + length (s .attrs .filters)) default-blend 0 0 u (filter-paint g ∷ [])) (q .attrs) in
       let x = room (s .attrs .paints) _ most-attrs (z .paints) in
       let y = room (s .attrs .filters) (filter-paint g) most-filters (z .filters) in
       let f : length (s .attrs .filters ++ (filter-paint g ∷ [])) ≡ length (s .attrs .filters) + 1 = length-append (s .attrs .filters) (filter-paint g ∷ []) in
       let e = h .paints in
       let full : (leb most-attrs (o .paints) || leb most-filters (length (s .attrs .filters))) ≡ false =
       rw (lt-leb most-attrs (o .paints) (omega arith), lt-leb most-filters (length (s .attrs .filters)) (omega arith)) in
-      rw f (filter-in-after w v row tile ws b g ts o said m (length (s .attrs .filters)) c n i full)
+      rw f (filter-in-after w v row tile ws b g u ts o said m (length (s .attrs .filters)) c n i full)
 
-  filter-step : (k : ℕ) (g : Filter) (o : Story) (s : State) (said : List Line) (m : ℕ) → Stands v o s → plan-filter k g s .refused ≡ Done → Limits (plan-filter k g s)
+  filter-step : (k : ℕ) (g : Filter) (u : ℕ) (o : Story) (s : State) (said : List Line) (m : ℕ) → Stands v o s → plan-filter k g u s .refused ≡ Done → Limits (plan-filter k g u s)
       → Shape (o .open-layers) m → length said ≡ o .paints + o .layers
-      → After ws (story.tell-filter w v row tile g o) (said ++ filter-lines w v row tile g o) (length (plan-filter k g s .attrs .filters))
-      (tell-filter w v row tile g (telling ws o said m (length (s .attrs .filters))))
+      → After ws (story.tell-filter w v row tile g u o) (said ++ filter-lines w v row tile g u o) (length (plan-filter k g u s .attrs .filters))
+      (tell-filter w v row tile g u (telling ws o said m (length (s .attrs .filters))))
   unfolding tell-filter
-  filter-step k g o s said m h j q c n =
+  filter-step k g u o s said m h j q c n =
       let b = filter-box v (box-now v (o .open-layers)) g in
       let e : filter-box (s .frame .viewport) (box-of s) g ≡ b = rw (h .view, h .opened) in
-      let p = filter-planned k g s b e j in
+      let p = filter-planned k g u s b e j in
       by (draws-nothing g b)
       (λ y.
-      let z : plan-filter k g s ≡ still Done s = p ∙ rw y in
+      let z : plan-filter k g u s ≡ still Done s = p ∙ rw y in
       rw (y, z) (record { levels = m; is = rw (append-nil said); shape = c; count = rw (append-nil said) n }))
       (λ y.
-      let z : plan-filter k g s ≡ plan-filter-in b k g s = p ∙ rw y in
-      rw (y, z) (filter-some k g b _ o s said m h (rw z at q) c n))
+      let z : plan-filter k g u s ≡ plan-filter-in b k g u s = p ∙ rw y in
+      rw (y, z) (filter-some k g u b _ o s said m h (rw z at q) c n))
 
   -- a done step x from the state s: the engine is done too, and counts as many filter paints
   pub step-after : (x : Step) (js : List ℕ) (o : Story) (s : State) (said : List Line) (m : ℕ) → Stands v o s → plan x js s .refused ≡ Done → Limits (plan x js s)
@@ -321,4 +321,4 @@ module _ (w : ℕ) (v : Box) (row tile : ℕ) (ws : List ℕ) where
   step-after (a-fill ps ss d) js o s said m h r q f c n = fill-step ps ss d o s said m h q f c n
   step-after (a-push p) js o s said m h r q f c n = push-step p o s said m h q c n
   step-after (a-pop ss) js o s said m h r q f c n = pop-step (o .open-layers) ss js o s said m h refl (s .layers) (h .opened) q f c n
-  step-after (a-filter k g) js o s said m h r q f c n = filter-step k g o s said m h r q c n
+  step-after (a-filter k g u) js o s said m h r q f c n = filter-step k g u o s said m h r q c n

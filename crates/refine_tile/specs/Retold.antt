@@ -16,13 +16,13 @@ use Rattle.tile_steps.specs.Telling.{Telling, Line, standing-of, line-words}
 
 -- the entry that a line tells
 abbrev pub entry-of : Line → Entry
-entry-of l = record { layer = l .layer; attribute = l .attribute; alpha = l .alpha; nesting = l .nesting }
+entry-of l = record { layer = l .layer; attribute = l .attribute; alpha = l .alpha; nesting = l .nesting; panel = l .panel }
 
 -- what covers the tile, after the cut too, in a touched row, is told
 abbrev pub tells : Account → Bool
 tells k = k .covered && k .kept && k .touched
 
--- A line says what an account says: its attribute and its standing; and the account tells the line's entry exactly if it is covered, kept and
+-- A line says what an account says: its attribute, its standing and its panel; and the account tells the line's entry exactly if it is covered, kept and
 -- touched. (A line that tells nothing may have an alpha index.)
 pub record Says (k : Account) (l : Line) : Type 0 where
   pub id : ℕ
@@ -30,6 +30,7 @@ pub record Says (k : Account) (l : Line) : Type 0 where
   pub layer : l .layer ≡ k .layer
   pub attribute : l .attribute ≡ k .attribute
   pub standing : l .standing ≡ standing-of (k .covered) (k .kept) (k .touched) hides
+  pub panel : l .panel ≡ k .panel
   pub told : k .told ≡ keep (tells k) (record { entry = entry-of l; id = id; hides = hides }) []
 
 -- one after the other

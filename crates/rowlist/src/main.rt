@@ -48,7 +48,7 @@ fn list(file: &[u8], want: Want)
 }
 
 fn main() {
-    let options = read_options();
+    let options = read_options(false);
     if options.others != 0 {
         io::write_all(
             STDERR_FILENO,

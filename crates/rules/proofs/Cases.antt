@@ -14,7 +14,7 @@ use Rattle.rules.proofs.Words.{file}
 use Rattle.rules.specs.Lines.{header, row, D, P, L, B, E, refused}
 use Rattle.rules.proofs.Picture.{same-picture}
 use Rattle.rules.proofs.Computing.{computing}
-use Rattle.rules.proofs.Samples.{solid, alpha, opaque-paint, draw, blend, clip, no-clip, no-filter, full, a-nan, layer, composed, clipped, filtered, filter, pictureless, node, rec, minus, attrs, paint-attr, layer-attr, filter-paint, paint-piece, layer-piece, attributes, pieces, listed, listed-snapped}
+use Rattle.rules.proofs.Samples.{solid, alpha, opaque-paint, any-draw, draw, any-layer, blend, clip, no-clip, no-filter, full, a-nan, layer, composed, clipped, filtered, filter, pictureless, node, rec, minus, attrs, paint-attr, layer-attr, filter-paint, paint-piece, layer-piece, attributes, pieces, listed, listed-snapped}
 
 -- An alpha segment cut at the left: the screen begins at tile 4, so its index moves by 4 x 16.
 abbrev pub left-cut : Recording
@@ -207,18 +207,7 @@ filter-nodes =
     rec (box 0 0 64 4)
     (solid 0 0 8 ∷ [])
     (draw 0 1 ∷ [])
-    (record {
-      kind = 1;
-      start = 1;
-      end = 2;
-      blend = default-blend;
-      opacity = full;
-      mask = 0;
-      flag = 0;
-      clip = no-clip;
-      filter = filter 5 (box 0 0 32 4) 0 0;
-    }
-    ∷ [])
+    (any-layer 1 1 2 default-blend full 0 0 no-clip (filter 5 (box 0 0 32 4) 0 0) ∷ [])
     (node 0 0 1 ∷ node 0 1 0 ∷ [])
     0
     1
@@ -340,9 +329,9 @@ ineligible =
       segments = solid 0 0 128 ∷ [];
       draws =
           draw 0 1
-          ∷ record { thread = 0; start = 0; end = 1; paint = 0; blend = default-blend; mask = 9 }
-          ∷ record { thread = 0; start = 0; end = 1; paint = 0; blend = record { mix = 1; compose = 3 }; mask = 0 }
-          ∷ record { thread = 0; start = 0; end = 1; paint = 1; blend = default-blend; mask = 0 }
+          ∷ any-draw 0 0 1 0 default-blend 9 0
+          ∷ any-draw 0 0 1 0 (blend 1 3) 0 0
+          ∷ any-draw 0 0 1 1 default-blend 0 0
           ∷ [];
       layers = [];
       nodes = node 0 4 0 ∷ [];
@@ -364,20 +353,8 @@ kept =
       viewport = box 128 64 384 72;
       paints = opaque-paint ∷ record { opaque = 0; handle = 8 } ∷ [];
       segments = solid 16 40 60 ∷ solid 16 40 50 ∷ [];
-      draws = record { thread = 5; start = 0; end = 1; paint = 1; blend = blend 2 4; mask = 9 } ∷ [];
-      layers =
-          record {
-            kind = 0;
-            start = 1;
-            end = 2;
-            blend = blend 1 2;
-            opacity = 1056964608;
-            mask = 4;
-            flag = 1;
-            clip = clip (box 160 64 256 68) 1 2 3;
-            filter = no-filter;
-          }
-          ∷ [];
+      draws = any-draw 5 0 1 1 (blend 2 4) 9 0 ∷ [];
+      layers = any-layer 0 1 2 (blend 1 2) 1056964608 4 1 (clip (box 160 64 256 68) 1 2 3) no-filter ∷ [];
       nodes = node 0 0 1 ∷ node 0 1 0 ∷ [];
       start = 0;
       end = 1;
@@ -424,18 +401,7 @@ placed-attributes = refl
 abbrev pub empty-push : Recording
 empty-push =
     rec (box 0 0 64 8) [] []
-    (record {
-      kind = 0;
-      start = 0;
-      end = 0;
-      blend = blend 0 5;
-      opacity = full;
-      mask = 0;
-      flag = 1;
-      clip = clip (box 8 0 8 4) 0 0 0;
-      filter = no-filter;
-    }
-    ∷ [])
+    (any-layer 0 0 0 (blend 0 5) full 0 1 (clip (box 8 0 8 4) 0 0 0) no-filter ∷ [])
     (node 0 0 1 ∷ [])
     0
     1
@@ -450,18 +416,7 @@ clipped-filter =
     rec (box 0 0 64 4)
     (solid 0 0 9 ∷ [])
     []
-    (record {
-      kind = 1;
-      start = 0;
-      end = 0;
-      blend = default-blend;
-      opacity = full;
-      mask = 0;
-      flag = 1;
-      clip = clip (box 0 0 16 4) 0 1 2;
-      filter = filter 5 (box 0 0 32 4) 0 0;
-    }
-    ∷ [])
+    (any-layer 1 0 0 default-blend full 0 1 (clip (box 0 0 16 4) 0 1 2) (filter 5 (box 0 0 32 4) 0 0) ∷ [])
     (node 0 0 1 ∷ [])
     0
     1

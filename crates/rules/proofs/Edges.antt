@@ -9,23 +9,26 @@ use Rattle.rules.specs.Boxes.{box, good-box, good-dest, good-viewport, e
 use Rattle.rules.specs.Spans.{span, covers, bad-range, good-range}
 use Rattle.rules.specs.Blends.{Blend, default-blend, good-blend, is-default, destructive}
 use Rattle.rules.specs.Segments.{good-segment, follows, ordered}
-use Rattle.rules.specs.Inputs.{Clip, Props, good-handle, good-thread, good-paint, few-paints, good-draw, good-clip, good-props, needs-buffer, good-pixmap, good-filter}
+use Rattle.rules.specs.Inputs.{Clip, Props, good-handle, good-thread, good-panel, good-paint, few-paints, good-draw, good-clip, good-props, needs-buffer, good-pixmap, good-filter}
 use Rattle.rules.specs.Depth.{Summary, no-depth, included, can-skip, is-visible}
 use Rattle.rules.specs.Recording.{good-count, pixmap-of}
 use Rattle.rules.specs.Walk.{good-room}
 use Rattle.rules.specs.Lines.{too-long}
-use Rattle.rules.proofs.Samples.{solid, alpha, opaque-paint, full, filter, pictureless, blend, clip}
+use Rattle.rules.proofs.Samples.{solid, alpha, opaque-paint, any-draw, any-props, full, filter, pictureless, blend, clip}
 use Rattle.rules.proofs.Computing.{computing}
 
 -- a draw with paint 0 and everything in bounds, changed in one field
-abbrev drawn : ℕ → ℕ → ℕ → ℕ → Blend → ℕ → Bool
-drawn th a b p bl m =
+abbrev drawn-for : ℕ → ℕ → ℕ → ℕ → ℕ → Blend → ℕ → Bool
+drawn-for q th a b p bl m =
     good-draw (opaque-paint ∷ record { opaque = 2; handle = 0 } ∷ []) (solid 0 0 1 ∷ solid 0 1 2 ∷ [])
-    (record { thread = th; start = a; end = b; paint = p; blend = bl; mask = m })
+    (any-draw th a b p bl m q)
+
+abbrev drawn : ℕ → ℕ → ℕ → ℕ → Blend → ℕ → Bool
+drawn = drawn-for 0
 
 -- a layer's properties
 abbrev props : Blend → ℕ → ℕ → Option Clip → Props
-props b o m c = record { blend = b; opacity = o; mask = m; clip = c }
+props b o m c = any-props b o m c 0
 
 -- two depth fills, the newer one with the smaller id
 abbrev two-fills : Summary
@@ -94,6 +97,8 @@ edges =
     ∷ good-handle 2147483648 is false
     ∷ good-thread 255 is true
     ∷ good-thread 256 is false
+    ∷ good-panel 255 is true
+    ∷ good-panel 256 is false
     ∷ good-range 3 3 3 is true
     ∷ good-range 3 4 3 is false
     ∷ good-range 3 2 3 is false
@@ -117,7 +122,9 @@ edges =
     ∷ follows (solid 3 5 9) (solid 2 9 10) is false
     ∷ ordered (solid 0 0 1 ∷ solid 0 1 2 ∷ solid 0 2 3 ∷ []) is true
     ∷ ordered (solid 0 0 1 ∷ solid 0 1 3 ∷ solid 0 2 3 ∷ []) is false
-    -- draws: thread, range, paint, blend, mask
+    -- draws: panel, then thread, range, paint, blend, mask
+    ∷ drawn-for 255 0 0 2 0 default-blend 0 is true
+    ∷ drawn-for 256 0 0 2 0 default-blend 0 is false
     ∷ drawn 255 0 2 0 default-blend 0 is true
     ∷ drawn 256 0 2 0 default-blend 0 is false
     ∷ drawn 0 2 2 0 default-blend 0 is true

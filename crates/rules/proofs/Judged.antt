@@ -21,7 +21,7 @@ use Rattle.rules.specs.Recording.{Recording, LayerRec, Node}
 use Rattle.rules.proofs.Words.{file}
 use Rattle.rules.specs.Walk.{Place, needed, play}
 use Rattle.rules.specs.Lines.{header, row, P, L, B, E, refused}
-use Rattle.rules.proofs.Samples.{solid, opaque-paint, draw, no-clip, no-filter, full, blend, clip, layer, filtered, filter, pictureless, node, rec, listed, listed-snapped}
+use Rattle.rules.proofs.Samples.{solid, opaque-paint, draw, any-layer, no-clip, no-filter, full, blend, clip, layer, filtered, filter, pictureless, node, rec, listed, listed-snapped}
 use Rattle.rules.specs.Setups.{Mode, exact, snapping, Setup, frame}
 use Rattle.rules.proofs.WorkedExample.{worked-words}
 use Rattle.rules.proofs.Computing.{computing}
@@ -78,15 +78,14 @@ abbrev a-layer : LayerRec → ℕ
 a-layer l = holds opaque-paint (solid 1 0 4) (draw 0 1) l (node 0 0 0) 0 0
 
 -- a layer's kind, nodes, blend, mask, clip flag, clip and filter
-abbrev any-layer : ℕ → ℕ → ℕ → Blend → ℕ → ℕ → Clip → Filter → ℕ
-any-layer k a b bl m fl c f =
-    a-layer (record { kind = k; start = a; end = b; blend = bl; opacity = full; mask = m; flag = fl; clip = c; filter = f })
+abbrev layer-of : ℕ → ℕ → ℕ → Blend → ℕ → ℕ → Clip → Filter → ℕ
+layer-of k a b bl m fl c f = a-layer (any-layer k a b bl full m fl c f)
 
 abbrev clip-layer : ℕ → Clip → ℕ
-clip-layer fl c = any-layer 0 0 0 default-blend 0 fl c no-filter
+clip-layer fl c = layer-of 0 0 0 default-blend 0 fl c no-filter
 
 abbrev filter-layer : ℕ → Filter → ℕ
-filter-layer k f = any-layer k 0 0 default-blend 0 0 no-clip f
+filter-layer k f = layer-of k 0 0 default-blend 0 0 no-clip f
 
 pub record Judged : Type 0 where
   pub got : ℕ
@@ -131,13 +130,13 @@ judgements =
     ∷ holds opaque-paint (solid 1 4 4) (draw 0 1) (layer 0 0) (node 0 0 0) 0 0 is BadRecord
     ∷ a-draw (draw 0 4) is BadRecord
     ∷ a-draw (draw 2 3) is Done
-    ∷ any-layer 1 0 1 default-blend 0 0 no-clip no-filter is Done
-    ∷ any-layer 2 0 1 default-blend 0 0 no-clip no-filter is BadRecord
-    ∷ any-layer 1 0 2 default-blend 0 0 no-clip no-filter is BadRecord
-    ∷ any-layer 1 1 0 default-blend 0 0 no-clip no-filter is BadRecord
-    ∷ any-layer 0 0 1 (blend 16 3) 0 0 no-clip no-filter is BadRecord
-    ∷ any-layer 0 0 1 default-blend 2147483648 0 no-clip no-filter is BadRecord
-    ∷ any-layer 0 0 1 default-blend 0 2 no-clip no-filter is BadRecord
+    ∷ layer-of 1 0 1 default-blend 0 0 no-clip no-filter is Done
+    ∷ layer-of 2 0 1 default-blend 0 0 no-clip no-filter is BadRecord
+    ∷ layer-of 1 0 2 default-blend 0 0 no-clip no-filter is BadRecord
+    ∷ layer-of 1 1 0 default-blend 0 0 no-clip no-filter is BadRecord
+    ∷ layer-of 0 0 1 (blend 16 3) 0 0 no-clip no-filter is BadRecord
+    ∷ layer-of 0 0 1 default-blend 2147483648 0 no-clip no-filter is BadRecord
+    ∷ layer-of 0 0 1 default-blend 0 2 no-clip no-filter is BadRecord
     ∷ clip-layer 1 (clip (box 0 0 4 4) 2 3 255) is Done
     ∷ clip-layer 1 (clip (box 0 0 4 4) 2 4 255) is BadRecord
     ∷ clip-layer 1 (clip (box 0 0 4 4) 2 3 256) is BadRecord

@@ -13,6 +13,7 @@ pub mod Judged
 pub mod Refusals
 pub mod Shapes
 pub mod Widths
+pub mod Panels
 -- What other crates cite.
 pub mod All
 pub mod laws

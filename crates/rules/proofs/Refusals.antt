@@ -24,7 +24,8 @@ use Rattle.rules.proofs.Words.{file}
 use Rattle.rules.specs.Painting.{begin}
 use Rattle.rules.specs.Walk.{needed}
 use Rattle.rules.specs.Calls.{Canvas, given, fresh-canvas, reset-call, step-call, record-call, begin-call, paint-call, unset-call, visible-call, write-call, can-skip-call}
-use Rattle.rules.proofs.Samples.{solid, alpha, opaque-paint, draw, blend, clip, full, filter, pictureless, node, rec, minus}
+use Rattle.rules.proofs.Samples as sample
+use Rattle.rules.proofs.Samples.{solid, alpha, opaque-paint, draw, draw-for, any-props, blend, clip, full, filter, pictureless, node, rec, minus, paint-attr}
 use Rattle.rules.proofs.Computing.{computing}
 
 -- a screen of one row and two buckets, with room for one command and one depth fill
@@ -46,7 +47,7 @@ with-state n a ls =
 abbrev clip-open : ℕ → ℕ → Canvas
 clip-open a b =
     with-state 1 no-attrs
-    (record { props = record { blend = default-blend; opacity = full; mask = 0; clip = some (clip (box 0 0 256 4) a b 0) }; bounds = box 0 0 256 4 } ∷ [])
+    (record { props = any-props default-blend full 0 (some (clip (box 0 0 256 4) a b 0)) 0; bounds = box 0 0 256 4 } ∷ [])
 
 abbrev next-id : ℕ → Canvas
 next-id n = with-state n no-attrs []
@@ -69,23 +70,23 @@ steps x k = step-call x k .number
 
 -- a fill of all the segments of a list with an opaque paint
 abbrev fills : List Segment → ℕ → Step
-fills ss n = a-fill (opaque-paint ∷ []) ss (record { thread = 0; start = 0; end = n; paint = 0; blend = default-blend; mask = 0 })
+fills ss n = a-fill (opaque-paint ∷ []) ss (draw 0 n)
 
 -- a fill beside n paints
 abbrev with-paints : ℕ → Step
-with-paints n = a-fill (replicate n opaque-paint) [] (record { thread = 0; start = 0; end = 0; paint = 0; blend = default-blend; mask = 0 })
+with-paints n = a-fill (replicate n opaque-paint) [] (draw 0 0)
 
 abbrev plain-props : Props
-plain-props = record { blend = default-blend; opacity = full; mask = 0; clip = none }
+plain-props = any-props default-blend full 0 none 0
 
 abbrev open-layer : Layer
 open-layer = record { props = plain-props; bounds = box 0 0 256 4 }
 
 abbrev attr : PaintAttr
-attr = record { paint = 0; blend = default-blend; mask = 0; id = 1; thread = 0; origin-x = 0; origin-y = 0 }
+attr = paint-attr 0 0 3 0 1 0 0 0
 
 abbrev layer-attr : LayerAttr
-layer-attr = record { blend = default-blend; opacity = full; mask = 0; id = 1; thread = 0 }
+layer-attr = sample.layer-attr 0 3 full 0 1 0
 
 abbrev filter-one : FilterPaint
 filter-one = record { pixmap = 1; shift-x = minus 0; shift-y = minus 0 }
@@ -170,17 +171,25 @@ answers =
     ∷ steps (fills (alpha 0 0 1 4294967280 ∷ []) 1) start is BadRecord
     ∷ steps (fills (solid 0 5 6 ∷ solid 0 5 7 ∷ []) 2) start is BadOrder
     ∷ steps (fills (solid 0 5 6 ∷ solid 0 5 7 ∷ []) 1) start is Done
-    ∷ steps (a-push (record { blend = blend 0 14; opacity = full; mask = 0; clip = none })) start is BadRecord
+    ∷ steps (a-fill (opaque-paint ∷ []) [] (draw-for 255 0 0)) start is Done
+    ∷ steps (a-fill (opaque-paint ∷ []) [] (draw-for 256 0 0)) start is BadRecord
+    ∷ steps (a-push (any-props (blend 0 14) full 0 none 0)) start is BadRecord
+    ∷ steps (a-push (any-props default-blend full 0 none 255)) start is Done
+    ∷ steps (a-push (any-props default-blend full 0 none 256)) start is BadRecord
     ∷ steps (a-pop (solid 0 5 6 ∷ [])) (clip-open 0 1) is Done
     ∷ steps (a-pop (solid 0 5 6 ∷ [])) (clip-open 0 2) is BadRecord
     ∷ steps (a-pop (solid 0 5 5 ∷ [])) (clip-open 0 1) is BadRecord
     ∷ steps (a-pop (solid 0 5 6 ∷ solid 0 5 7 ∷ [])) (clip-open 0 2) is BadOrder
-    ∷ steps (a-filter 4096 (filter 1 (box 0 0 4 4) 0 0)) start is Done
-    ∷ steps (a-filter 4097 (filter 1 (box 0 0 4 4) 0 0)) start is BadRecord
-    ∷ steps (a-filter 0 (pictureless (box 2 0 4 4) 0 0)) start is BadRecord
-    ∷ steps (a-filter 0 (pictureless (box 0 0 4 4) 32769 0)) start is BadRecord
-    ∷ steps (a-filter 0 (filter 2147483647 (box 0 0 4 4) 0 0)) start is Done
-    ∷ steps (a-filter 0 (filter 2147483648 (box 0 0 4 4) 0 0)) start is BadRecord
+    ∷ steps (a-filter 4096 (filter 1 (box 0 0 4 4) 0 0) 0) start is Done
+    ∷ steps (a-filter 4097 (filter 1 (box 0 0 4 4) 0 0) 0) start is BadRecord
+    ∷ steps (a-filter 0 (pictureless (box 2 0 4 4) 0 0) 0) start is BadRecord
+    ∷ steps (a-filter 0 (pictureless (box 0 0 4 4) 32769 0) 0) start is BadRecord
+    ∷ steps (a-filter 0 (filter 2147483647 (box 0 0 4 4) 0 0) 0) start is Done
+    ∷ steps (a-filter 0 (filter 2147483648 (box 0 0 4 4) 0 0) 0) start is BadRecord
+    ∷ steps (a-filter 0 (filter 1 (box 0 0 4 4) 0 0) 255) start is Done
+    ∷ steps (a-filter 0 (filter 1 (box 0 0 4 4) 0 0) 256) start is BadRecord
+    -- also where nothing is drawn
+    ∷ steps (a-filter 0 (pictureless (box 0 0 4 4) 0 0) 256) start is BadRecord
     -- 6 and 7
     ∷ steps (a-push plain-props) (with-state 1 no-attrs (replicate 15 open-layer)) is Done
     ∷ steps (a-push plain-props) (with-state 1 no-attrs (replicate 16 open-layer)) is Deep
@@ -189,17 +198,17 @@ answers =
     -- 8: the last id; what takes none is done even when none remains
     ∷ steps (fills [] 0) (next-id 1048576) is Done
     ∷ steps (fills [] 0) (next-id 1048577) is Ids
-    ∷ steps (a-filter 0 (filter 1 (box 0 0 0 0) 0 0)) (next-id 1048577) is Done
-    ∷ steps (a-filter 0 (filter 0 (box 0 0 4 4) 0 0)) (next-id 1048577) is Ids
-    ∷ steps (a-filter 0 (pictureless (box 0 0 4 4) 0 0)) (next-id 1048577) is Done
+    ∷ steps (a-filter 0 (filter 1 (box 0 0 0 0) 0 0) 0) (next-id 1048577) is Done
+    ∷ steps (a-filter 0 (filter 0 (box 0 0 4 4) 0 0) 0) (next-id 1048577) is Ids
+    ∷ steps (a-filter 0 (pictureless (box 0 0 4 4) 0 0) 0) (next-id 1048577) is Done
     -- 9: a fill without segments adds no attribute, one whose segments are cut away does
     ∷ steps (fills (solid 9 0 1 ∷ []) 1) (with-state 1 (attrs 1023 0 0) []) is Done
     ∷ steps (fills (solid 9 0 1 ∷ []) 1) (with-state 1 (attrs 1024 0 0) []) is FullAttrs
     ∷ steps (fills [] 0) (with-state 1 (attrs 1024 0 0) []) is Done
     ∷ steps (a-pop []) (with-state 1 (attrs 0 1023 0) (open-layer ∷ [])) is Done
     ∷ steps (a-pop []) (with-state 1 (attrs 0 1024 0) (open-layer ∷ [])) is FullAttrs
-    ∷ steps (a-filter 0 (filter 1 (box 0 0 4 4) 0 0)) (with-state 1 (attrs 0 0 256) []) is FullAttrs
-    ∷ steps (a-filter 0 (filter 1 (box 0 0 4 4) 0 0)) (with-state 1 (attrs 0 0 255) []) is Done
+    ∷ steps (a-filter 0 (filter 1 (box 0 0 4 4) 0 0) 0) (with-state 1 (attrs 0 0 256) []) is FullAttrs
+    ∷ steps (a-filter 0 (filter 1 (box 0 0 4 4) 0 0) 0) (with-state 1 (attrs 0 0 255) []) is Done
     ∷ steps (fills (solid 9 0 1 ∷ []) 1) (with-state 1048577 (attrs 1024 0 0) []) is Ids
     -- 10 and 11
     ∷ steps (fills (solid 0 0 1 ∷ []) 1) start is Done

@@ -6,9 +6,9 @@ use lib.ListN.{length}
 use lib.Dec.{ltb}
 use lib.IntN.{ℤ}
 use Rattle.sizes.specs.Sizes.{most-attrs, most-filters}
-use Rattle.rules.specs.Blends.{Blend}
+use Rattle.rules.specs.Blends.{Blend, default-blend}
 
--- rule 3
+-- rule 3; the panel is the draw's
 pub record PaintAttr : Type 0 where
   pub paint : ℕ
   pub blend : Blend
@@ -17,14 +17,24 @@ pub record PaintAttr : Type 0 where
   pub thread : ℕ
   pub origin-x : ℕ
   pub origin-y : ℕ
+  pub panel : ℕ
 
--- rule 9. opacity: the bits of an f32
+-- where there is none
+abbrev pub no-paint : PaintAttr
+no-paint =
+    record { paint = 0; blend = default-blend; mask = 0; id = 0; thread = 0; origin-x = 0; origin-y = 0; panel = 0 }
+
+-- rule 9. opacity: the bits of an f32; the panel is the layer's own
 pub record LayerAttr : Type 0 where
   pub blend : Blend
   pub opacity : ℕ
   pub mask : ℕ
   pub id : ℕ
   pub thread : ℕ
+  pub panel : ℕ
+
+abbrev pub no-layer : LayerAttr
+no-layer = record { blend = default-blend; opacity = 0; mask = 0; id = 0; thread = 0; panel = 0 }
 
 -- rule 11: flag 0, the pixmap, and the shift
 pub record FilterPaint : Type 0 where

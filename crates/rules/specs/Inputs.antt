@@ -5,7 +5,7 @@ use mathlib.Core.List.{List}
 use mathlib.Core.Option.{Option, none, some}
 use lib.ListN.{length, getD}
 use lib.Dec.{leb, ltb, eqb}
-use Rattle.sizes.specs.Sizes.{thread-end, handle-end, most-records}
+use Rattle.sizes.specs.Sizes.{thread-end, handle-end, panel-end, most-records}
 use Rattle.rules.specs.Lists.{is-none, slice}
 use Rattle.rules.specs.Spans.{good-range}
 use Rattle.rules.specs.Boxes.{Box, good-box, good-dest}
@@ -18,6 +18,10 @@ good-handle h = ltb h handle-end
 
 abbrev pub good-thread : ℕ → Bool
 good-thread t = ltb t thread-end
+
+-- a panel: the number of the program module that draws (T-07)
+abbrev pub good-panel : ℕ → Bool
+good-panel p = ltb p panel-end
 
 -- a paint record's opaque flag and handle. Its two shifts are free, and no rule reads them
 pub record Paint : Type 0 where
@@ -35,6 +39,7 @@ pub record Draw : Type 0 where
   pub paint : ℕ
   pub blend : Blend
   pub mask : ℕ
+  pub panel : ℕ
 
 abbrev pub draw-segments : List Segment → Draw → List Segment
 draw-segments ss d = slice (d .start) (d .end) ss
@@ -50,6 +55,7 @@ good-draw ps ss d =
     && good-paint (draw-paint ps d)
     && good-blend (d .blend)
     && good-handle (d .mask)
+    && good-panel (d .panel)
 
 -- a paint list has at most 4,096 records, as a section has
 abbrev pub few-paints : ℕ → Bool
@@ -75,13 +81,14 @@ pub record Props : Type 0 where
   pub opacity : ℕ
   pub mask : ℕ
   pub clip : Option Clip
+  pub panel : ℕ
 
 abbrev pub all-good : Option Clip → Bool
 all-good none = true
 all-good (some c) = good-clip c
 
 abbrev pub good-props : Props → Bool
-good-props p = good-blend (p .blend) && good-handle (p .mask) && all-good (p .clip)
+good-props p = good-blend (p .blend) && good-handle (p .mask) && all-good (p .clip) && good-panel (p .panel)
 
 -- rule 2: a filter layer that needs a buffer. 1065353216 are the bits of 1.0, and no other f32 is equal to 1.0
 abbrev pub needs-buffer : Props → Bool
@@ -101,3 +108,7 @@ good-pixmap (some h) = good-handle h
 
 abbrev pub good-filter : Filter → Bool
 good-filter f = good-pixmap (f .pixmap) && good-dest (f .dest) && leb (f .source-x) 32768 && leb (f .source-y) 32768
+
+-- what a filter fill is told: the paint list's length, the filter, its layer's panel
+abbrev pub good-filter-fill : ℕ → Filter → ℕ → Bool
+good-filter-fill count f q = good-filter f && few-paints count && good-panel q

@@ -26,7 +26,7 @@ use Rattle.rules_picture.proofs.Cases.{by, covers-yes}
 use Rattle.rules_picture.proofs.Buckets.{from-bucket, from-bucket-before}
 use Rattle.rules_picture.proofs.Shown.{hides-of}
 use Rattle.rules_picture.proofs.Held.{stays}
-use Rattle.rules_picture.proofs.Rows.{fill-told, paint-told, Numbered}
+use Rattle.rules_picture.proofs.Rows.{fill-told, paint-told, Numbered, PaintHas}
 use Rattle.rules_picture.proofs.SplitTile.{regular-hits, bucket-hits, whole-at, Hit, split-tile}
 use Rattle.rules_picture.proofs.Acts.{do-acts}
 use Rattle.rules_picture.proofs.Acted.{Sound, Adds, adds-none, adds-both, paint-adds, depth-adds, ensure-adds, act-paint}
@@ -81,31 +81,32 @@ module _ (w : ℕ) (attrs : Attrs) (t : ℕ) where
         covers-yes s t (omega arith) (omega arith)
 
     -- what is told of one cut
-    abbrev pub cut-told : Bool → ℕ → ℕ → ℕ → Bool → Cut → List Told
-    cut-told l i n id e k = tell w v row t l i n id e (k ∷ [])
+    abbrev pub cut-told : Bool → ℕ → ℕ → ℕ → ℕ → Bool → Cut → List Told
+    cut-told l i q n id e k = tell w v row t l i q n id e (k ∷ [])
 
-    pub told-cons : (l : Bool) (i n id : ℕ) (e : Bool) (k : Cut) (ks : List Cut) → tell w v row t l i n id e (k ∷ ks) ≡ cut-told l i n id e k ++ tell w v row t l i n id e ks
-    told-cons l i n id e k ks = by (covers (k .stretch .tiles) t) (λ y. rw y) (λ m. rw m)
+    pub told-cons : (l : Bool) (i q n id : ℕ) (e : Bool) (k : Cut) (ks : List Cut) → tell w v row t l i q n id e (k ∷ ks) ≡ cut-told l i q n id e k ++ tell w v row t l i q n id e ks
+    told-cons l i q n id e k ks = by (covers (k .stretch .tiles) t) (λ y. rw y) (λ m. rw m)
 
     -- one cut, drawn with n layers open
-    pub cut-adds : 0 < w → (e : Bool) (i id n : ℕ) → paint-id attrs i ≡ id → 0 < id → (e ≡ true → n ≡ 0) → (j : ℕ) (x : Span) (a : Option ℕ) (r : Row) → Sound r → length (r .levels) ≤ n
+    pub cut-adds : 0 < w → (e : Bool) (i q id n : ℕ) → PaintHas attrs i id q → 0 < id → (e ≡ true → n ≡ 0) → (j : ℕ) (x : Span) (a : Option ℕ) (r : Row) → Sound r → length (r .levels) ≤ n
         → Adds w attrs t
-        (such stays (cut-told false i n id e (record { row = j; stretch = record { tiles = x; alpha = a } })))
-        (such hides-of (cut-told false i n id e (record { row = j; stretch = record { tiles = x; alpha = a } })))
+        (such stays (cut-told false i q n id e (record { row = j; stretch = record { tiles = x; alpha = a } })))
+        (such hides-of (cut-told false i q n id e (record { row = j; stretch = record { tiles = x; alpha = a } })))
         n r (do-act Row row-ops w n (draw-act e i id x a) r)
     unfolding draw-act
-    cut-adds pos true i id n q num z j x none r s h =
+    cut-adds pos true i q id n has num z j x none r s h =
         let o : n ≡ 0 = z refl in
+        let m = has .id-is in
         let p : 0 < paint-id attrs i = omega arith in
         let le : paint-id attrs i ≤ id = omega arith in
         let l : length (r .levels) ≡ 0 = omega arith in
-        let c = rw (same-whole x, q) at (opaque-adds pos x i id p le r s l) in
+        let c = rw (same-whole x, m, has .panel-is) at (opaque-adds pos x i id p le r s l) in
         rw o (by (whole-bucket w v row t x)
         (λ y. let u = whole-covers pos x y in rw (u, y) (rw (u, y) at c))
         (λ m. by (covers x t) (λ u. rw (u, m) (rw (u, m) at c)) (λ u. rw u (rw (u, m) at c))))
-    cut-adds pos true i id n q num z j x (some a) r s h =
-        let c = rw q at (act-paint w attrs t n x (some a) i r s h) in
+    cut-adds pos true i q id n has num z j x (some a) r s h =
+        let c = rw (has .id-is, has .panel-is) at (act-paint w attrs t n x (some a) i r s h) in
         by (covers x t) (λ u. rw u (rw u at c)) (λ u. rw u (rw u at c))
-    cut-adds pos false i id n q num z j x a r s h =
-        let c = rw q at (act-paint w attrs t n x a i r s h) in
+    cut-adds pos false i q id n has num z j x a r s h =
+        let c = rw (has .id-is, has .panel-is) at (act-paint w attrs t n x a i r s h) in
         by (covers x t) (λ u. rw u (rw u at c)) (λ u. rw u (rw u at c))

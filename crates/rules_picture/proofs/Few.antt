@@ -15,7 +15,7 @@ use Rattle.rules.specs.Commands.{Command, paint-fill, layer-fill, push-buf, pop
 use Rattle.rules.specs.Rows.{Row}
 use Rattle.rules.specs.Attributes.{Attrs}
 use Rattle.rules.specs.Depth.{join-run, bucket-runs, runs-in, runs, buckets-met, tiles-of, is-unset, visible-runs, write, write-runs, written, written-from}
-use Rattle.rules.specs.Painting.{Painter, Painted, begin, paint-depth, paint-fill-runs, paint-command, paint-when, paint-step, paint-steps, paint-row, no-fill, paint-id, layer-id}
+use Rattle.rules.specs.Painting.{Painter, Painted, begin, paint-depth, paint-fill-runs, paint-command, paint-when, paint-step, paint-steps, paint-row, no-fill, paint-id, layer-id, paint-panel, layer-panel}
 use Rattle.rules.proofs.All.{All, all-at}
 use Rattle.rules_picture.proofs.Cases.{by}
 use Rattle.rules_picture.proofs.Newest.{written-length}
@@ -167,14 +167,14 @@ module _ (w : ℕ) (a : Attrs) where
         wide = written-length (p .buckets) (paint-id a (f .attribute)) (f .buckets);
       }
 
-  fill-few : (l : Bool) (id i : ℕ) (s : Span) (x : Option ℕ) (p : Painter) → length (p .buckets) ≤ 64 → FewStep p (paint-fill-runs w a l id i s x p)
+  fill-few : (l : Bool) (id i q : ℕ) (s : Span) (x : Option ℕ) (p : Painter) → length (p .buckets) ≤ 64 → FewStep p (paint-fill-runs w a l id i q s x p)
   unfolding paint-fill-runs visible-runs
-  fill-few l id i s x p h = record { pieces = rw length-map (runs-few _ w (p .buckets) s h); wide = refl }
+  fill-few l id i q s x p h = record { pieces = rw length-map (runs-few _ w (p .buckets) s h); wide = refl }
 
   command-few : (c : Command) (p : Painter) → length (p .buckets) ≤ 64 → FewStep p (paint-command w a c p)
   unfolding paint-command
-  command-few (paint-fill s x i) p h = fill-few false (paint-id a i) i s x p h
-  command-few (layer-fill s x i) p h = fill-few true (layer-id a i) i s x p h
+  command-few (paint-fill s x i) p h = fill-few false (paint-id a i) i (paint-panel a i) s x p h
+  command-few (layer-fill s x i) p h = fill-few true (layer-id a i) i (layer-panel a i) s x p h
   command-few (push-buf s) p h = record { pieces = omega arith; wide = refl }
   command-few pop-buf p h = record { pieces = omega arith; wide = refl }
 

@@ -13,11 +13,9 @@ use Rattle.rules.specs.Answers.{Done}
 use Rattle.rules.specs.Boxes.{Box, rows-in}
 use Rattle.rules.specs.Spans.{covers}
 use Rattle.rules.specs.Segments.{Segment, judge-segments, Cut, cuts}
-use Rattle.rules.specs.Blends.{default-blend}
 use Rattle.rules.specs.Inputs.{Paint, Draw, draw-segments, draw-paint, good-fill, Props}
-use Rattle.rules.specs.Attributes.{PaintAttr, LayerAttr, Attrs}
+use Rattle.rules.specs.Attributes.{PaintAttr, no-paint, LayerAttr, Attrs}
 use Rattle.rules.specs.Rows.{Row, fresh-row, row-ops}
-use Rattle.rules.specs.Painting.{paint-id, layer-id}
 use Rattle.rules.specs.Plans.{bucket, Layer, State, Act, Put, Plan, on, touch, eligible, box-of, draw-puts, with-paint, plan-fill, layer-box, touches-all, plan-push}
 use Rattle.rules.specs.Steps.{Screen, do-puts, done}
 use Rattle.rules.specs.Plain.{Told, OpenLayer, Story, touch-all, box-now, here, tell, tell-fill, tell-push, in-rows}
@@ -26,6 +24,7 @@ use Rattle.rules.proofs.laws.Changes.{puts-length}
 use Rattle.rules.proofs.laws.Bounds.{judged-facts}
 use Rattle.rules_picture.proofs.Cases.{by}
 use Rattle.rules_picture.proofs.Acts.{acts-at, do-acts, row-by-row}
+use Rattle.rules_picture.proofs.Rows.{PaintHas}
 use Rattle.rules_picture.proofs.Acted.{adds-none}
 use Rattle.rules_picture.proofs.Shape.{touched-layers}
 use Rattle.rules_picture.proofs.Listed.{cut-act, draw-acts, Rows, rows-counted, acts-once}
@@ -35,9 +34,6 @@ use Rattle.rules_picture.proofs.Grown.{Grown, draw-grows, push-grows}
 
 abbrev pub layer-in : OpenLayer → Layer
 layer-in l = l .layer
-
-abbrev no-paint : PaintAttr
-no-paint = record { paint = 0; blend = default-blend; mask = 0; id = 0; thread = 0; origin-x = 0; origin-y = 0 }
 
 map-empty : (ls : List OpenLayer) → is-empty (map layer-in ls) ≡ is-empty ls
 map-empty [] = refl
@@ -66,25 +62,26 @@ module _ (w : ℕ) (attrs : Attrs) (t : ℕ) (v : Box) (row : ℕ) where
     pub there : row < length (s .rows)
     pub grown : Grown w attrs t v row (o .told) (o .next) (o .open-layers) (getD (s .rows) row fresh-row)
 
-  -- the id of an attribute that a step adds
-  pub new-paint : (ps : List PaintAttr) (x : PaintAttr) (more : List PaintAttr) → attrs .paints ≡ (ps ++ (x ∷ [])) ++ more → paint-id attrs (length ps) ≡ x .id
+  -- the id and the panel of an attribute that a step adds
+  pub new-paint : (ps : List PaintAttr) (x : PaintAttr) (more : List PaintAttr) → attrs .paints ≡ (ps ++ (x ∷ [])) ++ more → PaintHas attrs (length ps) (x .id) (x .panel)
   new-paint ps x more e =
-      ap (λ (l : List PaintAttr). getD l (length ps) no-paint .id) (e ∙ append-assoc ps (x ∷ []) more)
-      ∙ ap (λ (a : PaintAttr). a .id) (getD-append-seam ps x more no-paint)
+      let is : getD (attrs .paints) (length ps) no-paint ≡ x =
+      ap (λ (l : List PaintAttr). getD l (length ps) no-paint) (e ∙ append-assoc ps (x ∷ []) more) ∙ getD-append-seam ps x more no-paint in
+      record { id-is = ap (λ (a : PaintAttr). a .id) is; panel-is = ap (λ (a : PaintAttr). a .panel) is }
 
   -- the draw of a fill that has segments, on the row
   fill-row : 0 < w → (ps : List Paint) (ss : List Segment) (d : Draw) (o : Story) (s : Screen Row) → Follows o s
       → judge-segments (not (good-fill ps ss d)) (draw-segments ss d) ≡ Done
-      → paint-id attrs (o .paints) ≡ o .next
+      → PaintHas attrs (o .paints) (o .next) (d .panel)
       → Grown w attrs t v row (tell-fill w v row t ps ss d o .told) (o .next + 1) (tell-fill w v row t ps ss d o .open-layers)
       (getD (done Row row-ops (plan-fill ps ss d (s .state)) s .rows) row fresh-row)
   unfolding done plan-fill
-  fill-row pos ps ss d o s f j q =
+  fill-row pos ps ss d o s f j has =
       let own = draw-segments ss d in
       let e = eligible (is-empty (o .open-layers)) (draw-paint ps d) d in
       let ks = here w v row t (o .open-layers) own in
       let (_, good, ord) = judged-facts (not (good-fill ps ss d)) own j in
-      let g = draw-grows w attrs t v row pos (f .grown) (f .first) e (o .paints) q
+      let g = draw-grows w attrs t v row pos (f .grown) (f .first) e (o .paints) (d .panel) has
       (λ y. empty-length (o .open-layers) (and-left _ _ (and-left _ _ (and-left _ _ y)))) ks (single v (box-now v (o .open-layers)) row t own good ord) in
       let same : do-acts Row row-ops w (length (o .open-layers)) (map (cut-act e (o .paints) (o .next)) ks) (getD (s .rows) row fresh-row)
       ≡ getD (do-puts Row row-ops w (length (s .state .layers)) (draw-puts (eligible (is-empty (s .state .layers)) (draw-paint ps d) d) (length (s .state .attrs .paints)) (s .state .next) (cuts (s .state .frame .viewport) (box-of (s .state)) own)) (s .rows)) row fresh-row =
@@ -120,18 +117,18 @@ module _ (w : ℕ) (attrs : Attrs) (t : ℕ) (v : Box) (row : ℕ) where
       let ks = here w v row t (o .open-layers) own in
       let st = s .state in
       let puts = draw-puts (eligible (is-empty (st .layers)) (draw-paint ps d) d) (length (st .attrs .paints)) (st .next) (cuts (st .frame .viewport) (box-of st) own) in
-      let rest : (length (cond (is-empty own) (st .attrs) (with-paint st (d .paint) (d .blend) (d .mask) (d .thread) []) .paints) ≡ cond (is-empty own) (o .paints) (o .paints + 1))
-      × (length (cond (is-empty own) (st .attrs) (with-paint st (d .paint) (d .blend) (d .mask) (d .thread) []) .layers) ≡ o .layers)
+      let rest : (length (cond (is-empty own) (st .attrs) (with-paint st (d .paint) (d .blend) (d .mask) (d .thread) (d .panel) []) .paints) ≡ cond (is-empty own) (o .paints) (o .paints + 1))
+      × (length (cond (is-empty own) (st .attrs) (with-paint st (d .paint) (d .blend) (d .mask) (d .thread) (d .panel) []) .layers) ≡ o .layers)
       × Grown w attrs t v row (tell-fill w v row t ps ss d o .told) (o .next + 1) (tell-fill w v row t ps ss d o .open-layers)
       (getD (done Row row-ops (plan-fill ps ss d (s .state)) s .rows) row fresh-row) =
       by (is-empty own)
       (λ y. (rw y (f .paints), rw y (f .layers), fill-none ps ss d o s f (empty-list own y)))
       (λ n.
       let p = rw n at (l .paints) in
-      let q = new-paint (st .attrs .paints) _ (l .paints-more) p in (
+      let has = new-paint (st .attrs .paints) _ (l .paints-more) p in (
         rw (n, length-append) (ap (λ m. m + 1) (f .paints)),
         rw n (f .layers),
-        fill-row pos ps ss d o s f j (ap (paint-id attrs) (sym (f .paints)) ∙ q ∙ f .next),
+        fill-row pos ps ss d o s f j (rw (f .paints, f .next) at has),
       )) in
       record {
         view = f .view;

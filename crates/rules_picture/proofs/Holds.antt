@@ -32,12 +32,12 @@ single-map f nothing = nothing
 single-map f (one x) = one (f x)
 
 -- what is told of cuts of which at most one covers the tile
-pub single-told : (w : ℕ) (v : Box) (row t : ℕ) (l : Bool) (i n id : ℕ) (e : Bool) (ks : List Cut) → Single (such (λ (k : Cut). covers (k .stretch .tiles) t) ks)
-    → Single (tell w v row t l i n id e ks)
-single-told w v row t l i n id e ks s = single-map _ s
+pub single-told : (w : ℕ) (v : Box) (row t : ℕ) (l : Bool) (i q n id : ℕ) (e : Bool) (ks : List Cut) → Single (such (λ (k : Cut). covers (k .stretch .tiles) t) ks)
+    → Single (tell w v row t l i q n id e ks)
+single-told w v row t l i q n id e ks s = single-map _ s
 
-pub told-ids : (w : ℕ) (v : Box) (row t : ℕ) (l : Bool) (i n id : ℕ) (e : Bool) (ks : List Cut) → All (λ (u : Told). u .id ≡ id) (tell w v row t l i n id e ks)
-told-ids w v row t l i n id e ks = all-mapped _ (λ (k : Cut). refl) (such (λ (k : Cut). covers (k .stretch .tiles) t) ks)
+pub told-ids : (w : ℕ) (v : Box) (row t : ℕ) (l : Bool) (i q n id : ℕ) (e : Bool) (ks : List Cut) → All (λ (u : Told). u .id ≡ id) (tell w v row t l i q n id e ks)
+told-ids w v row t l i q n id e ks = all-mapped _ (λ (k : Cut). refl) (such (λ (k : Cut). covers (k .stretch .tiles) t) ks)
 
 module _ (w : ℕ) (attrs : Attrs) (t : ℕ) where
   -- the row holds the entries ts, whose ids are below `next`

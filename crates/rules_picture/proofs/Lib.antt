@@ -28,3 +28,5 @@ pub mod Skip
 pub mod Unhidden
 pub mod Walked
 pub mod Recorded
+pub mod Panels
+pub mod PanelCases

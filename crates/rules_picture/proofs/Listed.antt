@@ -14,13 +14,13 @@ use Rattle.rules.specs.Boxes.{Box}
 use Rattle.rules.specs.Segments.{Cut}
 use Rattle.rules.specs.Attributes.{Attrs}
 use Rattle.rules.specs.Rows.{Row, row-ops}
-use Rattle.rules.specs.Painting.{paint-id}
 use Rattle.rules.specs.Plans.{Act, Put, on, draw-act, draw-puts}
 use Rattle.rules.specs.Steps.{do-act}
 use Rattle.rules.specs.Plain.{Told, tell}
 use Rattle.rules_picture.proofs.Cases.{by}
 use Rattle.rules_picture.proofs.Shown.{hides-of}
 use Rattle.rules_picture.proofs.Held.{stays}
+use Rattle.rules_picture.proofs.Rows.{PaintHas}
 use Rattle.rules_picture.proofs.Acts.{acts-at, do-acts}
 use Rattle.rules_picture.proofs.Acted.{Sound, Adds, adds-none, adds-both}
 use Rattle.rules_picture.proofs.Drawn.{cut-told, told-cons, cut-adds}
@@ -65,23 +65,23 @@ such-append p (x ∷ xs) ys = rw (such-append p xs ys) (by (p x) (λ y. rw y) (�
 
 module _ (w : ℕ) (attrs : Attrs) (t : ℕ) (v : Box) (row : ℕ) where
   -- the cuts of one draw on the row, with n layers open, add what plain draw order tells of them
-  pub draws-add : 0 < w → (e : Bool) (i id n : ℕ) → paint-id attrs i ≡ id → 0 < id → (e ≡ true → n ≡ 0) → (ks : List Cut) (r : Row) → Sound r → length (r .levels) ≤ n
+  pub draws-add : 0 < w → (e : Bool) (i q id n : ℕ) → PaintHas attrs i id q → 0 < id → (e ≡ true → n ≡ 0) → (ks : List Cut) (r : Row) → Sound r → length (r .levels) ≤ n
       → Adds w attrs t
-      (such stays (tell w v row t false i n id e ks))
-      (such hides-of (tell w v row t false i n id e ks))
+      (such stays (tell w v row t false i q n id e ks))
+      (such hides-of (tell w v row t false i q n id e ks))
       (cond (is-empty ks) (length (r .levels)) n)
       r (do-acts Row row-ops w n (map (cut-act e i id) ks) r)
   unfolding do-acts
-  draws-add pos e i id n q num z [] r s h = adds-none w attrs t r s
-  draws-add pos e i id n q num z (k ∷ ks) r s h =
-      let a = cut-adds w attrs t v row pos e i id n q num z (k .row) (k .stretch .tiles) (k .stretch .alpha) r s h in
+  draws-add pos e i q id n has num z [] r s h = adds-none w attrs t r s
+  draws-add pos e i q id n has num z (k ∷ ks) r s h =
+      let a = cut-adds w attrs t v row pos e i q id n has num z (k .row) (k .stretch .tiles) (k .stretch .alpha) r s h in
       let m : length (do-act Row row-ops w n (cut-act e i id k) r .levels) ≡ n = a .levels in
-      let b = draws-add pos e i id n q num z ks (do-act Row row-ops w n (cut-act e i id k) r) (a .sound) (omega arith) in
+      let b = draws-add pos e i q id n has num z ks (do-act Row row-ops w n (cut-act e i id k) r) (a .sound) (omega arith) in
       let c = adds-both w attrs t a b in
-      let one = cut-told w attrs t v row false i n id e k in
-      let more = tell w v row t false i n id e ks in
+      let one = cut-told w attrs t v row false i q n id e k in
+      let more = tell w v row t false i q n id e ks in
       let u : cond (is-empty ks) (length (do-act Row row-ops w n (cut-act e i id k) r .levels)) n ≡ n = rw m (same (is-empty ks) n) in
-      rw (told-cons w attrs t v row false i n id e k ks, such-append stays one more, such-append hides-of one more) (rw u at c)
+      rw (told-cons w attrs t v row false i q n id e k ks, such-append stays one more, such-append hides-of one more) (rw u at c)
     where
       same : (b : Bool) (n : ℕ) → cond b n n ≡ n
       same true n = refl

@@ -46,8 +46,8 @@ received-append t (p ∷ ps) qs =
     ∙ ap (λ (es : List Entry). es ++ received t qs) (sym (received-cons t p ps))
 
 -- the tile's part of a fill over the tiles s
-abbrev pub entry-in : ℕ → Bool → ℕ → Span → Option ℕ → ℕ → Entry
-entry-in t l i s a n = record { layer = l; attribute = i; alpha = moved a (t - s .first); nesting = n }
+abbrev pub entry-in : ℕ → Bool → ℕ → ℕ → Span → Option ℕ → ℕ → Entry
+entry-in t l i q s a n = record { layer = l; attribute = i; alpha = moved a (t - s .first); nesting = n; panel = q }
 
 module _ (w : ℕ) (pos : 0 < w) (t : ℕ) where
   -- a tile of a cut span: in the span, and its bucket in the run
@@ -76,61 +76,61 @@ module _ (w : ℕ) (pos : 0 < w) (t : ℕ) where
 
   module _ (attrs : Attrs) where
     -- cut to the tile, it does not matter to which run the fill was cut before
-    same-part : (l : Bool) (i : ℕ) (s : Span) (a : Option ℕ) (n : ℕ) (c : Span) → s .first ≤ c .first → c .first ≤ t
-        → entry-of t (fill-piece w attrs l i s a n c) ≡ entry-in t l i s a n
-    same-part l i s a n c h k =
-        ap (λ (o : Option ℕ). record { layer = l; attribute = i; alpha = o; nesting = n })
+    same-part : (l : Bool) (i q : ℕ) (s : Span) (a : Option ℕ) (n : ℕ) (c : Span) → s .first ≤ c .first → c .first ≤ t
+        → entry-of t (fill-piece w attrs l i q s a n c) ≡ entry-in t l i q s a n
+    same-part l i q s a n c h k =
+        ap (λ (o : Option ℕ). record { layer = l; attribute = i; alpha = o; nesting = n; panel = q })
         (moved-on a (c .first - s .first) (t - c .first) (t - s .first) (omega arith))
 
     -- the tile has the fill once for each run that its bucket lies in
-    fill-parts : (l : Bool) (i : ℕ) (s : Span) (a : Option ℕ) (n : ℕ) (rs : List Span)
-        → received t (map (fill-piece w attrs l i s a n) (map (λ (r : Span). common s (tiles-of w r)) rs))
-        ≡ cond (covers s t) (replicate (hits rs (t / w)) (entry-in t l i s a n)) []
-    fill-parts l i s a n [] = unfold received in by (covers s t) (λ y. rw y) (λ m. rw m)
-    fill-parts l i s a n (r ∷ rs) =
+    fill-parts : (l : Bool) (i q : ℕ) (s : Span) (a : Option ℕ) (n : ℕ) (rs : List Span)
+        → received t (map (fill-piece w attrs l i q s a n) (map (λ (r : Span). common s (tiles-of w r)) rs))
+        ≡ cond (covers s t) (replicate (hits rs (t / w)) (entry-in t l i q s a n)) []
+    fill-parts l i q s a n [] = unfold received in by (covers s t) (λ y. rw y) (λ m. rw m)
+    fill-parts l i q s a n (r ∷ rs) =
         let c = common s (tiles-of w r) in
-        let ps = map (fill-piece w attrs l i s a n) (map (λ (r : Span). common s (tiles-of w r)) rs) in
-        received-cons t (fill-piece w attrs l i s a n c) ps
+        let ps = map (fill-piece w attrs l i q s a n) (map (λ (r : Span). common s (tiles-of w r)) rs) in
+        received-cons t (fill-piece w attrs l i q s a n c) ps
         ∙ by (covers c t)
         (λ y.
-        let q = sym (cut-covers s r) ∙ y in
+        let both = sym (cut-covers s r) ∙ y in
         let k = covers-low c t y in
-        rw (y, same-part l i s a n c (omega arith) k, fill-parts l i s a n rs, and-left (covers s t) (covers r (t / w)) q, and-right (covers s t) (covers r (t / w)) q))
+        rw (y, same-part l i q s a n c (omega arith) k, fill-parts l i q s a n rs, and-left (covers s t) (covers r (t / w)) both, and-right (covers s t) (covers r (t / w)) both))
         (λ m.
-        let q = sym (cut-covers s r) ∙ m in
-        rw (m, fill-parts l i s a n rs) (by (covers s t) (λ y. rw (y, and-missed (covers s t) (covers r (t / w)) y q)) (λ o. rw o)))
+        let both = sym (cut-covers s r) ∙ m in
+        rw (m, fill-parts l i q s a n rs) (by (covers s t) (λ y. rw (y, and-missed (covers s t) (covers r (t / w)) y both)) (λ o. rw o)))
 
     -- a run of a depth fill, cut to the tile
-    depth-parts : (i : ℕ) (rs : List Span)
-        → received t (map (depth-piece w attrs i) rs) ≡ replicate (hits rs (t / w)) (entry-in t false i (span t (suc t)) none 0)
-    depth-parts i [] = unfold received in refl
-    depth-parts i (r ∷ rs) =
-        received-cons t (depth-piece w attrs i r) (map (depth-piece w attrs i) rs)
-        ∙ by (covers r (t / w)) (λ y. rw (tiles-cover r, y, depth-parts i rs)) (λ m. rw (tiles-cover r, m, depth-parts i rs))
+    depth-parts : (i q : ℕ) (rs : List Span)
+        → received t (map (depth-piece w attrs i q) rs) ≡ replicate (hits rs (t / w)) (entry-in t false i q (span t (suc t)) none 0)
+    depth-parts i q [] = unfold received in refl
+    depth-parts i q (r ∷ rs) =
+        received-cons t (depth-piece w attrs i q r) (map (depth-piece w attrs i q) rs)
+        ∙ by (covers r (t / w)) (λ y. rw (tiles-cover r, y, depth-parts i q rs)) (λ m. rw (tiles-cover r, m, depth-parts i q rs))
 
     module _ (bs : List ℕ) (on : t / w < length bs) where
       -- a command is received, once, iff it covers the tile and its bucket's word is no newer
-      pub fill-received : (l : Bool) (id i : ℕ) (s : Span) (a : Option ℕ) (n : ℕ)
-          → received t (map (fill-piece w attrs l i s a n) (visible-runs w bs id s))
-          ≡ keep (covers s t && leb (getD bs (t / w) 0) id) (entry-in t l i s a n) []
+      pub fill-received : (l : Bool) (id i q : ℕ) (s : Span) (a : Option ℕ) (n : ℕ)
+          → received t (map (fill-piece w attrs l i q s a n) (visible-runs w bs id s))
+          ≡ keep (covers s t && leb (getD bs (t / w) 0) id) (entry-in t l i q s a n) []
       unfolding visible-runs runs
-      fill-received l id i s a n = by (ltb (s .first) (s .end))
-          (λ y. rw (y, fill-parts l i s a n (runs-in (is-visible id) bs (buckets-met w s)), range-hit (is-visible id) bs (buckets-met w s) (t / w) on)
+      fill-received l id i q s a n = by (ltb (s .first) (s .end))
+          (λ y. rw (y, fill-parts l i q s a n (runs-in (is-visible id) bs (buckets-met w s)), range-hit (is-visible id) bs (buckets-met w s) (t / w) on)
           (once (covers s t) (covers (buckets-met w s) (t / w)) (leb (getD bs (t / w) 0) id)
           (λ e.
           covers-yes (buckets-met w s) (t / w) (touched-first w pos (s .first) t (covers-low s t e)) (touched-end w pos t (s .end) (covers-high s t e)))
-          (entry-in t l i s a n)))
+          (entry-in t l i q s a n)))
           (λ m. let z = ltb-false (s .first) (s .end) m in rw (m, covers-no s t (λ p q. omega arith)) (unfold received in refl))
 
       -- a depth fill is received, once, iff it covers the tile's bucket and that is unset
-      pub depth-received : (f : DepthFill)
-          → received t (map (depth-piece w attrs (f .attribute)) (write-runs bs (f .buckets)))
-          ≡ keep (covers (f .buckets) (t / w) && eqb (getD bs (t / w) 0) 0) (entry-in t false (f .attribute) (span t (suc t)) none 0) []
+      pub depth-received : (f : DepthFill) (q : ℕ)
+          → received t (map (depth-piece w attrs (f .attribute) q) (write-runs bs (f .buckets)))
+          ≡ keep (covers (f .buckets) (t / w) && eqb (getD bs (t / w) 0) 0) (entry-in t false (f .attribute) q (span t (suc t)) none 0) []
       unfolding write-runs
-      depth-received f =
-          rw (depth-parts (f .attribute) (runs-in is-unset bs (f .buckets)), range-hit is-unset bs (f .buckets) (t / w) on)
+      depth-received f q =
+          rw (depth-parts (f .attribute) q (runs-in is-unset bs (f .buckets)), range-hit is-unset bs (f .buckets) (t / w) on)
           (go (covers (f .buckets) (t / w) && eqb (getD bs (t / w) 0) 0))
         where
-          go : (b : Bool) → replicate (cond b 1 0) (entry-in t false (f .attribute) (span t (suc t)) none 0) ≡ keep b (entry-in t false (f .attribute) (span t (suc t)) none 0) []
+          go : (b : Bool) → replicate (cond b 1 0) (entry-in t false (f .attribute) q (span t (suc t)) none 0) ≡ keep b (entry-in t false (f .attribute) q (span t (suc t)) none 0) []
           go true = refl
           go false = refl

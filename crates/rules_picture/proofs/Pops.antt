@@ -14,9 +14,7 @@ use Rattle.rules.specs.Lists.{such, keep, some-of}
 use Rattle.rules.specs.Boxes.{Box, span-of}
 use Rattle.rules.specs.Spans.{Span, covers}
 use Rattle.rules.specs.Answers.{Done}
-use Rattle.rules.specs.Blends.{default-blend}
-use Rattle.rules.specs.Attributes.{LayerAttr, Attrs}
-use Rattle.rules.specs.Painting.{layer-id}
+use Rattle.rules.specs.Attributes.{LayerAttr, no-layer, Attrs}
 use Rattle.rules.specs.Segments.{Segment, judge-segments, Cut, cuts}
 use Rattle.rules.specs.Inputs.{Clip}
 use Rattle.rules.specs.Rows.{Row, fresh-row, row-ops}
@@ -27,6 +25,7 @@ use Rattle.rules.proofs.laws.Changes.{puts-length}
 use Rattle.rules.proofs.laws.Bounds.{judged-facts}
 use Rattle.rules_picture.proofs.Cases.{by}
 use Rattle.rules_picture.proofs.Acts.{acts-at, do-acts, row-by-row}
+use Rattle.rules_picture.proofs.Rows.{LayerHas}
 use Rattle.rules_picture.proofs.Listed.{Rows, no-rows, row-then, acts-once, in-row}
 use Rattle.rules_picture.proofs.Shape.{shape-inner}
 use Rattle.rules_picture.proofs.Single.{Single, nothing, one, single}
@@ -82,9 +81,6 @@ close-acts i row js (k ∷ ks) = by (eqb (k .row) row)
     (λ z. rw (z, n) (close-acts i row js ks))
     (λ z. rw (z, n) (close-acts i row js ks)))
 
-abbrev no-layer : LayerAttr
-no-layer = record { blend = default-blend; opacity = 0; mask = 0; id = 0; thread = 0 }
-
 module _ (w : ℕ) (attrs : Attrs) (t : ℕ) (v : Box) (row : ℕ) where
   closing-acts : (c : Option Clip) (own : Box) (ls : List OpenLayer) (i : ℕ) (ss : List Segment) (js : List ℕ) → Rows 0 js
       → acts-at row (closing c v own (box-now v ls) i ss js) ≡ cond (some-of (eqb row) js) (map (close-act w attrs t v row i) (closers w v row t c own ls ss)) []
@@ -99,20 +95,21 @@ module _ (w : ℕ) (attrs : Attrs) (t : ℕ) (v : Box) (row : ℕ) where
       let (_, good, ord) = judged-facts (not (clip-fits (some c) ss)) (clip-segments (some c) ss) j in
       single v (box-now v ls) row t (clip-segments (some c) ss) good ord
 
-  new-layer : (ps : List LayerAttr) (x : LayerAttr) (more : List LayerAttr) → attrs .layers ≡ (ps ++ (x ∷ [])) ++ more → layer-id attrs (length ps) ≡ x .id
+  new-layer : (ps : List LayerAttr) (x : LayerAttr) (more : List LayerAttr) → attrs .layers ≡ (ps ++ (x ∷ [])) ++ more → LayerHas attrs (length ps) (x .id) (x .panel)
   new-layer ps x more e =
-      ap (λ (l : List LayerAttr). getD l (length ps) no-layer .id) (e ∙ append-assoc ps (x ∷ []) more)
-      ∙ ap (λ (a : LayerAttr). a .id) (getD-append-seam ps x more no-layer)
+      let is : getD (attrs .layers) (length ps) no-layer ≡ x =
+      ap (λ (l : List LayerAttr). getD l (length ps) no-layer) (e ∙ append-assoc ps (x ∷ []) more) ∙ getD-append-seam ps x more no-layer in
+      record { id-is = ap (λ (a : LayerAttr). a .id) is; panel-is = ap (λ (a : LayerAttr). a .panel) is }
 
   -- the row after the acts of a pop, by whether it is touched
   pop-grows : {ts : List Told} {id : ℕ} (l : OpenLayer) (ls : List OpenLayer) {r : Row} → Grown w attrs t v row ts id (l ∷ ls) r → 0 < id
-      → (n i : ℕ) → layer-id attrs i ≡ id → (ks : List Cut) → Single (such (λ (k : Cut). covers (k .stretch .tiles) t) ks)
+      → (n i q : ℕ) → LayerHas attrs i id q → (ks : List Cut) → Single (such (λ (k : Cut). covers (k .stretch .tiles) t) ks)
       → (b : Bool) → l .touched ≡ b
-      → Grown w attrs t v row (ts ++ cond b (tell w v row t true i (suc (length ls)) id false ks) []) (id + 1) ls
+      → Grown w attrs t v row (ts ++ cond b (tell w v row t true i q (suc (length ls)) id false ks) []) (id + 1) ls
       (do-acts Row row-ops w n (cond b (map (close-act w attrs t v row i) ks) [] ++ keep b pop []) r)
   unfolding do-acts
-  pop-grows l ls g num n i q ks s true e = close-grows w attrs t v row g num e n i q ks s
-  pop-grows {ts} l ls g num n i q ks s false e = rw (append-nil ts) (leave-grows w attrs t v row g e)
+  pop-grows l ls g num n i q has ks s true e = close-grows w attrs t v row g num e n i q has ks s
+  pop-grows {ts} l ls g num n i q has ks s false e = rw (append-nil ts) (leave-grows w attrs t v row g e)
 
   -- a done pop of the innermost layer l
   pub pop-follows : (ss : List Segment) (o : Story) (l : OpenLayer) (ls : List OpenLayer) (s : Screen Row) → Follows w attrs t v row o s → o .open-layers ≡ (l ∷ ls)
@@ -129,8 +126,8 @@ module _ (w : ℕ) (attrs : Attrs) (t : ℕ) (v : Box) (row : ℕ) where
       let js = touched Row row-ops (suc (length ls)) 0 (s .rows) in
       let n = length (map layer-in ls) in
       let g : Grown w attrs t v row (o .told) (o .next) (l ∷ ls) r = rw e at (f .grown) in
-      let id = ap (layer-id attrs) (sym (f .layers)) ∙ new-layer (st .attrs .layers) _ (ld .layers-more) (ld .layers) ∙ f .next in
-      let h = pop-grows l ls g (f .first) n (o .layers) id ks (closers-single c (l .layer .bounds) ls ss j) (l .touched) refl in
+      let has : LayerHas attrs (o .layers) (o .next) (l .layer .props .panel) = rw (f .layers, f .next) at (new-layer (st .attrs .layers) _ (ld .layers-more) (ld .layers)) in
+      let h = pop-grows l ls g (f .first) n (o .layers) (l .layer .props .panel) has ks (closers-single c (l .layer .bounds) ls ss j) (l .touched) refl in
       let has : some-of (eqb row) js ≡ l .touched =
       ap (λ m. some-of (eqb m) js) (sym (zero-add row)) ∙ touched-has (suc (length ls)) 0 row (s .rows) (f .there) ∙ sym (shape-inner (g .shape)) in
       let rows : Rows 0 js = touched-rows (suc (length ls)) 0 (s .rows) in

@@ -15,13 +15,13 @@ use Rattle.rules.specs.Segments.{Cut}
 use Rattle.rules.specs.Inputs.{Props, Filter, good-filter}
 use Rattle.rules.specs.Attributes.{Attrs}
 use Rattle.rules.specs.Rows.{Row, fresh-row, row-ops}
-use Rattle.rules.specs.Painting.{paint-id}
 use Rattle.rules.specs.Plans.{Layer, State, Act, Put, on, touch, paint, box-of, draw-act, layer-box, touches-all, plan-push, filter-box, draws-nothing, filter-puts, plan-filter-in, plan-filter, still}
 use Rattle.rules.specs.Steps.{Screen, do-puts, done}
 use Rattle.rules.specs.Plain.{Told, OpenLayer, Story, touch-all, box-now, tell, tell-push, tell-filter, in-rows}
 use Rattle.rules.proofs.All.{never}
 use Rattle.rules.proofs.laws.Changes.{puts-length}
 use Rattle.rules_picture.proofs.Cases.{by}
+use Rattle.rules_picture.proofs.Rows.{PaintHas}
 use Rattle.rules_picture.proofs.Acts.{acts-at, do-acts, row-by-row}
 use Rattle.rules_picture.proofs.Shape.{touched-layers}
 use Rattle.rules_picture.proofs.Listed.{cut-act, rows-counted, acts-once}
@@ -77,24 +77,24 @@ module _ (w : ℕ) (attrs : Attrs) (t : ℕ) (v : Box) (row : ℕ) where
   cut-some b false = refl
 
   -- a filter that draws something in the box b
-  pub filter-in : 0 < w → (n : ℕ) (q : Filter) (b : Box) (o : Story) (s : Screen Row) → Follows w attrs t v row o s
-      → Leads w attrs t v row (plan-filter-in b n q (s .state) .attrs)
+  pub filter-in : 0 < w → (n : ℕ) (x : Filter) (q : ℕ) (b : Box) (o : Story) (s : Screen Row) → Follows w attrs t v row o s
+      → Leads w attrs t v row (plan-filter-in b n x q (s .state) .attrs)
       → Follows w attrs t v row
       (record {
         next = o .next + 1;
         paints = o .paints + 1;
         layers = o .layers;
         open-layers = touch-all (in-rows w v row t b) (o .open-layers);
-        told = o .told ++ tell w v row t false (o .paints) (length (o .open-layers)) (o .next) false (cond (in-rows w v row t b) (record { row = row; stretch = solid-tiles (span-of b) } ∷ []) []);
+        told = o .told ++ tell w v row t false (o .paints) q (length (o .open-layers)) (o .next) false (cond (in-rows w v row t b) (record { row = row; stretch = solid-tiles (span-of b) } ∷ []) []);
       })
-      (done Row row-ops (plan-filter-in b n q (s .state)) s)
+      (done Row row-ops (plan-filter-in b n x q (s .state)) s)
   unfolding done plan-filter-in filter-puts
-  filter-in pos n q b o s f l =
+  filter-in pos n x q b o s f l =
       let st = s .state in
       let c = in-rows w v row t b in
       let ks : List Cut = cond c (record { row = row; stretch = solid-tiles (span-of b) } ∷ []) [] in
-      let id = ap (paint-id attrs) (sym (f .paints)) ∙ new-paint w attrs t v row (st .attrs .paints) _ (l .paints-more) (l .paints) ∙ f .next in
-      let g = draw-grows w attrs t v row pos (f .grown) (f .first) false (o .paints) id (λ y. never (sym y)) ks (cut-single b c) in
+      let has : PaintHas attrs (o .paints) (o .next) q = rw (f .paints, f .next) at (new-paint w attrs t v row (st .attrs .paints) _ (l .paints-more) (l .paints)) in
+      let g = draw-grows w attrs t v row pos (f .grown) (f .first) false (o .paints) q has (λ y. never (sym y)) ks (cut-single b c) in
       let puts = map (on (paint (span-of b) none (o .paints))) (rows-in b) in
       let r = getD (s .rows) row fresh-row in
       let same : do-acts Row row-ops w (length (o .open-layers)) (map (cut-act false (o .paints) (o .next)) ks) r

@@ -17,7 +17,7 @@ use Rattle.rules.specs.Commands.{Command, paint-fill, layer-fill, push-buf, pop
 use Rattle.rules.specs.Attributes.{Attrs}
 use Rattle.rules.specs.Rows.{Row}
 use Rattle.rules.specs.Depth.{write, visible-runs}
-use Rattle.rules.specs.Painting.{Piece, fill-piece, Painter, Painted, Entry, begin, no-fill, paint-id, layer-id, received, paint-when, paint-depth, paint-fill-runs, paint-command, paint-step, paint-steps, paint-row}
+use Rattle.rules.specs.Painting.{Piece, fill-piece, Painter, Painted, Entry, begin, no-fill, paint-id, layer-id, paint-panel, layer-panel, received, paint-when, paint-depth, paint-fill-runs, paint-command, paint-step, paint-steps, paint-row}
 use Rattle.rules.specs.Plain.{Told}
 use Rattle.rules.proofs.All.{All, nil, cons, all-drop, never}
 use Rattle.rules_picture.proofs.Cases.{by}
@@ -43,20 +43,29 @@ module _ {A : Type 0} where
   nil-cons : {x : A} {xs : List A} → [] ≡ (x ∷ xs) → ⊥
   nil-cons e = never (ap is-empty e)
 
+-- the attribute i has that id and that panel
+pub record PaintHas (attrs : Attrs) (i id panel : ℕ) : Type 0 where
+  pub id-is : paint-id attrs i ≡ id
+  pub panel-is : paint-panel attrs i ≡ panel
+
+pub record LayerHas (attrs : Attrs) (i id panel : ℕ) : Type 0 where
+  pub id-is : layer-id attrs i ≡ id
+  pub panel-is : layer-panel attrs i ≡ panel
+
 module _ (w : ℕ) (attrs : Attrs) (t : ℕ) where
   -- a depth fill, and a command at nesting n, as the tile is told of it
   abbrev pub fill-told : DepthFill → Told
-  fill-told f = record { entry = entry-in t false (f .attribute) (span t (suc t)) none 0; id = paint-id attrs (f .attribute); hides = true }
+  fill-told f = record { entry = entry-in t false (f .attribute) (paint-panel attrs (f .attribute)) (span t (suc t)) none 0; id = paint-id attrs (f .attribute); hides = true }
 
   abbrev pub told-fills : List DepthFill → List Told
   told-fills [] = []
   told-fills (f ∷ fs) = keep (covers (f .buckets) (t / w)) (fill-told f) (told-fills fs)
 
   abbrev pub paint-told : Span → Option ℕ → ℕ → ℕ → Told
-  paint-told s a i n = record { entry = entry-in t false i s a n; id = paint-id attrs i; hides = false }
+  paint-told s a i n = record { entry = entry-in t false i (paint-panel attrs i) s a n; id = paint-id attrs i; hides = false }
 
   abbrev pub layer-told : Span → Option ℕ → ℕ → ℕ → Told
-  layer-told s a i n = record { entry = entry-in t true i s a n; id = layer-id attrs i; hides = false }
+  layer-told s a i n = record { entry = entry-in t true i (layer-panel attrs i) s a n; id = layer-id attrs i; hides = false }
 
   unfoldable pub told-commands : ℕ → List Command → List Told
   told-commands n [] = []
@@ -142,7 +151,7 @@ module _ (w : ℕ) (attrs : Attrs) (t : ℕ) where
         received-append t (pieces-after k) (paint-step w attrs r (painter-after w attrs r n k) .pieces)
         ∙ ap (λ (es : List Entry). es ++ received t (paint-step w attrs r (painter-after w attrs r n k) .pieces)) (fills-received a k (omega arith))
         ∙ ap (λ (o : Painted). map entry-told (hider (told-fills fs)) ++ received t (o .pieces)) e
-        ∙ ap (λ (es : List Entry). map entry-told (hider (told-fills fs)) ++ es) (depth-received w pos t attrs bs len f)
+        ∙ ap (λ (es : List Entry). map entry-told (hider (told-fills fs)) ++ es) (depth-received w pos t attrs bs len f (paint-panel attrs (f .attribute)))
         ∙ ap (λ (b : ℕ). map entry-told (hider (told-fills fs)) ++ keep (covers (f .buckets) (t / w) && eqb b 0) (entry-told (fill-told f)) []) word
         ∙ hider-next f (all-drop (length (r .fills) - k) a)
         ∙ ap (λ (gs : List DepthFill). map entry-told (hider (told-fills gs))) same
@@ -169,15 +178,15 @@ module _ (w : ℕ) (attrs : Attrs) (t : ℕ) where
     abbrev Gives : ℕ → List Command → Painter → Type 0
     Gives b cs p = received t (paint-steps w attrs (length cs) r p) ≡ map entry-told (such (no-older b) (told-commands (p .nesting) cs))
 
-    fill-gives : (cs : List Command) (bs : List ℕ) (k n : ℕ) → t / w < length bs → (l : Bool) (id i : ℕ) (sp : Span) (a : Option ℕ) (u : Told)
-        → u .entry ≡ entry-in t l i sp a n → u .id ≡ id
+    fill-gives : (cs : List Command) (bs : List ℕ) (k n : ℕ) → t / w < length bs → (l : Bool) (id i q : ℕ) (sp : Span) (a : Option ℕ) (u : Told)
+        → u .entry ≡ entry-in t l i q sp a n → u .id ≡ id
         → Gives (getD bs (t / w) 0) cs (record { buckets = bs; steps = k + 1; nesting = n })
-        → received t (paint-fill-runs w attrs l id i sp a (record { buckets = bs; steps = k; nesting = n }) .pieces ++ paint-steps w attrs (length cs) r (record { buckets = bs; steps = k + 1; nesting = n }))
+        → received t (paint-fill-runs w attrs l id i q sp a (record { buckets = bs; steps = k; nesting = n }) .pieces ++ paint-steps w attrs (length cs) r (record { buckets = bs; steps = k + 1; nesting = n }))
         ≡ map entry-told (such (no-older (getD bs (t / w) 0)) (keep (covers sp t) u (told-commands n cs)))
     unfolding paint-fill-runs
-    fill-gives cs bs k n len l id i sp a u en ids ih =
-        received-append t (map (fill-piece w attrs l i sp a n) (visible-runs w bs id sp)) (paint-steps w attrs (length cs) r (record { buckets = bs; steps = k + 1; nesting = n }))
-        ∙ rw (fill-received w pos t attrs bs len l id i sp a n, ih)
+    fill-gives cs bs k n len l id i q sp a u en ids ih =
+        received-append t (map (fill-piece w attrs l i q sp a n) (visible-runs w bs id sp)) (paint-steps w attrs (length cs) r (record { buckets = bs; steps = k + 1; nesting = n }))
+        ∙ rw (fill-received w pos t attrs bs len l id i q sp a n, ih)
         (by (covers sp t)
         (λ y. rw (y, ids) (by (leb (getD bs (t / w) 0) id) (λ z. rw (z, en)) (λ z. rw z)))
         (λ m. rw m))
@@ -187,8 +196,8 @@ module _ (w : ℕ) (attrs : Attrs) (t : ℕ) where
         → received t (paint-command w attrs c (record { buckets = bs; steps = k; nesting = n }) .pieces ++ paint-steps w attrs (length cs) r (paint-command w attrs c (record { buckets = bs; steps = k; nesting = n }) .painter))
         ≡ map entry-told (such (no-older (getD bs (t / w) 0)) (told-commands n (c ∷ cs)))
     unfolding paint-command told-commands paint-fill-runs
-    command-gives (paint-fill sp a i) cs bs k n len ih = fill-gives cs bs k n len false (paint-id attrs i) i sp a (paint-told sp a i n) refl refl (ih n)
-    command-gives (layer-fill sp a i) cs bs k n len ih = fill-gives cs bs k n len true (layer-id attrs i) i sp a (layer-told sp a i n) refl refl (ih n)
+    command-gives (paint-fill sp a i) cs bs k n len ih = fill-gives cs bs k n len false (paint-id attrs i) i (paint-panel attrs i) sp a (paint-told sp a i n) refl refl (ih n)
+    command-gives (layer-fill sp a i) cs bs k n len ih = fill-gives cs bs k n len true (layer-id attrs i) i (layer-panel attrs i) sp a (layer-told sp a i n) refl refl (ih n)
     command-gives (push-buf sp) cs bs k n len ih = ih (n + 1)
     command-gives pop-buf cs bs k n len ih = ih (n - 1)
 

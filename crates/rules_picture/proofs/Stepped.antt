@@ -2,16 +2,16 @@
 use Prim.Native.Nat.{ℕ, zero, suc, _+_, _/_, _≤_, _<_}
 use native.Mathlib.Omega.{arith}
 use mathlib.Core.Path.{_≡_, refl, sym, _∙_, ap}
-use mathlib.Core.Bool.{Bool, true, false, _&&_, not, cond}
+use mathlib.Core.Bool.{Bool, true, false, not, cond}
 use mathlib.Core.List.{List, [], _∷_, _++_, map, append-assoc, append-nil}
 use lib.ListN.{length, getD, length-map}
-use lib.Dec.{eqb, leb}
+use lib.Dec.{eqb}
 use borrow.Author.Tests.{eq-eqb, eqb-true}
 use Rattle.rules.specs.Lists.{is-empty}
 use Rattle.rules.specs.Answers.{Answer, Done, BadRecord, NoLayer}
 use Rattle.rules.specs.Boxes.{Box}
 use Rattle.rules.specs.Segments.{Segment}
-use Rattle.rules.specs.Inputs.{Filter, good-filter, draw-segments}
+use Rattle.rules.specs.Inputs.{Filter, good-filter-fill, draw-segments}
 use Rattle.rules.specs.Attributes.{PaintAttr, LayerAttr, Attrs}
 use Rattle.rules.specs.Rows.{Row, RowOps, row-ops}
 use Rattle.rules.specs.Plans.{Layer, State, Step, a-fill, a-push, a-pop, a-filter, Plan, box-of, filter-box, draws-nothing, plan-fill, plan-push, plan-pop, plan-filter-in, plan-filter, plan, still}
@@ -41,18 +41,18 @@ call-frame {R} ops x s =
     by (eqb (refusal R ops p (done R ops p s)) Done) (λ y. rw y) (λ n. rw n)
 
 -- the plan of a filter by what it draws in the box b
-filter-none : (n : ℕ) (q : Filter) (s : State) → (good-filter q && leb n 4096) ≡ true → draws-nothing q (filter-box (s .frame .viewport) (box-of s) q) ≡ true → plan-filter n q s ≡ still Done s
+filter-none : (n : ℕ) (x : Filter) (q : ℕ) (s : State) → (good-filter-fill n x q) ≡ true → draws-nothing x (filter-box (s .frame .viewport) (box-of s) x) ≡ true → plan-filter n x q s ≡ still Done s
 unfolding plan-filter
-filter-none n q s y z = rw (y, z)
+filter-none n x q s y z = rw (y, z)
 
-filter-some : (n : ℕ) (q : Filter) (s : State) (b : Box) → filter-box (s .frame .viewport) (box-of s) q ≡ b → (good-filter q && leb n 4096) ≡ true
-    → draws-nothing q (filter-box (s .frame .viewport) (box-of s) q) ≡ false → plan-filter n q s ≡ plan-filter-in b n q s
+filter-some : (n : ℕ) (x : Filter) (q : ℕ) (s : State) (b : Box) → filter-box (s .frame .viewport) (box-of s) x ≡ b → (good-filter-fill n x q) ≡ true
+    → draws-nothing x (filter-box (s .frame .viewport) (box-of s) x) ≡ false → plan-filter n x q s ≡ plan-filter-in b n x q s
 unfolding plan-filter
-filter-some n q s b e y z = rw (y, z) (ap (λ (c : Box). plan-filter-in c n q s) e)
+filter-some n x q s b e y z = rw (y, z) (ap (λ (c : Box). plan-filter-in c n x q s) e)
 
-filter-bad : (n : ℕ) (q : Filter) (s : State) → (good-filter q && leb n 4096) ≡ false → plan-filter n q s .refused ≡ BadRecord
+filter-bad : (n : ℕ) (x : Filter) (q : ℕ) (s : State) → (good-filter-fill n x q) ≡ false → plan-filter n x q s .refused ≡ BadRecord
 unfolding plan-filter
-filter-bad n q s z = rw z
+filter-bad n x q s z = rw z
 
 module _ (w : ℕ) (attrs : Attrs) (t : ℕ) (v : Box) (row : ℕ) where
   still-follows : (o : Story) (s : Screen Row) → Follows w attrs t v row o s → Follows w attrs t v row o (done Row row-ops (still Done (s .state)) s)
@@ -60,20 +60,20 @@ module _ (w : ℕ) (attrs : Attrs) (t : ℕ) (v : Box) (row : ℕ) where
   still-follows o s f =
       record { view = f .view; wide = f .wide; next = f .next; first = f .first; paints = f .paints; layers = f .layers; opened = f .opened; there = f .there; grown = f .grown }
 
-  pub filter-follows : 0 < w → (n : ℕ) (q : Filter) (o : Story) (s : Screen Row) → Follows w attrs t v row o s
-      → plan-filter n q (s .state) .refused ≡ Done → Leads w attrs t v row (plan-filter n q (s .state) .attrs)
-      → Follows w attrs t v row (tell-filter w v row t q o) (done Row row-ops (plan-filter n q (s .state)) s)
-  filter-follows pos n q o s f j l =
-      let b = filter-box v (box-now v (o .open-layers)) q in
-      let e : filter-box (s .state .frame .viewport) (box-of (s .state)) q ≡ b = rw (f .view, f .opened) in
-      let d : draws-nothing q (filter-box (s .state .frame .viewport) (box-of (s .state)) q) ≡ draws-nothing q b = ap (draws-nothing q) e in
-      by (good-filter q && leb n 4096)
-      (λ y. by (draws-nothing q b)
-      (λ z. rw (z, filter-none n q (s .state) y (d ∙ z)) (still-follows o s f))
+  pub filter-follows : 0 < w → (n : ℕ) (x : Filter) (q : ℕ) (o : Story) (s : Screen Row) → Follows w attrs t v row o s
+      → plan-filter n x q (s .state) .refused ≡ Done → Leads w attrs t v row (plan-filter n x q (s .state) .attrs)
+      → Follows w attrs t v row (tell-filter w v row t x q o) (done Row row-ops (plan-filter n x q (s .state)) s)
+  filter-follows pos n x q o s f j l =
+      let b = filter-box v (box-now v (o .open-layers)) x in
+      let e : filter-box (s .state .frame .viewport) (box-of (s .state)) x ≡ b = rw (f .view, f .opened) in
+      let d : draws-nothing x (filter-box (s .state .frame .viewport) (box-of (s .state)) x) ≡ draws-nothing x b = ap (draws-nothing x) e in
+      by (good-filter-fill n x q)
+      (λ y. by (draws-nothing x b)
+      (λ z. rw (z, filter-none n x q (s .state) y (d ∙ z)) (still-follows o s f))
       (λ z.
-      let p = filter-some n q (s .state) b e y (d ∙ z) in
-      rw (z, p) (filter-in w attrs t v row pos n q b o s f (rw p at l))))
-      (λ z. let k : _≡_ {A = ℕ} BadRecord Done = sym (filter-bad n q (s .state) z) ∙ j in absurd (omega arith))
+      let p = filter-some n x q (s .state) b e y (d ∙ z) in
+      rw (z, p) (filter-in w attrs t v row pos n x q b o s f (rw p at l))))
+      (λ z. let k : _≡_ {A = ℕ} BadRecord Done = sym (filter-bad n x q (s .state) z) ∙ j in absurd (omega arith))
 
   pop-any : (ss : List Segment) (o : Story) (ds : List OpenLayer) (s : Screen Row) → Follows w attrs t v row o s → o .open-layers ≡ ds → (ms : List Layer) → ms ≡ map layer-in ds
       → plan-pop ms ss (touched Row row-ops (length ms) 0 (s .rows)) (s .state) .refused ≡ Done
@@ -92,7 +92,7 @@ module _ (w : ℕ) (attrs : Attrs) (t : ℕ) (v : Box) (row : ℕ) where
   step-follows pos (a-fill ps ss d) o s f j l = fill-follows w attrs t v row pos ps ss d o s f j l
   step-follows pos (a-push p) o s f j l = push-follows w attrs t v row p o s f
   step-follows pos (a-pop ss) o s f j l = pop-any ss o (o .open-layers) s f refl (s .state .layers) (f .opened) j l
-  step-follows pos (a-filter n q) o s f j l = filter-follows pos n q o s f j l
+  step-follows pos (a-filter n x q) o s f j l = filter-follows pos n x q o s f j l
 
   -- attributes are only added
   leads-more : (a b : Attrs) (p : List PaintAttr) (q : List LayerAttr) → b .paints ≡ a .paints ++ p → b .layers ≡ a .layers ++ q → Leads w attrs t v row b → Leads w attrs t v row a
@@ -113,13 +113,13 @@ module _ (w : ℕ) (attrs : Attrs) (t : ℕ) (v : Box) (row : ℕ) where
   leads-cond true s a p e h l = l
   leads-cond false s a p e h l = leads-more (s .attrs) a p [] e (h ∙ sym (append-nil (s .attrs .layers))) l
 
-  leads-filter : (n : ℕ) (q : Filter) (s : State) → Leads w attrs t v row (plan-filter n q s .attrs) → Leads w attrs t v row (s .attrs)
+  leads-filter : (n : ℕ) (x : Filter) (q : ℕ) (s : State) → Leads w attrs t v row (plan-filter n x q s .attrs) → Leads w attrs t v row (s .attrs)
   unfolding plan-filter plan-filter-in
-  leads-filter n q s l = by (good-filter q && leb n 4096)
-      (λ y. by (draws-nothing q (filter-box (s .frame .viewport) (box-of s) q))
-      (λ z. rw (filter-none n q s y z) at l)
+  leads-filter n x q s l = by (good-filter-fill n x q)
+      (λ y. by (draws-nothing x (filter-box (s .frame .viewport) (box-of s) x))
+      (λ z. rw (filter-none n x q s y z) at l)
       (λ z.
-      let k = rw (filter-some n q s (filter-box (s .frame .viewport) (box-of s) q) refl y z) at l in
+      let k = rw (filter-some n x q s (filter-box (s .frame .viewport) (box-of s) x) refl y z) at l in
       leads-more (s .attrs) _ _ [] refl (sym (append-nil (s .attrs .layers))) k))
       (λ z. rw z at l)
 
@@ -128,4 +128,4 @@ module _ (w : ℕ) (attrs : Attrs) (t : ℕ) (v : Box) (row : ℕ) where
   step-leads (a-fill ps ss d) js s l = leads-cond (is-empty (draw-segments ss d)) s _ _ refl refl l
   step-leads (a-push p) js s l = l
   step-leads (a-pop ss) js s l = leads-pop (s .layers) ss js s l
-  step-leads (a-filter n q) js s l = leads-filter n q s l
+  step-leads (a-filter n x q) js s l = leads-filter n x q s l

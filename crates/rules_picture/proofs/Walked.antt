@@ -2,16 +2,16 @@
 use Prim.Native.Nat.{ℕ, zero, suc, _+_, _-_, _≤_, _<_}
 use native.Mathlib.Omega.{arith}
 use mathlib.Core.Path.{_≡_, refl, sym, _∙_, ap}
-use mathlib.Core.Bool.{Bool, true, false, _&&_, not, cond}
+use mathlib.Core.Bool.{Bool, true, false, not, cond}
 use mathlib.Core.List.{List, [], _∷_, _++_, append-assoc, append-nil}
 use lib.ListN.{length, getD}
-use lib.Dec.{leb, ltb, eqb}
+use lib.Dec.{ltb, eqb}
 use borrow.Author.Tests.{eqb-true, eq-eqb, ltb-false}
 use Rattle.rules.specs.Lists.{every, slice}
 use Rattle.rules.specs.Answers.{Answer, answer, first-of, Done, BadRecord, BadOrder, Deep, Ids, FullAttrs, FullRow, FullDepth}
 use Rattle.rules.specs.Boxes.{Box}
 use Rattle.rules.specs.Segments.{Segment, good-segment, ordered, judge-segments}
-use Rattle.rules.specs.Inputs.{Paint, Draw, Props, Filter, good-filter, good-props, needs-buffer}
+use Rattle.rules.specs.Inputs.{Paint, Draw, Props, Filter, good-filter-fill, good-props, needs-buffer}
 use Rattle.rules.specs.Attributes.{attrs-full}
 use Rattle.rules.specs.Rows.{Row, RowOps, row-ops}
 use Rattle.rules.specs.Plans.{Layer, State, Step, a-fill, a-push, a-pop, a-filter, Plan, still, box-of, filter-box, draws-nothing, plan-fill, plan-push, plan-pop, plan-filter-in, plan-filter, plan}
@@ -53,25 +53,25 @@ push-late true = late-done
 push-late false = λ e. omega arith
 
 -- a filter's refusal, and its layers, which stay
-filter-tests : (a b : Bool) (n : ℕ) (q : Filter) (s : State) (x : Box)
-    → let p = cond a (still BadRecord s) (cond b (still Done s) (plan-filter-in x n q s)) in Late (p .refused) × (p .layers ≡ s .layers)
+filter-tests : (a b : Bool) (n : ℕ) (f : Filter) (q : ℕ) (s : State) (x : Box)
+    → let p = cond a (still BadRecord s) (cond b (still Done s) (plan-filter-in x n f q s)) in Late (p .refused) × (p .layers ≡ s .layers)
 unfolding plan-filter-in
-filter-tests true b n q s x = (λ e. omega arith, refl)
-filter-tests false true n q s x = (late-done, refl)
-filter-tests false false n q s x = (late-done, refl)
+filter-tests true b n f q s x = (λ e. omega arith, refl)
+filter-tests false true n f q s x = (late-done, refl)
+filter-tests false false n f q s x = (late-done, refl)
 
-filter-facts : (n : ℕ) (q : Filter) (s : State) → Late (plan-filter n q s .refused) × (plan-filter n q s .layers ≡ s .layers)
+filter-facts : (n : ℕ) (f : Filter) (q : ℕ) (s : State) → Late (plan-filter n f q s .refused) × (plan-filter n f q s .layers ≡ s .layers)
 unfolding plan-filter
-filter-facts n q s =
-    let x = filter-box (s .frame .viewport) (box-of s) q in
-    filter-tests (not (good-filter q && leb n 4096)) (draws-nothing q x) n q s x
+filter-facts n f q s =
+    let x = filter-box (s .frame .viewport) (box-of s) f in
+    filter-tests (not (good-filter-fill n f q)) (draws-nothing f x) n f q s x
 
 pub plan-late : (x : Step) (js : List ℕ) (s : State) → Late (plan x js s .refused)
 unfolding plan plan-fill plan-push
 plan-late (a-fill ps ss d) js s = judge-late _ _
 plan-late (a-push p) js s = push-late (good-props p)
 plan-late (a-pop ss) js s = pop-late (s .layers) ss js s
-plan-late (a-filter n q) js s = filter-facts n q s .0
+plan-late (a-filter n f q) js s = filter-facts n f q s .0
 
 -- what refuses a plan on rows of any kind is past 3
 pub refusal-late : {R : Type 0} (ops : RowOps R) (p : Plan) (t : Screen R) → Late (p .refused) → Late (refusal R ops p t)
@@ -229,8 +229,8 @@ step-walks x k = record {
 fill-walks : (ps : List Paint) (ss : List Segment) (d : Draw) (ls : List Layer) → Walks (Same ls) (Same ls) (logged-call Row row-ops (a-fill ps ss d)) (call Row row-ops (a-fill ps ss d))
 fill-walks ps ss d ls = step-walks (a-fill ps ss d) (λ s h z. call-layers (a-fill ps ss d) s z ∙ (unfold plan plan-fill in h))
 
-filter-walks : (n : ℕ) (q : Filter) (ls : List Layer) → Walks (Same ls) (Same ls) (logged-call Row row-ops (a-filter n q)) (call Row row-ops (a-filter n q))
-filter-walks n q ls = step-walks (a-filter n q) (λ s h z. call-layers (a-filter n q) s z ∙ (unfold plan in filter-facts n q (s .state) .1 ∙ h))
+filter-walks : (n : ℕ) (f : Filter) (q : ℕ) (ls : List Layer) → Walks (Same ls) (Same ls) (logged-call Row row-ops (a-filter n f q)) (call Row row-ops (a-filter n f q))
+filter-walks n f q ls = step-walks (a-filter n f q) (λ s h z. call-layers (a-filter n f q) s z ∙ (unfold plan in filter-facts n f q (s .state) .1 ∙ h))
 
 -- what keeps every list of open layers keeps one more than ls
 under : {g : Logged Row → Answer (Logged Row)} {f : Screen Row → Answer (Screen Row)} (ls : List Layer) → ((m : Layer) → Walks (Same (m ∷ ls)) (Same (m ∷ ls)) g f) → Walks (More ls) (More ls) g f
@@ -295,10 +295,10 @@ module _ (r : Recording) where
   filter-layer-walks x ls = go (needs-buffer (props-of x))
     where
       go : (b : Bool) → Walks (Same ls) (Same ls)
-          (when b (G (a-push (props-of x))) then G (a-filter (length (r .paints)) (x .filter)) then when b (G (a-pop (r .segments))))
-          (when b (F (a-push (props-of x))) then F (a-filter (length (r .paints)) (x .filter)) then when b (F (a-pop (r .segments))))
-      go true = then-walks (then-walks (push-walks (props-of x) ls) (under ls (λ m. filter-walks (length (r .paints)) (x .filter) (m ∷ ls)))) (pop-walks (r .segments) ls)
-      go false = then-walks (then-walks nothing-walks (filter-walks (length (r .paints)) (x .filter) ls)) nothing-walks
+          (when b (G (a-push (props-of x))) then G (a-filter (length (r .paints)) (x .filter) (x .panel)) then when b (G (a-pop (r .segments))))
+          (when b (F (a-push (props-of x))) then F (a-filter (length (r .paints)) (x .filter) (x .panel)) then when b (F (a-pop (r .segments))))
+      go true = then-walks (then-walks (push-walks (props-of x) ls) (under ls (λ m. filter-walks (length (r .paints)) (x .filter) (x .panel) (m ∷ ls)))) (pop-walks (r .segments) ls)
+      go false = then-walks (then-walks nothing-walks (filter-walks (length (r .paints)) (x .filter) (x .panel) ls)) nothing-walks
 
   -- nodes, where the layers under them are walked well
   nodes-walk : (ls : List Layer) (g : LayerRec → Logged Row → Answer (Logged Row)) (f : LayerRec → Screen Row → Answer (Screen Row))

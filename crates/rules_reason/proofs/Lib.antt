@@ -1,3 +1,4 @@
 -- Tests by computation.
 pub mod Cases
+pub mod Panels
 pub mod Printed

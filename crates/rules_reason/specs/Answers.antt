@@ -41,13 +41,24 @@ hidden-text = 104 ∷ 105 ∷ 100 ∷ 100 ∷ 101 ∷ 110 ∷ 32 ∷ 98 ∷ 121 
 abbrev pub shown-text : List ℕ
 shown-text = 115 ∷ 104 ∷ 111 ∷ 119 ∷ 110 ∷ 44 ∷ 32 ∷ 112 ∷ 108 ∷ 97 ∷ 99 ∷ 101 ∷ []
 
+-- the words ", panel", " of panel"
+abbrev pub panel-text : List ℕ
+panel-text = 44 ∷ 32 ∷ 112 ∷ 97 ∷ 110 ∷ 101 ∷ 108 ∷ []
+
+abbrev pub of-panel-text : List ℕ
+of-panel-text = 32 ∷ 111 ∷ 102 ∷ 32 ∷ 112 ∷ 97 ∷ 110 ∷ 101 ∷ 108 ∷ []
+
+-- how a reason ends
+abbrev pub panel-bytes : ℕ → List ℕ
+panel-bytes q = panel-text ++ number q
+
 abbrev pub reason-text : Reason → List ℕ
 reason-text unknown-attribute = unknown-text
-reason-text no-segment = no-segment-text
-reason-text cut-away = cut-away-text
-reason-text row-untouched = untouched-text
-reason-text (hidden-by a) = hidden-text ++ number a
-reason-text (shown-at p) = shown-text ++ number p
+reason-text (no-segment q) = no-segment-text ++ panel-bytes q
+reason-text (cut-away q) = cut-away-text ++ panel-bytes q
+reason-text (row-untouched q) = untouched-text ++ panel-bytes q
+reason-text (hidden-by a b q) = hidden-text ++ (number a ++ (of-panel-text ++ (number b ++ panel-bytes q)))
+reason-text (shown-at p q) = shown-text ++ (number p ++ panel-bytes q)
 
 -- a reason ends in a line feed
 unfoldable pub reason-bytes : Reason → List ℕ

@@ -14,15 +14,16 @@ use Rattle.rules.specs.Inputs.{Paint, Draw, draw-segments, draw-paint, Clip, Fi
 use Rattle.rules.specs.Plans.{Step, a-fill, a-push, a-pop, a-filter, eligible, clip-segments, filter-box, draws-nothing}
 use Rattle.rules.specs.Plain.{Told, OpenLayer, Story, untold, box-now, here, closers, in-rows, tell, tell-step, tell-steps, shown}
 
+-- An attribute that there is has its panel, last.
 pub data Reason : Type 0 where
   unknown-attribute : Reason
-  no-segment : Reason
-  cut-away : Reason
-  row-untouched : Reason
-  -- the attribute of the newest that hides it
-  hidden-by : ℕ → Reason
+  no-segment : ℕ → Reason
+  cut-away : ℕ → Reason
+  row-untouched : ℕ → Reason
+  -- the attribute of the newest that hides it, and that one's panel
+  hidden-by : ℕ → ℕ → ℕ → Reason
   -- its place in the tile's list, from 0
-  shown-at : ℕ → Reason
+  shown-at : ℕ → ℕ → Reason
 
 -- what is asked about: a layer attribute, or a draw's (a filter fill's is a draw's)
 pub record Asked : Type 0 where
@@ -30,7 +31,7 @@ pub record Asked : Type 0 where
   pub attribute : ℕ
 
 -- What the step that adds an attribute says of the tile. covered: something of it covers the tile before it is cut; kept: and after; touched: the
--- row is touched for the layer that it closes (a draw closes none); told: the entries that it gives the tile
+-- row is touched for the layer that it closes (a draw closes none); told: the entries that it gives the tile; panel: the attribute's
 pub record Account : Type 0 where
   pub layer : Bool
   pub attribute : ℕ
@@ -38,6 +39,7 @@ pub record Account : Type 0 where
   pub kept : Bool
   pub touched : Bool
   pub told : List Told
+  pub panel : ℕ
 
 module _ (w : ℕ) (v : Box) (row tile : ℕ) where
   -- a segment covers the tile, in scene tiles
@@ -65,7 +67,8 @@ module _ (w : ℕ) (v : Box) (row tile : ℕ) where
         covered = some-of covering own;
         kept = some-of keeping ks;
         touched = true;
-        told = tell w v row tile false (s .paints) (length (s .open-layers)) (s .next) e ks;
+        told = tell w v row tile false (s .paints) (d .panel) (length (s .open-layers)) (s .next) e ks;
+        panel = d .panel;
       }
       ∷ [])
 
@@ -91,13 +94,15 @@ module _ (w : ℕ) (v : Box) (row tile : ℕ) where
         covered = layer-covers c ss;
         kept = layer-keeps c (l .layer .bounds) ls ss;
         touched = l .touched;
-        told = cond (l .touched) (tell w v row tile true (s .layers) (length (s .open-layers)) (s .next) false ks) [];
+        told =
+            cond (l .touched) (tell w v row tile true (s .layers) (l .layer .props .panel) (length (s .open-layers)) (s .next) false ks) [];
+        panel = l .layer .props .panel;
       }
       ∷ []
 
   -- a filter fill: the rows and tiles that its dest box meets, cut by the clip box in force. One that draws nothing adds no attribute
-  abbrev pub account-filter : Filter → Story → List Account
-  account-filter f s =
+  abbrev pub account-filter : Filter → ℕ → Story → List Account
+  account-filter f q s =
       let b = filter-box v (box-now v (s .open-layers)) f in
       let ks : List Cut = cond (in-rows w v row tile b) (record { row = row; stretch = solid-tiles (span-of b) } ∷ []) [] in
       cond (draws-nothing f b) []
@@ -107,7 +112,8 @@ module _ (w : ℕ) (v : Box) (row tile : ℕ) where
         covered = meets (f .dest) (row + v .y0 / 4) (tile + v .x0 / 4);
         kept = meets b row tile;
         touched = true;
-        told = tell w v row tile false (s .paints) (length (s .open-layers)) (s .next) false ks;
+        told = tell w v row tile false (s .paints) q (length (s .open-layers)) (s .next) false ks;
+        panel = q;
       }
       ∷ [])
 
@@ -115,7 +121,7 @@ module _ (w : ℕ) (v : Box) (row tile : ℕ) where
   account-step (a-fill ps ss d) s = account-fill ps ss d s
   account-step (a-push p) s = []
   account-step (a-pop ss) s = account-pop (s .open-layers) ss s
-  account-step (a-filter n f) s = account-filter f s
+  account-step (a-filter n f q) s = account-filter f q s
 
   -- an account for each attribute that the steps add
   unfoldable pub accounts : List Step → Story → List Account
@@ -133,22 +139,34 @@ place-of a n [] = none
 place-of a n (t ∷ ts) =
     cond (Bool·beq (t .entry .layer) (a .layer) && eqb (t .entry .attribute) (a .attribute)) (some n) (place-of a (suc n) ts)
 
--- the attribute of the newest entry that hides. Where there is none nothing is hidden, and no reason reads it
-unfoldable pub newest-hider : List Told → ℕ
-newest-hider [] = 0
-newest-hider (t ∷ ts) = cond (some-of (λ (u : Told). u .hides) ts) (newest-hider ts) (t .entry .attribute)
+-- an attribute and its panel
+pub record Hider : Type 0 where
+  pub attribute : ℕ
+  pub panel : ℕ
 
--- an entry of the tile's list, or one that is not in it any more
-abbrev pub placed : Option ℕ → List Told → Reason
-placed (some n) ts = shown-at n
-placed none ts = hidden-by (newest-hider ts)
+abbrev pub hider-of : Told → Hider
+hider-of t = record { attribute = t .entry .attribute; panel = t .entry .panel }
+
+-- those of the newest entry that hides. Where there is none nothing is hidden, and no reason reads it
+unfoldable pub newest-hider : List Told → Hider
+newest-hider [] = record { attribute = 0; panel = 0 }
+newest-hider (t ∷ ts) = cond (some-of (λ (u : Told). u .hides) ts) (newest-hider ts) (hider-of t)
+
+abbrev pub hidden : Hider → ℕ → Reason
+hidden h q = hidden-by (h .attribute) (h .panel) q
+
+-- an entry of the tile's list, or one that is not in it any more; q: its panel
+abbrev pub placed : Option ℕ → List Told → ℕ → Reason
+placed (some n) ts q = shown-at n q
+placed none ts q = hidden (newest-hider ts) q
 
 -- the first that holds
 unfoldable pub because : Asked → Option Account → List Told → Reason
 because a none ts = unknown-attribute
 because a (some k) ts =
-    cond (not (k .covered)) no-segment
-    (cond (not (k .kept)) cut-away (cond (not (k .touched)) row-untouched (placed (place-of a 0 (shown ts)) ts)))
+    cond (not (k .covered)) (no-segment (k .panel))
+    (cond (not (k .kept)) (cut-away (k .panel))
+    (cond (not (k .touched)) (row-untouched (k .panel)) (placed (place-of a 0 (shown ts)) ts (k .panel))))
 
 -- after the steps xs, for tile and row of the viewport v
 unfoldable pub reason : ℕ → Box → ℕ → ℕ → List Step → Asked → Reason

@@ -11,7 +11,7 @@ use Rattle.sizes.specs.declared.width.Width.{Width}
 use Rattle.sizes.specs.Widths.{bucket-tiles}
 use Rattle.rules.specs.Lists.{is-empty}
 use Rattle.rules.specs.Boxes.{Box, width, height, by-4, bounded, whole, rows-of, buckets-of, good-box, good-viewport}
-use Rattle.rules.specs.Attributes.{attrs-full}
+use Rattle.rules.specs.Attributes.{attrs-full, no-paint, no-layer}
 use Rattle.rules.specs.Plans as plans
 use Rattle.rules.specs.Plans.{Frame, Plan, clip-box}
 use Rattle.rules.specs.Steps.{reset-state}
@@ -21,7 +21,7 @@ use Rattle.rect.specs.declared.Rect.{Rect}
 use Rattle.rect.specs.Rects.{box-of, same-box}
 use Rattle.rect.proofs.Boxes.{View, view}
 use Rattle.screen.specs.declared.Screen.{Screen}
-use Rattle.screen.specs.Screens.{in-tiles, good-clip, good-counts, good-screen, some-paint, some-layer, some-filter, layer-in, state-of, screen-after, counted, fresh-screen}
+use Rattle.screen.specs.Screens.{in-tiles, good-clip, good-counts, good-screen, some-filter, layer-in, state-of, screen-after, counted, fresh-screen}
 use Rattle.rules.proofs.All.{and-left, and-right, or-left, or-right}
 
 pub record Room (n : ℕ) : Type 0 where
@@ -196,11 +196,11 @@ module _ (s : Screen) (g : good-screen s ≡ true) where
 module _ (s : Screen) where
   pub paint-count : length (state-of s .attrs .paints) ≡ s .«paint_attrs»
   unfolding state-of
-  paint-count = length-replicate (s .«paint_attrs») some-paint
+  paint-count = length-replicate (s .«paint_attrs») no-paint
 
   pub layer-attr-count : length (state-of s .attrs .layers) ≡ s .«layer_attrs»
   unfolding state-of
-  layer-attr-count = length-replicate (s .«layer_attrs») some-layer
+  layer-attr-count = length-replicate (s .«layer_attrs») no-layer
 
   pub filter-count : length (state-of s .attrs .filters) ≡ s .«filter_paints»
   unfolding state-of

@@ -8,7 +8,7 @@ use lib.IntN.{pos}
 use Rattle.sizes.specs.Sizes.{most-layers, most-attrs, most-filters}
 use Rattle.rules.specs.Boxes.{Box, width, height, by-4, whole}
 use Rattle.rules.specs.Blends.{default-blend}
-use Rattle.rules.specs.Attributes.{PaintAttr, LayerAttr, FilterPaint}
+use Rattle.rules.specs.Attributes.{FilterPaint, no-paint, no-layer}
 use Rattle.rules.specs.Plans.{Frame, Layer, State, Plan, clip-box}
 use Rattle.rules.specs.Setups as rule
 use Rattle.rect.specs.declared.Rect.{Rect}
@@ -50,18 +50,12 @@ good-counts s =
 unfoldable pub good-screen : Screen → Bool
 good-screen s = good-counts s && good-clip (box-of (s .viewport)) (box-of (s .«clip_bbox»)) (s .layers)
 
--- attributes, filter paints and layers where only their number matters
-abbrev pub some-paint : PaintAttr
-some-paint = record { paint = 0; blend = default-blend; mask = 0; id = 0; thread = 0; origin-x = 0; origin-y = 0 }
-
-abbrev pub some-layer : LayerAttr
-some-layer = record { blend = default-blend; opacity = 0; mask = 0; id = 0; thread = 0 }
-
+-- filter paints and layers where only their number matters
 abbrev pub some-filter : FilterPaint
 some-filter = record { pixmap = 0; shift-x = pos 0; shift-y = pos 0 }
 
 abbrev pub layer-in : Box → Layer
-layer-in b = record { props = record { blend = default-blend; opacity = 0; mask = 0; clip = none }; bounds = b }
+layer-in b = record { props = record { blend = default-blend; opacity = 0; mask = 0; clip = none; panel = 0 }; bounds = b }
 
 -- the rules' state for a step that reads no more of the attributes than their number, and of the layers the clip box
 unfoldable pub state-of : Screen → State
@@ -71,8 +65,8 @@ state-of s =
       next = s .«next_draw_id»;
       attrs =
           record {
-            paints = replicate (s .«paint_attrs») some-paint;
-            layers = replicate (s .«layer_attrs») some-layer;
+            paints = replicate (s .«paint_attrs») no-paint;
+            layers = replicate (s .«layer_attrs») no-layer;
             filters = replicate (s .«filter_paints») some-filter;
           };
       layers = replicate (s .layers) (layer-in (box-of (s .«clip_bbox»)));

@@ -12,6 +12,7 @@ use lib.Ieee as ieee
 use lib.Ieee.{Float, inf, fin, binary32, up, down, eq, ne, isNan}
 use lib.Ieee.Bits.{nanBits-above}
 use borrow.Author.Tests.{eq-eqb, leb-true, leb-false}
+use Rattle.sizes.specs.Sizes.{most-layers, open-layer-size, open-layer-table}
 use Rattle.rules.specs.Inputs.{Clip}
 use Rattle.rules.specs.Plans.{Layer}
 use Rattle.cmd.specs.Attrs.{words-at}
@@ -21,7 +22,7 @@ use Rattle.screen_layers.specs.Layers.{good-pattern, layer-words, no-wor
 -- the loop over a layer's words, at word i
 pub record Dropping (xs : List ℕ) (at : ℕ) (ys : List ℕ) (i : ℕ) : Type 0 where
   pub long : length ys ≡ length xs
-  pub rest : sets ys (at + i) (replicate (16 - i) 0) ≡ sets xs at no-words
+  pub rest : sets ys (at + i) (replicate (open-layer-size - i) 0) ≡ sets xs at no-words
 
 pub plus-none : (at : ℕ) → at + 0 ≡ at
 plus-none at = omega arith
@@ -29,55 +30,59 @@ plus-none at = omega arith
 next : (at i : ℕ) → suc (at + i) ≡ at + (i + 1)
 next at i = omega arith
 
-one-less : (i : ℕ) → i < 16 → 16 - i ≡ suc (16 - (i + 1))
+one-less : (i : ℕ) → i < open-layer-size → open-layer-size - i ≡ suc (open-layer-size - (i + 1))
 one-less i h = omega arith
 
-none-left : (i : ℕ) → 16 ≤ i → 16 - i ≡ 0
+none-left : (i : ℕ) → open-layer-size ≤ i → open-layer-size - i ≡ 0
 none-left i h = omega arith
 
 pub begun : (xs : List ℕ) (at : ℕ) → Dropping xs at xs 0
 begun xs at = record { long = refl; rest = rw (plus-none at) }
 
 module _ {xs : List ℕ} {at : ℕ} {ys : List ℕ} {i : ℕ} (v : Dropping xs at ys i) where
-  pub again : i < 16 → Dropping xs at (set ys (at + i) 0) (i + 1)
+  pub again : i < open-layer-size → Dropping xs at (set ys (at + i) 0) (i + 1)
   again h = record { long = length-set ys (at + i) 0 ∙ v .long; rest = rw (← next at i) (rw (one-less i h) at (v .rest)) }
 
-  pub dropped : 16 ≤ i → at + 16 ≤ length xs → ys ≡ words-at xs at no-words
+  pub dropped : open-layer-size ≤ i → at + open-layer-size ≤ length xs → ys ≡ words-at xs at no-words
   dropped h g = (rw (none-left i h) at (v .rest)) ∙ sets-eq no-words xs at g
 
--- every layer has 16 words
-pub words-length : (l : Layer) (nan : ℕ) → length (layer-words l nan) ≡ 16
+-- what the table keeps of a layer: all but its opacity
+abbrev pub kept : Layer → Option Clip → Layer
+kept l o = record { props = record { blend = l .props .blend; opacity = 0; mask = l .props .mask; clip = o; panel = l .props .panel }; bounds = l .bounds }
+
+-- how many words every layer has
+pub words-length : (l : Layer) (nan : ℕ) → length (layer-words l nan) ≡ open-layer-size
 words-length l nan = by (l .props .clip)
   where
-    by : (o : Option Clip) → length (layer-words (record { props = record { blend = l .props .blend; opacity = 0; mask = l .props .mask; clip = o }; bounds = l .bounds }) nan) ≡ 16
+    by : (o : Option Clip) → length (layer-words (kept l o) nan) ≡ open-layer-size
     by none = refl
     by (some c) = refl
 
 -- the words ws of layer k stored
-module _ (t : List ℕ) (k : ℕ) (h : k < 16) (l : length t ≡ 256) (ws : List ℕ) (m : length ws ≡ 16) where
-  fits : 16 * k + length ws ≤ length t
+module _ (t : List ℕ) (k : ℕ) (h : k < most-layers) (l : length t ≡ open-layer-table) (ws : List ℕ) (m : length ws ≡ open-layer-size) where
+  fits : open-layer-size * k + length ws ≤ length t
   fits = omega arith
 
-  pub stored-length : length (words-at t (16 * k) ws) ≡ 256
-  stored-length = length-at t (16 * k) ws fits ∙ l
+  pub stored-length : length (words-at t (open-layer-size * k) ws) ≡ open-layer-table
+  stored-length = length-at t (open-layer-size * k) ws fits ∙ l
 
   -- are read back
-  pub same-word : (i : ℕ) → i < 16 → layer-word (words-at t (16 * k) ws) k i ≡ getD ws i 0
-  same-word i g = at-inside t (16 * k) ws fits 0 i (omega arith)
+  pub same-word : (i : ℕ) → i < open-layer-size → layer-word (words-at t (open-layer-size * k) ws) k i ≡ getD ws i 0
+  same-word i g = at-inside t (open-layer-size * k) ws fits 0 i (omega arith)
 
   -- and another layer's stay
   module _ (j : ℕ) (n : j ≡ k → ⊥) where
-    pub other-word : (i : ℕ) → i < 16 → layer-word (words-at t (16 * k) ws) j i ≡ layer-word t j i
+    pub other-word : (i : ℕ) → i < open-layer-size → layer-word (words-at t (open-layer-size * k) ws) j i ≡ layer-word t j i
     other-word i g = by (leb j k) refl
       where
-        by : (b : Bool) → leb j k ≡ b → layer-word (words-at t (16 * k) ws) j i ≡ layer-word t j i
-        by true e = at-below t (16 * k) ws fits 0 (16 * j + i) (omega (arith, leb-true j k e))
-        by false e = at-after t (16 * k) ws fits 0 (16 * j + i) (omega (arith, leb-false j k e))
+        by : (b : Bool) → leb j k ≡ b → layer-word (words-at t (open-layer-size * k) ws) j i ≡ layer-word t j i
+        by true e = at-below t (open-layer-size * k) ws fits 0 (open-layer-size * j + i) (omega (arith, leb-true j k e))
+        by false e = at-after t (open-layer-size * k) ws fits 0 (open-layer-size * j + i) (omega (arith, leb-false j k e))
 
-    pub other-box : box-in (words-at t (16 * k) ws) j ≡ box-in t j
+    pub other-box : box-in (words-at t (open-layer-size * k) ws) j ≡ box-in t j
     other-box = rw (other-word 11 (omega arith), other-word 12 (omega arith), other-word 13 (omega arith), other-word 14 (omega arith))
 
-    pub other-layer : layer-at (words-at t (16 * k) ws) j ≡ layer-at t j
+    pub other-layer : layer-at (words-at t (open-layer-size * k) ws) j ≡ layer-at t j
     other-layer =
         rw (
           other-word 0 (omega arith),
@@ -95,9 +100,10 @@ module _ (t : List ℕ) (k : ℕ) (h : k < 16) (l : length t ≡ 256) (ws : List
           other-word 12 (omega arith),
           other-word 13 (omega arith),
           other-word 14 (omega arith),
+          other-word 16 (omega arith),
         )
 
-    pub other-open : open-at (words-at t (16 * k) ws) j ≡ open-at t j
+    pub other-open : open-at (words-at t (open-layer-size * k) ws) j ≡ open-at t j
     other-open =
         rw (
           other-word 0 (omega arith),
@@ -112,18 +118,15 @@ module _ (t : List ℕ) (k : ℕ) (h : k < 16) (l : length t ≡ 256) (ws : List
           other-word 13 (omega arith),
           other-word 14 (omega arith),
           other-word 15 (omega arith),
+          other-word 16 (omega arith),
         )
 
--- what the table keeps of a layer: all but its opacity
-abbrev pub kept : Layer → Option Clip → Layer
-kept l o = record { props = record { blend = l .props .blend; opacity = 0; mask = l .props .mask; clip = o }; bounds = l .bounds }
-
 -- a layer that was put is read back
-module _ (t : List ℕ) (k : ℕ) (h : k < 16) (e : length t ≡ 256) (l : Layer) (nan : ℕ) where
-  back : (o : Option Clip) (i : ℕ) → i < 16 → layer-word (words-at t (16 * k) (layer-words (kept l o) nan)) k i ≡ getD (layer-words (kept l o) nan) i 0
+module _ (t : List ℕ) (k : ℕ) (h : k < most-layers) (e : length t ≡ open-layer-table) (l : Layer) (nan : ℕ) where
+  back : (o : Option Clip) (i : ℕ) → i < open-layer-size → layer-word (words-at t (open-layer-size * k) (layer-words (kept l o) nan)) k i ≡ getD (layer-words (kept l o) nan) i 0
   back o = same-word t k h e (layer-words (kept l o) nan) (words-length (kept l o) nan)
 
-  with-clip : (o : Option Clip) → layer-at (words-at t (16 * k) (layer-words (kept l o) nan)) k ≡ kept l o
+  with-clip : (o : Option Clip) → layer-at (words-at t (open-layer-size * k) (layer-words (kept l o) nan)) k ≡ kept l o
   with-clip none =
       rw (
         back none 0 (omega arith),
@@ -134,6 +137,7 @@ module _ (t : List ℕ) (k : ℕ) (h : k < 16) (e : length t ≡ 256) (l : Layer
         back none 12 (omega arith),
         back none 13 (omega arith),
         back none 14 (omega arith),
+        back none 16 (omega arith),
       )
   with-clip (some c) =
       rw (
@@ -152,16 +156,17 @@ module _ (t : List ℕ) (k : ℕ) (h : k < 16) (e : length t ≡ 256) (l : Layer
         back (some c) 12 (omega arith),
         back (some c) 13 (omega arith),
         back (some c) 14 (omega arith),
+        back (some c) 16 (omega arith),
       )
 
-  pub layer-back : layer-at (words-at t (16 * k) (layer-words l nan)) k ≡ kept l (l .props .clip)
+  pub layer-back : layer-at (words-at t (open-layer-size * k) (layer-words l nan)) k ≡ kept l (l .props .clip)
   layer-back = with-clip (l .props .clip)
 
   nan-word : (o : Option Clip) → getD (layer-words (kept l o) nan) 15 0 ≡ nan
   nan-word none = refl
   nan-word (some c) = refl
 
-  pub nan-back : open-at (words-at t (16 * k) (layer-words l nan)) k .nan ≡ nan
+  pub nan-back : open-at (words-at t (open-layer-size * k) (layer-words l nan)) k .nan ≡ nan
   nan-back = back (l .props .clip) 15 (omega arith) ∙ nan-word (l .props .clip)
 
 -- what a pop reads is the rules' layer

@@ -1,4 +1,4 @@
--- An open layer's sixteen words in their table, the code's properties and layers as the rules', and what is judged of them (answer 4).
+-- An open layer's words in their table, the code's properties and layers as the rules', and what is judged of them (answer 4).
 use Prim.Native.Nat.{ℕ, _+_, _*_}
 use mathlib.Core.Bool.{Bool, _&&_, cond}
 use mathlib.Core.List.{List, [], _∷_, _++_}
@@ -10,7 +10,7 @@ use Rattle.sizes.specs.Sizes.{open-layer-size}
 use Rattle.rules.specs.Boxes.{Box, box, width, height, by-4}
 use Rattle.rules.specs.Blends.{good-blend}
 use Rattle.rules.specs.Inputs as rule
-use Rattle.rules.specs.Inputs.{Props, good-handle, good-thread, good-props}
+use Rattle.rules.specs.Inputs.{Props, good-handle, good-thread, good-panel, good-props}
 use Rattle.rules.specs.Plans.{Layer}
 use Rattle.cmd.specs.Blends.{blend-of}
 use Rattle.rect.specs.declared.Rect.{Rect}
@@ -28,7 +28,7 @@ clip-of (Present c) = some (record { bounds = box-of (c .bbox); start = c .start
 
 -- the opacity is 0 here: it stands apart, as an f32
 abbrev pub props-of : LayerProps → Props
-props-of p = record { blend = blend-of (p .blend); opacity = 0; mask = p .mask; clip = clip-of (p .clip) }
+props-of p = record { blend = blend-of (p .blend); opacity = 0; mask = p .mask; clip = clip-of (p .clip); panel = p .panel }
 
 -- a NaN opacity has a NaN's pattern beside it, any other 0
 abbrev pub good-pattern : Float → ℕ → Bool
@@ -52,10 +52,10 @@ clip-words (some c) = 1 ∷ box-words (c .bounds) ++ (c .start ∷ c .end ∷ c 
 abbrev pub flat-words : FlatClip → List ℕ
 flat-words f = f .flag ∷ box-words (box-of (f .bbox)) ++ (f .start ∷ f .end ∷ f .thread ∷ [])
 
--- a layer's words: mix, compose, mask, its clip, its own box, the NaN pattern
+-- a layer's words: mix, compose, mask, its clip, its own box, the NaN pattern, its panel
 abbrev pub layer-words : Layer → ℕ → List ℕ
 layer-words l nan =
-    l .props .blend .mix ∷ l .props .blend .compose ∷ l .props .mask ∷ clip-words (l .props .clip) ++ box-words (l .bounds) ++ (nan ∷ [])
+    l .props .blend .mix ∷ l .props .blend .compose ∷ l .props .mask ∷ clip-words (l .props .clip) ++ box-words (l .bounds) ++ (nan ∷ l .props .panel ∷ [])
 
 -- those of a layer that is not open
 abbrev pub no-words : List ℕ
@@ -87,6 +87,7 @@ layer-at ws k =
             opacity = 0;
             mask = layer-word ws k 2;
             clip = cond (eqb (layer-word ws k 3) 0) none (some (clip-in ws k));
+            panel = layer-word ws k 16;
           };
       bounds = box-of (box-in ws k);
     }
@@ -103,6 +104,7 @@ open-at ws k =
       thread = layer-word ws k 10;
       bbox = box-in ws k;
       nan = layer-word ws k 15;
+      panel = layer-word ws k 16;
     }
 
 unfoldable pub good-layer : OpenLayer → Bool
@@ -112,6 +114,7 @@ good-layer l =
     && leb (l .flag) 1
     && leb (l .start) (l .«end»)
     && good-thread (l .thread)
+    && good-panel (l .panel)
 
 -- the box b of an open layer in the viewport v
 unfoldable pub good-own-box : Box → Box → Bool

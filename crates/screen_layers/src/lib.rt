@@ -1,5 +1,5 @@
-// The table of open layers, 16 words a layer: mix, compose, mask, clip flag, clip box, segment start and end, thread, the layer's own
-// box, NaN pattern. Zeros for an absent clip. An opacity stands apart, as an f32. Parts: callers have judged what a `requires` asks.
+// The table of open layers, OPEN_LAYER words a layer: mix, compose, mask, clip flag, clip box, segment start and end, thread, the layer's own
+// box, NaN pattern, panel. Zeros for an absent clip. An opacity stands apart, as an f32. Parts: callers have judged what a `requires` asks.
 ghost use mathlib.Core.Path.{_≡_};
 ghost use Prim.Native.Nat.{_*_, _<_};
 ghost use lib.ListN.{length};
@@ -14,6 +14,7 @@ use rect::NOWHERE;
 use rect::Rect;
 use sizes::HANDLE_END;
 use sizes::OPEN_LAYER;
+use sizes::PANEL_END;
 use sizes::THREAD_END;
 
 // The box, the range of its segments, the thread.
@@ -36,6 +37,7 @@ pub struct LayerProps {
     pub nan: u32,
     pub mask: u32,
     pub clip: LayerClip,
+    pub panel: u32,
 }
 
 // What a pop reads of an open layer: flag 1 with a clip, 0 without.
@@ -48,6 +50,7 @@ pub struct OpenLayer {
     pub thread: u32,
     pub bbox: Rect,
     pub nan: u32,
+    pub panel: u32,
 }
 
 // A clip as it stands in the table.
@@ -127,7 +130,10 @@ pub fn is_good_props(props: LayerProps) -> bool
     if HANDLE_END <= props.mask {
         return false;
     }
-    is_good_clip(clip)
+    if !is_good_clip(clip) {
+        return false;
+    }
+    props.panel < PANEL_END
 }
 
 // Rule 8: the box of a layer whose parent's box is given.
@@ -170,6 +176,7 @@ pub fn put_layer(layers: &mut [u32], k: u32, props: LayerProps, bbox: Rect)
     layers[at + 13] = bbox.x1;
     layers[at + 14] = bbox.y1;
     layers[at + 15] = props.nan;
+    layers[at + 16] = props.panel;
 }
 
 // The own box of layer k.
@@ -206,6 +213,7 @@ pub fn open_layer(layers: &[u32], k: u32) -> OpenLayer
         thread: layers[at + 10],
         bbox,
         nan: layers[at + 15],
+        panel: layers[at + 16],
     }
 }
 
@@ -239,7 +247,10 @@ pub fn is_good_layer(layer: OpenLayer) -> bool
     if layer.end < layer.start {
         return false;
     }
-    layer.thread < THREAD_END
+    if THREAD_END <= layer.thread {
+        return false;
+    }
+    layer.panel < PANEL_END
 }
 
 // Answer 4: the own box of an open layer, in a viewport.

@@ -58,6 +58,10 @@ handle-end = 2147483648
 abbrev pub last-id : ℕ
 last-id = 1048576
 
+-- panel numbers are below this
+abbrev pub panel-end : ℕ
+panel-end = 256
+
 -- records in a section of a recording file, and a file's bytes
 abbrev pub most-records : ℕ
 most-records = 4096
@@ -93,19 +97,32 @@ row-size = level-at (most-layers + 1)
 
 -- the words of one record of each table, and of the whole table
 abbrev pub open-layer-size : ℕ
-open-layer-size = 16
+open-layer-size = 17
 
 abbrev pub open-layer-table : ℕ
 open-layer-table = most-layers * open-layer-size
 
 abbrev pub paint-attr-size : ℕ
-paint-attr-size = 8
+paint-attr-size = 9
+
+-- where its id and its panel stand
+abbrev pub paint-id-at : ℕ
+paint-id-at = 4
+
+abbrev pub paint-panel-at : ℕ
+paint-panel-at = 8
 
 abbrev pub paint-attr-table : ℕ
 paint-attr-table = most-attrs * paint-attr-size
 
 abbrev pub layer-attr-size : ℕ
-layer-attr-size = 6
+layer-attr-size = 7
+
+abbrev pub layer-id-at : ℕ
+layer-id-at = 3
+
+abbrev pub layer-panel-at : ℕ
+layer-panel-at = 6
 
 abbrev pub layer-attr-table : ℕ
 layer-attr-table = most-attrs * layer-attr-size
@@ -120,9 +137,13 @@ filter-paint-table = most-filters * filter-paint-size
 abbrev pub opacity-count : ℕ
 opacity-count = most-layers + most-attrs
 
+-- the words of one painted piece
+abbrev pub piece-size : ℕ
+piece-size = 7
+
 -- the words of one attribute's line in the story of a tile, and of the lines of all attributes
 abbrev pub line-size : ℕ
-line-size = 6
+line-size = 7
 
 abbrev pub line-table : ℕ
 line-table = line-size * (most-attrs + most-attrs)

@@ -4,8 +4,8 @@ pub mod width;
 
 ghost use mathlib.Core.Path.{_≡_};
 ghost use mathlib.Core.List.{[], _∷_};
-ghost use Rattle.sizes.specs.Sizes.{narrowest, tile-end, bucket-end, tile-alphas, most-width, most-height, most-rows, most-runs, most-room, most-layers, most-attrs, most-filters, thread-end, handle-end, last-id, most-records, file-bytes};
-ghost use Rattle.sizes.specs.Sizes.{renders-at, depths-at, first-at, end-at, largest-at, levels-at, level-at, row-size, open-layer-size, open-layer-table, paint-attr-size, paint-attr-table, layer-attr-size, layer-attr-table, filter-paint-size, filter-paint-table, opacity-count, line-size, line-table, state-size};
+ghost use Rattle.sizes.specs.Sizes.{narrowest, tile-end, bucket-end, tile-alphas, most-width, most-height, most-rows, most-runs, most-room, most-layers, most-attrs, most-filters, thread-end, handle-end, last-id, panel-end, most-records, file-bytes};
+ghost use Rattle.sizes.specs.Sizes.{renders-at, depths-at, first-at, end-at, largest-at, levels-at, level-at, row-size, open-layer-size, open-layer-table, paint-attr-size, paint-id-at, paint-panel-at, paint-attr-table, layer-attr-size, layer-id-at, layer-panel-at, layer-attr-table, filter-paint-size, filter-paint-table, opacity-count, piece-size, line-size, line-table, state-size};
 ghost use Rattle.sizes.specs.Sizes.{program-rows, program-buckets, program-room, program-render, program-fills, program-depth, program-records, program-painting};
 
 // Tiles in a depth bucket of the narrowest width.
@@ -44,6 +44,9 @@ pub const HANDLE_END: u32 = 2147483648;
 
 pub const LAST_ID: u32 = 1048576;
 
+// Panel numbers are below this.
+pub const PANEL_END: u32 = 256;
+
 // Records in a section of a recording file, and a file's bytes.
 pub const MOST_RECORDS: usize = 4096;
 
@@ -69,15 +72,24 @@ pub const LEVEL: usize = 3;
 pub const ROW: usize = LEVEL_BASE + LEVEL * (MOST_LAYERS as usize + 1);
 
 // The words of one record of each table, and of the whole table.
-pub const OPEN_LAYER: usize = 16;
+pub const OPEN_LAYER: usize = 17;
 
 pub const OPEN_TABLE: usize = MOST_LAYERS as usize * OPEN_LAYER;
 
-pub const PAINT_ATTR: usize = 8;
+pub const PAINT_ATTR: usize = 9;
+
+// Where its id and its panel stand.
+pub const PAINT_ID: usize = 4;
+
+pub const PAINT_PANEL: usize = 8;
 
 pub const PAINT_TABLE: usize = MOST_ATTRS as usize * PAINT_ATTR;
 
-pub const LAYER_ATTR: usize = 6;
+pub const LAYER_ATTR: usize = 7;
+
+pub const LAYER_ID: usize = 3;
+
+pub const LAYER_PANEL: usize = 6;
 
 pub const LAYER_TABLE: usize = MOST_ATTRS as usize * LAYER_ATTR;
 
@@ -85,8 +97,11 @@ pub const FILTER_PAINT: usize = 4;
 
 pub const FILTER_TABLE: usize = MOST_FILTERS as usize * FILTER_PAINT;
 
+// The words of one painted piece.
+pub const PIECE: usize = 7;
+
 // The words of one attribute's line in the story of a tile, and of the lines of all attributes.
-pub const LINE: usize = 6;
+pub const LINE: usize = 7;
 
 pub const LINE_TABLE: usize = LINE * (MOST_ATTRS as usize + MOST_ATTRS as usize);
 
@@ -120,8 +135,8 @@ pub const PROGRAM_RECORDS: usize = PROGRAM_ROWS * ROW;
 pub const PROGRAM_PAINTING: usize = PROGRAM_ROWS * 2;
 
 // The limits of what is drawn.
-fn tied_limits() -> [usize; 17]
-    ensures { λ r. ⌜ r ≡ narrowest ∷ tile-end ∷ bucket-end ∷ tile-alphas ∷ most-width ∷ most-height ∷ most-rows ∷ most-runs ∷ most-room ∷ most-layers ∷ most-attrs ∷ most-filters ∷ thread-end ∷ handle-end ∷ last-id ∷ most-records ∷ file-bytes ∷ [] ⌝ }
+fn tied_limits() -> [usize; 18]
+    ensures { λ r. ⌜ r ≡ narrowest ∷ tile-end ∷ bucket-end ∷ tile-alphas ∷ most-width ∷ most-height ∷ most-rows ∷ most-runs ∷ most-room ∷ most-layers ∷ most-attrs ∷ most-filters ∷ thread-end ∷ handle-end ∷ last-id ∷ panel-end ∷ most-records ∷ file-bytes ∷ [] ⌝ }
 {
     [
         NARROWEST,
@@ -139,14 +154,15 @@ fn tied_limits() -> [usize; 17]
         THREAD_END as usize,
         HANDLE_END as usize,
         LAST_ID as usize,
+        PANEL_END as usize,
         MOST_RECORDS,
         FILE_BYTES,
     ]
 }
 
 // The words of rows and tables. A level's words stand from `level-at` on.
-fn tied_words() -> [usize; 20]
-    ensures { λ r. ⌜ r ≡ renders-at ∷ depths-at ∷ first-at ∷ end-at ∷ largest-at ∷ levels-at ∷ level-at 0 ∷ level-at 1 ∷ row-size ∷ open-layer-size ∷ open-layer-table ∷ paint-attr-size ∷ paint-attr-table ∷ layer-attr-size ∷ layer-attr-table ∷ filter-paint-table ∷ opacity-count ∷ line-size ∷ line-table ∷ state-size ∷ [] ⌝ }
+fn tied_words() -> [usize; 25]
+    ensures { λ r. ⌜ r ≡ renders-at ∷ depths-at ∷ first-at ∷ end-at ∷ largest-at ∷ levels-at ∷ level-at 0 ∷ level-at 1 ∷ row-size ∷ open-layer-size ∷ open-layer-table ∷ paint-attr-size ∷ paint-id-at ∷ paint-panel-at ∷ paint-attr-table ∷ layer-attr-size ∷ layer-id-at ∷ layer-panel-at ∷ layer-attr-table ∷ filter-paint-table ∷ opacity-count ∷ piece-size ∷ line-size ∷ line-table ∷ state-size ∷ [] ⌝ }
 {
     [
         RENDERS,
@@ -161,11 +177,16 @@ fn tied_words() -> [usize; 20]
         OPEN_LAYER,
         OPEN_TABLE,
         PAINT_ATTR,
+        PAINT_ID,
+        PAINT_PANEL,
         PAINT_TABLE,
         LAYER_ATTR,
+        LAYER_ID,
+        LAYER_PANEL,
         LAYER_TABLE,
         FILTER_TABLE,
         OPACITIES,
+        PIECE,
         LINE,
         LINE_TABLE,
         STATE,

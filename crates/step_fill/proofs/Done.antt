@@ -8,6 +8,7 @@ use lib.Dec.{ltb, eqb}
 use lib.ListN.{length, drop, take-append-drop}
 use lib.Seq.{drop-at, drop-length}
 use borrow.Author.Tests.{eqb-true, eqb-false, ne-eqb, ltb-true, ltb-false}
+use Rattle.sizes.specs.Sizes.{paint-attr-size}
 use Rattle.rules.specs.Lists.{join}
 use Rattle.rules.specs.Answers.{answer, Done, BadRecord, first-of}
 use Rattle.rules.specs.Boxes.{rows-of}
@@ -167,6 +168,7 @@ attr-of s d =
       «thread_idx» = d .thread;
       «origin_x» = s .viewport .x0;
       «origin_y» = s .viewport .y0;
+      panel = d .panel;
     }
 
 module _ (l : FillLent) (ps ss : List ℕ) (d : Draw) (z : Zero l ps ss d) where
@@ -195,10 +197,10 @@ module _ (l : FillLent) (ps ss : List ℕ) (d : Draw) (z : Zero l ps ss d) where
         rw (rows-are (l .screen) ps ss d good (l .words) fine, listed.segs-end ss (d .start) (d .end) (omega arith))
         (lay-cut (sizes (l .screen .c) (l .screen .d)) (rows-of (box-of (l .screen .viewport))) (l .words) (long l ps ss d (z .first)))
 
-    table-empty : words-at (l .paint-attrs) (8 * l .screen .«paint_attrs») (join paint-attr-words (drop (l .screen .«paint_attrs») (fill-plan (l .screen) ps ss d .attrs .paints))) ≡ l .paint-attrs
+    table-empty : words-at (l .paint-attrs) (paint-attr-size * l .screen .«paint_attrs») (join paint-attr-words (drop (l .screen .«paint_attrs») (fill-plan (l .screen) ps ss d .attrs .paints))) ≡ l .paint-attrs
     table-empty =
         let e : drop (l .screen .«paint_attrs») (state-of (l .screen) .attrs .paints) ≡ [] = ap (λ (n : ℕ). drop n (state-of (l .screen) .attrs .paints)) (sym (paint-count (l .screen))) ∙ drop-length (state-of (l .screen) .attrs .paints) in
-        rw (attrs-same (l .screen) ps ss d good u, e) (no-words (l .paint-attrs) (8 * l .screen .«paint_attrs»))
+        rw (attrs-same (l .screen) ps ss d good u, e) (no-words (l .paint-attrs) (paint-attr-size * l .screen .«paint_attrs»))
 
     pub done-empty : {s : Screen} → 0 ≡ fill-number l ps ss d
         → s ≡ counted (l .screen) (l .screen .«next_draw_id» + 1) (l .screen .«paint_attrs» + 0) (l .screen .«layer_attrs») (l .screen .«filter_paints»)
@@ -211,7 +213,7 @@ module _ (l : FillLent) (ps ss : List ℕ) (d : Draw) (z : Zero l ps ss d) where
     screen-some : screen-after (l .screen) (fill-plan (l .screen) ps ss d) ≡ counted (l .screen) (l .screen .«next_draw_id» + 1) (l .screen .«paint_attrs» + 1) (l .screen .«layer_attrs») (l .screen .«filter_paints»)
     screen-some = screen-by ∙ rw (attrs-more (l .screen) ps ss d good u, paints-more (l .screen) fine d, layer-attr-count (l .screen), filters-same (l .screen) fine d)
 
-    table-some : words-at (l .paint-attrs) (8 * l .screen .«paint_attrs») (join paint-attr-words (drop (l .screen .«paint_attrs») (fill-plan (l .screen) ps ss d .attrs .paints))) ≡ put-paint (l .paint-attrs) (l .screen .«paint_attrs») (attr-of (l .screen) d)
+    table-some : words-at (l .paint-attrs) (paint-attr-size * l .screen .«paint_attrs») (join paint-attr-words (drop (l .screen .«paint_attrs») (fill-plan (l .screen) ps ss d .attrs .paints))) ≡ put-paint (l .paint-attrs) (l .screen .«paint_attrs») (attr-of (l .screen) d)
     table-some =
         rw (attrs-more (l .screen) ps ss d good u, drop-at (state-of (l .screen) .attrs .paints) _ (l .screen .«paint_attrs») (paint-count (l .screen)), state-next (l .screen), state-frame (l .screen))
 

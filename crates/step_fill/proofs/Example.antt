@@ -1,8 +1,9 @@
 -- The contract is met by a real case: the first draw of document 01's worked example, by computation. Assumes nothing.
 use mathlib.Core.Path.{_≡_, refl}
 use mathlib.Core.List.{List, [], _∷_}
-use Prim.Native.Nat.{ℕ}
+use Prim.Native.Nat.{ℕ, _-_}
 use lib.ListN.{replicate}
+use Rattle.sizes.specs.Sizes.{paint-attr-size, paint-attr-table}
 use Rattle.sizes.specs.declared.width.Width.the-variants.{W128}
 use Rattle.rules.specs.Spans.{meeting, cut-to}
 use Rattle.rules.specs.Split.{split}
@@ -27,7 +28,7 @@ viewport = record { x0 = 0; y0 = 0; x1 = 256; y1 = 8 }
 
 -- two rows, room for c commands and 64 depth fills in each, buckets of 128 pixels
 abbrev fresh : ℕ → List ℕ → FillLent
-fresh c render = lent (fresh-screen (record { viewport = box-of viewport; c = c; d = 64; width = W128 })) (words (replicate 108 0) render (replicate 256 0)) (replicate 8192 0)
+fresh c render = lent (fresh-screen (record { viewport = box-of viewport; c = c; d = 64; width = W128 })) (words (replicate 108 0) render (replicate 256 0)) (replicate paint-attr-table 0)
 
 abbrev blank : FillLent
 blank = fresh 64 (replicate 512 0)
@@ -39,9 +40,9 @@ one-paint = 1 ∷ 0 ∷ 0 ∷ 0 ∷ []
 abbrev list : List ℕ
 list = 0 ∷ 0 ∷ 10 ∷ 64 ∷ 0 ∷ []
 
--- the list's places 0 to n
+-- the list's places 0 to n, drawn by panel 7
 abbrev draw : ℕ → Draw
-draw n = record { thread = 0; start = 0; end = n; paint = 0; blend = record { mix = 0; compose = 3 }; mask = 0 }
+draw n = record { thread = 0; start = 0; end = n; paint = 0; blend = record { mix = 0; compose = 3 }; mask = 0; panel = 7 }
 
 drawn : filled blank one-paint list (draw 1) .number ≡ 0
 unfolding fill-number step-number first-number judged good-viewport good-screen good-clip state-of plan-fill judge-segments ordered segs seg-at paints cuts cut-in cut-to meeting scene-tiles draw-puts draw-act do-puts do-act done refusal passes good-rows good-row cut split put-command put-depth include-span hull-word
@@ -60,8 +61,8 @@ rows : filled blank one-paint list (draw 1) .value .words .state ≡ 1 ∷ 1 ∷
 unfolding fill-done fill-number step-number first-number judged good-viewport good-screen good-clip state-of plan-fill judge-segments ordered segs seg-at paints cuts cut-in cut-to meeting scene-tiles draw-puts draw-act do-puts do-act done refusal passes good-rows good-row cut lay split put-command put-depth include-span hull-word
 rows = refl
 
--- one attribute, id 1, and one id and one attribute taken
-attrs : filled blank one-paint list (draw 1) .value .paint-attrs ≡ 0 ∷ 0 ∷ 3 ∷ 0 ∷ 1 ∷ replicate 8187 0
+-- one attribute, id 1 and panel 7, and one id and one attribute taken
+attrs : filled blank one-paint list (draw 1) .value .paint-attrs ≡ 0 ∷ 0 ∷ 3 ∷ 0 ∷ 1 ∷ 0 ∷ 0 ∷ 0 ∷ 7 ∷ replicate (paint-attr-table - paint-attr-size) 0
 unfolding fill-done fill-number step-number first-number judged good-viewport good-screen good-clip state-of plan-fill judge-segments ordered segs seg-at paints cuts cut-in cut-to meeting scene-tiles draw-puts draw-act do-puts do-act done refusal passes good-rows good-row cut lay split put-command put-depth include-span hull-word
 attrs = refl
 

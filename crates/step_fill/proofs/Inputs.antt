@@ -1,15 +1,15 @@
 -- The inputs of a fill: paints as words, and the scene of a judged screen. Assumes nothing.
-use mathlib.Core.Path.{_≡_, refl, sym, ap}
-use mathlib.Core.Bool.{Bool, true, false, _&&_}
+use mathlib.Core.Path.{_≡_, refl, ap}
+use mathlib.Core.Bool.{true, _&&_}
 use mathlib.Core.List.{List}
 use Prim.Native.Nat.{ℕ, zero, suc, _+_, _/_, _≤_, _<_}
 use native.Mathlib.Omega.{arith}
 use lib.Dec.{leb, ltb}
 use lib.ListN.{length, getD}
-use borrow.Author.Tests.{leb-true, leb-false, ltb-true, lt-ltb, le-ltb}
+use borrow.Author.Tests.{leb-true, ltb-true}
 use Rattle.rules.specs.Boxes.{Box, scene-tiles}
 use Rattle.rules.specs.Blends.{good-blend}
-use Rattle.rules.specs.Inputs.{Paint, good-paint, good-handle, few-paints, good-fill, draw-paint}
+use Rattle.rules.specs.Inputs.{Paint, good-paint, good-handle, good-thread, good-panel, few-paints, good-draw, good-fill, draw-paint}
 use Rattle.rules.proofs.All.{both}
 use Rattle.rect.specs.Rects.{box-of, Small}
 use Rattle.rect.proofs.Boxes.{small-viewport, view}
@@ -47,15 +47,16 @@ pub record GoodDraw (ps ss : List ℕ) (d : Draw) : Type 0 where
 
 pub draw-facts : (ps ss : List ℕ) (d : Draw) → good-fill (paints-of ps) (segs-of ss) (draw-of d) ≡ true → GoodDraw ps ss d
 draw-facts ps ss d g =
-    let t = ltb (d .thread) 256 in
+    let t = good-thread (d .thread) in
     let a = leb (d .start) (d .end) in
     let b = leb (d .end) (length (segs-of ss)) in
     let p = ltb (d .paint) (length (paints-of ps)) in
     let q = good-paint (draw-paint (paints-of ps) (draw-of d)) in
     let r = good-blend (draw-of d .blend) in
     let m = good-handle (d .mask) in
-    let h6 = both (few-paints (length (paints-of ps))) (t && (a && b) && p && q && r && m) g in
-    let h5 = both (t && (a && b) && p && q && r) m (h6 .1) in
+    let h7 = both (few-paints (length (paints-of ps))) (good-draw (paints-of ps) (segs-of ss) (draw-of d)) g in
+    let h6 = both (t && (a && b) && p && q && r && m) (good-panel (d .panel)) (h7 .1) in
+    let h5 = both (t && (a && b) && p && q && r) m (h6 .0) in
     let h4 = both (t && (a && b) && p && q) r (h5 .0) in
     let h3 = both (t && (a && b) && p) q (h4 .0) in
     let h2 = both (t && (a && b)) p (h3 .0) in
@@ -64,14 +65,6 @@ draw-facts ps ss d g =
     let y : d .end ≤ length (segs-of ss) = leb-true _ _ (h0 .1) in
     let z : d .paint < length (paints-of ps) = ltb-true _ _ (h2 .1) in
     record { range = leb-true _ _ (h0 .0); ends = rw (segs-count ss) at y; paint = rw (paints-count ps) at z }
-
--- a handle's test, either way
-pub handle-test : (m : ℕ) → leb m 2147483647 ≡ ltb m 2147483648
-handle-test m = go (leb m 2147483647) refl
-  where
-    go : (b : Bool) → leb m 2147483647 ≡ b → b ≡ ltb m 2147483648
-    go true e = sym (lt-ltb m 2147483648 (omega (arith, leb-true m 2147483647 e)))
-    go false e = sym (le-ltb m 2147483648 (omega (arith, leb-false m 2147483647 e)))
 
 -- the scene
 pub scene-is : (v c : Box) (s : Scene) → SceneOf v c s → s ≡ scene-at v c

@@ -8,6 +8,7 @@ use native.Mathlib.Omega.{arith}
 use lib.Dec.{ltb, eqb}
 use lib.ListN.{length}
 use borrow.Author.Tests.{eqb-true, eqb-false, eq-eqb, ne-eqb, lt-ltb, le-ltb}
+use Rattle.sizes.specs.Sizes.{paint-attr-table}
 use Rattle.rules.specs.Lists.{every}
 use Rattle.rules.specs.Answers.{Done, BadRecord}
 use Rattle.rules.specs.Boxes.{rows-of}
@@ -52,10 +53,10 @@ opened j g h = go (eqb j Done) g refl h
     go false g e k = absurd (eqb-false j 0 e k)
 
 module _ (l : FillLent) (ps ss : List ℕ) where
-  pub right-lengths : first-of-lent l ps ss ≡ 0 → Passed (l .screen) (length (l .words .state)) (length (l .words .render)) (length (l .words .fills)) (rows-of (box-of (l .screen .viewport))) × (length (l .paint-attrs) ≡ 8192)
+  pub right-lengths : first-of-lent l ps ss ≡ 0 → Passed (l .screen) (length (l .words .state)) (length (l .words .render)) (length (l .words .fills)) (rows-of (box-of (l .screen .viewport))) × (length (l .paint-attrs) ≡ paint-attr-table)
   unfolding first-number
   right-lengths z =
-      let t = eqb (length (l .paint-attrs)) 8192 in
+      let t = eqb (length (l .paint-attrs)) paint-attr-table in
       let p = eqb (length ps % 4) 0 in
       let h = opened (judged (l .screen) (length (l .words .state)) (length (l .words .render)) (length (l .words .fills))) (good-lists (length (l .paint-attrs)) (length ps) (length ss)) z in (
         passed (l .screen) (length (l .words .state)) (length (l .words .render)) (length (l .words .fills)) (h .0),

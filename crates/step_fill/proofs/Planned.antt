@@ -12,7 +12,7 @@ use Rattle.rules.specs.Answers.{Done, BadRecord, BadOrder}
 use Rattle.rules.specs.Boxes.{rows-of}
 use Rattle.rules.specs.Segments.{Segment, good-segment, ordered, judge-segments, cut-in, cuts}
 use Rattle.rules.specs.Inputs.{good-fill, draw-segments}
-use Rattle.rules.specs.Attributes.{attrs-full}
+use Rattle.rules.specs.Attributes.{Attrs, attrs-full}
 use Rattle.rules.specs.Plans.{with-paint, draw-puts, plan-fill}
 use Rattle.rules.specs.Steps.{done}
 use Rattle.cmd.specs.Blends.{blend-of}
@@ -54,6 +54,10 @@ module _ (s : Screen) where
   unfolding cuts
   same-cuts ps d [] = refl
   same-cuts ps d (x ∷ xs) = rw (cut-in-scene (scene-of-it (box-of (s .viewport)) (box-of (s .«clip_bbox»))) x, same-cuts ps d xs)
+
+-- the attributes with the draw's
+abbrev pub painted : Screen → Draw → Attrs
+painted s d = with-paint (state-of s) (d .paint) (blend-of (d .blend)) (d .mask) (d .thread) (d .panel) []
 
 module _ (s : Screen) (ps ss : List ℕ) (d : Draw) where
   pub plan-layers : fill-plan s ps ss d .layers ≡ state-of s .layers
@@ -98,7 +102,7 @@ module _ (s : Screen) (ps ss : List ℕ) (d : Draw) where
     unfolding plan-fill
     attrs-same e = rw (none-own e)
 
-    pub attrs-more : (d .start ≡ d .end → ⊥) → fill-plan s ps ss d .attrs ≡ with-paint (state-of s) (d .paint) (blend-of (d .blend)) (d .mask) (d .thread) []
+    pub attrs-more : (d .start ≡ d .end → ⊥) → fill-plan s ps ss d .attrs ≡ painted s d
     unfolding plan-fill
     attrs-more h = rw (some-own h)
 
@@ -110,19 +114,19 @@ module _ (s : Screen) (o : Passing s) where
       rw (paint-count s, layer-attr-count s, filter-count s, le-ltb 1024 (s .«paint_attrs») (b .paints), le-ltb 1024 (s .«layer_attrs») (b .layer-attrs), le-ltb 256 (s .«filter_paints») (b .filters))
 
   module _ (d : Draw) where
-    pub paints-more : length (with-paint (state-of s) (d .paint) (blend-of (d .blend)) (d .mask) (d .thread) [] .paints) ≡ s .«paint_attrs» + 1
+    pub paints-more : length (painted s d .paints) ≡ s .«paint_attrs» + 1
     paints-more = length-append (state-of s .attrs .paints) _ ∙ ap (λ (n : ℕ). n + 1) (paint-count s)
 
-    pub filters-same : length (with-paint (state-of s) (d .paint) (blend-of (d .blend)) (d .mask) (d .thread) [] .filters) ≡ s .«filter_paints»
+    pub filters-same : length (painted s d .filters) ≡ s .«filter_paints»
     filters-same = length-append (state-of s .attrs .filters) _ ∙ rw (filter-count s) (omega arith)
 
-    others : (ltb 1024 (length (state-of s .attrs .layers)) ≡ false) × (ltb 256 (length (with-paint (state-of s) (d .paint) (blend-of (d .blend)) (d .mask) (d .thread) [] .filters)) ≡ false)
+    others : (ltb 1024 (length (state-of s .attrs .layers)) ≡ false) × (ltb 256 (length (painted s d .filters)) ≡ false)
     others =
         let b = bounds s (o .screen) in
         (rw (layer-attr-count s) (le-ltb 1024 (s .«layer_attrs») (b .layer-attrs)), rw filters-same (le-ltb 256 (s .«filter_paints») (b .filters)))
 
-    pub full-attrs : 1024 ≤ s .«paint_attrs» → attrs-full (with-paint (state-of s) (d .paint) (blend-of (d .blend)) (d .mask) (d .thread) []) ≡ true
+    pub full-attrs : 1024 ≤ s .«paint_attrs» → attrs-full (painted s d) ≡ true
     full-attrs h = rw (paints-more, lt-ltb 1024 (s .«paint_attrs» + 1) (omega arith))
 
-    pub room-for-one : s .«paint_attrs» < 1024 → attrs-full (with-paint (state-of s) (d .paint) (blend-of (d .blend)) (d .mask) (d .thread) []) ≡ false
+    pub room-for-one : s .«paint_attrs» < 1024 → attrs-full (painted s d) ≡ false
     room-for-one h = rw (paints-more, le-ltb 1024 (s .«paint_attrs» + 1) (omega arith), others .0, others .1)

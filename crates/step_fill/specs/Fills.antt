@@ -5,7 +5,7 @@ use mathlib.Core.Bool.{Bool, true, _&&_, cond}
 use mathlib.Core.List.{List, [], _∷_}
 use lib.Dec.{eqb}
 use lib.ListN.{getD, length, drop}
-use Rattle.sizes.specs.Sizes.{paint-attr-table}
+use Rattle.sizes.specs.Sizes.{paint-attr-size, paint-attr-table}
 use Rattle.rules.specs.Lists.{join}
 use Rattle.rules.specs.Answers.{Answer, settle, Done, BadRecord}
 use Rattle.rules.specs.Boxes.{Box, good-viewport}
@@ -29,7 +29,16 @@ use Rattle.step_fill_rows.specs.declared.Job.{Job}
 use Rattle.step_fill.specs.declared.Draw.{Draw}
 
 abbrev pub draw-of : Draw → rule.Draw
-draw-of d = record { thread = d .thread; start = d .start; end = d .end; paint = d .paint; blend = blend-of (d .blend); mask = d .mask }
+draw-of d =
+    record {
+      thread = d .thread;
+      start = d .start;
+      end = d .end;
+      paint = d .paint;
+      blend = blend-of (d .blend);
+      mask = d .mask;
+      panel = d .panel;
+    }
 
 -- paint i of the words, four each: flag, handle, and two shifts that no rule reads
 abbrev pub paint-at : List ℕ → ℕ → Paint
@@ -112,7 +121,7 @@ fill-done l ps ss d =
     let p = fill-plan (l .screen) ps ss d in
     let n = l .screen .«paint_attrs» in
     lent (screen-after (l .screen) p) (lay (done Words word-ops p (screen-at (state-of (l .screen)) (l .words)) .rows))
-    (words-at (l .paint-attrs) (8 * n) (join paint-attr-words (drop n (p .attrs .paints))))
+    (words-at (l .paint-attrs) (paint-attr-size * n) (join paint-attr-words (drop n (p .attrs .paints))))
 
 -- a fill: what is refused alters nothing
 abbrev pub filled : FillLent → List ℕ → List ℕ → Draw → Answer FillLent

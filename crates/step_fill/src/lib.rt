@@ -6,9 +6,13 @@ use screen::Built;
 use screen::Screen;
 use screen::judge_screen;
 use segments::scene_of;
+use sizes::HANDLE_END;
 use sizes::LAST_ID;
 use sizes::MOST_ATTRS;
+use sizes::MOST_RECORDS;
 use sizes::PAINT_TABLE;
+use sizes::PANEL_END;
+use sizes::THREAD_END;
 use sizes::answers::BAD_ORDER;
 use sizes::answers::BAD_RECORD;
 use sizes::answers::DONE;
@@ -38,6 +42,7 @@ pub struct Draw {
     pub paint: u32,
     pub blend: Blend,
     pub mask: u32,
+    pub panel: u32,
 }
 
 // Answer 4: the draw's own fields, and the paint that it names.
@@ -45,7 +50,7 @@ fn is_good_draw(paints: &[u32], segments: &[u32], draw: Draw) -> bool
     ensures { λ r. ⌜ r ≡ good-draw (paints-of (now (paints .entry))) (segs-of (now (segments .entry))) (draw-of draw) ⌝ }
 {
     let blend = draw.blend;
-    if 255 < draw.thread {
+    if THREAD_END <= draw.thread {
         return false;
     }
     if draw.end < draw.start {
@@ -61,20 +66,23 @@ fn is_good_draw(paints: &[u32], segments: &[u32], draw: Draw) -> bool
     if 1 < paints[4 * paint] {
         return false;
     }
-    if 2147483647 < paints[4 * paint + 1] {
+    if HANDLE_END <= paints[4 * paint + 1] {
         return false;
     }
     if !blend.is_good() {
         return false;
     }
-    draw.mask <= 2147483647
+    if HANDLE_END <= draw.mask {
+        return false;
+    }
+    draw.panel < PANEL_END
 }
 
 // The same, and how many paints are lent.
 fn is_good_fill(paints: &[u32], segments: &[u32], draw: Draw) -> bool
     ensures { λ r. ⌜ r ≡ good-fill (paints-of (now (paints .entry))) (segs-of (now (segments .entry))) (draw-of draw) ⌝ }
 {
-    if 4096 < paints.len() / 4 {
+    if MOST_RECORDS < paints.len() / 4 {
         return false;
     }
     is_good_draw(paints, segments, draw)
@@ -266,6 +274,7 @@ pub fn fill(
         thread_idx: draw.thread,
         origin_x: viewport.x0,
         origin_y: viewport.y0,
+        panel: draw.panel,
     };
     put_paint_attrs(paint_attrs, screen.paint_attrs as usize, attrs);
     fill_rows(rows, render, fills, segments, start, end, job);

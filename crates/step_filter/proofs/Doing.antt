@@ -7,6 +7,7 @@ use Prim.Native.Nat.{ℕ, _+_, _/_, _≤_, _<_}
 use native.Mathlib.Omega.{arith}
 use lib.IntN.{ℤ}
 use lib.ListN.{length}
+use Rattle.sizes.specs.Sizes.{paint-attr-table, filter-paint-table}
 use Rattle.rules.specs.Lists.{range}
 use Rattle.rules.specs.Boxes.{span-of}
 use Rattle.rules.specs.Spans.{Span}
@@ -46,10 +47,10 @@ module _ {g : FilterGiven} {s : Screen} {w : Words} {ps : List ℕ} {fs : List �
   pub attrs-needs : (g .count ≤ 4096) × (s .«filter_paints» ≤ 256)
   attrs-needs = (fine .count, omega (arith, room .paint))
 
-  pub put-paint-needs : (s .«filter_paints» < 256) × (length fs ≡ 1024) × (Option·getD (g .pixmap) 0 < 2147483648)
+  pub put-paint-needs : (s .«filter_paints» < 256) × (length fs ≡ filter-paint-table) × (Option·getD (g .pixmap) 0 < 2147483648)
   put-paint-needs = (room .paint, able .paints, fine .pixmap)
 
-  pub put-attrs-needs : (s .«paint_attrs» < 1024) × (length ps ≡ 8192)
+  pub put-attrs-needs : (s .«paint_attrs» < 1024) × (length ps ≡ paint-attr-table)
   put-attrs-needs = (room .attr, able .attrs)
 
   pub bottom : b .y1 ≤ 32768
@@ -65,7 +66,7 @@ module _ {g : FilterGiven} {s : Screen} {w : Words} {ps : List ℕ} {fs : List �
   pub leaves : (x : Screen) (ws : Words) (t : Span) → t ≡ span-of (box-of b)
       → x ≡ counted s (s .«next_draw_id» + 1) (s .«paint_attrs» + 1) (s .«layer_attrs») (s .«filter_paints» + 1)
       → ws ≡ lay (each (acted (bucket-tiles (s .width)) (s .layers) (paint t none (s .«paint_attrs»))) (range (b .y0 / 4) ((b .y1 + 3) / 4)) (rows-at (frame-of s) w))
-      → lent x ws (put-paint ps (s .«paint_attrs») (attrs-of s (g .count))) (put-filter fs (s .«filter_paints») (paint-from (g .placement .dest) (g .placement .«source_x») (g .placement .«source_y») (Option·getD (g .pixmap) 0))) ≡ after g (lent s w ps fs)
+      → lent x ws (put-paint ps (s .«paint_attrs») (attrs-of s (g .count) (g .panel))) (put-filter fs (s .«filter_paints») (paint-from (g .placement .dest) (g .placement .«source_x») (g .placement .«source_y») (Option·getD (g .pixmap) 0))) ≡ after g (lent s w ps fs)
   leaves x ws t = after-drawn g s w ps fs able draws x ws t b (q .bounds)
 
 -- where nothing is drawn

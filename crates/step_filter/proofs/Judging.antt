@@ -5,6 +5,7 @@ use mathlib.Core.List.{List}
 use Prim.Native.Nat.{ℕ, _+_, _/_, _≤_, _<_}
 use lib.IntN.{ℤ}
 use lib.ListN.{length}
+use Rattle.sizes.specs.Sizes.{paint-attr-table, filter-paint-table}
 use Rattle.rules.specs.Lists.{range}
 use Rattle.rules.specs.Plans.{draws-nothing}
 use Rattle.row.specs.Words.{Words}
@@ -17,7 +18,7 @@ use Rattle.step_filter.proofs.Laws as laws
 use Rattle.step_filter.proofs.Laws.{judged-at, told-by, number-of-rows}
 
 module _ (g : FilterGiven) (s : Screen) (w : Words) (ps : List ℕ) (fs : List ℤ) (b : Rect)
-    (z : judged-at s w ≡ 0) (e : length ps ≡ 8192) (f : length fs ≡ 1024) (h : good-given g ≡ true) (x : box-of b ≡ own-box g s) where
+    (z : judged-at s w ≡ 0) (e : length ps ≡ paint-attr-table) (f : length fs ≡ filter-paint-table) (h : good-given g ≡ true) (x : box-of b ≡ own-box g s) where
   pub nothing-number : draws-nothing (filter-of g) (box-of b) ≡ true → 0 ≡ filter-number g (lent s w ps fs)
   nothing-number d = laws.nothing-number g s w ps fs z e f h (told-by g s b true x d)
 

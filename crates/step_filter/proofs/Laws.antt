@@ -11,8 +11,9 @@ use lib.IntN.{ℤ, pos, subℕ}
 use lib.ListN.{length, drop, length-append, take-append-drop}
 use lib.Seq.{drop-at, drop-length}
 use borrow.Author.Tests.{eq-eqb, ne-eqb, le-ltb, lt-ltb, leb-true, leb-false, ltb-true}
+use Rattle.sizes.specs.Sizes.{paint-attr-size, paint-attr-table, filter-paint-size, filter-paint-table}
 use Rattle.rules.specs.Lists.{range, join, is-none}
-use Rattle.rules.specs.Inputs.{good-pixmap}
+use Rattle.rules.specs.Inputs.{good-pixmap, good-filter, few-paints, good-panel}
 use Rattle.rules.specs.Answers.{answer}
 use Rattle.rules.specs.Boxes.{Box, width, height, rows-of, empty-box, span-of, good-dest, good-viewport}
 use Rattle.rules.specs.Spans.{Span}
@@ -23,7 +24,7 @@ use Rattle.rules.specs.Plans.{Act, paint, on, Plan, still, plan-filter, plan-fi
 use Rattle.rules.specs.Steps.{do-puts, done, refusal}
 use Rattle.rules.proofs.All.{both, neither}
 use Rattle.rules.proofs.laws.Bounds.{dest-facts}
-use Rattle.cmd.specs.Attrs.{words-at, put-paint, put-filter}
+use Rattle.cmd.specs.Attrs.{words-at, paint-words, put-paint, put-filter}
 use Rattle.row.specs.Words.{Words, word-ops}
 use Rattle.row.specs.Cmds.{Short}
 use Rattle.row_screen.specs.Arena.{sizes, lay}
@@ -65,7 +66,7 @@ module _ (g : FilterGiven) (s : Screen) where
     box-is = rw (clip-of s k, frame-is s)
 
     abbrev made : Box → Plan
-    made b = cond (draws-nothing (filter-of g) b) (still 0 (state-of s)) (plan-filter-in b (g .count) (filter-of g) (state-of s))
+    made b = cond (draws-nothing (filter-of g) b) (still 0 (state-of s)) (plan-filter-in b (g .count) (filter-of g) (g .panel) (state-of s))
 
     plan-made : plan-of g s ≡ made (own-box g s)
     unfolding plan-filter
@@ -74,7 +75,7 @@ module _ (g : FilterGiven) (s : Screen) where
     plan-nothing : draws-nothing (filter-of g) (own-box g s) ≡ true → plan-of g s ≡ still 0 (state-of s)
     plan-nothing e = plan-made ∙ rw e
 
-    plan-drawn : draws-nothing (filter-of g) (own-box g s) ≡ false → plan-of g s ≡ plan-filter-in (own-box g s) (g .count) (filter-of g) (state-of s)
+    plan-drawn : draws-nothing (filter-of g) (own-box g s) ≡ false → plan-of g s ≡ plan-filter-in (own-box g s) (g .count) (filter-of g) (g .panel) (state-of s)
     plan-drawn e = plan-made ∙ rw e
 
 -- what a fill puts on a row of its box
@@ -90,7 +91,7 @@ module _ (s : Screen) (k : good-screen s ≡ true) where
 
   module _ (g : FilterGiven) where
     abbrev drawn-plan : Plan
-    drawn-plan = plan-filter-in (own-box g s) (g .count) (filter-of g) (state-of s)
+    drawn-plan = plan-filter-in (own-box g s) (g .count) (filter-of g) (g .panel) (state-of s)
 
     drawn-paints : length (drawn-plan .attrs .paints) ≡ s .«paint_attrs» + 1
     unfolding plan-filter-in
@@ -141,11 +142,11 @@ module _ (g : FilterGiven) (s : Screen) (w : Words) (ps : List ℕ) (fs : List �
   bad-screen h = rw (ne-eqb (judged-at s w) 0 h, ne-eqb (judged-at s w) 0 h)
 
   module _ (z : judged-at s w ≡ 0) where
-    pub bad-attrs : (length ps ≡ 8192 → ⊥) → 4 ≡ filter-number g (lent s w ps fs)
+    pub bad-attrs : (length ps ≡ paint-attr-table → ⊥) → 4 ≡ filter-number g (lent s w ps fs)
     unfolding filter-number step-number
     bad-attrs h = rw (z, ne-eqb _ _ h)
 
-    pub bad-paints : length ps ≡ 8192 → (length fs ≡ 1024 → ⊥) → 4 ≡ filter-number g (lent s w ps fs)
+    pub bad-paints : length ps ≡ paint-attr-table → (length fs ≡ filter-paint-table → ⊥) → 4 ≡ filter-number g (lent s w ps fs)
     unfolding filter-number step-number
     bad-paints e h = rw (z, eq-eqb _ _ e, ne-eqb _ _ h)
 
@@ -156,7 +157,7 @@ module _ (g : FilterGiven) (s : Screen) (w : Words) (ps : List ℕ) (fs : List �
     pub whole : Whole (frame-of s) w
     whole = passed-whole s w fit
 
-    module _ (e : length ps ≡ 8192) (f : length fs ≡ 1024) where
+    module _ (e : length ps ≡ paint-attr-table) (f : length fs ≡ filter-paint-table) where
       either-way : plan-of g s .refused ≡ 4 → (t : Bool) → 4 ≡ cond t (refusal Words word-ops (plan-of g s) (done Words word-ops (plan-of g s) (screen-at (state-of s) w))) 4
       unfolding refusal
       either-way r true = rw r
@@ -304,7 +305,8 @@ sound g h =
     let b = good-dest (f .dest) in
     let c = leb (f .source-x) 32768 in
     let d = leb (f .source-y) 32768 in
-    let h1 = both (a && b && c && d) (leb (g .count) 4096) h in
+    let h0 = both (good-filter f && few-paints (g .count)) (good-panel (g .panel)) h in
+    let h1 = both (good-filter f) (few-paints (g .count)) (h0 .0) in
     let h2 = both (a && b && c) d (h1 .0) in
     let h3 = both (a && b) c (h2 .0) in
     let h4 = both a b (h3 .0) in
@@ -321,8 +323,8 @@ sound g h =
 -- what a filter fill judged 0 may rely on
 pub record FilterReady (g : FilterGiven) (s : Screen) (w : Words) (ps : List ℕ) (fs : List ℤ) : Type 0 where
   pub zero : judged-at s w ≡ 0
-  pub attrs : length ps ≡ 8192
-  pub paints : length fs ≡ 1024
+  pub attrs : length ps ≡ paint-attr-table
+  pub paints : length fs ≡ filter-paint-table
   pub good : good-given g ≡ true
 
 -- .. and that draws something
@@ -339,8 +341,8 @@ module _ (g : FilterGiven) (s : Screen) (w : Words) (ps : List ℕ) (fs : List �
   pub ready : FilterReady g s w ps fs
   ready =
       let z : judged-at s w ≡ 0 = decide (judged-at s w) 0 (λ h. h (bad-screen g s w ps fs h ∙ q)) in
-      let a : length ps ≡ 8192 = decide (length ps) 8192 (λ h. not-zero (bad-attrs g s w ps fs z h)) in
-      let b : length fs ≡ 1024 = decide (length fs) 1024 (λ h. not-zero (bad-paints g s w ps fs z a h)) in
+      let a : length ps ≡ paint-attr-table = decide (length ps) paint-attr-table (λ h. not-zero (bad-attrs g s w ps fs z h)) in
+      let b : length fs ≡ filter-paint-table = decide (length fs) filter-paint-table (λ h. not-zero (bad-paints g s w ps fs z a h)) in
       record { zero = z; attrs = a; paints = b; good = surely (good-given g) (λ h. not-zero (bad-given g s w ps fs z a b h)) }
 
   module _ (d : draws-nothing (filter-of g) (own-box g s) ≡ false) where
@@ -407,8 +409,8 @@ module _ (g : FilterGiven) (s : Screen) (w : Words) (ps : List ℕ) (fs : List �
         still-rows,
         no-paints-more,
         no-filters-more,
-        nothing-at ps (8 * s .«paint_attrs»),
-        nothing-at fs (4 * s .«filter_paints»),
+        nothing-at ps (paint-attr-size * s .«paint_attrs»),
+        nothing-at fs (filter-paint-size * s .«filter_paints»),
         lay-cut (sizes (s .c) (s .d)) (rows-of (box-of (s .viewport))) w (whole g s w ps fs (y .zero) .long),
         e,
       )
@@ -432,7 +434,7 @@ module _ (g : FilterGiven) (s : Screen) (w : Words) (ps : List ℕ) (fs : List �
         (puts-each _ (s .layers) (own-act g s) (range (own-box g s .y0 / 4) ((own-box g s .y1 + 3) / 4)) (rows-at (frame-of s) w))
 
     drawn-attr : join paint-attr-words (drop (s .«paint_attrs») (drawn .attrs .paints))
-        ≡ (g .count + s .«filter_paints») ∷ 0 ∷ 3 ∷ 0 ∷ s .«next_draw_id» ∷ 0 ∷ s .viewport .x0 ∷ s .viewport .y0 ∷ []
+        ≡ paint-words (attrs-of s (g .count) (g .panel))
     unfolding plan-filter-in
     drawn-attr = rw (drop-at (state-of s .attrs .paints) _ (s .«paint_attrs») (paint-count s), filter-count s, next-is s, frame-is s)
 
@@ -444,7 +446,7 @@ module _ (g : FilterGiven) (s : Screen) (w : Words) (ps : List ℕ) (fs : List �
     pub after-drawn : (x : Screen) (ws : Words) (t : Span) (b : Rect) → box-of b ≡ own-box g s → t ≡ span-of (box-of b)
         → x ≡ counted s (s .«next_draw_id» + 1) (s .«paint_attrs» + 1) (s .«layer_attrs») (s .«filter_paints» + 1)
         → ws ≡ lay (each (acted (bucket-tiles (s .width)) (s .layers) (paint t none (s .«paint_attrs»))) (range (b .y0 / 4) ((b .y1 + 3) / 4)) (rows-at (frame-of s) w))
-        → lent x ws (put-paint ps (s .«paint_attrs») (attrs-of s (g .count))) (put-filter fs (s .«filter_paints») (paint-from (g .placement .dest) (g .placement .«source_x») (g .placement .«source_y») (Option·getD (g .pixmap) 0))) ≡ after g (lent s w ps fs)
+        → lent x ws (put-paint ps (s .«paint_attrs») (attrs-of s (g .count) (g .panel))) (put-filter fs (s .«filter_paints») (paint-from (g .placement .dest) (g .placement .«source_x») (g .placement .«source_y») (Option·getD (g .pixmap) 0))) ≡ after g (lent s w ps fs)
     unfolding after
     after-drawn x ws t b e f h i =
         rw (

@@ -5,13 +5,13 @@ use mathlib.Core.Bool.{Bool, false, _&&_, cond}
 use mathlib.Core.List.{List, [], _∷_}
 use mathlib.Core.Option.{Option, none, some}
 use lib.ListN.{length, drop}
-use lib.Dec.{leb, eqb}
+use lib.Dec.{eqb}
 use lib.IntN.{ℤ, pos, subℕ}
-use Rattle.sizes.specs.Sizes.{most-records, paint-attr-table, filter-paint-table}
+use Rattle.sizes.specs.Sizes.{paint-attr-size, paint-attr-table, filter-paint-size, filter-paint-table}
 use Rattle.rules.specs.Lists.{join}
 use Rattle.rules.specs.Answers.{Answer, Done, BadRecord, settle}
 use Rattle.rules.specs.Boxes.{Box}
-use Rattle.rules.specs.Inputs.{Filter, good-filter}
+use Rattle.rules.specs.Inputs.{Filter, good-filter-fill}
 use Rattle.rules.specs.Attributes.{FilterPaint}
 use Rattle.screen.specs.Attributes.{paint-attr-words}
 use Rattle.rules.specs.Plans.{Plan, plan-filter, filter-box, draws-nothing}
@@ -35,14 +35,15 @@ abbrev pub picture-of : Pixmap → Option ℕ
 picture-of Absent = none
 picture-of (Present h) = some h
 
--- what a filter fill is given: placement, a picture's handle or none, the paint list's length
+-- what a filter fill is given: placement, a picture's handle or none, the paint list's length, its layer's panel
 pub record FilterGiven : Type 0 where
   pub placement : Placement
   pub pixmap : Option ℕ
   pub count : ℕ
+  pub panel : ℕ
 
-abbrev pub given : Placement → Option ℕ → ℕ → FilterGiven
-given p m n = record { placement = p; pixmap = m; count = n }
+abbrev pub given : Placement → Option ℕ → ℕ → ℕ → FilterGiven
+given p m n q = record { placement = p; pixmap = m; count = n; panel = q }
 
 abbrev pub filter-of : FilterGiven → Filter
 filter-of g =
@@ -54,14 +55,14 @@ filter-of g =
     }
 
 abbrev pub good-given : FilterGiven → Bool
-good-given g = good-filter (filter-of g) && leb (g .count) most-records
+good-given g = good-filter-fill (g .count) (filter-of g) (g .panel)
 
 -- the paint and the attribute that the code adds
 abbrev pub paint-from : Rect → ℕ → ℕ → ℕ → cmd.FilterPaint
 paint-from d x y m = record { pixmap = m; «shift_x» = subℕ x (d .x0); «shift_y» = subℕ y (d .y0) }
 
-abbrev pub attrs-of : Screen → ℕ → PaintFillAttrs
-attrs-of s count =
+abbrev pub attrs-of : Screen → ℕ → ℕ → PaintFillAttrs
+attrs-of s count panel =
     record {
       paint = count + s .«filter_paints»;
       blend = record { mix = 0; compose = 3 };
@@ -70,6 +71,7 @@ attrs-of s count =
       «thread_idx» = 0;
       «origin_x» = s .viewport .x0;
       «origin_y» = s .viewport .y0;
+      panel = panel;
     }
 
 -- a screen and what a filter fill is lent of its words
@@ -84,7 +86,7 @@ lent s w ps fs = record { screen = s; words = w; paint-attrs = ps; filter-paints
 
 -- the rules' filter fill
 abbrev pub plan-of : FilterGiven → Screen → Plan
-plan-of g s = plan-filter (g .count) (filter-of g) (state-of s)
+plan-of g s = plan-filter (g .count) (filter-of g) (g .panel) (state-of s)
 
 -- 2, 1 and 4 for the screen's numbers and for how many words are lent
 abbrev pub first-number : FilterLent → ℕ
@@ -108,8 +110,8 @@ after g l =
     let s = l .screen in
     let p = plan-of g s in
     lent (screen-after s p) (lay (done Words word-ops p (screen-at (state-of s) (l .words)) .rows))
-    (words-at (l .paint-attrs) (8 * s .«paint_attrs») (join paint-attr-words (drop (s .«paint_attrs») (p .attrs .paints))))
-    (words-at (l .filter-paints) (4 * s .«filter_paints») (join filter-paint-words (drop (s .«filter_paints») (p .attrs .filters))))
+    (words-at (l .paint-attrs) (paint-attr-size * s .«paint_attrs») (join paint-attr-words (drop (s .«paint_attrs») (p .attrs .paints))))
+    (words-at (l .filter-paints) (filter-paint-size * s .«filter_paints») (join filter-paint-words (drop (s .«filter_paints») (p .attrs .filters))))
 
 -- what is refused alters nothing
 unfoldable pub filtered : FilterGiven → FilterLent → Answer FilterLent

@@ -27,6 +27,7 @@ use sizes::HANDLE_END;
 use sizes::MOST_ATTRS;
 use sizes::MOST_FILTERS;
 use sizes::PAINT_TABLE;
+use sizes::PANEL_END;
 use sizes::answers::BAD_RECORD;
 use sizes::answers::DONE;
 use sizes::answers::FULL_ATTRS;
@@ -77,8 +78,8 @@ fn handle_of(pixmap: Pixmap) -> u32
 }
 
 // Answer 4: what a filter fill is given.
-fn is_good_filter(placement: Placement, pixmap: Pixmap, paint_count: u32) -> bool
-    ensures { λ r. ⌜ r ≡ good-given (given placement (picture-of pixmap) «paint_count») ⌝ }
+fn is_good_filter(placement: Placement, pixmap: Pixmap, paint_count: u32, panel: u32) -> bool
+    ensures { λ r. ⌜ r ≡ good-given (given placement (picture-of pixmap) «paint_count» panel) ⌝ }
 {
     let dest = placement.dest;
     if !is_good_pixmap(pixmap) {
@@ -93,7 +94,10 @@ fn is_good_filter(placement: Placement, pixmap: Pixmap, paint_count: u32) -> boo
     if 32768 < placement.source_y {
         return false;
     }
-    paint_count <= 4096
+    if 4096 < paint_count {
+        return false;
+    }
+    panel < PANEL_END
 }
 
 // The dest box, made local and met with the clip box.
@@ -134,10 +138,10 @@ fn filter_paint(dest: Rect, source_x: u32, source_y: u32, pixmap: u32) -> Filter
     }
 }
 
-// The attribute that it adds: default blend, no mask, thread 0.
-fn filter_attrs(screen: Screen, paint_count: u32) -> PaintFillAttrs
+// The attribute that it adds: default blend, no mask, thread 0, the given panel.
+fn filter_attrs(screen: Screen, paint_count: u32, panel: u32) -> PaintFillAttrs
     requires { ⌜ («paint_count» ≤ most-records) × (screen .«filter_paints» ≤ most-filters) ⌝ }
-    ensures { λ r. ⌜ r ≡ attrs-of screen «paint_count» ⌝ }
+    ensures { λ r. ⌜ r ≡ attrs-of screen «paint_count» panel ⌝ }
 {
     let viewport = screen.viewport;
     let blend = Blend { mix: 0, compose: 3 };
@@ -149,6 +153,7 @@ fn filter_attrs(screen: Screen, paint_count: u32) -> PaintFillAttrs
         thread_idx: 0,
         origin_x: viewport.x0,
         origin_y: viewport.y0,
+        panel,
     }
 }
 
@@ -176,8 +181,9 @@ fn judge_filter(
     placement: Placement,
     pixmap: Pixmap,
     paint_count: u32,
+    panel: u32,
 ) -> u32
-    ensures { λ r. ⌜ r ≡ filter-number (given placement (picture-of pixmap) «paint_count») (lent screen (words (now (rows .entry)) (now (render .entry)) (now (fills .entry))) (now («paint_attrs» .entry)) (now («filter_paints» .entry))) ⌝ }
+    ensures { λ r. ⌜ r ≡ filter-number (given placement (picture-of pixmap) «paint_count» panel) (lent screen (words (now (rows .entry)) (now (render .entry)) (now (fills .entry))) (now («paint_attrs» .entry)) (now («filter_paints» .entry))) ⌝ }
 {
     let n = judge_screen(screen, rows.len(), render.len(), fills.len());
     if n != DONE {
@@ -189,7 +195,7 @@ fn judge_filter(
     if filter_paints.len() != FILTER_TABLE {
         return BAD_RECORD;
     }
-    if !is_good_filter(placement, pixmap, paint_count) {
+    if !is_good_filter(placement, pixmap, paint_count, panel) {
         return BAD_RECORD;
     }
     let viewport = screen.viewport;
@@ -231,16 +237,17 @@ fn do_filter(
     placement: Placement,
     pixmap: Pixmap,
     paint_count: u32,
+    panel: u32,
     bbox: Rect,
 ) -> Screen
-    requires { ⌜ Drawing (given placement (picture-of pixmap) «paint_count») (lent screen (words (now rows) (now render) (now fills)) (now «paint_attrs») (now «filter_paints»)) bbox ⌝ }
+    requires { ⌜ Drawing (given placement (picture-of pixmap) «paint_count» panel) (lent screen (words (now rows) (now render) (now fills)) (now «paint_attrs») (now «filter_paints»)) bbox ⌝ }
     ensures { λ r. ⌜ lent r (words (now (rows .exit)) (now (render .exit)) (now (fills .exit))) (now («paint_attrs» .exit)) (now («filter_paints» .exit))
-        ≡ after (given placement (picture-of pixmap) «paint_count») (lent screen (words (now (rows .entry)) (now (render .entry)) (now (fills .entry))) (now («paint_attrs» .entry)) (now («filter_paints» .entry))) ⌝ }
+        ≡ after (given placement (picture-of pixmap) «paint_count» panel) (lent screen (words (now (rows .entry)) (now (render .entry)) (now (fills .entry))) (now («paint_attrs» .entry)) (now («filter_paints» .entry))) ⌝ }
 {
     let dest = placement.dest;
     let handle = handle_of(pixmap);
     let paint = filter_paint(dest, placement.source_x, placement.source_y, handle);
-    let attrs = filter_attrs(screen, paint_count);
+    let attrs = filter_attrs(screen, paint_count, panel);
     put_filter_paint(filter_paints, screen.filter_paints as usize, paint);
     put_paint_attrs(paint_attrs, screen.paint_attrs as usize, attrs);
     paint_rows(
@@ -268,9 +275,10 @@ pub fn filter_fill(
     placement: Placement,
     pixmap: Pixmap,
     paint_count: u32,
+    panel: u32,
 ) -> Built
     ensures { λ r. ⌜ answer (r .number) (lent (r .screen) (words (now (rows .exit)) (now (render .exit)) (now (fills .exit))) (now («paint_attrs» .exit)) (now («filter_paints» .exit)))
-        ≡ filtered (given placement (picture-of pixmap) «paint_count») (lent screen (words (now (rows .entry)) (now (render .entry)) (now (fills .entry))) (now («paint_attrs» .entry)) (now («filter_paints» .entry))) ⌝ }
+        ≡ filtered (given placement (picture-of pixmap) «paint_count» panel) (lent screen (words (now (rows .entry)) (now (render .entry)) (now (fills .entry))) (now («paint_attrs» .entry)) (now («filter_paints» .entry))) ⌝ }
 {
     let n = judge_filter(
         screen,
@@ -282,6 +290,7 @@ pub fn filter_fill(
         placement,
         pixmap,
         paint_count,
+        panel,
     );
     if n != DONE {
         return Built { number: n, screen };
@@ -307,6 +316,7 @@ pub fn filter_fill(
         placement,
         pixmap,
         paint_count,
+        panel,
         bbox,
     );
     Built {

@@ -15,6 +15,7 @@ use Rattle.rules.specs.Boxes.{Box, width, height, rows-of, rows-in, span-of, go
 use Rattle.rules.specs.Spans.{Span}
 use Rattle.rules.specs.Segments.{Segment, good-segment, ordered, judge-segments, Cut, cut-in, cuts}
 use Rattle.rules.specs.Inputs.{Clip}
+use Rattle.sizes.specs.Sizes.{open-layer-table, opacity-count, layer-attr-table}
 use Rattle.rules.specs.Attributes.{attrs-full}
 use Rattle.rules.specs.Plans.{Frame, bucket, Layer, State, Act, close, pop, Put, on, Plan, clip-box, clip-segments, clip-fits, close-puts, closing, with-layer, plan-pop}
 use Rattle.rules.specs.Steps.{Screen, do-puts, done, passes, refusal}
@@ -477,13 +478,13 @@ either-two a b e i = rw (e, i)
 pub either-none : (a b : Bool) → a ≡ false → b ≡ false → (a || b) ≡ false
 either-none a b e i = rw (e, i)
 
-pub lengths-facts : (t o a w : ℕ) → good-lengths t o a w ≡ true → (t ≡ 256) × (o ≡ 1040) × (a ≡ 6144)
+pub lengths-facts : (t o a w : ℕ) → good-lengths t o a w ≡ true → (t ≡ open-layer-table) × (o ≡ opacity-count) × (a ≡ layer-attr-table)
 unfolding good-lengths
 lengths-facts t o a w g =
-    let h3 = both (eqb t 256 && eqb o 1040 && eqb a 6144) (eqb (w % 5) 0) g in
-    let h2 = both (eqb t 256 && eqb o 1040) (eqb a 6144) (h3 .0) in
-    let h1 = both (eqb t 256) (eqb o 1040) (h2 .0) in
-    (eqb-true t 256 (h1 .0), eqb-true o 1040 (h1 .1), eqb-true a 6144 (h2 .1))
+    let h3 = both (eqb t open-layer-table && eqb o opacity-count && eqb a layer-attr-table) (eqb (w % 5) 0) g in
+    let h2 = both (eqb t open-layer-table && eqb o opacity-count) (eqb a layer-attr-table) (h3 .0) in
+    let h1 = both (eqb t open-layer-table) (eqb o opacity-count) (h2 .0) in
+    (eqb-true t open-layer-table (h1 .0), eqb-true o opacity-count (h1 .1), eqb-true a layer-attr-table (h2 .1))
 
 pub above-0 : (n : ℕ) → (n ≡ 0 → ⊥) → 1 ≤ n
 above-0 zero h = absurd (h refl)
@@ -520,6 +521,6 @@ module _ (s : code.Screen) (l : PopLent) (ws : List ℕ) where
       seven : _≡_ {A = ℕ} 7 0 → ⊥
       seven z = omega arith
 
-  pub zero-lengths : number s l ws ≡ 0 → (length (l .layers) ≡ 256) × (length (l .opacities) ≡ 1040) × (length (l .attrs) ≡ 6144)
+  pub zero-lengths : number s l ws ≡ 0 → (length (l .layers) ≡ open-layer-table) × (length (l .opacities) ≡ opacity-count) × (length (l .attrs) ≡ layer-attr-table)
   zero-lengths e =
       lengths-facts (length (l .layers)) (length (l .opacities)) (length (l .attrs)) (length ws) (zero-tests s l ws (zero-first s l ws e) .1)

@@ -12,7 +12,7 @@ use Rattle.rules.specs.Lists.{join, range}
 use Rattle.rules.specs.Boxes.{Box, width, height, by-4, empty-box, rows-of, span-of, whole}
 use Rattle.rules.specs.Spans.{Span}
 use Rattle.rules.specs.Blends.{good-blend}
-use Rattle.rules.specs.Inputs.{good-handle, good-thread}
+use Rattle.rules.specs.Inputs.{good-handle, good-thread, good-panel}
 use Rattle.rules.specs.Segments.{judge-segments, cut-in}
 use Rattle.rules.specs.Plans.{clip-box}
 use Rattle.rules.proofs.All.{both, never}
@@ -79,7 +79,9 @@ layer-facts l g =
     let t2 = good-handle (l .mask) in
     let t3 = leb (l .flag) 1 in
     let t4 = leb (l .start) (l .«end») in
-    let h4 = both (t1 && t2 && t3 && t4) (good-thread (l .thread)) g in
+    let t5 = good-thread (l .thread) in
+    let h5 = both (t1 && t2 && t3 && t4 && t5) (good-panel (l .panel)) g in
+    let h4 = both (t1 && t2 && t3 && t4) t5 (h5 .0) in
     let h3 = both (t1 && t2 && t3) t4 (h4 .0) in
     let h2 = both (t1 && t2) t3 (h3 .0) in
     record { flag = leb-true (l .flag) 1 (h2 .1); range = leb-true (l .start) (l .«end») (h3 .1) }

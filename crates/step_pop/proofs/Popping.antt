@@ -1,14 +1,14 @@
 -- A pop's screen and tables afterwards, and its refusal. Assumes nothing.
 use mathlib.Core.Path.{_≡_, refl, ap}
 use mathlib.Core.Bool.{Bool, true, false, cond}
-use mathlib.Core.List.{List, [], _∷_}
+use mathlib.Core.List.{List}
 use mathlib.Core.Option.{none, some}
 use Prim.Native.Nat.{ℕ, _+_, _-_, _*_}
-use lib.Dec.{eqb}
 use lib.ListN.{set, getD, length-append}
 use lib.Seq.{drop-at}
 use lib.Ieee.{Float, nan}
 use borrow.Author.Tests.{ne-eqb}
+use Rattle.sizes.specs.Sizes.{open-layer-size}
 use Rattle.rules.specs.Inputs.{Clip}
 use Rattle.rules.specs.Plans.{clip-box, clip-thread}
 use Rattle.rules.specs.Steps.{Screen}
@@ -16,14 +16,14 @@ use Rattle.row.specs.Words.{Words}
 use Rattle.row_screen.specs.Arena.{nowhere}
 use Rattle.rect.specs.declared.Rect.{Rect}
 use Rattle.rect.specs.Rects.{box-of}
-use Rattle.cmd.specs.Attrs.{words-at, layer-tables, put-layer}
+use Rattle.cmd.specs.declared.attrs.LayerFillAttrs.{LayerFillAttrs}
+use Rattle.cmd.specs.Attrs.{words-at, layer-words, layer-tables, put-layer}
 use Rattle.screen.specs.declared.Screen as code
 use Rattle.screen.specs.Screens.{frame-of, state-of, screen-in, screen-after}
 use Rattle.screen.specs.Tables.{float-0}
 use Rattle.screen.proofs.Laws.{paint-count, layer-attr-count, filter-count}
-use Rattle.screen_layers.specs.declared.OpenLayer.{OpenLayer}
-use Rattle.screen_layers.specs.Layers.{open-at, no-words}
-use Rattle.step_pop.specs.Pop.{PopLent, lent, out, layers-in, number, pop-plan, new-words, popped, Judged, words-after, attr-words, tables-after}
+use Rattle.screen_layers.specs.Layers.{no-words}
+use Rattle.step_pop.specs.Pop.{PopLent, lent, out, layers-in, number, pop-plan, new-words, popped, Judged, words-after, attr-of, tables-after}
 use Rattle.step_pop.proofs.Numbers.{Screened, plan-is, layers-length}
 use Rattle.step_pop.proofs.Doing.{seen}
 
@@ -40,8 +40,8 @@ module _ (s : code.Screen) (l : PopLent) (ws : List ℕ) (j : Judged s (l .layer
   next-is = refl
 
   -- the new attribute's words
-  pub new-is : new-words s l ws ≡ attr-words s (l .layers)
-  new-is =
+  pub new-is : (x : Float) → new-words s l ws ≡ layer-words (attr-of s (l .layers) x)
+  new-is x =
       rw (plan-is s l ws (j .some) o, drop-at (state-of s .attrs .layers) _ (s .«layer_attrs») (layer-attr-count s), thread-is, next-is)
 
   -- the screen
@@ -56,22 +56,21 @@ module _ (s : code.Screen) (l : PopLent) (ws : List ℕ) (j : Judged s (l .layer
       → lent nowhere t x a ≡ tables-after s (lent nowhere (l .layers) (l .opacities) (l .attrs)) → out 0 r (lent w t x a) ≡ popped s l ws
   unfolding popped
   pop-out e {r} {w} {t} {x} {a} h i k =
-      let p : t ≡ words-at (l .layers) (16 * (s .layers - 1)) no-words = ap (λ (z : PopLent). z .layers) k in
-      let q : x ≡ set (set (l .opacities) (16 + s .«layer_attrs») (getD (l .opacities) (s .layers - 1) nan)) (s .layers - 1) float-0 = ap (λ (z : PopLent). z .opacities) k in
-      let u : a ≡ words-at (l .attrs) (6 * s .«layer_attrs») (attr-words s (l .layers)) = ap (λ (z : PopLent). z .attrs) k in
-      rw (e, new-is, h, i, p, q, u)
+      let y = tables-after s (lent nowhere (l .layers) (l .opacities) (l .attrs)) in
+      let p : t ≡ y .layers = ap (λ (z : PopLent). z .layers) k in
+      let q : x ≡ y .opacities = ap (λ (z : PopLent). z .opacities) k in
+      let u : a ≡ y .attrs = ap (λ (z : PopLent). z .attrs) k in
+      rw (e, new-is (getD (l .opacities) (s .layers - 1) nan), h, i, p, q, u)
 
 pub refused-out : (s : code.Screen) (l : PopLent) (ws : List ℕ) {k : ℕ} → k ≡ number s l ws → (k ≡ 0 → ⊥) → out k s l ≡ popped s l ws
 unfolding popped
 refused-out s l ws {k} e h = rw (← e, ne-eqb k 0 h)
 
 -- the tables as the code leaves them
-module _ (s : code.Screen) (t : List ℕ) (x : List Float) (a : List ℕ) {y : OpenLayer} (e : y ≡ open-at t (s .layers - 1)) {i k th : ℕ} (p : i ≡ s .«layer_attrs») (q : k ≡ s .layers - 1)
-    (h : th ≡ cond (eqb (y .flag) 0) 0 (y .thread)) where
-  pub tables-done : {t′ a′ : List ℕ} {x′ x″ : List Float} → t′ ≡ words-at t (16 * (s .layers - 1)) no-words
-      → layer-tables a′ x′ ≡ put-layer (layer-tables a x) i (record { blend = y .blend; opacity = getD x k nan; nan = y .nan; mask = y .mask; «draw_id» = s .«next_draw_id»; «thread_idx» = th })
-      → x″ ≡ set x′ k float-0 → lent nowhere t′ x″ a′ ≡ tables-after s (lent nowhere t x a)
+module _ (s : code.Screen) (t : List ℕ) (x : List Float) (a : List ℕ) {y : LayerFillAttrs} {i k : ℕ} (e : y ≡ attr-of s t (getD x k nan)) (p : i ≡ s .«layer_attrs») (q : k ≡ s .layers - 1) where
+  pub tables-done : {t′ a′ : List ℕ} {x′ x″ : List Float} → t′ ≡ words-at t (open-layer-size * (s .layers - 1)) no-words
+      → layer-tables a′ x′ ≡ put-layer (layer-tables a x) i y → x″ ≡ set x′ k float-0 → lent nowhere t′ x″ a′ ≡ tables-after s (lent nowhere t x a)
   tables-done {t′} {a′} {x′} {x″} f g z =
-      let u : a′ ≡ words-at a (6 * i) (y .blend .mix ∷ y .blend .compose ∷ y .mask ∷ s .«next_draw_id» ∷ th ∷ y .nan ∷ []) = ap (λ r. r .words) g in
-      let v : x′ ≡ set x (16 + i) (getD x k nan) = ap (λ r. r .opacities) g in
-      rw (f, z, v, u, p, q, h, e)
+      let u : a′ ≡ put-layer (layer-tables a x) i y .words = ap (λ r. r .words) g in
+      let v : x′ ≡ put-layer (layer-tables a x) i y .opacities = ap (λ r. r .opacities) g in
+      rw (f, z, v, u, p, e, q)

@@ -3,20 +3,22 @@
 use Prim.Native.Nat.{ℕ, zero, suc, _+_, _-_, _*_, _%_, _≤_}
 use mathlib.Core.Bool.{Bool, true, false, _&&_, not, cond}
 use mathlib.Core.Path.{_≡_}
-use mathlib.Core.List.{List, [], _∷_, _++_}
+use mathlib.Core.List.{List, [], _∷_}
 use lib.ListN.{length, getD, set, drop}
 use lib.Dec.{leb, ltb, eqb}
 use lib.Ieee.{Float, nan}
-use Rattle.sizes.specs.Sizes.{most-layers, most-attrs, last-id, open-layer-size, open-layer-table, opacity-count, layer-attr-table}
+use Rattle.sizes.specs.Sizes.{most-layers, most-attrs, last-id, open-layer-size, open-layer-table, opacity-count, layer-attr-size, layer-attr-table}
 use Rattle.rules.specs.Lists.{join}
 use Rattle.rules.specs.Answers.{first-of, Done, BadRecord, Ids, FullAttrs, FullRow}
 use Rattle.rules.specs.Boxes.{Box, rows-in}
+use Rattle.rules.specs.Attributes.{LayerAttr}
 use Rattle.screen.specs.Attributes.{layer-attr-words}
 use Rattle.rules.specs.Plans.{Layer, State, Put, Plan, clip-box, closing, plan-pop}
 use Rattle.rules.specs.Steps.{done}
 use Rattle.row.specs.Words.{Words, word-ops}
 use Rattle.row_screen.specs.Arena.{lay}
-use Rattle.cmd.specs.Attrs.{words-at}
+use Rattle.cmd.specs.declared.attrs.LayerFillAttrs.{LayerFillAttrs}
+use Rattle.cmd.specs.Attrs.{words-at, layer-tables, put-layer}
 use Rattle.rect.specs.Rects.{box-of}
 use Rattle.segments.specs.Segs.{segs-of}
 use Rattle.screen.specs.declared.Screen.{Screen}
@@ -104,9 +106,11 @@ module _ (s : Screen) (l : PopLent) (ws : List ℕ) where
   abbrev pub number : ℕ
   number = number-after first
 
-  -- the words of the new layer attribute, the NaN pattern after them
+  -- the words of the new layer attribute, with the layer's NaN pattern
   abbrev pub new-words : List ℕ
-  new-words = join layer-attr-words (drop (s .«layer_attrs») (pop-plan .attrs .layers)) ++ (open-at (l .layers) (s .layers - 1) .nan ∷ [])
+  new-words =
+      let pattern = open-at (l .layers) (s .layers - 1) .nan in
+      join (λ (a : LayerAttr). layer-attr-words a pattern) (drop (s .«layer_attrs») (pop-plan .attrs .layers))
 
   -- done: the rows of the plan, the layer's words and its opacity 0, its opacity copied
   abbrev pub lent-after : PopLent
@@ -114,7 +118,7 @@ module _ (s : Screen) (l : PopLent) (ws : List ℕ) where
       lent (lay (done Words word-ops pop-plan (screen-at (state-in s (l .layers)) (l .words)) .rows))
       (words-at (l .layers) (open-layer-size * (s .layers - 1)) no-words)
       (set (set (l .opacities) (most-layers + s .«layer_attrs») (getD (l .opacities) (s .layers - 1) nan)) (s .layers - 1) float-0)
-      (words-at (l .attrs) (6 * s .«layer_attrs») new-words)
+      (words-at (l .attrs) (layer-attr-size * s .«layer_attrs») new-words)
 
   -- a pop: done, or refused by its number with nothing changed
   unfoldable pub popped : PopOut
@@ -139,15 +143,22 @@ closing-puts s t ws w =
 abbrev pub words-after : Screen → List ℕ → List ℕ → Words → Words
 words-after s t ws w = lay (done Words word-ops (pop-plan s (lent w t [] []) ws) (screen-at (state-in s t) w) .rows)
 
--- the six words of the layer's attribute: blend, mask, id, thread, NaN pattern
-abbrev pub attr-words : Screen → List ℕ → List ℕ
-attr-words s t =
+-- the innermost layer's attribute, with the opacity x: the next id, its clip's thread, its own panel
+abbrev pub attr-of : Screen → List ℕ → Float → LayerFillAttrs
+attr-of s t x =
     let y = open-at t (s .layers - 1) in
-    y .blend .mix ∷ y .blend .compose ∷ y .mask ∷ s .«next_draw_id» ∷ cond (eqb (y .flag) 0) 0 (y .thread) ∷ y .nan ∷ []
+    record {
+      blend = y .blend;
+      opacity = x;
+      nan = y .nan;
+      mask = y .mask;
+      «draw_id» = s .«next_draw_id»;
+      «thread_idx» = cond (eqb (y .flag) 0) 0 (y .thread);
+      panel = y .panel;
+    }
 
 -- the tables after it
 abbrev pub tables-after : Screen → PopLent → PopLent
 tables-after s l =
-    lent (l .words) (words-at (l .layers) (open-layer-size * (s .layers - 1)) no-words)
-    (set (set (l .opacities) (most-layers + s .«layer_attrs») (getD (l .opacities) (s .layers - 1) nan)) (s .layers - 1) float-0)
-    (words-at (l .attrs) (6 * s .«layer_attrs») (attr-words s (l .layers)))
+    let u = put-layer (layer-tables (l .attrs) (l .opacities)) (s .«layer_attrs») (attr-of s (l .layers) (getD (l .opacities) (s .layers - 1) nan)) in
+    lent (l .words) (words-at (l .layers) (open-layer-size * (s .layers - 1)) no-words) (set (u .opacities) (s .layers - 1) float-0) (u .words)

@@ -57,7 +57,7 @@ ghost use Rattle.row_screen.specs.Arena.{nowhere};
 ghost use Rattle.row_judge.specs.Building.{rows-at, Whole};
 ghost use Rattle.screen_layers.specs.Layers.{open-at, no-words, good-layer, good-own-box};
 ghost use Rattle.step_pop_rows.specs.Closing.{touched-in, good-pops, full-by, runs-full, done-puts, clip-puts, Clips, Fillable, Each};
-ghost use Rattle.step_pop.specs.Pop.{lent, out, layers-in, good-open, good-lengths, late, number-after, number, popped, Judged, closing-puts, words-after, tables-after};
+ghost use Rattle.step_pop.specs.Pop.{lent, out, layers-in, good-open, good-lengths, late, number-after, number, popped, Judged, closing-puts, words-after, attr-of, tables-after};
 
 // The rows of a box, from the first to the end.
 fn first_row(bbox: Rect) -> usize
@@ -301,25 +301,34 @@ fn thread_of(layer: OpenLayer) -> u32
     layer.thread
 }
 
-// Rule 9: the layer's attribute, its opacity copied; then nothing stands in the layer's place.
-fn do_tables(screen: Screen, layers: &mut [u32], opacities: &mut [f32], layer_attrs: &mut [u32])
-    requires { ⌜ (length (now layers) ≡ open-layer-table) × (length (now opacities) ≡ opacity-count) × (length (now «layer_attrs») ≡ layer-attr-table) × (1 ≤ screen .layers) × (screen .layers ≤ most-layers) × (screen .«layer_attrs» < most-attrs) ⌝ }
-    ensures { λ _. ⌜ lent nowhere (now (layers .exit)) (now (opacities .exit)) (now («layer_attrs» .exit))
-        ≡ tables-after screen (lent nowhere (now (layers .entry)) (now (opacities .entry)) (now («layer_attrs» .entry))) ⌝ }
+// Rule 9: the attribute of the innermost layer, whose opacity is given. The panel is its own.
+fn attr_of(screen: Screen, layers: &[u32], opacity: f32) -> LayerFillAttrs
+    requires { ⌜ (length (now layers) ≡ open-layer-table) × (1 ≤ screen .layers) × (screen .layers ≤ most-layers) ⌝ }
+    ensures { λ r. ⌜ r ≡ attr-of screen (now (layers .entry)) opacity ⌝ }
 {
-    let k = screen.layers - 1;
-    let layer = open_layer(layers, k);
+    let layer = open_layer(layers, screen.layers - 1);
     let blend = layer.blend;
-    let at = wide(k);
-    let opacity = opacities[at];
-    let attrs = LayerFillAttrs {
+    LayerFillAttrs {
         blend,
         opacity,
         nan: layer.nan,
         mask: layer.mask,
         draw_id: screen.next_draw_id,
         thread_idx: thread_of(layer),
-    };
+        panel: layer.panel,
+    }
+}
+
+// Its attribute is stored, with its opacity; then nothing stands in the layer's place.
+fn do_tables(screen: Screen, layers: &mut [u32], opacities: &mut [f32], layer_attrs: &mut [u32])
+    requires { ⌜ (length (now layers) ≡ open-layer-table) × (length (now opacities) ≡ opacity-count) × (length (now «layer_attrs») ≡ layer-attr-table) × (1 ≤ screen .layers) × (screen .layers ≤ most-layers) × (screen .«layer_attrs» < most-attrs) ⌝ }
+    ensures { λ _. ⌜ lent nowhere (now (layers .exit)) (now (opacities .exit)) (now («layer_attrs» .exit))
+        ≡ tables-after screen (lent nowhere (now (layers .entry)) (now (opacities .entry)) (now («layer_attrs» .entry))) ⌝ }
+{
+    let k = screen.layers - 1;
+    let at = wide(k);
+    let opacity = opacities[at];
+    let attrs = attr_of(screen, layers, opacity);
     put_layer_attrs(layer_attrs, opacities, wide(screen.layer_attrs), attrs);
     opacities[at] = 0.0;
     drop_layer(layers, k);

@@ -10,6 +10,7 @@ use lib.Dec.{eqb, ltb}
 use lib.ListN.{length, set}
 use lib.Ieee.{Float}
 use borrow.Author.Tests.{eq-eqb, ne-eqb, le-ltb, lt-ltb}
+use Rattle.sizes.specs.Sizes.{open-layer-size, open-layer-table, opacity-count}
 use Rattle.rules.specs.Lists.{range}
 use Rattle.rules.specs.Answers.{answer}
 use Rattle.rules.specs.Boxes.{Box, height, rows-of, rows-in, empty-box, good-viewport}
@@ -119,11 +120,11 @@ module _ (p : LayerProps) (s : Screen) (w : Words) (ls : List ℕ) (os : List Fl
   bad-screen h = rw (ne-eqb (judged-at s w) 0 h, ne-eqb (judged-at s w) 0 h)
 
   module _ (z : judged-at s w ≡ 0) where
-    pub bad-layers : (length ls ≡ 256 → ⊥) → 4 ≡ push-number p (lent s w ls os)
+    pub bad-layers : (length ls ≡ open-layer-table → ⊥) → 4 ≡ push-number p (lent s w ls os)
     unfolding push-number step-number
     bad-layers h = rw (z, ne-eqb _ _ h)
 
-    pub bad-opacities : length ls ≡ 256 → (length os ≡ 1040 → ⊥) → 4 ≡ push-number p (lent s w ls os)
+    pub bad-opacities : length ls ≡ open-layer-table → (length os ≡ opacity-count → ⊥) → 4 ≡ push-number p (lent s w ls os)
     unfolding push-number step-number
     bad-opacities e h = rw (z, eq-eqb _ _ e, ne-eqb _ _ h)
 
@@ -134,7 +135,7 @@ module _ (p : LayerProps) (s : Screen) (w : Words) (ls : List ℕ) (os : List Fl
     pub whole : Whole (frame-of s) w
     whole = passed-whole s w fit
 
-    module _ (e : length ls ≡ 256) (f : length os ≡ 1040) where
+    module _ (e : length ls ≡ open-layer-table) (f : length os ≡ opacity-count) where
       either-way : plan-of p s .refused ≡ 4 → (g : Bool) → 4 ≡ cond g (refusal Words word-ops (plan-of p s) (done Words word-ops (plan-of p s) (screen-at (state-of s) w))) 4
       unfolding refusal
       either-way r true = rw r
@@ -225,8 +226,8 @@ module _ (p : LayerProps) (s : Screen) (w : Words) (z : judged-at s w ≡ 0) (b 
 -- what a push judged 0 may rely on
 pub record PushReady (p : LayerProps) (s : Screen) (w : Words) (ls : List ℕ) (os : List Float) : Type 0 where
   pub zero : judged-at s w ≡ 0
-  pub layers : length ls ≡ 256
-  pub opacities : length os ≡ 1040
+  pub layers : length ls ≡ open-layer-table
+  pub opacities : length os ≡ opacity-count
   pub free : s .layers < 16
   pub on : OnRows s (s .layers + 1) (acted (bucket-tiles (s .width)) (s .layers + 1) touch) (own-run p s .a) (own-run p s .b) w
 
@@ -237,8 +238,8 @@ module _ (p : LayerProps) (s : Screen) (w : Words) (ls : List ℕ) (os : List Fl
   pub ready : PushReady p s w ls os
   ready =
       let z : judged-at s w ≡ 0 = decide (judged-at s w) 0 (λ h. h (bad-screen p s w ls os h ∙ q)) in
-      let a : length ls ≡ 256 = decide (length ls) 256 (λ h. not-zero (bad-layers p s w ls os z h)) in
-      let b : length os ≡ 1040 = decide (length os) 1040 (λ h. not-zero (bad-opacities p s w ls os z a h)) in
+      let a : length ls ≡ open-layer-table = decide (length ls) open-layer-table (λ h. not-zero (bad-layers p s w ls os z h)) in
+      let b : length os ≡ opacity-count = decide (length os) opacity-count (λ h. not-zero (bad-opacities p s w ls os z a h)) in
       let g : good-given p ≡ true = surely (good-given p) (λ h. not-zero (bad-props p s w ls os z a b h)) in
       let k = rows-number p s w ls os z a b g in
       let n : k ≡ 4 → ⊥ = λ t. not-zero (bad-rows p s w ls os z a b g k refl t) in
@@ -274,7 +275,7 @@ module _ (p : LayerProps) (s : Screen) (w : Words) (ls : List ℕ) (os : List Fl
 
   pub after-is : (x : Screen) (ws : Words) (r : Run) → x ≡ on-layer s b → r ≡ touch-run (p .blend .compose) (box-of b)
       → ws ≡ lay (each (acted (bucket-tiles (s .width)) (s .layers + 1) touch) (range (r .a) (r .b)) (rows-at (frame-of s) w))
-      → lent x ws (words-at ls (16 * s .layers) (layer-words (layer-of p b) (p .nan))) (set os (s .layers) (p .opacity)) ≡ after p (lent s w ls os)
+      → lent x ws (words-at ls (open-layer-size * s .layers) (layer-words (layer-of p b) (p .nan))) (set os (s .layers) (p .opacity)) ≡ after p (lent s w ls os)
   unfolding after
   after-is x ws r f g h =
       rw (screen-is, rows-are, plan-layers p s ok-screen, f, h, run-is p s w (y .zero) b e r g, ← e)

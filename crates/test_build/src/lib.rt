@@ -27,7 +27,7 @@ ghost use mathlib.Core.Path.{_≡_};
 ghost use Prim.Native.Nat.{_≤_};
 ghost use lib.ListN.{length};
 
-// thread, start, end, paint, mix, compose, mask.
+// thread, start, end, paint, mix, compose, mask, panel.
 fn draw_of(call: &[u32]) -> Draw {
     let blend = Blend {
         mix: word(call, 5),
@@ -40,6 +40,7 @@ fn draw_of(call: &[u32]) -> Draw {
         paint: word(call, 4),
         blend,
         mask: word(call, 7),
+        panel: word(call, 8),
     }
 }
 
@@ -70,7 +71,7 @@ pub fn do_fill(
     fills: &mut [u32],
     paint_attrs: &mut [u32],
 ) -> Built {
-    let paints = part_of(call, 8, 4 * wide(word(call, 8)));
+    let paints = part_of(call, 9, 4 * wide(word(call, 9)));
     let a = paints.first;
     let b = paints.end;
     let segments = part_of(call, b, 5 * wide(word(call, b)));
@@ -116,7 +117,7 @@ fn clip_of(call: &[u32]) -> LayerClip {
     })
 }
 
-// mix, compose, opacity's bits, mask, clip flag, clip box, its range, its thread.
+// mix, compose, opacity's bits, mask, clip flag, clip box, its range, its thread, panel.
 pub fn do_push(
     call: &[u32],
     screen: Screen,
@@ -137,6 +138,7 @@ pub fn do_push(
         nan: nan_of(bits),
         mask: word(call, 4),
         clip: clip_of(call),
+        panel: word(call, 13),
     };
     push_layer(screen, rows, render, fills, layers, opacities, props)
 }
@@ -174,7 +176,7 @@ fn pixmap_of(call: &[u32]) -> Pixmap {
     Pixmap::Present(word(call, 2))
 }
 
-// picture flag, its handle, dest box, source origin, the paint list's length.
+// picture flag, its handle, dest box, source origin, the paint list's length, panel.
 pub fn do_filter(
     call: &[u32],
     screen: Screen,
@@ -199,6 +201,7 @@ pub fn do_filter(
         placement,
         pixmap_of(call),
         word(call, 9),
+        word(call, 10),
     )
 }
 

@@ -1,6 +1,6 @@
 // Calls each public step with a screen, an arena or a table that somebody scribbled in, or that is lent one word short, and prints the
-// answers: one line for each forging of data/forged.txt, eleven calls on it: fill, push, pop, filter fill, begin, a step that takes a depth fill, a
-// step that takes a command, the three runs, `can_skip`. `!` marks a refused call that changed a word.
+// answers: one line for each forging of data/forged.txt, twelve calls on it: fill, push, pop, filter fill, begin, a step that takes a depth fill, one
+// that takes a command, the three runs, `can_skip`, a step that takes a layer's closing fill. `!` marks a refused call that changed a word.
 use file_form::words_of_bytes;
 use libc::STDOUT_FILENO;
 use sizes::FILTER_TABLE;
@@ -14,7 +14,7 @@ ghost use Prim.Native.Nat.{_+_, _*_, _≤_, _<_};
 ghost use lib.ListN.{length};
 
 // The last call of a line, counted from 0.
-const LAST: u32 = 10;
+const LAST: u32 = 11;
 
 fn wide(x: u32) -> usize
     ensures { λ r. ⌜ (r ≡ x) × (r < 4294967296) ⌝ }

@@ -28,12 +28,12 @@ fn size_of(rest: &[u32]) -> usize
     match word(rest, 0) {
         0 => 9,
         1 => {
-            let paints = 4 * wide(word(rest, 8));
-            10 + paints + 5 * wide(word(rest, 9 + paints))
+            let paints = 4 * wide(word(rest, 9));
+            11 + paints + 5 * wide(word(rest, 10 + paints))
         }
-        2 => 13,
+        2 => 14,
         3 => 2 + 5 * wide(word(rest, 1)),
-        4 => 10,
+        4 => 11,
         6 => 3,
         7 | 10 => 5,
         8 | 9 => 6,

@@ -1,7 +1,11 @@
 // Everything that stands on a screen, as words: its numbers; each row's counts, summary, levels, commands, depth fills, depth words and
 // painting; the attributes and filter paints.
 use screen::Screen;
+use sizes::FILTER_PAINT;
+use sizes::LAYER_ATTR;
+use sizes::LAYER_PANEL;
 use sizes::OPACITY_BASE;
+use sizes::PAINT_ATTR;
 use sizes::ROW;
 use test_words::after;
 use test_words::copy;
@@ -100,7 +104,8 @@ fn bits_of(opacity: f32, nan: u32) -> u32 {
 
 fn show_layer(out: &mut [u32], at: usize, words: &[u32], opacity: f32) -> usize {
     let a = copy_part(out, at, words, 0, 5);
-    put(out, a, bits_of(opacity, word(words, 5)))
+    let b = put(out, a, bits_of(opacity, word(words, 5)));
+    put(out, b, word(words, LAYER_PANEL))
 }
 
 fn show_layers(
@@ -116,7 +121,7 @@ fn show_layers(
     let mut i = 0;
     let mut a = 0;
     while i < n {
-        let b = after(a, 6, layer_attrs.len());
+        let b = after(a, LAYER_ATTR, layer_attrs.len());
         let mut opacity = 0.0;
         if OPACITY_BASE + i < opacities.len() {
             opacity = opacities[OPACITY_BASE + i];
@@ -163,7 +168,18 @@ pub fn show(
 ) -> usize {
     let a = show_numbers(out, at, screen);
     let b = show_rows(out, a, lens, rows, render, fills, depth, painting);
-    let c = copy_part(out, b, paint_attrs, 0, 8 * wide(screen.paint_attrs));
+    let c = copy_part(
+        out,
+        b,
+        paint_attrs,
+        0,
+        PAINT_ATTR * wide(screen.paint_attrs),
+    );
     let d = show_layers(out, c, wide(screen.layer_attrs), layer_attrs, opacities);
-    show_filters(out, d, 4 * wide(screen.filter_paints), filter_paints)
+    show_filters(
+        out,
+        d,
+        FILTER_PAINT * wide(screen.filter_paints),
+        filter_paints,
+    )
 }

@@ -1,5 +1,6 @@
--- The bytes of what `rowdump` prints after the lines of `rowlist`.
+-- The bytes of what `rowdump` prints after the lines of `rowlist`, with panels or without.
 use Prim.Native.Nat.{ℕ}
+use mathlib.Core.Bool.{Bool, true, false}
 use mathlib.Core.List.{List, [], _∷_, _++_}
 use Rattle.rules.specs.Lists.{join}
 use Rattle.rules.specs.Lines.{number, alpha-bytes}
@@ -22,25 +23,39 @@ painted-text = 112 ∷ 97 ∷ 105 ∷ 110 ∷ 116 ∷ 101 ∷ 100 ∷ []
 abbrev pub pieces-text : List ℕ
 pieces-text = 32 ∷ 112 ∷ 105 ∷ 101 ∷ 99 ∷ 101 ∷ 115 ∷ []
 
--- what a p and an l have in common
-abbrev pub piece-bytes : ℕ → ℕ → ℕ → List ℕ → ℕ → List ℕ
-piece-bytes a first end alpha n = number a ++ (number first ++ (number end ++ (alpha ++ number n)))
+-- a line has at most so many bytes, and a row's or a piece's so many
+abbrev pub detail-room : ℕ
+detail-room = 112
 
--- a line without its line feed
-abbrev pub detail-line : Detail → List ℕ
-detail-line (paint-attributes n) = paint-text ++ number n
-detail-line (A a b c d e f x y) = 65 ∷ (number a ++ (number b ++ (number c ++ (number d ++ (number e ++ (number f ++ (number x ++ number y)))))))
-detail-line (layer-attributes n) = layer-text ++ number n
-detail-line (Y a b c d e f) = 89 ∷ (number a ++ (number b ++ (number c ++ (number d ++ (number e ++ number f)))))
-detail-line (filter-paints n) = filter-text ++ number n
-detail-line (F a b x y) = 70 ∷ (number a ++ (number b ++ (signed x ++ signed y)))
-detail-line (painted r n) = painted-text ++ (number r ++ (pieces-text ++ number n))
-detail-line (p a f e x n) = 112 ∷ piece-bytes a f e (alpha-bytes x) n
-detail-line (l a f e x n) = 108 ∷ piece-bytes a f e (alpha-bytes x) n
+abbrev pub piece-room : ℕ
+piece-room = 72
+
+-- a panel stands last, where panels are shown
+abbrev pub panel-bytes : Bool → ℕ → List ℕ
+panel-bytes true q = number q
+panel-bytes false q = []
+
+-- what a p and an l have in common
+abbrev pub piece-bytes : ℕ → ℕ → ℕ → List ℕ → ℕ → List ℕ → List ℕ
+piece-bytes a first end alpha n panel = number a ++ (number first ++ (number end ++ (alpha ++ (number n ++ panel))))
+
+-- a line without its line feed; v: panels are shown
+abbrev pub detail-line : Bool → Detail → List ℕ
+detail-line v (paint-attributes n) = paint-text ++ number n
+detail-line v (A a b c d e f x y q) =
+    65 ∷ (number a ++ (number b ++ (number c ++ (number d ++ (number e ++ (number f ++ (number x ++ (number y ++ panel-bytes v q))))))))
+detail-line v (layer-attributes n) = layer-text ++ number n
+detail-line v (Y a b c d e f q) =
+    89 ∷ (number a ++ (number b ++ (number c ++ (number d ++ (number e ++ (number f ++ panel-bytes v q))))))
+detail-line v (filter-paints n) = filter-text ++ number n
+detail-line v (F a b x y) = 70 ∷ (number a ++ (number b ++ (signed x ++ signed y)))
+detail-line v (painted r n) = painted-text ++ (number r ++ (pieces-text ++ number n))
+detail-line v (p a f e x n q) = 112 ∷ piece-bytes a f e (alpha-bytes x) n (panel-bytes v q)
+detail-line v (l a f e x n q) = 108 ∷ piece-bytes a f e (alpha-bytes x) n (panel-bytes v q)
 
 -- each line ends in a line feed
-unfoldable pub detail-bytes : Detail → List ℕ
-detail-bytes d = detail-line d ++ (10 ∷ [])
+unfoldable pub detail-bytes : Bool → Detail → List ℕ
+detail-bytes v d = detail-line v d ++ (10 ∷ [])
 
-abbrev pub details-text : List Detail → List ℕ
-details-text ds = join detail-bytes ds
+abbrev pub details-text : Bool → List Detail → List ℕ
+details-text v ds = join (detail-bytes v) ds

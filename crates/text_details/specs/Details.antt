@@ -15,24 +15,24 @@ use Rattle.rules.specs.Steps.{Screen}
 use Rattle.rules.specs.Painting.{Piece, paint-row}
 use Rattle.rules.specs.Lines.{rowlist-screen}
 
--- A: paint mix compose mask id thread x y. Y: mix compose opacity-bits mask id thread. F: flag pixmap dx dy.
--- p, l: attribute, first tile, end, alpha or none, nesting
+-- A: paint mix compose mask id thread x y panel. Y: mix compose opacity-bits mask id thread panel. F: flag pixmap dx dy.
+-- p, l: attribute, first tile, end, alpha or none, nesting, panel
 pub data Detail : Type 0 where
   paint-attributes : ℕ → Detail
-  A : ℕ → ℕ → ℕ → ℕ → ℕ → ℕ → ℕ → ℕ → Detail
+  A : ℕ → ℕ → ℕ → ℕ → ℕ → ℕ → ℕ → ℕ → ℕ → Detail
   layer-attributes : ℕ → Detail
-  Y : ℕ → ℕ → ℕ → ℕ → ℕ → ℕ → Detail
+  Y : ℕ → ℕ → ℕ → ℕ → ℕ → ℕ → ℕ → Detail
   filter-paints : ℕ → Detail
   F : ℕ → ℕ → ℤ → ℤ → Detail
   painted : ℕ → ℕ → Detail
-  p : ℕ → ℕ → ℕ → Option ℕ → ℕ → Detail
-  l : ℕ → ℕ → ℕ → Option ℕ → ℕ → Detail
+  p : ℕ → ℕ → ℕ → Option ℕ → ℕ → ℕ → Detail
+  l : ℕ → ℕ → ℕ → Option ℕ → ℕ → ℕ → Detail
 
 abbrev pub paint-attr-line : PaintAttr → Detail
-paint-attr-line a = A (a .paint) (a .blend .mix) (a .blend .compose) (a .mask) (a .id) (a .thread) (a .origin-x) (a .origin-y)
+paint-attr-line a = A (a .paint) (a .blend .mix) (a .blend .compose) (a .mask) (a .id) (a .thread) (a .origin-x) (a .origin-y) (a .panel)
 
 abbrev pub layer-attr-line : LayerAttr → Detail
-layer-attr-line a = Y (a .blend .mix) (a .blend .compose) (a .opacity) (a .mask) (a .id) (a .thread)
+layer-attr-line a = Y (a .blend .mix) (a .blend .compose) (a .opacity) (a .mask) (a .id) (a .thread) (a .panel)
 
 abbrev pub filter-paint-line : FilterPaint → Detail
 filter-paint-line f = F 0 (f .pixmap) (f .shift-x) (f .shift-y)
@@ -40,8 +40,8 @@ filter-paint-line f = F 0 (f .pixmap) (f .shift-x) (f .shift-y)
 abbrev pub piece-line : Piece → Detail
 piece-line k =
     cond (k .layer)
-    (l (k .attribute) (k .tiles .first) (k .tiles .end) (k .alpha) (k .nesting))
-    (p (k .attribute) (k .tiles .first) (k .tiles .end) (k .alpha) (k .nesting))
+    (l (k .attribute) (k .tiles .first) (k .tiles .end) (k .alpha) (k .nesting) (k .panel))
+    (p (k .attribute) (k .tiles .first) (k .tiles .end) (k .alpha) (k .nesting) (k .panel))
 
 abbrev pub attr-lines : Attrs → List Detail
 attr-lines a =

@@ -31,6 +31,7 @@ use Rattle.paint_command.specs.Painting as paint
 use Rattle.text.specs.Texts.{Text, text, put, Wrote}
 use Rattle.text_details.specs.Details.{Detail, detail-lines, rowdump-words}
 use Rattle.text_details.specs.Bytes.{details-text}
+use Rattle.text_row.specs.Pieces.{piece-list}
 use Rattle.text_row.specs.Dumped as dumped
 use Rattle.text_file.specs.declared.FileText.{FileText}
 use Rattle.text_file.specs.Files.{FileOut, file-out, showed, refusing, size, over, Usual, words-text, refused-as-is, bytes-text}
@@ -42,7 +43,7 @@ use Rattle.theorem_text.proofs.Played.{Ended, play-ended}
 use Rattle.text_programs.proofs.Laws.{Long, roomy, fixed, rowlist-shown}
 use Rattle.text_programs.specs.Programs.{rowlist-text, first}
 use Rattle.text_dump.specs.Rowdump.{recording-line, rowdump-lines, file-lines-text, Printed}
-use Rattle.text_dump.specs.Dumped.{Part, part, details-dumped, words-before, screen-dumped, Wide, Sized}
+use Rattle.text_dump.specs.Dumped.{list-room, details-room, lines-room, Part, part, details-dumped, words-before, screen-dumped, Wide, Sized}
 use Rattle.text_dump.proofs.Parts.{mid-all, put-all}
 use Rattle.text_dump.proofs.First.{Says, first-dropped, first-long, first-two}
 use Rattle.text_dump.proofs.Details.{at-words, attrs-of, details-are}
@@ -55,7 +56,7 @@ module _ (xs ts us : List ℕ) (k n : ℕ) (e : us ≡ xs ++ drop k ts) (h : k �
   pub cut-back : take k us ≡ xs
   cut-back = rw e (take-at xs (drop k ts) k cut-long)
 
-module _ (s : Screen Row) (t u : Tables) (ht : Long t) (hu : Long u) (x : declared.Screen) (o : FileOut) (l : Left s t o) (ex : x ≡ o .showed .text .screen) (eu : u ≡ o .tables)
+module _ (d : Bool) (s : Screen Row) (t u : Tables) (ht : Long t) (hu : Long u) (x : declared.Screen) (o : FileOut) (l : Left s t o) (ex : x ≡ o .showed .text .screen) (eu : u ≡ o .tables)
     (ended : Ended s) where
   abbrev v : Box
   v = l .viewport
@@ -168,20 +169,20 @@ module _ (s : Screen Row) (t u : Tables) (ht : Long t) (hu : Long u) (x : declar
   rows-there = sym (l .kept .sound .count ∙ ap rows-of own-view)
 
   -- What `screen_text` writes of them is the text of the rules' details.
-  module _ (list : List ℕ) (long : 12672 ≤ length list) (bs : List ℕ) (room : 4548896 ≤ length bs) where
-    same-details : details-dumped x (rows-of (box-of (x .viewport))) attrs (words-before x (given list)) bs ≡ details-dumped (m .screen) (length (s .rows)) (attrs-of m) (at-words m list) bs
+  module _ (list : List ℕ) (long : piece-list ≤ length list) (bs : List ℕ) (room : details-room ≤ length bs) where
+    same-details : details-dumped d x (rows-of (box-of (x .viewport))) attrs (words-before x (given list)) bs ≡ details-dumped d (m .screen) (length (s .rows)) (attrs-of m) (at-words m list) bs
     same-details = rw (across, view, same-attrs, rows-back, render-back, fills-back, depth-back, painting-back, screen-there, rows-there)
 
-    details : Says (details-text (detail-lines s)) bs (details-dumped (m .screen) (length (s .rows)) (attrs-of m) (at-words m list) bs)
+    details : Says (details-text d (detail-lines s)) bs (details-dumped d (m .screen) (length (s .rows)) (attrs-of m) (at-words m list) bs)
     details =
-        details-are (usual-frame v (l .width)) s (l .kept) refl refl (l .few) ended (h .begun) (h .depth) (h .painting)
+        details-are d (usual-frame v (l .width)) s (l .kept) refl refl (l .few) ended (h .begun) (h .depth) (h .painting)
         (sym (ap (λ (q : dumped.AttrTables). length (q .paints)) same-attrs) ∙ sym (hu .paint-attrs))
         (sym (ap (λ (q : dumped.AttrTables). length (q .layers)) same-attrs) ∙ sym (hu .layer-attrs))
         (sym (ap (λ (q : dumped.AttrTables). length (q .opacities)) same-attrs) ∙ sym (hu .opacities))
         (sym (ap (λ (q : dumped.AttrTables). length (q .filters)) same-attrs) ∙ sym (hu .filter-paints))
         depth-long painting-long list long bs room
 
-    pub screen-says : Says (details-text (detail-lines s)) bs (screen-dumped x attrs (given list) bs)
+    pub screen-says : Says (details-text d (detail-lines s)) bs (screen-dumped d x attrs (given list) bs)
     unfolding screen-dumped
     screen-says =
         record {
@@ -290,9 +291,9 @@ long-of t list out p =
     }
 
 -- The whole text of a file, where its call is refused, and where the details stand after its lines.
-module _ (q : Setup) (usual : Usual q) (fs : List ℕ) (byte : (i : ℕ) → getD fs i 0 < 256) (t : Tables) (h : Long t)
-    (bs : List ℕ) (room : 4813152 ≤ length bs) {x : FileText} {cs : List ℕ} {u : Tables} (e : file-out (showed x cs) u ≡ bytes-text fs q t bs) where
-  enough : 264256 ≤ length bs
+module _ (v : Bool) (q : Setup) (usual : Usual q) (fs : List ℕ) (byte : (i : ℕ) → getD fs i 0 < 256) (t : Tables) (h : Long t)
+    (bs : List ℕ) (room : lines-room ≤ length bs) {x : FileText} {cs : List ℕ} {u : Tables} (e : file-out (showed x cs) u ≡ bytes-text fs q t bs) where
+  enough : list-room ≤ length bs
   enough = omega arith
 
   lines : (x .bytes ≡ length (rowlist-text q fs)) × (cs ≡ first (rowlist-text q fs) bs)
@@ -301,16 +302,16 @@ module _ (q : Setup) (usual : Usual q) (fs : List ℕ) (byte : (i : ℕ) → get
   number-is : x .number ≡ bytes-text fs q t bs .showed .text .number
   number-is = ap (λ (o : FileOut). o .showed .text .number) e
 
-  pub lines-few : x .bytes ≤ 264256
+  pub lines-few : x .bytes ≤ list-room
   lines-few = rw (lines .0) (file-few q usual fs t (roomy t h) (fixed t h) bs enough)
 
   pub lines-long : x .bytes ≤ length cs
   lines-long = rw (lines .1, first-long (rowlist-text q fs) bs (omega (arith, lines .0, lines-few))) (omega (arith, lines-few))
 
-  pub refused-whole : (x .number ≡ 0 → ⊥) → Printed (file-lines-text q fs) bs (x .bytes) cs
+  pub refused-whole : (x .number ≡ 0 → ⊥) → Printed (file-lines-text v q fs) bs (x .bytes) cs
   refused-whole n =
       let d = refused-none q usual fs byte t h bs enough (λ z. n (number-is ∙ z)) in
-      let whole : file-lines-text q fs ≡ rowlist-text q fs = rw (d, append-nil (rowlist-text q fs)) in
+      let whole : file-lines-text v q fs ≡ rowlist-text q fs = rw (d, append-nil (rowlist-text q fs)) in
       record { count = rw whole (lines .0); bytes = rw whole (lines .1); few = omega (arith, lines-few) }
 
   module _ (hu : Long u) (z : x .number ≡ 0) where
@@ -319,26 +320,26 @@ module _ (q : Setup) (usual : Usual q) (fs : List ℕ) (byte : (i : ℕ) → get
 
     pub screen-wide : Wide (x .screen) (u .rows) (u .render) (u .fills) (u .depth) (u .painting)
     screen-wide =
-        wide (a .screen) t u h hu (x .screen) (bytes-text fs q t bs) (a .left) (ap (λ (o : FileOut). o .showed .text .screen) e) (ap (λ (o : FileOut). o .tables) e) (a .ended)
+        wide v (a .screen) t u h hu (x .screen) (bytes-text fs q t bs) (a .left) (ap (λ (o : FileOut). o .showed .text .screen) e) (ap (λ (o : FileOut). o .tables) e) (a .ended)
 
-    pub accepted-whole : (list : List ℕ) → 12672 ≡ length list → {j m : ℕ} {d p ls ds : List ℕ}
-        → part j d p ls ds ≡ screen-dumped (x .screen) (dumped.tables (u .paint-attrs) (u .layer-attrs) (u .opacities) (u .filter-paints)) (paint.lent (u .rows) (u .render) (u .fills) (u .depth) (u .painting) list) (take (m - x .bytes) (drop (x .bytes) cs))
-        → j ≤ length (take (m - x .bytes) (drop (x .bytes) cs)) → m ≡ length cs → Printed (file-lines-text q fs) bs (x .bytes + j) (putMid (x .bytes) (m - x .bytes) cs ds)
+    pub accepted-whole : (list : List ℕ) → piece-list ≡ length list → {j m : ℕ} {d p ls ds : List ℕ}
+        → part j d p ls ds ≡ screen-dumped v (x .screen) (dumped.tables (u .paint-attrs) (u .layer-attrs) (u .opacities) (u .filter-paints)) (paint.lent (u .rows) (u .render) (u .fills) (u .depth) (u .painting) list) (take (m - x .bytes) (drop (x .bytes) cs))
+        → j ≤ length (take (m - x .bytes) (drop (x .bytes) cs)) → m ≡ length cs → Printed (file-lines-text v q fs) bs (x .bytes + j) (putMid (x .bytes) (m - x .bytes) cs ds)
     accepted-whole list long {j} {m} {d} {p} {ls} {ds} g f y =
         let rest = drop (x .bytes) cs in
         let rs = rowlist-text q fs in
         let few = lines-few in
         let same-rest : rest ≡ drop (length rs) (first rs bs) = rw (lines .0, lines .1) in
-        let roomy-rest : 4548896 ≤ length rest = rw (same-rest, first-dropped rs bs, length-drop) (omega (arith, few, lines .0)) in
-        let i : part j d p ls ds ≡ screen-dumped (x .screen) (dumped.tables (u .paint-attrs) (u .layer-attrs) (u .opacities) (u .filter-paints)) (paint.lent (u .rows) (u .render) (u .fills) (u .depth) (u .painting) list) rest = rw (y, mid-all (x .bytes) cs) at g in
-        let says = screen-says (a .screen) t u h hu (x .screen) (bytes-text fs q t bs) (a .left) (ap (λ (o : FileOut). o .showed .text .screen) e) (ap (λ (o : FileOut). o .tables) e) (a .ended) list (omega arith) rest roomy-rest in
-        let count : j ≡ length (details-text (rowdump-lines q fs)) = ap (λ (o : Part). o .count) i ∙ says .count ∙ rw (a .lines) in
-        let bytes : ds ≡ first (details-text (rowdump-lines q fs)) rest = ap (λ (o : Part). o .bytes) i ∙ says .bytes ∙ rw (a .lines) in
+        let roomy-rest : details-room ≤ length rest = rw (same-rest, first-dropped rs bs, length-drop) (omega (arith, few, lines .0)) in
+        let i : part j d p ls ds ≡ screen-dumped v (x .screen) (dumped.tables (u .paint-attrs) (u .layer-attrs) (u .opacities) (u .filter-paints)) (paint.lent (u .rows) (u .render) (u .fills) (u .depth) (u .painting) list) rest = rw (y, mid-all (x .bytes) cs) at g in
+        let says = screen-says v (a .screen) t u h hu (x .screen) (bytes-text fs q t bs) (a .left) (ap (λ (o : FileOut). o .showed .text .screen) e) (ap (λ (o : FileOut). o .tables) e) (a .ended) list (omega arith) rest roomy-rest in
+        let count : j ≡ length (details-text v (rowdump-lines q fs)) = ap (λ (o : Part). o .count) i ∙ says .count ∙ rw (a .lines) in
+        let bytes : ds ≡ first (details-text v (rowdump-lines q fs)) rest = ap (λ (o : Part). o .bytes) i ∙ says .bytes ∙ rw (a .lines) in
         let rest-few : j ≤ length rest = rw (y, mid-all (x .bytes) cs) at f in
         let cs-long : length cs ≡ length bs = ap (λ (o : List ℕ). length o) (lines .1) ∙ first-long rs bs (omega (arith, few, lines .0)) in
         record {
-          count = rw (lines .0, count) (sym (length-append rs (details-text (rowdump-lines q fs))));
-          bytes = rw (y, put-all (x .bytes) cs ds, bytes, lines .0, lines .1) (first-two rs bs (details-text (rowdump-lines q fs)));
+          count = rw (lines .0, count) (sym (length-append rs (details-text v (rowdump-lines q fs))));
+          bytes = rw (y, put-all (x .bytes) cs ds, bytes, lines .0, lines .1) (first-two rs bs (details-text v (rowdump-lines q fs)));
           few = omega (arith, rest-few, length-drop (x .bytes) cs, cs-long, few);
         }
 

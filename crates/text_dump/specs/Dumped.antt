@@ -1,6 +1,7 @@
 -- What the parts of a recording's text leave: one text after the other, each at the start of the bytes that are left.
 use Prim.Native.Nat.{ℕ, zero, suc, _+_, _*_, _≤_}
 use mathlib.Core.Path.{_≡_}
+use mathlib.Core.Bool.{Bool}
 use mathlib.Core.List.{List, _++_}
 use lib.ListN.{length, take, drop}
 use Rattle.sizes.specs.Sizes.{row-size, program-rows, program-buckets, program-room, program-records, program-render, program-fills, program-depth, program-painting, open-layer-table, opacity-count, paint-attr-table, layer-attr-table, filter-paint-table}
@@ -13,7 +14,22 @@ use Rattle.screen.specs.Tables as screen
 use Rattle.paint_command.specs.Painting.{RowLent, lent}
 use Rattle.paint_screen.specs.Beginning.{canvas, beginning}
 use Rattle.paint_screen.specs.Stepping.{Attributes, attributes}
-use Rattle.text_row.specs.Dumped.{AttrTables, tables, row-dumped, attrs-dumped}
+use Rattle.text_screen.specs.Listed.{row-room}
+use Rattle.text_row.specs.Pieces.{piece-list}
+use Rattle.text_row.specs.Dumped.{attrs-most, row-most, AttrTables, tables, row-dumped, attrs-dumped}
+
+-- What the lines of `rowlist` have at most; what the details have; what all that stands after the first line has; and the whole text.
+abbrev pub list-room : ℕ
+list-room = 64 + program-rows * row-room program-room program-room
+
+abbrev pub details-room : ℕ
+details-room = attrs-most + program-rows * row-most
+
+abbrev pub lines-room : ℕ
+lines-room = list-room + details-room
+
+abbrev pub dump-room : ℕ
+dump-room = 32 + lines-room
 
 -- how many bytes a part has written, the words that painting changes, the bytes
 pub record Part : Type 0 where
@@ -30,21 +46,21 @@ part n d p l bs = record { count = n; depth = d; painting = p; list = l; bytes =
 abbrev pub after : ℕ → List ℕ → Part → Part
 after n bs q = part (n + q .count) (q .depth) (q .painting) (q .list) (take n bs ++ q .bytes)
 
--- k rows from row r on
-unfoldable pub rows-dumped : ℕ → ℕ → Screen → Attributes → RowLent → List ℕ → Part
-rows-dumped zero r s a l bs = part 0 (l .depth) (l .painting) (l .list) bs
-rows-dumped (suc k) r s a l bs =
-    let o = row-dumped s r a l bs in
+-- k rows from row r on; v: panels are shown
+unfoldable pub rows-dumped : Bool → ℕ → ℕ → Screen → Attributes → RowLent → List ℕ → Part
+rows-dumped v zero r s a l bs = part 0 (l .depth) (l .painting) (l .list) bs
+rows-dumped v (suc k) r s a l bs =
+    let o = row-dumped v s r a l bs in
     after (o .answer .bytes) (o .bytes)
-    (rows-dumped k (suc r) s a (lent (l .state) (l .render) (l .fills) (o .depth) (o .painting) (o .list)) (drop (o .answer .bytes) (o .bytes)))
+    (rows-dumped v k (suc r) s a (lent (l .state) (l .render) (l .fills) (o .depth) (o .painting) (o .list)) (drop (o .answer .bytes) (o .bytes)))
 
 -- the attributes, then the n rows once painting has begun
-unfoldable pub details-dumped : Screen → ℕ → AttrTables → RowLent → List ℕ → Part
-details-dumped s n t l bs =
-    let o = attrs-dumped s t bs in
+unfoldable pub details-dumped : Bool → Screen → ℕ → AttrTables → RowLent → List ℕ → Part
+details-dumped v s n t l bs =
+    let o = attrs-dumped v s t bs in
     let k = beginning (canvas s (l .depth) (l .painting)) .value in
     after (o .answer .bytes) (o .bytes)
-    (rows-dumped n 0 (k .screen) (attributes (t .paints) (t .layers)) (lent (l .state) (l .render) (l .fills) (k .depth) (k .painting) (l .list))
+    (rows-dumped v n 0 (k .screen) (attributes (t .paints) (t .layers)) (lent (l .state) (l .render) (l .fills) (k .depth) (k .painting) (l .list))
     (drop (o .answer .bytes) (o .bytes)))
 
 -- in tables for 32 rows of 64 buckets: a screen's own words stand first
@@ -60,8 +76,8 @@ in-front s l q =
     let n = rows-of (box-of (s .viewport)) in
     part (q .count) (q .depth ++ drop (n * buckets-across (frame-of s)) (l .depth)) (q .painting ++ drop (n * 2) (l .painting)) (q .list) (q .bytes)
 
-unfoldable pub screen-dumped : Screen → AttrTables → RowLent → List ℕ → Part
-screen-dumped s t l bs = in-front s l (details-dumped s (rows-of (box-of (s .viewport))) t (words-before s l) bs)
+unfoldable pub screen-dumped : Bool → Screen → AttrTables → RowLent → List ℕ → Part
+screen-dumped v s t l bs = in-front s l (details-dumped v s (rows-of (box-of (s .viewport))) t (words-before s l) bs)
 
 -- tables for 32 rows of 64 buckets, and a screen that has no more
 pub record Wide (s : Screen) (rows render fills depth painting : List ℕ) : Type 0 where
@@ -85,5 +101,5 @@ pub record Sized (t : screen.Tables) (list out : List ℕ) : Type 0 where
   pub paint-attrs : paint-attr-table ≡ length (t .paint-attrs)
   pub layer-attrs : layer-attr-table ≡ length (t .layer-attrs)
   pub filter-paints : filter-paint-table ≡ length (t .filter-paints)
-  pub pieces : 12672 ≡ length list
-  pub room : 4813152 ≤ length out
+  pub pieces : piece-list ≡ length list
+  pub room : lines-room ≤ length out

@@ -27,12 +27,12 @@ rowdump-lines q fs =
       | false ↦ elim (words-of fs) [ none ↦ [] | some ws ↦ rowdump-words q ws ]
     ]
 
--- what stands after the first line: the rules' `rowlist` of the bytes, then the details
-abbrev pub file-lines-text : Setup → List ℕ → List ℕ
-file-lines-text q fs = rowlist-text q fs ++ details-text (rowdump-lines q fs)
+-- what stands after the first line: the rules' `rowlist` of the bytes, then the details; v: panels are shown
+abbrev pub file-lines-text : Bool → Setup → List ℕ → List ℕ
+file-lines-text v q fs = rowlist-text q fs ++ details-text v (rowdump-lines q fs)
 
-abbrev pub rowdump-text : Setup → ℕ → List ℕ → List ℕ
-rowdump-text q i fs = recording-line i ++ file-lines-text q fs
+abbrev pub rowdump-text : Bool → Setup → ℕ → List ℕ → List ℕ
+rowdump-text v q i fs = recording-line i ++ file-lines-text v q fs
 
 -- where the width asked for is none
 abbrev pub no-width-dump : ℕ → List ℕ → List ℕ

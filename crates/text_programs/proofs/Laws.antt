@@ -9,6 +9,7 @@ use lib.ListN.{length, take, drop, length-append}
 use lib.Seq.{take-at}
 use lib.Dec.{leb, eqb}
 use borrow.Author.Tests.{le-leb, le-ltb, lt-ltb, leb-true, leb-false, eq-eqb}
+use Rattle.sizes.specs.Sizes.{program-render, program-fills, program-depth, program-records, program-painting, open-layer-table, opacity-count, paint-attr-table, layer-attr-table, filter-paint-table}
 use Rattle.sizes.specs.declared.width.Width.{Width}
 use Rattle.sizes.specs.declared.width.Width.the-variants.{W128}
 use Rattle.sizes.specs.declared.width.ReadWidth.{ReadWidth}
@@ -30,50 +31,50 @@ use Rattle.refine_text.proofs.Files.{shows, file-printed, words-leave}
 use Rattle.text_programs.specs.Programs.{rowlist-number, rowlist-text, no-width-text, Wanted, wanted, want-of, first}
 
 -- what is wanted with n pixels a bucket, as they are read
-module _ (m : Mode) (n : ℕ) {r : ReadWidth} (e : width-read r ≡ width-of n) {q : Setup} where
-  pub no-want : r ≡ read.Bad → q ≡ usual m W128 → wanted q true ≡ want-of m (width-of n)
+module _ (m : Mode) (n : ℕ) (v : Bool) {r : ReadWidth} (e : width-read r ≡ width-of n) {q : Setup} where
+  pub no-want : r ≡ read.Bad → q ≡ usual m W128 → wanted q true v ≡ want-of m (width-of n) v
   no-want b h = rw (← e, b, h)
 
-  pub want-at : (w : Width) → r ≡ read.Good w → q ≡ usual m w → wanted q false ≡ want-of m (width-of n)
+  pub want-at : (w : Width) → r ≡ read.Good w → q ≡ usual m w → wanted q false v ≡ want-of m (width-of n) v
   want-at w b h = rw (← e, b, h)
 
 -- .. has C = D = 64
-pub as-usual : (m : Mode) (o : Option Width) {q : Setup} {b : Bool} → wanted q b ≡ want-of m o → Usual q
-as-usual m none e = record { c = ap (λ (x : Wanted). x .setup .c) e; d = ap (λ (x : Wanted). x .setup .d) e }
-as-usual m (some w) e = record { c = ap (λ (x : Wanted). x .setup .c) e; d = ap (λ (x : Wanted). x .setup .d) e }
+pub as-usual : (m : Mode) (o : Option Width) (v : Bool) {q : Setup} {b c : Bool} → wanted q b c ≡ want-of m o v → Usual q
+as-usual m none v e = record { c = ap (λ (x : Wanted). x .setup .c) e; d = ap (λ (x : Wanted). x .setup .d) e }
+as-usual m (some w) v e = record { c = ap (λ (x : Wanted). x .setup .c) e; d = ap (λ (x : Wanted). x .setup .d) e }
 
 -- the lengths of the programs' tables
 pub record Long (t : Tables) : Type 0 where
-  pub render : 8192 ≡ length (t .render)
-  pub fills : 4096 ≡ length (t .fills)
-  pub depth : 2048 ≡ length (t .depth)
-  pub rows : 1728 ≡ length (t .rows)
-  pub painting : 64 ≡ length (t .painting)
-  pub layers : 256 ≡ length (t .layers)
-  pub opacities : 1040 ≡ length (t .opacities)
-  pub paint-attrs : 8192 ≡ length (t .paint-attrs)
-  pub layer-attrs : 6144 ≡ length (t .layer-attrs)
-  pub filter-paints : 1024 ≡ length (t .filter-paints)
+  pub render : program-render ≡ length (t .render)
+  pub fills : program-fills ≡ length (t .fills)
+  pub depth : program-depth ≡ length (t .depth)
+  pub rows : program-records ≡ length (t .rows)
+  pub painting : program-painting ≡ length (t .painting)
+  pub layers : open-layer-table ≡ length (t .layers)
+  pub opacities : opacity-count ≡ length (t .opacities)
+  pub paint-attrs : paint-attr-table ≡ length (t .paint-attrs)
+  pub layer-attrs : layer-attr-table ≡ length (t .layer-attrs)
+  pub filter-paints : filter-paint-table ≡ length (t .filter-paints)
 
 module _ (t : Tables) (h : Long t) where
   pub roomy : is-roomy t ≡ true
   roomy =
       rw (
-        le-leb 8192 (length (t .render)) (omega (arith, h .render)),
-        le-leb 4096 (length (t .fills)) (omega (arith, h .fills)),
-        le-leb 2048 (length (t .depth)) (omega (arith, h .depth)),
-        le-leb 1728 (length (t .rows)) (omega (arith, h .rows)),
-        le-leb 64 (length (t .painting)) (omega (arith, h .painting)),
+        le-leb program-render (length (t .render)) (omega (arith, h .render)),
+        le-leb program-fills (length (t .fills)) (omega (arith, h .fills)),
+        le-leb program-depth (length (t .depth)) (omega (arith, h .depth)),
+        le-leb program-records (length (t .rows)) (omega (arith, h .rows)),
+        le-leb program-painting (length (t .painting)) (omega (arith, h .painting)),
       )
 
   pub fixed : good-fixed (lengths t) ≡ true
   fixed =
       rw (
-        eq-eqb (length (t .layers)) 256 (sym (h .layers)),
-        eq-eqb (length (t .opacities)) 1040 (sym (h .opacities)),
-        eq-eqb (length (t .paint-attrs)) 8192 (sym (h .paint-attrs)),
-        eq-eqb (length (t .layer-attrs)) 6144 (sym (h .layer-attrs)),
-        eq-eqb (length (t .filter-paints)) 1024 (sym (h .filter-paints)),
+        eq-eqb (length (t .layers)) open-layer-table (sym (h .layers)),
+        eq-eqb (length (t .opacities)) opacity-count (sym (h .opacities)),
+        eq-eqb (length (t .paint-attrs)) paint-attr-table (sym (h .paint-attrs)),
+        eq-eqb (length (t .layer-attrs)) layer-attr-table (sym (h .layer-attrs)),
+        eq-eqb (length (t .filter-paints)) filter-paint-table (sym (h .filter-paints)),
       )
 
   module _ (q : Setup) (u : Usual q) (fs bs : List ℕ) (room : 264256 ≤ length bs) where

@@ -31,17 +31,18 @@ no-width-text fs = text-of (no-width fs)
 abbrev pub by-width : Bool → List ℕ → List ℕ → List ℕ
 by-width no-width fs ts = cond no-width (no-width-text fs) ts
 
--- what the options want: the usual setup at the width typed, or that it is none
+-- what the options want: the usual setup at the width typed, or that it is none; and whether panels are shown
 pub record Wanted : Type 0 where
   pub setup : Setup
   pub no-width : Bool
+  pub panels : Bool
 
-abbrev pub wanted : Setup → Bool → Wanted
-wanted q b = record { setup = q; no-width = b }
+abbrev pub wanted : Setup → Bool → Bool → Wanted
+wanted q b v = record { setup = q; no-width = b; panels = v }
 
-abbrev pub want-of : Mode → Option Width → Wanted
-want-of m none = wanted (usual m W128) true
-want-of m (some w) = wanted (usual m w) false
+abbrev pub want-of : Mode → Option Width → Bool → Wanted
+want-of m none v = wanted (usual m W128) true v
+want-of m (some w) v = wanted (usual m w) false v
 
 -- a text at the start of some bytes; what was after it stays
 abbrev pub first : List ℕ → List ℕ → List ℕ

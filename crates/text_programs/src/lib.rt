@@ -22,6 +22,7 @@ use crate::tables::filter_words;
 use crate::tables::layer_attr_words;
 use crate::tables::layer_words;
 use crate::tables::opacity_words;
+use crate::tables::paint_attr_words;
 use crate::tables::painting_words;
 use crate::tables::render_words;
 use crate::tables::row_words;
@@ -39,7 +40,7 @@ pub fn list_file(file: &[u8], setup: Setup, out: &mut [u8]) -> Listing
     let mut painting = painting_words();
     let mut layers = layer_words();
     let mut opacities = opacity_words();
-    let mut paint_attrs = render_words();
+    let mut paint_attrs = paint_attr_words();
     let mut layer_attrs = layer_attr_words();
     let mut filter_paints = filter_words();
     let text = file_text(

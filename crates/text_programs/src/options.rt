@@ -14,10 +14,12 @@ ghost use Rattle.screen.specs.Screens.{setup-of};
 ghost use Rattle.text_file.specs.Files.{Usual};
 ghost use Rattle.text_programs.specs.Programs.{wanted, want-of};
 
-// What the options want of a screen. no_width: the number typed for the width is none, and every file is refused.
+// What the options want of a screen, and of its text. no_width: the number typed for the width is none, and every file is refused. panels: lines
+// with a panel show it.
 pub struct Want {
     pub setup: Setup,
     pub no_width: bool,
+    pub panels: bool,
 }
 
 // next: the first argument that is no option. others: how many there are from there on.
@@ -40,26 +42,28 @@ fn usual(mode: Mode, width: Width) -> Setup
 }
 
 // What is wanted with so many pixels a bucket.
-fn want_of(mode: Mode, pixels: u32) -> Want
-    ensures { λ r. ⌜ wanted (setup-of (r .setup)) (r .«no_width») ≡ want-of (mode-of mode) (width-of pixels) ⌝ }
+fn want_of(mode: Mode, pixels: u32, panels: bool) -> Want
+    ensures { λ r. ⌜ wanted (setup-of (r .setup)) (r .«no_width») (r .panels) ≡ want-of (mode-of mode) (width-of pixels) panels ⌝ }
 {
     let ReadWidth::Good(width) = read_width(pixels) else {
         return Want {
             setup: usual(mode, Width::W128),
             no_width: true,
+            panels,
         };
     };
     Want {
         setup: usual(mode, width),
         no_width: false,
+        panels,
     }
 }
 
-fn options_at(mode: Mode, pixels: u32, next: usize, others: usize) -> Options
+fn options_at(mode: Mode, pixels: u32, panels: bool, next: usize, others: usize) -> Options
     ensures { λ r. ⌜ Usual (setup-of (r .want .setup)) × (r .next ≡ next) × (r .others ≡ others) ⌝ }
 {
     Options {
-        want: want_of(mode, pixels),
+        want: want_of(mode, pixels, panels),
         next,
         others,
     }
@@ -75,14 +79,23 @@ fn width_at(i: usize) -> Number
     Number::Bad
 }
 
-// The options that the program was started with, 128 pixels a bucket without `--width`. Whatever is none ends them: what may stand there the
-// program knows.
-pub fn read_options() -> Options
+// A `--panels` at argument i, in a program that has this option.
+fn is_panels(i: usize, known: bool) -> bool {
+    if known {
+        return is_word(i, b"--panels");
+    }
+    false
+}
+
+// The options that the program was started with, 128 pixels a bucket without `--width`; known: `--panels` is one of them. Whatever is none ends
+// them: what may stand there the program knows.
+pub fn read_options(known: bool) -> Options
     ensures { λ r. ⌜ Usual (setup-of (r .want .setup)) × (r .next + r .others ≤ 18446744073709551615) ⌝ }
 {
     let n = os::arg_count();
     let mut mode = Mode::Exact;
     let mut pixels = 128;
+    let mut panels = false;
     let mut i = 1;
     while i < n {
         if is_word(i, b"--snap") {
@@ -90,16 +103,21 @@ pub fn read_options() -> Options
             i += 1;
             continue;
         }
+        if is_panels(i, known) {
+            panels = true;
+            i += 1;
+            continue;
+        }
         if n - i < 2 {
-            return options_at(mode, pixels, i, n - i);
+            return options_at(mode, pixels, panels, i, n - i);
         }
         let Number::Good(p) = width_at(i) else {
-            return options_at(mode, pixels, i, n - i);
+            return options_at(mode, pixels, panels, i, n - i);
         };
         pixels = p;
         i += 2;
     }
-    options_at(mode, pixels, i, 0)
+    options_at(mode, pixels, panels, i, 0)
 }
 
 // An argument that is a number: decimal digits, at most 4,294,967,295.

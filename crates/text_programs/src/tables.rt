@@ -1,11 +1,12 @@
 // The programs' tables and buffers.
 ghost use mathlib.Core.Path.{_≡_};
 ghost use lib.ListN.{length};
-ghost use Rattle.sizes.specs.Sizes.{program-render, program-fills, program-depth, program-records, program-painting, open-layer-table, opacity-count, layer-attr-table, filter-paint-table};
+ghost use Rattle.sizes.specs.Sizes.{program-render, program-fills, program-depth, program-records, program-painting, open-layer-table, opacity-count, paint-attr-table, layer-attr-table, filter-paint-table};
 use sizes::FILTER_TABLE;
 use sizes::LAYER_TABLE;
 use sizes::OPACITIES;
 use sizes::OPEN_TABLE;
+use sizes::PAINT_TABLE;
 use sizes::PROGRAM_DEPTH;
 use sizes::PROGRAM_FILLS;
 use sizes::PROGRAM_PAINTING;
@@ -55,6 +56,12 @@ pub fn opacity_words() -> [f32; OPACITIES]
     [0.0; OPACITIES]
 }
 
+pub fn paint_attr_words() -> [u32; PAINT_TABLE]
+    ensures { λ r. ⌜ paint-attr-table ≡ length r ⌝ }
+{
+    [0; PAINT_TABLE]
+}
+
 pub fn layer_attr_words() -> [u32; LAYER_TABLE]
     ensures { λ r. ⌜ layer-attr-table ≡ length r ⌝ }
 {
@@ -65,13 +72,6 @@ pub fn filter_words() -> [i32; FILTER_TABLE]
     ensures { λ r. ⌜ filter-paint-table ≡ length r ⌝ }
 {
     [0; FILTER_TABLE]
-}
-
-// The pieces of a row, six words each: at most 64 of all its depth fills together, and 32 of each of 64 commands.
-pub fn piece_words() -> [u32; 12672]
-    ensures { λ r. ⌜ 12672 ≡ length r ⌝ }
-{
-    [0; 12672]
 }
 
 // Room for the longest file, and one byte more.

@@ -7,6 +7,7 @@ use native.Mathlib.Omega.{arith}
 use lib.Dec.{ltb, eqb}
 use lib.ListN.{length, drop, length-append}
 use lib.Seq.{length-take-le}
+use Rattle.sizes.specs.Sizes.{piece-size}
 use Rattle.rules.specs.Answers.{Done}
 use Rattle.rules.specs.Painting as rules
 use Rattle.screen.specs.declared.Screen.{Screen}
@@ -16,12 +17,12 @@ use Rattle.paint_screen.specs.Stepping.{Attributes, number, row-step, stepped}
 use Rattle.paint_whole.specs.Running.{goes-on, ended, one-more, run, most, standing, call-step, row-painted}
 
 abbrev Holds : StepOut → Type 0
-Holds o = 6 * o .answer .pieces ≤ length (o .list)
+Holds o = piece-size * o .answer .pieces ≤ length (o .list)
 
 settled-holds : (x : Option rules.Painted) (d p l : List ℕ) → Holds (settled x d p l)
 unfolding settled
 settled-holds none d p l = omega arith
-settled-holds (some o) d p l = go (ltb (length l / 6) (length (o .pieces)))
+settled-holds (some o) d p l = go (ltb (length l / piece-size) (length (o .pieces)))
   where
     go : (b : Bool) → Holds (cond b (out (refused 14) d p l) (left o l))
     go true = omega arith
@@ -39,7 +40,7 @@ module _ (step : List ℕ → List ℕ → List ℕ → StepOut) (h : (d p l : L
   one-holds : (g : StepOut) → Holds g → Holds (one-more step g)
   unfolding one-more
   one-holds g i =
-      rw (length-append, length-take-le (6 * g .answer .pieces) (g .list) i) (omega (arith, h (g .depth) (g .painting) (drop (6 * g .answer .pieces) (g .list))))
+      rw (length-append, length-take-le (piece-size * g .answer .pieces) (g .list) i) (omega (arith, h (g .depth) (g .painting) (drop (piece-size * g .answer .pieces) (g .list))))
 
   run-holds : (f k : ℕ) (g : StepOut) → Holds g → Holds (run step f k g)
   unfolding run
@@ -50,7 +51,7 @@ module _ (step : List ℕ → List ℕ → List ℕ → StepOut) (h : (d p l : L
       go true j = j
       go false j = one-holds g i
 
-pub row-holds : (s : Screen) (r : ℕ) (a : Attributes) (l : RowLent) → 6 * row-painted s r a l .answer .pieces ≤ length (row-painted s r a l .list)
+pub row-holds : (s : Screen) (r : ℕ) (a : Attributes) (l : RowLent) → piece-size * row-painted s r a l .answer .pieces ≤ length (row-painted s r a l .list)
 unfolding row-painted
 row-holds s r a l =
     run-holds (call-step s r a (l .state) (l .render) (l .fills)) (λ d p ws. step-holds s r a (lent (l .state) (l .render) (l .fills) d p ws)) most 0

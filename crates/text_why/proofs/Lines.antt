@@ -5,11 +5,12 @@ use mathlib.Core.List.{List, _++_}
 use Prim.Native.Nat.{ℕ, zero, suc, _+_, _*_, _≤_}
 use native.Mathlib.Numerals.{add-one}
 use native.Mathlib.Omega.{arith}
+use Rattle.sizes.specs.Sizes.{most-attrs}
 use Rattle.rules_reason.specs.Reasons.{Reason, Asked}
 use Rattle.rules_reason.specs.Answers.{Question, every, one, reason-bytes, attribute-line, kind-lines, answer-lines}
 use Rattle.text.specs.Texts.{Text, Wrote}
 use Rattle.text.proofs.Laws.{then, within, wrote-none}
-use Rattle.text_why.specs.Questions.{read-by}
+use Rattle.text_why.specs.Questions.{read-by, reason-most, line-most, answer-most}
 
 module _ (why : Asked → Reason) (layer : Bool) where
   pub no-lines : {m : ℕ} (t : Text) → Wrote (kind-lines why layer 0) m t t
@@ -20,21 +21,21 @@ module _ (why : Asked → Reason) (layer : Bool) where
   unfolding kind-lines
   one-line-more i = refl
 
-  pub more-lines : (i : ℕ) {t u v : Text} → Wrote (kind-lines why layer i) (69 * i) t u → Wrote (attribute-line why (record { layer = layer; attribute = i })) 69 u v
-      → Wrote (kind-lines why layer (i + 1)) (69 * (i + 1)) t v
+  pub more-lines : (i : ℕ) {t u v : Text} → Wrote (kind-lines why layer i) (line-most * i) t u → Wrote (attribute-line why (record { layer = layer; attribute = i })) line-most u v
+      → Wrote (kind-lines why layer (i + 1)) (line-most * (i + 1)) t v
   more-lines i w x = rw (add-one i, one-line-more i) (within (omega arith) (then w x))
 
-  pub all-lines : (i n : ℕ) {t u : Text} → i ≤ n → n ≤ i → Wrote (kind-lines why layer i) (69 * i) t u → Wrote (kind-lines why layer n) (69 * n) t u
+  pub all-lines : (i n : ℕ) {t u : Text} → i ≤ n → n ≤ i → Wrote (kind-lines why layer i) (line-most * i) t u → Wrote (kind-lines why layer n) (line-most * n) t u
   all-lines i n g h w = let e : n ≡ i = omega arith in rw e w
 
 -- an answer of p draws and l layers, from n = p + l lines
 module _ (ws : List ℕ) (n p l : ℕ) (e : n ≡ p + l) {t u : Text} where
-  pub every-line : {v : Text} → p ≤ 1024 → l ≤ 1024 → Wrote (kind-lines (read-by ws n) false p) (69 * p) t u → Wrote (kind-lines (read-by ws n) true l) (69 * l) u v
-      → Wrote (answer-lines (read-by ws (p + l)) p l every) 141312 t v
+  pub every-line : {v : Text} → p ≤ most-attrs → l ≤ most-attrs → Wrote (kind-lines (read-by ws n) false p) (line-most * p) t u → Wrote (kind-lines (read-by ws n) true l) (line-most * l) u v
+      → Wrote (answer-lines (read-by ws (p + l)) p l every) answer-most t v
   unfolding answer-lines
   every-line g h x y = rw (← e) (within (omega arith) (then x y))
 
-  pub one-line : (a : Asked) (r : Reason) → r ≡ read-by ws n a → Wrote (reason-bytes r) 51 t u → Wrote (answer-lines (read-by ws (p + l)) p l (one a)) 141312 t u
+  pub one-line : (a : Asked) (r : Reason) → r ≡ read-by ws n a → Wrote (reason-bytes r) reason-most t u → Wrote (answer-lines (read-by ws (p + l)) p l (one a)) answer-most t u
   unfolding answer-lines
   one-line a r f w = rw (← e, ← f) (within (omega arith) w)
 

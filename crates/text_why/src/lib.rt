@@ -4,7 +4,7 @@ ghost use Prim.Native.Nat.{_+_, _*_, _≤_};
 ghost use lib.ListN.{length, take};
 ghost use Rattle.sizes.specs.Sizes.{most-attrs, file-bytes};
 ghost use Rattle.rules.specs.Lines.{rowlist-screen};
-ghost use Rattle.rules_reason.specs.Answers.{reason-bytes, kind-text, asked-bytes, attribute-line, kind-lines, answer-lines, why-words, why-text, question-line};
+ghost use Rattle.rules_reason.specs.Answers.{panel-bytes, reason-text, reason-bytes, kind-text, asked-bytes, attribute-line, kind-lines, answer-lines, why-words, why-text, question-line};
 ghost use Rattle.screen.specs.Screens.{setup-of};
 ghost use Rattle.file_form.specs.Words.{words-in};
 ghost use Rattle.text.specs.Texts.{text, far, Wrote};
@@ -12,7 +12,7 @@ ghost use Rattle.sizes.specs.Sizes.{line-size, line-table};
 ghost use Rattle.tile_steps.specs.Places.{Low};
 ghost use Rattle.tile_reason.specs.Reasons.{reason-of as said-of, asked-of};
 ghost use Rattle.text_file.specs.Files.{Usual};
-ghost use Rattle.text_why.specs.Questions.{question-of, read-by, line-most, answer-most};
+ghost use Rattle.text_why.specs.Questions.{question-of, read-by, panel-most, words-most, reason-most, asked-most, line-most, answer-most};
 use file_form::Form;
 use file_form::read_form;
 use file_form::words_of_bytes;
@@ -44,27 +44,56 @@ pub enum Question {
     One(Asked),
 }
 
-// A reason in words, and a line feed.
-fn put_reason(out: &mut [u8], at: usize, reason: Reason) -> usize
-    requires { ⌜ at + 51 ≤ far ⌝ }
-    ensures { λ r. ⌜ Wrote (reason-bytes (said-of reason)) 51 (text (now (out .entry)) at) (text (now (out .exit)) r) ⌝ }
+// How a reason ends.
+fn put_panel(out: &mut [u8], at: usize, panel: u32) -> usize
+    requires { ⌜ at + panel-most ≤ far ⌝ }
+    ensures { λ r. ⌜ Wrote (panel-bytes panel) panel-most (text (now (out .entry)) at) (text (now (out .exit)) r) ⌝ }
+{
+    let p = put_text(out, at, b", panel");
+    put_number(out, p, panel)
+}
+
+// A reason in words.
+fn put_words(out: &mut [u8], at: usize, reason: Reason) -> usize
+    requires { ⌜ at + words-most ≤ far ⌝ }
+    ensures { λ r. ⌜ Wrote (reason-text (said-of reason)) words-most (text (now (out .entry)) at) (text (now (out .exit)) r) ⌝ }
 {
     match reason {
-        Reason::UnknownAttribute => put_text(out, at, b"unknown attribute\n"),
-        Reason::NoSegment => put_text(out, at, b"no segment covers the tile\n"),
-        Reason::CutAway => put_text(out, at, b"cut away by a clip box\n"),
-        Reason::RowUntouched => put_text(out, at, b"row never touched by the closing layer\n"),
-        Reason::HiddenBy(a) => {
-            let p = put_text(out, at, b"hidden by a newer depth fill, attribute");
-            let q = put_number(out, p, a);
-            put_byte(out, q, b'\n')
+        Reason::UnknownAttribute => put_text(out, at, b"unknown attribute"),
+        Reason::NoSegment(panel) => {
+            let p = put_text(out, at, b"no segment covers the tile");
+            put_panel(out, p, panel)
         }
-        Reason::ShownAt(place) => {
+        Reason::CutAway(panel) => {
+            let p = put_text(out, at, b"cut away by a clip box");
+            put_panel(out, p, panel)
+        }
+        Reason::RowUntouched(panel) => {
+            let p = put_text(out, at, b"row never touched by the closing layer");
+            put_panel(out, p, panel)
+        }
+        Reason::HiddenBy(hidden) => {
+            let p = put_text(out, at, b"hidden by a newer depth fill, attribute");
+            let q = put_number(out, p, hidden.attribute);
+            let r = put_text(out, q, b" of panel");
+            let s = put_number(out, r, hidden.hider_panel);
+            put_panel(out, s, hidden.panel)
+        }
+        Reason::ShownAt(shown) => {
             let p = put_text(out, at, b"shown, place");
-            let q = put_number(out, p, place);
-            put_byte(out, q, b'\n')
+            let q = put_number(out, p, shown.place);
+            put_panel(out, q, shown.panel)
         }
     }
+}
+
+// .. and a line feed.
+fn put_reason(out: &mut [u8], at: usize, reason: Reason) -> usize
+    requires { ⌜ at + reason-most ≤ far ⌝ }
+    ensures { λ r. ⌜ Wrote (reason-bytes (said-of reason)) reason-most (text (now (out .entry)) at) (text (now (out .exit)) r) ⌝ }
+{
+    let p = put_words(out, at, reason);
+    put_byte(out, p, b'\n')
 }
 
 fn put_kind(out: &mut [u8], at: usize, layer: bool) -> usize
@@ -79,8 +108,8 @@ fn put_kind(out: &mut [u8], at: usize, layer: bool) -> usize
 
 // Which attribute a reason is about.
 fn put_asked(out: &mut [u8], at: usize, asked: Asked) -> usize
-    requires { ⌜ at + 18 ≤ far ⌝ }
-    ensures { λ r. ⌜ Wrote (asked-bytes (asked-of asked)) 18 (text (now (out .entry)) at) (text (now (out .exit)) r) ⌝ }
+    requires { ⌜ at + asked-most ≤ far ⌝ }
+    ensures { λ r. ⌜ Wrote (asked-bytes (asked-of asked)) asked-most (text (now (out .entry)) at) (text (now (out .exit)) r) ⌝ }
 {
     let p = put_kind(out, at, asked.layer);
     let q = put_number(out, p, asked.attribute);

@@ -7,6 +7,7 @@ use mathlib.Core.List.{List, [], _∷_, map}
 use mathlib.Core.Option.{Option, none, some}
 use lib.Dec.{eqb, ltb}
 use lib.ListN.{length}
+use Rattle.sizes.specs.Sizes.{piece-size}
 use Rattle.sizes.specs.Widths.{bucket-tiles}
 use Rattle.rules.specs.Answers.{Answer, Done, NoRoom}
 use Rattle.rules.specs.Boxes.{rows-of}
@@ -32,7 +33,7 @@ use Rattle.theorem_border.proofs.Border.{left-read}
 row-done : (o : Option rules.Painted) (d p l : List ℕ) → paint.settled o d p l .answer .finished ≡ true → paint.settled o d p l .answer .number ≡ Done
 unfolding paint.settled
 row-done none d p l e = never (sym e)
-row-done (some o) d p l e = go (ltb (length l / 6) (length (o .pieces))) e
+row-done (some o) d p l e = go (ltb (length l / piece-size) (length (o .pieces))) e
   where
     go : (b : Bool) → cond b (paint.out (paint.refused NoRoom) d p l) (paint.left o l) .answer .finished ≡ true
         → cond b (paint.out (paint.refused NoRoom) d p l) (paint.left o l) .answer .number ≡ Done

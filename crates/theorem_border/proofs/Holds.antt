@@ -27,6 +27,7 @@ use Rattle.theorem_picture.specs.Reached as reached
 use Rattle.theorem_picture.specs.Reached.{Reached}
 use Rattle.theorem_picture.proofs.Rows.{row-reached}
 use Rattle.theorem_picture.proofs.Recorded.{recorded-reached}
+use Rattle.step_filter.specs.Filter.{given}
 use Rattle.theorem_border.specs.Hosted.{Host, Asks, Hosted, by-reset, by-recording, by-fill, by-push, by-pop, by-filter, by-begin, by-paint, by-write}
 use Rattle.theorem_border.specs.Hosted.{Call, one-step, whole-row, place, reset-at, recording-at, fill-at, push-at, pop-at, filter-at, begin-at, paint-out, paint-at, write-at}
 use Rattle.theorem_border.proofs.Words.{host-of, hosted, reset-on, recording-on, Known, nothing, these, known, reset-never, recording-never, fill-on, push-on, pop-on, filter-on, begin-on, call-of, paint-done, paint-kept, write-done, write-kept}
@@ -101,22 +102,22 @@ holds (by-fill ps ss d r e) =
     let z = holds r in
     let q = ap (fill-at ps ss d) (z .same) ∙ fill-on (z .words) ps ss d in
     made _ (calls.fill-at ps ss d (z .words)) q (reached.by-fill ps ss d (z .reached) (number-of _ (calls.fill-at ps ss d (z .words)) q e))
-holds (by-push mix compose opacity mask flag clip r e) =
+holds (by-push mix compose opacity mask flag clip panel r e) =
     let z = holds r in
-    let F : Host → Answer Host = push-at mix compose opacity mask flag clip in
-    let q = ap F (z .same) ∙ push-on (z .words) mix compose opacity mask flag clip (sym (ap (λ (x : Host). F x .number) (z .same)) ∙ e) in
-    made _ (calls.push-at (props mix compose opacity mask flag clip) (z .words)) q
-    (reached.by-push (props mix compose opacity mask flag clip) _ refl (z .reached) (number-of _ (calls.push-at (props mix compose opacity mask flag clip) (z .words)) q e))
+    let F : Host → Answer Host = push-at mix compose opacity mask flag clip panel in
+    let q = ap F (z .same) ∙ push-on (z .words) mix compose opacity mask flag clip panel (sym (ap (λ (x : Host). F x .number) (z .same)) ∙ e) in
+    made _ (calls.push-at (props mix compose opacity mask flag clip panel) (z .words)) q
+    (reached.by-push (props mix compose opacity mask flag clip panel) _ refl (z .reached) (number-of _ (calls.push-at (props mix compose opacity mask flag clip panel) (z .words)) q e))
 holds (by-pop ss r e) =
     let z = holds r in
     let q = ap (pop-at ss) (z .same) ∙ pop-on (z .words) ss in
     made _ (calls.pop-at ss (z .words)) q (reached.by-pop ss (z .reached) (number-of _ (calls.pop-at ss (z .words)) q e))
-holds (by-filter p flag m n r e) =
+holds (by-filter p flag m n g r e) =
     let z = holds r in
-    let F : Host → Answer Host = filter-at p flag m n in
-    let after = calls.filter-at p (picture flag m) n (z .words) in
-    let q = ap F (z .same) ∙ filter-on (z .words) p flag m n (sym (ap (λ (x : Host). F x .number) (z .same)) ∙ e) in
-    made _ after q (reached.by-filter p (picture flag m) n (z .reached) (number-of _ after q e))
+    let F : Host → Answer Host = filter-at p flag m n g in
+    let after = calls.filter-at (given p (picture flag m) n g) (z .words) in
+    let q = ap F (z .same) ∙ filter-on (z .words) p flag m n g (sym (ap (λ (x : Host). F x .number) (z .same)) ∙ e) in
+    made _ after q (reached.by-filter (given p (picture flag m) n g) (z .reached) (number-of _ after q e))
 holds (by-begin r) =
     let z = holds r in
     made _ (reached.begin-at (z .words)) (ap begin-at (z .same) ∙ begin-on (z .words)) (reached.by-begin (z .reached))

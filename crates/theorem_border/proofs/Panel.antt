@@ -7,6 +7,7 @@ use mathlib.Core.Bool.{true, false}
 use mathlib.Core.List.{List, [], _∷_}
 use mathlib.Core.Option.{none}
 use lib.ListN.{getD}
+use Rattle.sizes.specs.Sizes.{paint-attr-size}
 use Rattle.rules.specs.Plans.{bucket}
 use Rattle.rules.specs.Answers.{Done}
 use Rattle.rules.specs.Painting.{Entry, received}
@@ -15,7 +16,7 @@ use Rattle.rules.proofs.Computing.{computing}
 use Rattle.rules_picture.specs.Turns.{from}
 use Rattle.theorem_border.specs.Hosted.{Hosted, Asks, by-reset, by-fill, Call}
 use Rattle.theorem_border.specs.Border.{log, finished}
-use Rattle.theorem_border.specs.Panel.{screen, words, setup, own-frame, blank, paints, segments, one, fresh, with-banner, with-panel, begun, by-steps, mixed, steps}
+use Rattle.theorem_border.specs.Panel.{by, screen, words, setup, own-frame, blank, paints, segments, one, fresh, with-banner, with-panel, begun, by-steps, mixed, steps}
 use Rattle.theorem_border.specs.Computing.{on-words}
 use Rattle.theorem_border.proofs.Border.{border-picture}
 
@@ -57,16 +58,16 @@ panel-picture : (cs : List Call) → finished 0 cs (begun .value) ≡ true → (
     → received t (from 0 (log cs (begun .value))) ≡ plain (bucket own-frame) (own-frame .viewport) 0 t steps
 panel-picture cs e t on = border-picture own-frame steps (with-panel .value) panel-hosted begin-done cs 0 t (omega arith) on e
 
--- a paint fill with attribute i on a solid tile, no layer being open
+-- a paint fill with attribute i on a solid tile, no layer being open, and who drew it
 abbrev drawn : ℕ → Entry
-drawn i = record { layer = false; attribute = i; alpha = none; nesting = 0 }
+drawn i = record { layer = false; attribute = i; alpha = none; nesting = 0; panel = by i }
 
 -- attribute 0 has paint 0, the banner, and attribute 1 paint 1, the panel
-banner-paint : getD (with-panel .value .tables .paint-attrs) (8 * 0) 0 ≡ 0
+banner-paint : getD (with-panel .value .tables .paint-attrs) (paint-attr-size * 0) 0 ≡ 0
 unfolding on-words computing
 banner-paint = refl
 
-panel-paint : getD (with-panel .value .tables .paint-attrs) (8 * 1) 0 ≡ 1
+panel-paint : getD (with-panel .value .tables .paint-attrs) (paint-attr-size * 1) 0 ≡ 1
 unfolding on-words computing
 panel-paint = refl
 

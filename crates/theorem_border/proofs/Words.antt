@@ -197,11 +197,11 @@ module _ (l : ScreenLent) where
       (host (a .value .0) (with-rows t (a .value .1) (t .layers) (t .opacities) (a .value .2) (t .layer-attrs) (t .filter-paints))))
       (on-screen (screen-words (l .screen), rows-words t, t .paint-attrs) (λ (s : Screen). fill-left (filled (fills.lent s (rows-words t) (t .paint-attrs)) ps ss d)) (l .screen))
 
-  pub push-on : (mix compose opacity mask flag : ℕ) (clip : Clip) → push-at mix compose opacity mask flag clip (host-of l) .number ≡ Done
-      → push-at mix compose opacity mask flag clip (host-of l) ≡ hosted (calls.push-at (props mix compose opacity mask flag clip) l)
+  pub push-on : (mix compose opacity mask flag : ℕ) (clip : Clip) (panel : ℕ) → push-at mix compose opacity mask flag clip panel (host-of l) .number ≡ Done
+      → push-at mix compose opacity mask flag clip panel (host-of l) ≡ hosted (calls.push-at (props mix compose opacity mask flag clip panel) l)
   unfolding push-at push-call calls.push-at
-  push-on mix compose opacity mask flag clip e =
-      let p = props mix compose opacity mask flag clip in
+  push-on mix compose opacity mask flag clip panel e =
+      let p = props mix compose opacity mask flag clip panel in
       ap (λ (a : Answer (List ℕ × Words × List ℕ × List Float)). answer (a .number)
       (host (a .value .0) (with-rows t (a .value .1) (a .value .2) (a .value .3) (t .paint-attrs) (t .layer-attrs) (t .filter-paints))))
       (on-done (screen-words (l .screen), rows-words t, t .layers, t .opacities)
@@ -215,14 +215,14 @@ module _ (l : ScreenLent) where
       (with-rows t (a .value .1 .words) (a .value .1 .layers) (a .value .1 .opacities) (t .paint-attrs) (a .value .1 .attrs) (t .filter-paints))))
       (on-screen (screen-words (l .screen), pop-part l) (λ (s : Screen). pop-left (popped s (pop-part l) ss)) (l .screen))
 
-  pub filter-on : (p : Placement) (flag m n : ℕ) → filter-at p flag m n (host-of l) .number ≡ Done
-      → filter-at p flag m n (host-of l) ≡ hosted (calls.filter-at p (picture flag m) n l)
+  pub filter-on : (p : Placement) (flag m n q : ℕ) → filter-at p flag m n q (host-of l) .number ≡ Done
+      → filter-at p flag m n q (host-of l) ≡ hosted (calls.filter-at (given p (picture flag m) n q) l)
   unfolding filter-at filter-call calls.filter-at
-  filter-on p flag m n e =
+  filter-on p flag m n q e =
       ap (λ (a : Answer (List ℕ × Words × List ℕ × List ℤ)). answer (a .number)
       (host (a .value .0) (with-rows t (a .value .1) (t .layers) (t .opacities) (a .value .2) (t .layer-attrs) (a .value .3))))
       (on-done (screen-words (l .screen), rows-words t, t .paint-attrs, t .filter-paints)
-      (λ (s : Screen). filter-left (filtered (given p (picture flag m) n) (filter.lent s (rows-words t) (t .paint-attrs) (t .filter-paints)))) (leb flag 1) (l .screen) e)
+      (λ (s : Screen). filter-left (filtered (given p (picture flag m) n q) (filter.lent s (rows-words t) (t .paint-attrs) (t .filter-paints)))) (leb flag 1) (l .screen) e)
 
   pub begin-on : begin-at (host-of l) ≡ hosted (reached.begin-at l)
   unfolding begin-at begin-call reached.begin-at

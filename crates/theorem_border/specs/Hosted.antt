@@ -1,10 +1,8 @@
 -- What a host holds from call to call, and the `coarse_` calls on it: each by the definition that its contract cites.
 use Prim.Native.Nat.{ℕ}
 use mathlib.Core.Path.{_≡_}
-use mathlib.Core.Bool.{cond}
 use mathlib.Core.List.{List, [], _∷_, _++_}
-use mathlib.Core.Option.{none, some}
-use lib.Dec.{eqb}
+use mathlib.Core.Option.{some}
 use lib.Ieee.{Float}
 use lib.IntN.{ℤ}
 use Rattle.sizes.specs.Sizes.{most-rows}
@@ -22,6 +20,7 @@ use Rattle.screen.specs.Tables.{Tables, tables, lengths}
 use Rattle.step_fill.specs.declared.Draw.{Draw}
 use Rattle.step_pop.specs.Pop as pop
 use Rattle.step_filter.specs.declared.Placement.{Placement}
+use Rattle.step_filter.specs.Filter.{given}
 use Rattle.paint_command.specs.Painting as paint
 use Rattle.paint_screen.specs.Stepping.{Attributes, attributes}
 use Rattle.file_steps.specs.Steps.{rows-words}
@@ -29,7 +28,7 @@ use Rattle.rules_picture.specs.Recorded.{history, Readable, said}
 use Rattle.theorem_picture.specs.Calls.{fill-said, pop-said, filter-said}
 use Rattle.host_screen.specs.declared.SetupWords.{SetupWords}
 use Rattle.host_screen.specs.Asked.{asked-setup}
-use Rattle.host.specs.Building.{reset-call, recording-call, fill-call, props, push-call, pop-call, picture, filter-call}
+use Rattle.host.specs.Building.{reset-call, recording-call, fill-call, said-props, props, push-call, pop-call, picture, filter-call}
 use Rattle.host.specs.Painting.{begin-call, step-call, row-call, write-call}
 
 -- the state's words and the ten tables
@@ -69,16 +68,15 @@ fill-at ps ss d h =
     answer (a .number) (host (a .value .0) (with-rows t (a .value .1) (t .layers) (t .opacities) (a .value .2) (t .layer-attrs) (t .filter-paints)))
 
 -- `coarse_push_layer`: any numbers
-unfoldable pub push-at : ℕ → ℕ → ℕ → ℕ → ℕ → Clip → Host → Answer Host
-push-at mix compose opacity mask flag clip h =
+unfoldable pub push-at : ℕ → ℕ → ℕ → ℕ → ℕ → Clip → ℕ → Host → Answer Host
+push-at mix compose opacity mask flag clip panel h =
     let t = h .tables in
-    let a = push-call flag (props mix compose opacity mask flag clip) (h .state) (rows-words t) (t .layers) (t .opacities) in
+    let a = push-call flag (props mix compose opacity mask flag clip panel) (h .state) (rows-words t) (t .layers) (t .opacities) in
     answer (a .number) (host (a .value .0) (with-rows t (a .value .1) (a .value .2) (a .value .3) (t .paint-attrs) (t .layer-attrs) (t .filter-paints)))
 
-abbrev pub push-said : ℕ → ℕ → ℕ → ℕ → ℕ → Clip → Step
-push-said mix compose opacity mask flag clip =
-    a-push
-    (record { blend = record { mix = mix; compose = compose }; opacity = opacity; mask = mask; clip = cond (eqb flag 1) (some clip) none })
+abbrev pub push-said : ℕ → ℕ → ℕ → ℕ → ℕ → Clip → ℕ → Step
+push-said mix compose opacity mask flag clip panel =
+    a-push (said-props mix compose opacity mask flag clip panel)
 
 -- `coarse_pop_layer`: any words as segments
 unfoldable pub pop-at : List ℕ → Host → Answer Host
@@ -88,11 +86,11 @@ pop-at ss h =
     let l = a .value .1 in
     answer (a .number) (host (a .value .0) (with-rows t (l .words) (l .layers) (l .opacities) (t .paint-attrs) (l .attrs) (t .filter-paints)))
 
--- `coarse_filter_fill`: any placement, any flag and handle, beside a list of n paints
-unfoldable pub filter-at : Placement → ℕ → ℕ → ℕ → Host → Answer Host
-filter-at p flag m n h =
+-- `coarse_filter_fill`: any placement, any flag and handle, beside a list of n paints, any panel q
+unfoldable pub filter-at : Placement → ℕ → ℕ → ℕ → ℕ → Host → Answer Host
+filter-at p flag m n q h =
     let t = h .tables in
-    let a = filter-call flag p (picture flag m) n (h .state) (rows-words t) (t .paint-attrs) (t .filter-paints) in
+    let a = filter-call flag (given p (picture flag m) n q) (h .state) (rows-words t) (t .paint-attrs) (t .filter-paints) in
     answer (a .number) (host (a .value .0) (with-rows t (a .value .1) (t .layers) (t .opacities) (a .value .2) (t .layer-attrs) (a .value .3)))
 
 -- `coarse_begin_painting`
@@ -150,13 +148,13 @@ pub data Hosted : Frame → List Step → Host → Type 0 where
       → Hosted (frame-of (place q h) (said r)) (history (place q h) (said r)) (recording-at file w h .value)
   by-fill : {f : Frame} {xs : List Step} {h : Host} (ps ss : List ℕ) (d : Draw) → Hosted f xs h → fill-at ps ss d h .number ≡ Done
       → Hosted f (xs ++ (fill-said ps ss d ∷ [])) (fill-at ps ss d h .value)
-  by-push : {f : Frame} {xs : List Step} {h : Host} (mix compose opacity mask flag : ℕ) (clip : Clip) → Hosted f xs h
-      → push-at mix compose opacity mask flag clip h .number ≡ Done
-      → Hosted f (xs ++ (push-said mix compose opacity mask flag clip ∷ [])) (push-at mix compose opacity mask flag clip h .value)
+  by-push : {f : Frame} {xs : List Step} {h : Host} (mix compose opacity mask flag : ℕ) (clip : Clip) (panel : ℕ) → Hosted f xs h
+      → push-at mix compose opacity mask flag clip panel h .number ≡ Done
+      → Hosted f (xs ++ (push-said mix compose opacity mask flag clip panel ∷ [])) (push-at mix compose opacity mask flag clip panel h .value)
   by-pop : {f : Frame} {xs : List Step} {h : Host} (ss : List ℕ) → Hosted f xs h → pop-at ss h .number ≡ Done
       → Hosted f (xs ++ (pop-said ss ∷ [])) (pop-at ss h .value)
-  by-filter : {f : Frame} {xs : List Step} {h : Host} (p : Placement) (flag m n : ℕ) → Hosted f xs h → filter-at p flag m n h .number ≡ Done
-      → Hosted f (xs ++ (filter-said p (picture flag m) n ∷ [])) (filter-at p flag m n h .value)
+  by-filter : {f : Frame} {xs : List Step} {h : Host} (p : Placement) (flag m n q : ℕ) → Hosted f xs h → filter-at p flag m n q h .number ≡ Done
+      → Hosted f (xs ++ (filter-said (given p (picture flag m) n q) ∷ [])) (filter-at p flag m n q h .value)
   by-begin : {f : Frame} {xs : List Step} {h : Host} → Hosted f xs h → Hosted f xs (begin-at h .value)
   by-paint : {f : Frame} {xs : List Step} {h : Host} (c : Call) → Hosted f xs h → Hosted f xs (paint-at c h)
   by-write : {f : Frame} {xs : List Step} {h : Host} (i id : ℕ) (t : Span) (list count : List ℕ) → Hosted f xs h

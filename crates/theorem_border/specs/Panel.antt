@@ -3,7 +3,7 @@ use Prim.Native.Nat.{ℕ, _+_, _*_}
 use mathlib.Core.List.{List, [], _∷_}
 use lib.ListN.{replicate}
 use lib.IntN.{pos}
-use Rattle.sizes.specs.Sizes.{most-rows, row-size, open-layer-table, opacity-count, paint-attr-table, layer-attr-table, filter-paint-table, state-size}
+use Rattle.sizes.specs.Sizes.{most-rows, row-size, open-layer-table, opacity-count, paint-attr-table, layer-attr-table, filter-paint-table, piece-size, state-size}
 use Rattle.sizes.specs.declared.width.Width.the-variants.{W128}
 use Rattle.rules.specs.Answers.{Answer}
 use Rattle.rules.specs.Plans.{Frame, Step}
@@ -31,7 +31,7 @@ setup = record { c = 64; d = 64; mode = exact; width = W128 }
 abbrev pub own-frame : Frame
 own-frame = frame setup (box-of screen)
 
--- 17 words of state and the ten tables, all of them 0
+-- the words of state and the ten tables, all of them 0
 abbrev pub blank : Host
 blank =
     host (replicate state-size 0)
@@ -45,9 +45,13 @@ paints = 1 ∷ 1 ∷ 0 ∷ 0 ∷ 1 ∷ 2 ∷ 0 ∷ 0 ∷ []
 abbrev pub segments : List ℕ
 segments = 0 ∷ 0 ∷ 0 ∷ 128 ∷ 0 ∷ 0 ∷ 0 ∷ 20 ∷ 70 ∷ 0 ∷ []
 
+-- who draws: module 3 the banner, module 7 the panel
+abbrev pub by : ℕ → ℕ
+by i = 3 + 4 * i
+
 -- segment i with paint i
 abbrev pub one : ℕ → Draw
-one i = draw 0 i (i + 1) i 0 3 0
+one i = draw 0 i (i + 1) i 0 3 0 (by i)
 
 abbrev pub banner : Step
 banner = fill-said paints segments (one 0)
@@ -72,11 +76,11 @@ begun = begin-at (with-panel .value)
 
 -- The row is painted by steps into what is left of room for 64 pieces.
 abbrev pub step-with : ℕ → Call
-step-with room = one-step (record { row = 0; list = replicate (6 * room) 0; result = 0 ∷ 0 ∷ [] })
+step-with room = one-step (record { row = 0; list = replicate (piece-size * room) 0; result = 0 ∷ 0 ∷ [] })
 
 abbrev pub by-steps : List Call
 by-steps = step-with 64 ∷ step-with 63 ∷ step-with 61 ∷ step-with 60 ∷ step-with 59 ∷ []
 
 -- .. or in a mixture: one step, then the rest of the row by one call
 abbrev pub mixed : List Call
-mixed = step-with 64 ∷ whole-row (record { row = 0; list = replicate (6 * 63) 0; result = 0 ∷ 0 ∷ [] }) ∷ []
+mixed = step-with 64 ∷ whole-row (record { row = 0; list = replicate (piece-size * 63) 0; result = 0 ∷ 0 ∷ [] }) ∷ []

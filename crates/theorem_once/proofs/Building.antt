@@ -2,7 +2,6 @@
 -- `..-source` says that the call asks nothing of its caller, and that the promise is the clause of the source itself. Assumes nothing.
 use mathlib.Core.Path.{_≡_, refl, sym, ap, _∙_}
 use mathlib.Core.List.{List}
-use mathlib.Core.Option.{Option}
 use Prim.Native.Nat.{ℕ}
 use lib.Ieee.{Float}
 use lib.IntN.{ℤ}
@@ -35,7 +34,6 @@ use Rattle.step_push.specs.Push as pushes
 use Rattle.step_push.specs.Push.{pushed}
 use Rattle.step_pop.specs.Pop as pops
 use Rattle.step_pop.specs.Pop.{popped}
-use Rattle.step_filter.specs.declared.Placement.{Placement}
 use Rattle.step_filter.specs.Filter as filters
 use Rattle.step_filter.specs.Filter.{picture-of, filtered, given}
 use Rattle.screen.proofs.reset as reset-call
@@ -103,9 +101,9 @@ module _ (screen : Screen) (lent : pops.PopLent) (list : List ℕ) where
       )
 
 -- `filter_fill`: the rows' words, the table of paint attributes and the filter paints
-module _ (screen : Screen) (rows : Words) (attrs : List ℕ) (paints : List ℤ) (placement : Placement) (pixmap : Option ℕ) (count : ℕ) where
+module _ (screen : Screen) (rows : Words) (attrs : List ℕ) (paints : List ℤ) (told : filters.FilterGiven) where
   abbrev pub Filters : Built → Words → List ℕ → List ℤ → Type 0
-  Filters r w p z = answer (r .number) (filters.lent (r .screen) w p z) ≡ filtered (given placement pixmap count) (filters.lent screen rows attrs paints)
+  Filters r w p z = answer (r .number) (filters.lent (r .screen) w p z) ≡ filtered told (filters.lent screen rows attrs paints)
 
   pub one-filter : (r q : Built) (w v : Words) (p o : List ℕ) (z y : List ℤ) → Filters r w p z → Filters q v o y → (r ≡ q) × (w ≡ v) × (p ≡ o) × (z ≡ y)
   one-filter r q w v p o z y e f =
@@ -152,6 +150,6 @@ module _ {M : Type 1} (𝓤 : URA M) (H : Heap 𝓤) (A : Atoms 𝓤) (mem : Mem
   filter-source : (κs : Lfts (filter-call.signature .lifetimes)) (a : Args filter-call.signature κs) (r : Built) (e : AtExit filter-call.ended κs)
       → (filter-call.clauses 𝓤 H A mem run κs a .requires tt ≡ emp 𝓤)
       × (filter-call.clauses 𝓤 H A mem run κs a .ensures tt r e ≡ fact 𝓤 (Filters (a .0) (words (now (a .1 .0)) (now (a .1 .1 .0)) (now (a .1 .1 .1 .0)))
-      (now (a .1 .1 .1 .1 .0)) (now (a .1 .1 .1 .1 .1 .0)) (a .1 .1 .1 .1 .1 .1 .0) (picture-of (a .1 .1 .1 .1 .1 .1 .1 .0)) (a .1 .1 .1 .1 .1 .1 .1 .1 .0)
+      (now (a .1 .1 .1 .1 .0)) (now (a .1 .1 .1 .1 .1 .0)) (given (a .1 .1 .1 .1 .1 .1 .0) (picture-of (a .1 .1 .1 .1 .1 .1 .1 .0)) (a .1 .1 .1 .1 .1 .1 .1 .1 .0) (a .1 .1 .1 .1 .1 .1 .1 .1 .1 .0))
       r (words (now (e .1 .0)) (now (e .1 .1 .0)) (now (e .1 .1 .1 .0))) (now (e .1 .1 .1 .1 .0)) (now (e .1 .1 .1 .1 .1 .0))))
   filter-source κs a r e = (refl, refl)

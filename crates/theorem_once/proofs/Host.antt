@@ -2,7 +2,6 @@
 -- `..-source` says that the call asks nothing of its caller, and that the promise is the clause of the source itself. Assumes nothing.
 use mathlib.Core.Path.{_≡_, refl, sym, ap, _∙_}
 use mathlib.Core.List.{List}
-use mathlib.Core.Option.{Option}
 use Prim.Native.Nat.{ℕ}
 use lib.Ieee.{Float}
 use lib.IntN.{ℤ}
@@ -26,7 +25,7 @@ use Rattle.screen.specs.Tables.{Tables, tables}
 use Rattle.step_fill.specs.declared.Draw.{Draw}
 use Rattle.screen_layers.specs.declared.LayerProps.{LayerProps}
 use Rattle.step_pop.specs.Pop as pops
-use Rattle.step_filter.specs.declared.Placement.{Placement}
+use Rattle.step_filter.specs.Filter.{FilterGiven, given}
 use Rattle.paint_command.specs.Painting as paint
 use Rattle.paint_screen.specs.Stepping.{Attributes, attributes}
 use Rattle.host_screen.specs.declared.SetupWords.{SetupWords}
@@ -107,12 +106,12 @@ module _ (segments state : List ℕ) (lent : pops.PopLent) where
   one-pop = once (pop-call segments state lent)
 
 -- `coarse_filter_fill`: the rows' words, the paint attributes and the filter paints
-module _ (flag : ℕ) (given : Placement) (pixmap : Option ℕ) (count : ℕ) (state : List ℕ) (rows : Words) (attrs : List ℕ) (paints : List ℤ) where
+module _ (flag : ℕ) (told : FilterGiven) (state : List ℕ) (rows : Words) (attrs : List ℕ) (paints : List ℤ) where
   abbrev pub Filters : ℕ → List ℕ × Words × List ℕ × List ℤ → Type 0
-  Filters r x = answer r x ≡ filter-call flag given pixmap count state rows attrs paints
+  Filters r x = answer r x ≡ filter-call flag told state rows attrs paints
 
   pub one-filter : (r q : ℕ) (x y : List ℕ × Words × List ℕ × List ℤ) → Filters r x → Filters q y → (r ≡ q) × (x ≡ y)
-  one-filter = once (filter-call flag given pixmap count state rows attrs paints)
+  one-filter = once (filter-call flag told state rows attrs paints)
 
 -- `coarse_begin_painting`: the depth words and the painting table
 module _ (state depth painting : List ℕ) where
@@ -255,7 +254,7 @@ module _ {M : Type 1} (𝓤 : URA M) (H : Heap 𝓤) (A : Atoms 𝓤) (mem : Mem
       (coarse-fill.clauses 𝓤 H A mem run κs a .requires tt ≡ emp 𝓤)
       × (coarse-fill.clauses 𝓤 H A mem run κs a .ensures tt r e
       ≡ fact 𝓤
-      (Fills (now (a5 .0)) (now (a5 .1 .0)) (draw (a5 .1 .1 .0) (a5 .1 .1 .1 .0) (a5 .1 .1 .1 .1 .0) (a10 .0) (a10 .1 .0) (a10 .1 .1 .0) (a10 .1 .1 .1 .0))
+      (Fills (now (a5 .0)) (now (a5 .1 .0)) (draw (a5 .1 .1 .0) (a5 .1 .1 .1 .0) (a5 .1 .1 .1 .1 .0) (a10 .0) (a10 .1 .0) (a10 .1 .1 .0) (a10 .1 .1 .1 .0) (a10 .1 .1 .1 .1 .0))
       (now (a .0)) (words (now (a .1 .0)) (now (a .1 .1 .0)) (now (a .1 .1 .1 .0))) (now (a .1 .1 .1 .1 .0)) r
       (now (e .0), words (now (e .1 .0)) (now (e .1 .1 .0)) (now (e .1 .1 .1 .0)), now (e .1 .1 .1 .1 .0))))
   fill-source κs a r e = (refl, refl)
@@ -268,7 +267,7 @@ module _ {M : Type 1} (𝓤 : URA M) (H : Heap 𝓤) (A : Atoms 𝓤) (mem : Mem
       (coarse-push.clauses 𝓤 H A mem run κs a .requires tt ≡ emp 𝓤)
       × (coarse-push.clauses 𝓤 H A mem run κs a .ensures tt r e
       ≡ fact 𝓤
-      (Pushes (a10 .0) (props (a5 .1 .0) (a5 .1 .1 .0) (a5 .1 .1 .1 .0) (a5 .1 .1 .1 .1 .0) (a10 .0) (clip (a10 .1 .0) (a10 .1 .1 .0) (a10 .1 .1 .1 .0) (a10 .1 .1 .1 .1 .0) (a15 .0) (a15 .1 .0) (a15 .1 .1 .0)))
+      (Pushes (a10 .0) (props (a5 .1 .0) (a5 .1 .1 .0) (a5 .1 .1 .1 .0) (a5 .1 .1 .1 .1 .0) (a10 .0) (clip (a10 .1 .0) (a10 .1 .1 .0) (a10 .1 .1 .1 .0) (a10 .1 .1 .1 .1 .0) (a15 .0) (a15 .1 .0) (a15 .1 .1 .0)) (a15 .1 .1 .1 .0))
       (now (a .0)) (words (now (a .1 .0)) (now (a .1 .1 .0)) (now (a .1 .1 .1 .0))) (now (a .1 .1 .1 .1 .0)) (now (a5 .0)) r
       (now (e .0), words (now (e .1 .0)) (now (e .1 .1 .0)) (now (e .1 .1 .1 .0)), now (e .1 .1 .1 .1 .0), now (e5 .0))))
   push-source κs a r e = (refl, refl)
@@ -291,7 +290,7 @@ module _ {M : Type 1} (𝓤 : URA M) (H : Heap 𝓤) (A : Atoms 𝓤) (mem : Mem
       (coarse-filter.clauses 𝓤 H A mem run κs a .requires tt ≡ emp 𝓤)
       × (coarse-filter.clauses 𝓤 H A mem run κs a .ensures tt r e
       ≡ fact 𝓤
-      (Filters (a10 .1 .1 .0) (placement (rect (a5 .1 .0) (a5 .1 .1 .0) (a5 .1 .1 .1 .0) (a5 .1 .1 .1 .1 .0)) (a10 .0) (a10 .1 .0)) (picture (a10 .1 .1 .0) (a10 .1 .1 .1 .0)) (a10 .1 .1 .1 .1 .0)
+      (Filters (a10 .1 .1 .0) (given (placement (rect (a5 .1 .0) (a5 .1 .1 .0) (a5 .1 .1 .1 .0) (a5 .1 .1 .1 .1 .0)) (a10 .0) (a10 .1 .0)) (picture (a10 .1 .1 .0) (a10 .1 .1 .1 .0)) (a10 .1 .1 .1 .1 .0) (a10 .1 .1 .1 .1 .1 .0))
       (now (a .0)) (words (now (a .1 .0)) (now (a .1 .1 .0)) (now (a .1 .1 .1 .0))) (now (a .1 .1 .1 .1 .0)) (now (a5 .0)) r
       (now (e .0), words (now (e .1 .0)) (now (e .1 .1 .0)) (now (e .1 .1 .1 .0)), now (e .1 .1 .1 .1 .0), now (e5 .0))))
   filter-source κs a r e = (refl, refl)

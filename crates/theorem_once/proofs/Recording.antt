@@ -45,18 +45,18 @@ module _ (screen : Screen) (file : List ℕ) (setup : Setup) (lent : Tables) whe
 -- a reason of the rules is that of one value of the code
 coded : rule.Reason → Reason
 coded rule.unknown-attribute = said.UnknownAttribute
-coded rule.no-segment = said.NoSegment
-coded rule.cut-away = said.CutAway
-coded rule.row-untouched = said.RowUntouched
-coded (rule.hidden-by a) = said.HiddenBy a
-coded (rule.shown-at p) = said.ShownAt p
+coded (rule.no-segment q) = said.NoSegment q
+coded (rule.cut-away q) = said.CutAway q
+coded (rule.row-untouched q) = said.RowUntouched q
+coded (rule.hidden-by a b q) = said.HiddenBy (record { attribute = a; «hider_panel» = b; panel = q })
+coded (rule.shown-at p q) = said.ShownAt (record { place = p; panel = q })
 
 same-coded : (r : Reason) → coded (reason-of r) ≡ r
 unfolding coded
 same-coded said.UnknownAttribute = refl
-same-coded said.NoSegment = refl
-same-coded said.CutAway = refl
-same-coded said.RowUntouched = refl
+same-coded (said.NoSegment q) = refl
+same-coded (said.CutAway q) = refl
+same-coded (said.RowUntouched q) = refl
 same-coded (said.HiddenBy a) = refl
 same-coded (said.ShownAt p) = refl
 

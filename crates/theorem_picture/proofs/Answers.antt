@@ -1,10 +1,10 @@
 -- At words that hold a canvas of the rules every call has the rules' answer. Assumes nothing.
 use mathlib.Core.Path.{_≡_, sym, ap, _∙_}
 use mathlib.Core.List.{List}
-use mathlib.Core.Option.{Option}
 use Prim.Native.Nat.{ℕ, _/_, _%_}
 use lib.ListN.{length}
 use borrow.Author.Tests.{ne-eqb}
+use Rattle.sizes.specs.Sizes.{piece-size}
 use Rattle.rules.specs.Answers.{Answer, answer, Done}
 use Rattle.rules.specs.Spans.{Span}
 use Rattle.rules.specs.Rows.{Row, row-ops}
@@ -15,7 +15,7 @@ use Rattle.rules.specs.Calls.{Canvas, step-call, begin-call, paint-call, unset-
 use Rattle.screen.specs.Tables.{ScreenLent}
 use Rattle.screen_layers.specs.declared.LayerProps.{LayerProps}
 use Rattle.step_fill.specs.declared.Draw.{Draw}
-use Rattle.step_filter.specs.declared.Placement.{Placement}
+use Rattle.step_filter.specs.Filter.{FilterGiven}
 use Rattle.file_read.specs.Reading.{props-in}
 use Rattle.file_steps.specs.Steps.{call-at}
 use Rattle.refine_steps.specs.Lent.{lent-of}
@@ -50,14 +50,14 @@ module _ {f : Frame} {xs : List Step} {l : ScreenLent} (h : Stands f xs l) where
       → pop-at ss l ≡ answer (step-call (pop-said ss) k .number) (canvas-words (step-call (pop-said ss) k .value))
   pop-answer ss s = pop-whole ss l s ∙ step-answer (pop-said ss)
 
-  pub filter-answer : (p : Placement) (m : Option ℕ) (n : ℕ)
-      → filter-at p m n l ≡ answer (step-call (filter-said p m n) k .number) (canvas-words (step-call (filter-said p m n) k .value))
-  filter-answer p m n = filter-steps p m n l ∙ step-answer (filter-said p m n)
+  pub filter-answer : (g : FilterGiven)
+      → filter-at g l ≡ answer (step-call (filter-said g) k .number) (canvas-words (step-call (filter-said g) k .value))
+  filter-answer g = filter-steps g l ∙ step-answer (filter-said g)
 
   pub begin-answer : begin-at l ≡ answer (begin-call k .number) (canvas-words (begin-call k .value))
   begin-answer = ap begin-at (h .same) ∙ begin-words k (h .whole)
 
-  pub paint-answer : (i : ℕ) (list : List ℕ) → paint-out i list l ≡ given-out (paint-call i (length list / 6) k) list
+  pub paint-answer : (i : ℕ) (list : List ℕ) → paint-out i list l ≡ given-out (paint-call i (length list / piece-size) k) list
   paint-answer i list = ap (paint-out i list) (h .same) ∙ paint-gives k (h .whole) i list
 
   -- the direct runs of row i over tiles or buckets t, and `can_skip`

@@ -5,10 +5,10 @@ use native.Mathlib.Omega.{arith}
 use mathlib.Core.Path.{_≡_, refl, sym, ap, _∙_}
 use mathlib.Core.Bool.{Bool, true, false, _&&_, not, cond}
 use mathlib.Core.List.{List, [], _∷_}
-use mathlib.Core.Option.{Option}
 use lib.Dec.{eqb}
 use lib.ListN.{length}
 use borrow.Author.Tests.{eqb-true, eqb-false}
+use Rattle.sizes.specs.Sizes.{paint-attr-table, layer-attr-table, open-layer-table, opacity-count}
 use Rattle.rules.specs.Lists.{join}
 use Rattle.rules.specs.Answers.{first-of, Done, BadRecord}
 use Rattle.rules.proofs.Words.{paint-words, segment-words}
@@ -31,9 +31,8 @@ use Rattle.step_push.specs.Push as push
 use Rattle.step_push.specs.Push.{pushed, push-number}
 use Rattle.step_pop.specs.Pop as pop
 use Rattle.step_pop.specs.Pop.{popped, first, number-after, number, good-lengths, good-open}
-use Rattle.step_filter.specs.declared.Placement.{Placement}
 use Rattle.step_filter.specs.Filter as filter
-use Rattle.step_filter.specs.Filter.{given, filtered, filter-number}
+use Rattle.step_filter.specs.Filter.{FilterGiven, filtered, filter-number}
 use Rattle.file_read.specs.Reading.{props-in}
 use Rattle.rules.proofs.laws.Answers.{settle-number, settle-kept}
 use Rattle.file_steps.specs.Steps.{rows-words, fill-part, fill-into, push-part, push-into, pop-part, pop-into, filter-part, filter-into, with-value, call-at}
@@ -96,8 +95,8 @@ module _ (l : fills.FillLent) (ps ss : List ℕ) (d : Draw) where
       let n = sym (settle-number (fill-number l ps ss d) l (fill-done l ps ss d)) ∙ e in
       let w = l .words in
       let g = tested (judged (l .screen) (length (w .state)) (length (w .render)) (length (w .fills))) _ (first-done _ _ _ _ n) in
-      let a = both (eqb (length (l .paint-attrs)) 8192 && eqb (length ps % 4) 0) (eqb (length ss % 5) 0) g in
-      (eqb-true _ _ (both (eqb (length (l .paint-attrs)) 8192) (eqb (length ps % 4) 0) (a .0) .1), eqb-true _ _ (a .1))
+      let a = both (eqb (length (l .paint-attrs)) paint-attr-table && eqb (length ps % 4) 0) (eqb (length ss % 5) 0) g in
+      (eqb-true _ _ (both (eqb (length (l .paint-attrs)) paint-attr-table) (eqb (length ps % 4) 0) (a .0) .1), eqb-true _ _ (a .1))
 
 -- a fill that is lent whole records is the step, refused or done
 pub fill-whole : (ps ss : List ℕ) (d : Draw) (l : ScreenLent) → length ps % 4 ≡ 0 → length ss % 5 ≡ 0 → fill-at ps ss d l ≡ call-at (fill-said ps ss d) l
@@ -145,7 +144,7 @@ pop-list l ss e =
     let w = rows-words (l .tables) in
     let n = sym (pop-number (number (l .screen) (pop-part l) ss) _ _ _ _) ∙ e in
     let g = tested-second (judged (l .screen) (length (w .state)) (length (w .render)) (length (w .fills))) _ (good-open (box-of (l .screen .viewport)) (l .tables .layers) (l .screen .layers)) (first-done _ _ _ _ n) in
-    eqb-true _ _ (both (eqb (length (l .tables .layers)) 256 && eqb (length (l .tables .opacities)) 1040 && eqb (length (l .tables .layer-attrs)) 6144) (eqb (length ss % 5) 0) g .1)
+    eqb-true _ _ (both (eqb (length (l .tables .layers)) open-layer-table && eqb (length (l .tables .opacities)) opacity-count && eqb (length (l .tables .layer-attrs)) layer-attr-table) (eqb (length ss % 5) 0) g .1)
 
 pub pop-whole : (ss : List ℕ) (l : ScreenLent) → length ss % 5 ≡ 0 → pop-at ss l ≡ call-at (pop-said ss) l
 unfolding pop-at call-at
@@ -157,9 +156,9 @@ pub pop-steps : (ss : List ℕ) (l : ScreenLent) → pop-at ss l .number ≡ Don
 pop-steps ss l e = pop-whole ss l (pop-list l ss (unfold pop-at in e))
 
 -- a filter fill is lent no list
-pub filter-steps : (p : Placement) (m : Option ℕ) (n : ℕ) (l : ScreenLent) → filter-at p m n l ≡ call-at (filter-said p m n) l
+pub filter-steps : (g : FilterGiven) (l : ScreenLent) → filter-at g l ≡ call-at (filter-said g) l
 unfolding filter-at call-at
-filter-steps p m n l = refl
+filter-steps g l = refl
 
 -- What is refused alters no word, whatever was lent.
 module _ (l : ScreenLent) where
@@ -176,8 +175,7 @@ module _ (l : ScreenLent) where
   pop-kept ss e =
       ap (λ (o : pop.PopOut). pop-into (l .tables) o .value) (pop-same (number (l .screen) (pop-part l) ss) _ _ _ _ e)
 
-  pub filter-kept : (p : Placement) (m : Option ℕ) (n : ℕ) → eqb (filter-at p m n l .number) Done ≡ false → filter-at p m n l .value ≡ l
+  pub filter-kept : (g : FilterGiven) → eqb (filter-at g l .number) Done ≡ false → filter-at g l .value ≡ l
   unfolding filter-at filtered
-  filter-kept p m n e =
-      let g = given p m n in
+  filter-kept g e =
       ap (filter-into (l .tables)) (settle-kept (filter-number g (filter-part l)) (filter-part l) (filter.after g (filter-part l)) e)

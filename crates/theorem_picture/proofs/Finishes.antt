@@ -6,6 +6,7 @@ use Prim.Native.Nat.{ℕ, _*_, _/_, _<_}
 use native.Mathlib.Omega.{arith}
 use lib.ListN.{length, replicate, length-replicate}
 use borrow.Author.Tests.{lt-leb}
+use Rattle.sizes.specs.Sizes.{piece-size}
 use Rattle.rules.specs.Answers.{Answer, Done}
 use Rattle.rules.specs.Boxes.{rows-of}
 use Rattle.rules.specs.Plans.{Frame, Step}
@@ -31,13 +32,13 @@ use Rattle.theorem_picture.proofs.Turns.{turned-words, turns-whole}
 
 -- a turn of the rules with a list that has its room
 abbrev lent-turn : rule.Turn → Turn
-lent-turn t = record { row = t .row; list = replicate (6 * t .room) 0 }
+lent-turn t = record { row = t .row; list = replicate (piece-size * t .room) 0 }
 
 same-turns : (ts : List rule.Turn) → map turn-of (map lent-turn ts) ≡ ts
 same-turns [] = refl
 same-turns (t ∷ ts) =
-    let e : 6 * t .room / 6 ≡ t .room = omega arith in
-    rw (length-replicate {A = ℕ} (6 * t .room) 0, e, same-turns ts)
+    let e : piece-size * t .room / piece-size ≡ t .room = omega arith in
+    rw (length-replicate {A = ℕ} (piece-size * t .room) 0, e, same-turns ts)
 
 -- a row of which nothing is left says finished, whatever the room
 says-finished : (k : Canvas) → WholeCanvas k → (r : ℕ) → r < length (k .screen .rows) → paints-on k ≡ true → has-finished k r ≡ true → finished-at (canvas-words k) r ≡ true

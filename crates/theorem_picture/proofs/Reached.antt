@@ -6,6 +6,7 @@ use Prim.Native.Nat.{ℕ, _*_, _/_}
 use lib.Dec.{eqb}
 use lib.ListN.{length, replicate}
 use borrow.Author.Tests.{eqb-true}
+use Rattle.sizes.specs.Sizes.{piece-size}
 use Rattle.rules.specs.Lists.{join}
 use Rattle.rules.specs.Answers.{Answer, Done}
 use Rattle.rules.specs.Spans.{Span}
@@ -34,6 +35,7 @@ use Rattle.refine_paint.proofs.Runs.{write-whole, same-screen}
 use Rattle.rules_picture.proofs.Turns.{call-screen}
 use Rattle.rules_picture.proofs.Walked.{built-append}
 use Rattle.rules_picture.specs.Built.{Built, no-step, then}
+use Rattle.step_filter.specs.Filter.{given}
 use Rattle.theorem_picture.specs.Calls.{fill-at, push-at, pop-at, filter-at, fill-said, pop-said, filter-said}
 use Rattle.theorem_picture.specs.Reached.{Reached, by-reset, by-fill, by-push, by-pop, by-filter, by-begin, by-paint, by-write, begin-at, paint-at, write-at}
 use Rattle.theorem_picture.specs.Standing.{canvas-words, Stands}
@@ -123,9 +125,9 @@ module _ {f : Frame} {xs : List Step} {l : ScreenLent} (h : Stands f xs l) where
   paint-stands : (i : ℕ) (list : List ℕ) → Stands f xs (paint-at i list l)
   paint-stands i list =
       record {
-        canvas = paint-call i (length list / 6) k .value .canvas;
-        whole = paint-whole k (h .whole) i (length list / 6);
-        built = rw (call-screen i (length list / 6) k) (h .built);
+        canvas = paint-call i (length list / piece-size) k .value .canvas;
+        whole = paint-whole k (h .whole) i (length list / piece-size);
+        built = rw (call-screen i (length list / piece-size) k) (h .built);
         same = ap (paint-at i list) (h .same) ∙ paint-words k (h .whole) i list;
       }
 
@@ -146,7 +148,7 @@ reached (by-reset f l e) = reset-stands f l (sym (settle-number (judged-reset f 
 reached (by-fill ps ss d r e) = called-stands (reached r) (fill-said ps ss d) _ (fill-steps ps ss d _ e) e
 reached (by-push p q s r e) = called-stands (reached r) (a-push q) _ (push-steps p q s _) e
 reached (by-pop ss r e) = called-stands (reached r) (pop-said ss) _ (pop-steps ss _ e) e
-reached (by-filter p m n r e) = called-stands (reached r) (filter-said p m n) _ (filter-steps p m n _) e
+reached (by-filter g r e) = called-stands (reached r) (filter-said g) _ (filter-steps g _) e
 reached (by-begin r) = begin-stands (reached r)
 reached (by-paint i list r) = paint-stands (reached r) i list
 reached (by-write i id t list r) = write-stands (reached r) i id t list
@@ -159,4 +161,4 @@ step-reached (a-fill ps ss d) r e =
     rw (paints-said ps, segments-said ss) at h
 step-reached (a-push p) r e = by-push (props-in p) p refl r e
 step-reached (a-pop ss) r e = let h = by-pop (join words-of.segment-words ss) r e in rw (segments-said ss) at h
-step-reached (a-filter n f) r e = by-filter (placement-in f) (f .pixmap) n r e
+step-reached (a-filter n f q) r e = by-filter (given (placement-in f) (f .pixmap) n q) r e

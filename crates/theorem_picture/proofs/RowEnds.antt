@@ -8,6 +8,7 @@ use lib.Dec.{leb, eqb}
 use lib.ListN.{length, take, drop, getD, length-append, length-drop}
 use lib.Seq.{length-take-le}
 use borrow.Author.Tests.{eq-eqb, lt-leb, le-ltb, leb-true}
+use Rattle.sizes.specs.Sizes.{piece-size}
 use Rattle.rules.specs.Lists.{join}
 use Rattle.rules.specs.Answers.{Answer, Done}
 use Rattle.rules.specs.Boxes.{rows-of}
@@ -46,14 +47,14 @@ unfolding paint-call
 room-done k r m h b e = rw (lt-leb (length (k .screen .rows)) r h, b, le-ltb m (length (next-step k r .pieces)) e)
 
 -- the lengths of a list with pieces laid, and of what stands after n + m pieces
-laid-long : (ps : List Piece) (ys : List ℕ) → length (laid ps ys) ≡ 6 * length ps + (length ys - 6 * length ps)
+laid-long : (ps : List Piece) (ys : List ℕ) → length (laid ps ys) ≡ piece-size * length ps + (length ys - piece-size * length ps)
 laid-long ps ys =
     length-append (join piece-words ps) (drop (length (join piece-words ps)) ys)
     ∙ rw (length-drop (length (join piece-words ps)) ys, length-pieces ps)
 
-left-after : (n m : ℕ) (xs ys : List ℕ) → 6 * n ≤ length xs → length (drop (6 * (n + m)) (take (6 * n) xs ++ ys)) ≡ length ys - 6 * m
+left-after : (n m : ℕ) (xs ys : List ℕ) → piece-size * n ≤ length xs → length (drop (piece-size * (n + m)) (take (piece-size * n) xs ++ ys)) ≡ length ys - piece-size * m
 left-after n m xs ys h =
-    length-drop (6 * (n + m)) (take (6 * n) xs ++ ys) ∙ rw (length-append (take (6 * n) xs) ys, length-take-le (6 * n) xs h) (omega arith)
+    length-drop (piece-size * (n + m)) (take (piece-size * n) xs ++ ys) ∙ rw (length-append (take (piece-size * n) xs) ys, length-take-le (piece-size * n) xs h) (omega arith)
 
 module _ (r : ℕ) (l : ScreenLent) where
   -- the row's painting stands at g on the canvas k
@@ -69,7 +70,7 @@ module _ (r : ℕ) (l : ScreenLent) where
     ys = next r l g .list
 
     abbrev c : Answer (Given Painted)
-    c = paint-call r (length ys / 6) k
+    c = paint-call r (length ys / piece-size) k
 
     step-is : step r l (g .depth) (g .painting) ys ≡ given-out c ys
     step-is =
@@ -89,26 +90,26 @@ module _ (r : ℕ) (l : ScreenLent) where
     on =
         record {
           words = sym (one-words r l g) ∙ ap (paint-at r ys) (z .words) ∙ paint-words k (z .whole) r ys;
-          whole = paint-whole k (z .whole) r (length ys / 6);
-          goes-on = call-paints r (length ys / 6) k ∙ z .goes-on;
-          there = rw (call-screen r (length ys / 6) k) (z .there);
+          whole = paint-whole k (z .whole) r (length ys / piece-size);
+          goes-on = call-paints r (length ys / piece-size) k ∙ z .goes-on;
+          there = rw (call-screen r (length ys / piece-size) k) (z .there);
           holds = one-holds r l g (z .holds);
         }
 
     -- what is left of the list then
-    one-left : length (next r l (one-more (step r l) g) .list) ≡ length ys - 6 * length (c .value .result .pieces)
+    one-left : length (next r l (one-more (step r l) g) .list) ≡ length ys - piece-size * length (c .value .result .pieces)
     unfolding one-more
     one-left =
         let v = laid-long (c .value .result .pieces) ys in
         rw step-is (left-after (g .answer .pieces) (length (c .value .result .pieces)) (g .list) (laid (c .value .result .pieces) ys) (z .holds) ∙ rw v (omega arith))
 
     -- there is room for its pieces
-    module _ (room : 6 * length (next-step k r .pieces) ≤ length ys) where
+    module _ (room : piece-size * length (next-step k r .pieces) ≤ length ys) where
       done : eqb (c .number) Done ≡ true
-      done = eq-eqb _ _ (room-done k r (length ys / 6) (z .there) (z .goes-on) (omega arith))
+      done = eq-eqb _ _ (room-done k r (length ys / piece-size) (z .there) (z .goes-on) (omega arith))
 
       given : c .value .result ≡ next-step k r
-      given = call-given r (length ys / 6) k done .0
+      given = call-given r (length ys / piece-size) k done .0
 
       -- it is the last
       end-now : (f j : ℕ) → next-step k r .finished ≡ true → run (step r l) (suc f) j g .answer .finished ≡ true
@@ -125,14 +126,14 @@ module _ (r : ℕ) (l : ScreenLent) where
           rw (one-number, done, y)
 
       later : painter-of (c .value .canvas) r ≡ next-step k r .painter
-      later = call-own r (length ys / 6) k (rw (z .whole .count) (z .there)) done
+      later = call-own r (length ys / piece-size) k (rw (z .whole .count) (z .there)) done
 
   -- a step that says finished needs no room
-  few : (g : StepOut) (k : Canvas) → next-step k r .finished ≡ true → 6 * length (next-step k r .pieces) ≤ length (next r l g .list)
+  few : (g : StepOut) (k : Canvas) → next-step k r .finished ≡ true → piece-size * length (next-step k r .pieces) ≤ length (next r l g .list)
   few g k e = rw (step-ended (bucket-on k) (k .screen .state .attrs) (getD (k .screen .rows) r fresh-row) (painter-of k r) e) (omega arith)
 
   -- enough steps, and room for all their pieces
-  ends : (f n j : ℕ) (g : StepOut) (k : Canvas) → At g k → work k r ≤ painter-of k r .steps + n → n < f → 6 * length (left-of n k r) ≤ length (next r l g .list)
+  ends : (f n j : ℕ) (g : StepOut) (k : Canvas) → At g k → work k r ≤ painter-of k r .steps + n → n < f → piece-size * length (left-of n k r) ≤ length (next r l g .list)
       → run (step r l) f j g .answer .finished ≡ true
   unfolding paint-steps
   ends zero n j g k z w h room = absurd (omega arith)
@@ -144,18 +145,18 @@ module _ (r : ℕ) (l : ScreenLent) where
       (λ e. end-now g k z (few g k e) f j e)
       (λ e.
       let o = next-step k r in
-      let m : 6 * (length (o .pieces) + length (paint-steps (bucket-on k) (k .screen .state .attrs) n (getD (k .screen .rows) r fresh-row) (o .painter))) ≤ length (ys g k z) = rw (← length-append) room in
-      let first : 6 * length (o .pieces) ≤ length (ys g k z) = omega arith in
+      let m : piece-size * (length (o .pieces) + length (paint-steps (bucket-on k) (k .screen .state .attrs) n (getD (k .screen .rows) r fresh-row) (o .painter))) ≤ length (ys g k z) = rw (← length-append) room in
+      let first : piece-size * length (o .pieces) ≤ length (ys g k z) = omega arith in
       let c = step-counts (bucket-on k) (k .screen .state .attrs) (getD (k .screen .rows) r fresh-row) (painter-of k r) e in
       let p = later g k z first in
-      let s = call-screen r (length (ys g k z) / 6) k in
+      let s = call-screen r (length (ys g k z) / piece-size) k in
       let v = one-left g k z in
       rw (go-on g k z first f j e)
       (ends f n (j + 1) (one-more (step r l) g) _ (on g k z) (rw (p, s) (omega arith)) (omega arith) (rw (p, s) (omega (arith, rw (given g k z first) at v)))))
 
 -- the call at the words of a canvas
 pub row-ended : (k : Canvas) → WholeCanvas k → paints-on k ≡ true → (r : ℕ) → r < length (k .screen .rows) → (list : List ℕ)
-    → 6 * length (left-of (work k r) k r) ≤ length list → row-out r list (canvas-words k) .answer .finished ≡ true
+    → piece-size * length (left-of (work k r) k r) ≤ length list → row-out r list (canvas-words k) .answer .finished ≡ true
 unfolding row-out row-painted
 row-ended k w b r h list room =
     let s = w .sound in
@@ -176,4 +177,4 @@ row-ends {f} {xs} {l} h b r there =
     let begun : k .begun ≡ true = unfold lent-of in (sym (ap (λ (m : ScreenLent). m .screen .painting) (s .same)) ∙ b) in
     let on : paints-on k ≡ true = rw (s .whole .closed begun) begun in
     let row = built-on f xs (k .screen) (s .built) r there .1 in
-    (6 * length (left-of (work k r) k r), λ list long. ap (λ (m : ScreenLent). row-out r list m .answer .finished) (s .same) ∙ row-ended k (s .whole) on r row list long)
+    (piece-size * length (left-of (work k r) k r), λ list long. ap (λ (m : ScreenLent). row-out r list m .answer .finished) (s .same) ∙ row-ended k (s .whole) on r row list long)

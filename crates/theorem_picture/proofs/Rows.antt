@@ -7,14 +7,15 @@ use Prim.Native.Nat.{ℕ, zero, suc, _+_, _-_, _*_, _/_, _≤_, _<_}
 use native.Mathlib.Nat.{zero-add, suc-add}
 use native.Mathlib.Omega.{arith}
 use lib.Dec.{ltb, eqb}
-use lib.ListN.{length, take, drop, length-append}
-use lib.Seq.{length-take-le}
+use lib.ListN.{length, take, drop, length-append, length-drop, take-append-drop}
+use lib.Seq.{length-take-le, take-add}
 use borrow.Author.Tests.{eq-eqb, ne-eqb, eqb-true}
+use Rattle.sizes.specs.Sizes.{piece-size}
 use Rattle.rules.specs.Lists.{every}
 use Rattle.rules.specs.Answers.{Done}
 use Rattle.rules.specs.Plans.{Frame, Step}
 use Rattle.rules.specs.Painting as rules
-use Rattle.rules.specs.Painting.{received}
+use Rattle.rules.specs.Painting.{Piece, received}
 use Rattle.screen.specs.declared.Screen.{Screen}
 use Rattle.screen.specs.Tables.{ScreenLent}
 use Rattle.paint_command.specs.Painting as paint
@@ -27,41 +28,45 @@ use Rattle.rules_picture.specs.Turns.{Gave, from, said-finished}
 use Rattle.rules.proofs.All.{and-left, and-right}
 use Rattle.rules_picture.proofs.Cases.{by}
 use Rattle.theorem_picture.specs.Reached.{Reached, by-paint, with-canvas, begin-at, paint-out, paint-at}
-use Rattle.theorem_picture.specs.Turns.{Turn, pieces-in, gave-out, turned, log}
+use Rattle.theorem_picture.specs.Turns.{Turn, piece-in, pieces-in, gave-out, turned, log}
 use Rattle.theorem_picture.specs.Picture.{finished}
 use Rattle.theorem_picture.specs.Rows.{row-out, row-at, RowTurns, CallTurns, Call, one-step, whole-row, called, call-log, Demand-3-rows}
+use Rattle.theorem_picture.proofs.Pieces.{pieces-first}
 use Rattle.theorem_picture.proofs.Picture.{picture}
 
 -- pieces that stand after n others
-pieces-split : (n m : ℕ) (xs ys : List ℕ) → 6 * n ≤ length xs → pieces-in (n + m) (take (6 * n) xs ++ ys) ≡ pieces-in n xs ++ pieces-in m ys
+pieces-split : (n m : ℕ) (xs ys : List ℕ) → piece-size * n ≤ length xs → pieces-in (n + m) (take (piece-size * n) xs ++ ys) ≡ pieces-in n xs ++ pieces-in m ys
 unfolding pieces-in
 pieces-split zero m xs ys h = rw (zero-add m)
-pieces-split (suc n) m (a ∷ b ∷ c ∷ d ∷ e ∷ f ∷ xs) ys h =
-    let g : 6 * suc n ≡ suc (suc (suc (suc (suc (suc (6 * n)))))) = omega arith in
-    rw (g, suc-add n m, pieces-split n m xs ys (omega arith))
-pieces-split (suc n) m [] ys h = absurd (omega arith)
-pieces-split (suc n) m (a ∷ []) ys h = absurd (omega arith)
-pieces-split (suc n) m (a ∷ b ∷ []) ys h = absurd (omega arith)
-pieces-split (suc n) m (a ∷ b ∷ c ∷ []) ys h = absurd (omega arith)
-pieces-split (suc n) m (a ∷ b ∷ c ∷ d ∷ []) ys h = absurd (omega arith)
-pieces-split (suc n) m (a ∷ b ∷ c ∷ d ∷ e ∷ []) ys h = absurd (omega arith)
+pieces-split (suc n) m xs ys h =
+    let own = take piece-size xs in
+    let later = drop piece-size xs in
+    let long : length own ≡ piece-size = length-take-le piece-size xs (omega arith) in
+    let next : piece-size * suc n ≡ piece-size + piece-size * n = omega arith in
+    let front : take (piece-size * suc n) xs ++ ys ≡ own ++ (take (piece-size * n) later ++ ys) = rw (next, take-add piece-size (piece-size * n) xs, append-assoc) in
+    let fits : piece-size * n ≤ length later = rw (length-drop piece-size xs) (omega arith) in
+    ap (λ (k : ℕ). pieces-in k (take (piece-size * suc n) xs ++ ys)) (suc-add n m)
+    ∙ ap (pieces-in (suc (n + m))) front
+    ∙ pieces-first own (take (piece-size * n) later ++ ys) (n + m) long
+    ∙ ap (λ (ps : List Piece). piece-in own ∷ ps) (pieces-split n m later ys fits)
+    ∙ ap (λ (ps : List Piece). ps ++ pieces-in m ys) (sym (pieces-first own later n long) ∙ ap (pieces-in (suc n)) (take-append-drop piece-size xs))
 
 -- a step's list holds its pieces
-settled-holds : (x : Option rules.Painted) (d p l : List ℕ) → 6 * settled x d p l .answer .pieces ≤ length (settled x d p l .list)
+settled-holds : (x : Option rules.Painted) (d p l : List ℕ) → piece-size * settled x d p l .answer .pieces ≤ length (settled x d p l .list)
 unfolding settled
 settled-holds none d p l = omega arith
-settled-holds (some o) d p l = go (ltb (length l / 6) (length (o .pieces)))
+settled-holds (some o) d p l = go (ltb (length l / piece-size) (length (o .pieces)))
   where
-    go : (b : Bool) → 6 * cond b (out (refused 14) d p l) (left o l) .answer .pieces ≤ length (cond b (out (refused 14) d p l) (left o l) .list)
+    go : (b : Bool) → piece-size * cond b (out (refused 14) d p l) (left o l) .answer .pieces ≤ length (cond b (out (refused 14) d p l) (left o l) .list)
     go true = omega arith
     go false = rw (length-append, length-pieces (o .pieces)) (omega arith)
 
-step-holds : (s : Screen) (r : ℕ) (a : Attributes) (l : paint.RowLent) → 6 * stepped s r a l .answer .pieces ≤ length (stepped s r a l .list)
+step-holds : (s : Screen) (r : ℕ) (a : Attributes) (l : paint.RowLent) → piece-size * stepped s r a l .answer .pieces ≤ length (stepped s r a l .list)
 unfolding stepped row-step painted-row
 step-holds s r a l = go (eqb (number s r a l) Done)
   where
     go : (b : Bool)
-        → 6 * cond b (row-step s r a l) (out (refused (number s r a l)) (l .depth) (l .painting) (l .list)) .answer .pieces
+        → piece-size * cond b (row-step s r a l) (out (refused (number s r a l)) (l .depth) (l .painting) (l .list)) .answer .pieces
         ≤ length (cond b (row-step s r a l) (out (refused (number s r a l)) (l .depth) (l .painting) (l .list)) .list)
     go true = settled-holds _ _ _ _
     go false = omega arith
@@ -85,11 +90,11 @@ module _ (i : ℕ) (l : ScreenLent) where
 
   -- the next step, on what is left of the list
   abbrev pub next : StepOut → Turn
-  next g = record { row = i; list = drop (6 * g .answer .pieces) (g .list) }
+  next g = record { row = i; list = drop (piece-size * g .answer .pieces) (g .list) }
 
   -- the list holds the pieces so far
   abbrev pub Holds : StepOut → Type 0
-  Holds g = 6 * g .answer .pieces ≤ length (g .list)
+  Holds g = piece-size * g .answer .pieces ≤ length (g .list)
 
   pub one-words : (g : StepOut) → paint-at i (next g .list) (at g) ≡ at (one-more step g)
   unfolding one-more paint-out
@@ -99,7 +104,7 @@ module _ (i : ℕ) (l : ScreenLent) where
   unfolding one-more
   one-holds g h =
       let o = step-holds (l .screen) i (attributes (l .tables .paint-attrs) (l .tables .layer-attrs)) (paint.lent (l .tables .rows) (l .tables .render) (l .tables .fills) (g .depth) (g .painting) (next g .list)) in
-      rw (length-append, length-take-le (6 * g .answer .pieces) (g .list) h) (omega (arith, o))
+      rw (length-append, length-take-le (piece-size * g .answer .pieces) (g .list) h) (omega (arith, o))
 
   one-pieces : (g : StepOut) → Holds g
       → pieces-in (one-more step g .answer .pieces) (one-more step g .list)

@@ -6,6 +6,7 @@ use Prim.Native.Nat.{ℕ, _/_}
 use lib.Dec.{eqb}
 use lib.ListN.{length}
 use borrow.Author.Tests.{eqb-true}
+use Rattle.sizes.specs.Sizes.{piece-size}
 use Rattle.rules.specs.Lists.{is-empty}
 use Rattle.rules.specs.Answers.{Answer, answer, settle, Done, Open}
 use Rattle.rules.specs.Spans.{Span}
@@ -87,16 +88,16 @@ module _ (k : Canvas) (w : WholeCanvas k) where
 
   -- a painting step
   module _ (i : ℕ) where
-    pub paint-gives : (l : List ℕ) → paint-out i l (canvas-words k) ≡ given-out (paint-call i (length l / 6) k) l
+    pub paint-gives : (l : List ℕ) → paint-out i l (canvas-words k) ≡ given-out (paint-call i (length l / piece-size) k) l
     unfolding paint-out
     paint-gives l = step-painted k w i l
 
-    pub paint-words : (l : List ℕ) → paint-at i l (canvas-words k) ≡ canvas-words (paint-call i (length l / 6) k .value .canvas)
+    pub paint-words : (l : List ℕ) → paint-at i l (canvas-words k) ≡ canvas-words (paint-call i (length l / piece-size) k .value .canvas)
     paint-words l =
-        let j = paint-call i (length l / 6) k .value .canvas in
+        let j = paint-call i (length l / piece-size) k .value .canvas in
         ap (λ (o : StepOut). with-canvas (canvas-words k) (canvas-words k .screen) (o .depth) (o .painting)) (paint-gives l)
         ∙ with-screen (depth-of (j .painters)) (painting-of (j .painters))
-        ∙ rw (call-screen i (length l / 6) k, call-begun i (length l / 6) k)
+        ∙ rw (call-screen i (length l / piece-size) k, call-begun i (length l / piece-size) k)
 
     -- a writing run
     module _ (id : ℕ) (t : Span) (l : List ℕ) where

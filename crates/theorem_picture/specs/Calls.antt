@@ -2,7 +2,6 @@
 -- of the rules that the words of a call say.
 use Prim.Native.Nat.{ℕ}
 use mathlib.Core.List.{List}
-use mathlib.Core.Option.{Option}
 use Rattle.rules.specs.Answers.{Answer}
 use Rattle.rules.specs.Plans.{Step, a-fill, a-pop, a-filter}
 use Rattle.segments.specs.Segs.{segs-of}
@@ -12,8 +11,7 @@ use Rattle.step_fill.specs.declared.Draw.{Draw}
 use Rattle.step_fill.specs.Fills.{draw-of, paints-of, filled}
 use Rattle.step_push.specs.Push.{pushed}
 use Rattle.step_pop.specs.Pop.{popped}
-use Rattle.step_filter.specs.declared.Placement.{Placement}
-use Rattle.step_filter.specs.Filter.{given, filter-of, filtered}
+use Rattle.step_filter.specs.Filter.{FilterGiven, filter-of, filtered}
 use Rattle.file_steps.specs.Steps.{fill-part, fill-into, push-part, push-into, pop-part, pop-into, filter-part, filter-into, with-value}
 
 -- `fill` with any words as paints, four each, and as segments, five each
@@ -28,9 +26,9 @@ push-at p l = with-value (push-into (l .tables)) (pushed p (push-part l))
 unfoldable pub pop-at : List ℕ → ScreenLent → Answer ScreenLent
 pop-at ss l = pop-into (l .tables) (popped (l .screen) (pop-part l) ss)
 
--- `filter_fill` with any placement, and any picture or none, beside a list of n paints
-unfoldable pub filter-at : Placement → Option ℕ → ℕ → ScreenLent → Answer ScreenLent
-filter-at p m n l = with-value (filter-into (l .tables)) (filtered (given p m n) (filter-part l))
+-- `filter_fill` with any placement, and any picture or none, beside a list of n paints, for a layer of any panel q
+unfoldable pub filter-at : FilterGiven → ScreenLent → Answer ScreenLent
+filter-at g l = with-value (filter-into (l .tables)) (filtered g (filter-part l))
 
 -- what the words say: a paint's two shift words are read by no rule
 abbrev pub fill-said : List ℕ → List ℕ → Draw → Step
@@ -39,5 +37,5 @@ fill-said ps ss d = a-fill (paints-of ps) (segs-of ss) (draw-of d)
 abbrev pub pop-said : List ℕ → Step
 pop-said ss = a-pop (segs-of ss)
 
-abbrev pub filter-said : Placement → Option ℕ → ℕ → Step
-filter-said p m n = a-filter n (filter-of (given p m n))
+abbrev pub filter-said : FilterGiven → Step
+filter-said g = a-filter (g .count) (filter-of g) (g .panel)

@@ -2,7 +2,6 @@
 use Prim.Native.Nat.{ℕ}
 use mathlib.Core.Path.{_≡_}
 use mathlib.Core.List.{List, [], _∷_, _++_}
-use mathlib.Core.Option.{Option}
 use Rattle.rules.specs.Answers.{Answer, answer, Done}
 use Rattle.rules.specs.Spans.{Span}
 use Rattle.rules.specs.Inputs.{Props}
@@ -11,7 +10,7 @@ use Rattle.screen.specs.declared.Screen.{Screen}
 use Rattle.screen.specs.Tables.{tables, ScreenLent, lent, reset-to}
 use Rattle.screen_layers.specs.declared.LayerProps.{LayerProps}
 use Rattle.step_fill.specs.declared.Draw.{Draw}
-use Rattle.step_filter.specs.declared.Placement.{Placement}
+use Rattle.step_filter.specs.Filter.{FilterGiven}
 use Rattle.file_read.specs.Reading.{props-in}
 use Rattle.paint_command.specs.Painting as paint
 use Rattle.paint_screen.specs.Beginning.{canvas, beginning}
@@ -62,8 +61,8 @@ pub data Reached : Frame → List Step → ScreenLent → Type 0 where
       → Reached f (xs ++ (a-push q ∷ [])) (push-at p l .value)
   by-pop : {f : Frame} {xs : List Step} {l : ScreenLent} (ss : List ℕ) → Reached f xs l → pop-at ss l .number ≡ Done
       → Reached f (xs ++ (pop-said ss ∷ [])) (pop-at ss l .value)
-  by-filter : {f : Frame} {xs : List Step} {l : ScreenLent} (p : Placement) (m : Option ℕ) (n : ℕ) → Reached f xs l → filter-at p m n l .number ≡ Done
-      → Reached f (xs ++ (filter-said p m n ∷ [])) (filter-at p m n l .value)
+  by-filter : {f : Frame} {xs : List Step} {l : ScreenLent} (g : FilterGiven) → Reached f xs l → filter-at g l .number ≡ Done
+      → Reached f (xs ++ (filter-said g ∷ [])) (filter-at g l .value)
   by-begin : {f : Frame} {xs : List Step} {l : ScreenLent} → Reached f xs l → Reached f xs (begin-at l .value)
   by-paint : {f : Frame} {xs : List Step} {l : ScreenLent} (i : ℕ) (list : List ℕ) → Reached f xs l → Reached f xs (paint-at i list l)
   by-write : {f : Frame} {xs : List Step} {l : ScreenLent} (i id : ℕ) (t : Span) (list : List ℕ) → Reached f xs l → Reached f xs (write-at i id t list l)

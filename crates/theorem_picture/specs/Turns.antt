@@ -5,6 +5,7 @@ use mathlib.Core.List.{List, [], _∷_}
 use mathlib.Core.Option.{none, some}
 use lib.ListN.{length, getD, drop}
 use lib.Dec.{leb, eqb}
+use Rattle.sizes.specs.Sizes.{piece-size}
 use Rattle.rules.specs.Spans.{span}
 use Rattle.rules.specs.Painting.{Piece}
 use Rattle.screen.specs.Tables.{ScreenLent}
@@ -13,7 +14,7 @@ use Rattle.rules_picture.specs.Turns as rule
 use Rattle.rules_picture.specs.Turns.{Gave}
 use Rattle.theorem_picture.specs.Reached.{paint-out, paint-at}
 
--- the piece at a list's start, six words: tag, attribute, first tile, end tile, alpha index, nesting; tags 3 and 4 are layers, 2 and 4 have alpha
+-- the piece at a list's start: tag, attribute, first tile, end tile, alpha index, nesting, panel; tags 3 and 4 are layers, 2 and 4 have alpha
 abbrev pub piece-in : List ℕ → Piece
 piece-in l =
     record {
@@ -22,21 +23,22 @@ piece-in l =
       tiles = span (getD l 2 0) (getD l 3 0);
       alpha = cond (eqb (getD l 0 0) 2 || eqb (getD l 0 0) 4) (some (getD l 4 0)) none;
       nesting = getD l 5 0;
+      panel = getD l 6 0;
     }
 
 -- the first n pieces
 unfoldable pub pieces-in : ℕ → List ℕ → List Piece
 pieces-in zero l = []
-pieces-in (suc n) l = piece-in l ∷ pieces-in n (drop 6 l)
+pieces-in (suc n) l = piece-in l ∷ pieces-in n (drop piece-size l)
 
 -- one call of a painting step: any row, there or not, and the words of any list
 pub record Turn : Type 0 where
   pub row : ℕ
   pub list : List ℕ
 
--- .. as the rules' turn: six words a piece
+-- .. as the rules' turn: room for so many pieces
 abbrev pub turn-of : Turn → rule.Turn
-turn-of t = record { row = t .row; room = length (t .list) / 6 }
+turn-of t = record { row = t .row; room = length (t .list) / piece-size }
 
 -- what a call gave: its row, its answer's number, whether it said finished, and the pieces that its list holds afterwards
 abbrev pub gave-out : ℕ → StepOut → Gave

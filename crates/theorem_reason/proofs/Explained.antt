@@ -125,6 +125,6 @@ explained-painted ws q l z r row tile h k ts fin a =
     let good = view ws q l z r in
     let built = history-built ws q l z r in
     record {
-      shown = λ n e. subst (λ (es : List Entry). Listed a n es) same (shown-exact (frame-of p (said r)) xs u good built row tile a n .0 (sym gives ∙ e));
-      other = λ n. subst (λ (es : List Entry). Unlisted a es) same (not-shown (frame-of p (said r)) xs u good built row tile a (λ m e. n m (gives ∙ e)));
+      shown = λ n m e. subst (λ (es : List Entry). Listed a n m es) same (shown-exact (frame-of p (said r)) xs u good built row tile a n m .0 (sym gives ∙ e));
+      other = λ n. subst (λ (es : List Entry). Unlisted a es) same (not-shown (frame-of p (said r)) xs u good built row tile a (λ m o e. n m o (gives ∙ e)));
     }

@@ -1,4 +1,5 @@
 pub mod Places
 pub mod Reasons
+pub mod Panels
 pub mod Painted
 pub mod Explained

@@ -10,6 +10,6 @@ pub reason-painted : Reason-painted
 reason-painted f xs k g b e ts r t h on fin a =
     let same = sym (picture f xs k b e ts r t h on fin) in
     record {
-      shown = λ p q. subst (λ (es : List Entry). Listed a p es) same (shown-exact f xs (k .screen) g b r t a p .0 q);
+      shown = λ p q z. subst (λ (es : List Entry). Listed a p q es) same (shown-exact f xs (k .screen) g b r t a p q .0 z);
       other = λ n. subst (λ (es : List Entry). Unlisted a es) same (not-shown f xs (k .screen) g b r t a n);
     }

@@ -77,7 +77,7 @@ shown-told {n} {t} (u ∷ ts) p = by (hiding ts)
 abbrev pub Drawn : Told → Type 0
 Drawn t = t .hides ≡ true → t .entry .layer ≡ false
 
-pub newest-is : (ts : List Told) → All Drawn ts → hiding ts ≡ true → Newest ts (newest-hider ts)
+pub newest-is : (ts : List Told) → All Drawn ts → hiding ts ≡ true → Newest ts (newest-hider ts .attribute) (newest-hider ts .panel)
 unfolding newest-hider
 newest-is [] d e = never (sym e)
 newest-is (t ∷ ts) (cons d ds) e = by (hiding ts)
@@ -90,7 +90,7 @@ newest-is (t ∷ ts) (cons d ds) e = by (hiding ts)
     so true b n y = refl
     so false b n y = never (sym y ∙ n)
 
-pub newest-hides : {ts : List Told} {h : ℕ} → Newest ts h → hiding ts ≡ true
+pub newest-hides : {ts : List Told} {h b : ℕ} → Newest ts h b → hiding ts ≡ true
 newest-hides (newest e d a) = rw e
 newest-hides (older {t = t} n) = rw (newest-hides n) (or-true (t .hides))
   where
@@ -102,7 +102,7 @@ none-hides : {ts : List Told} → All (λ (u : Told). u .hides ≡ false) ts →
 none-hides nil = refl
 none-hides (cons e a) = rw (e, none-hides a)
 
-pub newest-only : {ts : List Told} {h : ℕ} → Newest ts h → newest-hider ts ≡ h
+pub newest-only : {ts : List Told} {h b : ℕ} → Newest ts h b → newest-hider ts ≡ record { attribute = h; panel = b }
 unfolding newest-hider
 newest-only (newest e d a) = rw (none-hides a)
 newest-only (older n) = rw (newest-hides n) (newest-only n)
@@ -173,16 +173,17 @@ module _ (a : Asked) where
       (λ y. never (sym e ∙ place-all (f y) q))
       (λ z. rw z (place-lone (suc n) l q e ∙ ap (λ (i : ℕ). some i) m))
 
-  -- an account tells its own entry, or nothing
+  -- an account tells its own entry, of its panel, or nothing
   pub record Fair (k : Account) : Type 0 where
     pub entry : Told
     pub told : k .told ≡ keep (tells k) entry []
     pub of : names a entry ≡ asks a k
+    pub panel : entry .entry .panel ≡ k .panel
 
   pub fair : {ks : List Account} {ls : List Line} → Say ks ls → All Fair ks
   fair said = nil
   fair (says {k = k} {l = l} s r) =
-      cons {x = k} (record { entry = record { entry = entry-of l; id = s .id; hides = s .hides }; told = s .told; of = rw (s .layer, s .attribute) }) (fair r)
+      cons {x = k} (record { entry = record { entry = entry-of l; id = s .id; hides = s .hides }; told = s .told; of = rw (s .layer, s .attribute); panel = s .panel }) (fair r)
 
   -- what one account tells
   told-one : (k : Account) (f : Fair k) → tells k ≡ true → k .told ≡ f .entry ∷ []
@@ -250,6 +251,29 @@ module _ (a : Asked) where
       let m : tells j ≡ false = ap (λ (i : Account). tells i) z ∙ n in
       subst (λ (ts : List Told). Unnamed a (ts ++ told-all ks)) (sym (told-none j f m)) (all-unnamed fs (g y)))
       (λ z. all-append (told-unnamed j f z) (untold-by k fs o (rw z at e) n))
+
+  -- the entries of the asked attribute have its account's panel
+  abbrev pub Paneled : ℕ → Told → Type 0
+  Paneled q t = names a t ≡ true → t .entry .panel ≡ q
+
+  none-paneled : (q : ℕ) {ts : List Told} → Unnamed a ts → All (Paneled q) ts
+  none-paneled q nil = nil
+  none-paneled q (cons n u) = cons (λ y. never (sym y ∙ n)) (none-paneled q u)
+
+  own-panel : (k : Account) (f : Fair k) → All (Paneled (k .panel)) (k .told)
+  own-panel k f = by (tells k)
+      (λ y. subst (λ (ts : List Told). All (Paneled (k .panel)) ts) (sym (told-one k f y)) (cons (λ z. f .panel) nil))
+      (λ n. subst (λ (ts : List Told). All (Paneled (k .panel)) ts) (sym (told-none k f n)) nil)
+
+  pub told-panels : {ks : List Account} (k : Account) → All Fair ks → Once a ks → account-of a ks ≡ some k → All (Paneled (k .panel)) (told-all ks)
+  unfolding account-of
+  told-panels k nil none-left e = nil
+  told-panels k (cons {x = j} {xs = ks} f fs) (once g o) e = by (asks a j)
+      (λ y.
+      let q : _≡_ {A = Option Account} (some j) (some k) = rw y at e in
+      let z : j ≡ k = cc in
+      all-append (subst (λ (i : Account). All (Paneled (i .panel)) (j .told)) z (own-panel j f)) (none-paneled (k .panel) (all-unnamed fs (g y))))
+      (λ z. all-append (none-paneled (k .panel) (told-unnamed j f z)) (told-panels k fs o (rw z at e)))
 
   pub record Stood (ts : List Told) : Type 0 where
     pub place : ℕ

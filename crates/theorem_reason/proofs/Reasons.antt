@@ -24,7 +24,7 @@ use Rattle.rules.proofs.All.{All, nil, cons, all-append, all-if, never, and-lef
 use Rattle.rules_picture.specs.Built.{Built}
 use Rattle.rules_picture.proofs.Cases.{by}
 use Rattle.rules_picture.proofs.Picture.{all-shown}
-use Rattle.rules_reason.specs.Reasons.{Reason, unknown-attribute, no-segment, cut-away, row-untouched, hidden-by, shown-at, Asked, Account, accounts, account-of, place-of, newest-hider, because, reason}
+use Rattle.rules_reason.specs.Reasons.{Reason, unknown-attribute, no-segment, cut-away, row-untouched, hidden-by, shown-at, Asked, Account, accounts, account-of, place-of, Hider, newest-hider, hidden as hidden-for, because, reason}
 use Rattle.tile_steps.specs.Telling.{Line}
 use Rattle.refine_tile.specs.Retold.{entry-of, tells, Say, said, says}
 use Rattle.refine_tile.proofs.Inside.{inside-none}
@@ -35,39 +35,39 @@ use Rattle.refine_tile.proofs.Numbers.{told-all, accounts-numbered, accounts-to
 use Rattle.refine_tile.proofs.Shows.{hiding, Unnamed}
 use Rattle.theorem_reason.specs.Reasons.{Place, EntryOf, Listed, Unlisted, attributes, Reckoned, Hidden, Holds, unknown, uncovered, cut, untouched, hidden, listed, rank, First, TellsOwn, Told-exact, Reason-true, Unknown-exact, Shown-exact, Hidden-exact}
 use Rattle.theorem_reason.proofs.Places.{kind-is, kind-yes, place-all, entry-in, place-entry, place-told, shown-told, Drawn, newest-is, newest-only, named, naming, unlisted}
-use Rattle.theorem_reason.proofs.Places.{place-found, place-missing, Lone, lone-shown, place-lone, Fair, fair, told-lone, account-found, account-lone, none-told, untold-by, told-by-it, numbered-below, numbered-above}
+use Rattle.theorem_reason.proofs.Places.{place-found, place-missing, Lone, lone-shown, place-lone, Fair, fair, told-lone, Paneled, told-panels, account-found, account-lone, none-told, untold-by, told-by-it, numbered-below, numbered-above}
 
 -- the entries that hide are draws'
 module _ (w : ℕ) (v : Box) (row tile : ℕ) where
-  tell-drawn : (l : Bool) (i n id : ℕ) (e : Bool) (ks : List Cut) → (e ≡ true → l ≡ false) → All Drawn (tell w v row tile l i n id e ks)
-  tell-drawn l i n id e [] f = nil
-  tell-drawn l i n id e (k ∷ ks) f = by (covers (k .stretch .tiles) tile)
-      (λ y. rw y (cons (λ h. f (and-left e (is-none (k .stretch .alpha)) (and-left (e && is-none (k .stretch .alpha)) _ h))) (tell-drawn l i n id e ks f)))
-      (λ z. rw z (tell-drawn l i n id e ks f))
+  tell-drawn : (l : Bool) (i q n id : ℕ) (e : Bool) (ks : List Cut) → (e ≡ true → l ≡ false) → All Drawn (tell w v row tile l i q n id e ks)
+  tell-drawn l i q n id e [] f = nil
+  tell-drawn l i q n id e (k ∷ ks) f = by (covers (k .stretch .tiles) tile)
+      (λ y. rw y (cons (λ h. f (and-left e (is-none (k .stretch .alpha)) (and-left (e && is-none (k .stretch .alpha)) _ h))) (tell-drawn l i q n id e ks f)))
+      (λ z. rw z (tell-drawn l i q n id e ks f))
 
   pop-drawn : (ls : List OpenLayer) (ss : List Segment) (o : Story) → All Drawn (o .told) → All Drawn (tell-pop w v row tile ls ss o .told)
   pop-drawn [] ss o d = d
   pop-drawn (l ∷ ls) ss o d =
       let ks = closers w v row tile (l .layer .props .clip) (l .layer .bounds) ls ss in
-      all-append d (all-if (l .touched) (tell-drawn true (o .layers) (length (o .open-layers)) (o .next) false ks (λ e. never (sym e))) nil)
+      all-append d (all-if (l .touched) (tell-drawn true (o .layers) (l .layer .props .panel) (length (o .open-layers)) (o .next) false ks (λ e. never (sym e))) nil)
 
-  filter-drawn : (f : Filter) (o : Story) → All Drawn (o .told) → All Drawn (tell-filter w v row tile f o .told)
-  filter-drawn f o d =
+  filter-drawn : (f : Filter) (q : ℕ) (o : Story) → All Drawn (o .told) → All Drawn (tell-filter w v row tile f q o .told)
+  filter-drawn f q o d =
       let b = filter-box v (box-now v (o .open-layers)) f in
       let ks : List Cut = cond (in-rows w v row tile b) (record { row = row; stretch = solid-tiles (span-of b) } ∷ []) [] in
       by (draws-nothing f b)
       (λ y. rw y d)
-      (λ n. rw n (all-append d (tell-drawn false (o .paints) (length (o .open-layers)) (o .next) false ks (λ e. refl))))
+      (λ n. rw n (all-append d (tell-drawn false (o .paints) q (length (o .open-layers)) (o .next) false ks (λ e. refl))))
 
   step-drawn : (x : Step) (o : Story) → All Drawn (o .told) → All Drawn (tell-step w v row tile x o .told)
   unfolding tell-step
   step-drawn (a-fill ps ss d) o h =
       let e = eligible (is-empty (o .open-layers)) (draw-paint ps d) d in
       let ks = here w v row tile (o .open-layers) (draw-segments ss d) in
-      all-append h (tell-drawn false (o .paints) (length (o .open-layers)) (o .next) e ks (λ y. refl))
+      all-append h (tell-drawn false (o .paints) (d .panel) (length (o .open-layers)) (o .next) e ks (λ y. refl))
   step-drawn (a-push p) o h = h
   step-drawn (a-pop ss) o h = pop-drawn (o .open-layers) ss o h
-  step-drawn (a-filter n f) o h = filter-drawn f o h
+  step-drawn (a-filter n f q) o h = filter-drawn f q o h
 
   steps-drawn : (xs : List Step) (o : Story) → All Drawn (o .told) → All Drawn (tell-steps w v row tile xs o .told)
   unfolding tell-steps
@@ -93,6 +93,10 @@ kept-of (some k) = k .kept
 abbrev touched-of : Option Account → Bool
 touched-of none = true
 touched-of (some k) = k .touched
+
+abbrev panel-of : Option Account → ℕ
+panel-of none = 0
+panel-of (some k) = k .panel
 
 module _ (w : ℕ) (v : Box) (row tile : ℕ) (xs : List Step) (a : Asked) (fairs : All (Fair a) (accounts w v row tile xs untold)) where
   abbrev ks : List Account
@@ -134,20 +138,39 @@ module _ (w : ℕ) (v : Box) (row tile : ℕ) (xs : List Step) (a : Asked) (fair
   below : (k : Account) → asked ≡ some k → a .attribute < attributes w v row tile xs a
   below k e = let r = account-found a ks k e in numbered-below a (accounts-numbered w v row tile xs) (r .at) (r .of)
 
+  -- the entries of the asked attribute have its account's panel
+  panels : (k : Account) → asked ≡ some k → All (Paneled a (k .panel)) ts
+  panels k e = subst (λ (us : List Told). All (Paneled a (k .panel)) us) (sym same-told) (told-panels a k fairs one-account e)
+
   -- the tile's list
-  is-listed : (p : ℕ) → where-shown ≡ some p → Listed a p (plain w v row tile xs)
+  is-listed : (p : ℕ) → where-shown ≡ some p → (q : ℕ) × Listed a p q (plain w v row tile xs)
   unfolding plain
   is-listed p e =
       let r = place-found a 0 p (shown ts) e in
-      let i : r .place ≡ p = sym (r .is ∙ zero-add (r .place)) in
-      record { entry = r .told .entry; at = subst (λ (n : ℕ). Place n (map entry-in (shown ts)) (r .told .entry)) i (place-entry (r .at)); of = named a (r .told) (r .of) }
+      let i : r .place ≡ p = sym (r .is ∙ zero-add (r .place)) in (
+        r .told .entry .panel,
+        record {
+          entry = r .told .entry;
+          at = subst (λ (n : ℕ). Place n (map entry-in (shown ts)) (r .told .entry)) i (place-entry (r .at));
+          of = named a (r .told) (r .of);
+          panel = refl;
+        },
+      )
 
-  listed-at : (p : ℕ) → Listed a p (plain w v row tile xs) → where-shown ≡ some p
+  listed-at : (p q : ℕ) → Listed a p q (plain w v row tile xs) → where-shown ≡ some p
   unfolding plain
-  listed-at p l =
+  listed-at p q l =
       let r = place-told (shown ts) (l .at) in
       let e : EntryOf a (r .told .entry) = subst (λ (x : Entry). EntryOf a x) (sym (r .is)) (l .of) in
       place-lone a 0 (lone-shown a one-entry) (r .at) (naming a (r .told) e) ∙ ap (λ (n : ℕ). some n) (zero-add p)
+
+  listed-panel : (k : Account) → asked ≡ some k → (p q : ℕ) → Listed a p q (plain w v row tile xs) → k .panel ≡ q
+  unfolding plain
+  listed-panel k y p q l =
+      let r = place-told (shown ts) (l .at) in
+      let e : EntryOf a (r .told .entry) = subst (λ (x : Entry). EntryOf a x) (sym (r .is)) (l .of) in
+      let (m, at) = shown-told ts (r .at) in
+      sym (place-all (panels k y) at (naming a (r .told) e)) ∙ ap (λ (x : Entry). x .panel) (r .is) ∙ l .panel
 
   is-unlisted : where-shown ≡ none → Unlisted a (plain w v row tile xs)
   unfolding plain
@@ -158,7 +181,7 @@ module _ (w : ℕ) (v : Box) (row tile : ℕ) (xs : List Step) (a : Asked) (fair
     where
       go : (o : Option ℕ) → where-shown ≡ o → where-shown ≡ none
       go none e = e
-      go (some p) e = let l = is-listed p e in absurd (place-all u (l .at) (l .of))
+      go (some p) e = let (q, l) = is-listed p e in absurd (place-all u (l .at) (l .of))
 
   -- an entry is told exactly by an account that tells
   record Teller : Type 0 where
@@ -178,16 +201,17 @@ module _ (w : ℕ) (v : Box) (row tile : ℕ) (xs : List Step) (a : Asked) (fair
           (λ y. record { account = k; is = q; does = y })
           (λ n. absurd (unnamed (subst (λ (us : List Told). Unnamed a us) (sym same-told) (untold-by a k fairs one-account q n))))
 
-  listed-teller : (p : ℕ) → Listed a p (plain w v row tile xs) → Teller
+  listed-teller : (p q : ℕ) → Listed a p q (plain w v row tile xs) → Teller
   unfolding plain
-  listed-teller p l =
+  listed-teller p q l =
       let r = place-told (shown ts) (l .at) in
       let e : EntryOf a (r .told .entry) = subst (λ (x : Entry). EntryOf a x) (sym (r .is)) (l .of) in
-      let (m, q) = shown-told ts (r .at) in
-      teller (r .told) q e
+      let (m, at) = shown-told ts (r .at) in
+      teller (r .told) at e
 
   -- told, and not in the list: something hides it
-  is-hidden : (k : Account) → asked ≡ some k → tells k ≡ true → where-shown ≡ none → Hidden w v row tile xs a (newest-hider ts)
+  is-hidden : (k : Account) → asked ≡ some k → tells k ≡ true → where-shown ≡ none
+      → Hidden w v row tile xs a (newest-hider ts .attribute) (newest-hider ts .panel) (k .panel)
   is-hidden k e y n =
       let r = told-by-it a k fairs e y in
       let p : Place (r .place) ts (r .told) = subst (λ (us : List Told). Place (r .place) us (r .told)) (sym same-told) (r .at) in
@@ -195,30 +219,38 @@ module _ (w : ℕ) (v : Box) (row tile : ℕ) (xs : List Step) (a : Asked) (fair
       (λ z.
       let u : Unnamed a ts = subst (λ (us : List Told). Unnamed a us) (all-shown ts z) (place-missing a 0 (shown ts) n) in
       never (sym (r .of) ∙ place-all u p)) in
-      record { place = r .place; told = r .told; at = p; of = named a (r .told) (r .of); gone = is-unlisted n; hider = newest-is ts (steps-drawn w v row tile xs untold nil) h }
+      record {
+        place = r .place;
+        told = r .told;
+        at = p;
+        of = named a (r .told) (r .of);
+        panel = place-all (panels k e) p (r .of);
+        gone = is-unlisted n;
+        hider = newest-is ts (steps-drawn w v row tile xs untold nil) h;
+      }
 
   -- the reason by what is known
   gives-unknown : asked ≡ none → reason w v row tile xs a ≡ unknown-attribute
   unfolding reason because
   gives-unknown e = rw e
 
-  gives-uncovered : (k : Account) → asked ≡ some k → k .covered ≡ false → reason w v row tile xs a ≡ no-segment
+  gives-uncovered : (k : Account) → asked ≡ some k → k .covered ≡ false → reason w v row tile xs a ≡ no-segment (k .panel)
   unfolding reason because
   gives-uncovered k e c = rw (e, c)
 
-  gives-cut : (k : Account) → asked ≡ some k → k .covered ≡ true → k .kept ≡ false → reason w v row tile xs a ≡ cut-away
+  gives-cut : (k : Account) → asked ≡ some k → k .covered ≡ true → k .kept ≡ false → reason w v row tile xs a ≡ cut-away (k .panel)
   unfolding reason because
   gives-cut k e c m = rw (e, c, m)
 
-  gives-untouched : (k : Account) → asked ≡ some k → k .covered ≡ true → k .kept ≡ true → k .touched ≡ false → reason w v row tile xs a ≡ row-untouched
+  gives-untouched : (k : Account) → asked ≡ some k → k .covered ≡ true → k .kept ≡ true → k .touched ≡ false → reason w v row tile xs a ≡ row-untouched (k .panel)
   unfolding reason because
   gives-untouched k e c m t = rw (e, c, m, t)
 
-  gives-hidden : (k : Account) → asked ≡ some k → tells k ≡ true → where-shown ≡ none → reason w v row tile xs a ≡ hidden-by (newest-hider ts)
+  gives-hidden : (k : Account) → asked ≡ some k → tells k ≡ true → where-shown ≡ none → reason w v row tile xs a ≡ hidden-for (newest-hider ts) (k .panel)
   unfolding reason because
   gives-hidden k e y n = let (c, m, t) = told-parts (k .covered) (k .kept) (k .touched) y in rw (e, c, m, t, n)
 
-  gives-shown : (k : Account) → asked ≡ some k → tells k ≡ true → (p : ℕ) → where-shown ≡ some p → reason w v row tile xs a ≡ shown-at p
+  gives-shown : (k : Account) → asked ≡ some k → tells k ≡ true → (p : ℕ) → where-shown ≡ some p → reason w v row tile xs a ≡ shown-at p (k .panel)
   unfolding reason because
   gives-shown k e y p n = let (c, m, t) = told-parts (k .covered) (k .kept) (k .touched) y in rw (e, c, m, t, n)
 
@@ -233,31 +265,49 @@ module _ (w : ℕ) (v : Box) (row tile : ℕ) (xs : List Step) (a : Asked) (fair
       go none e = e
       go (some k) e = let h = below k e in absurd (omega arith)
 
-  is-uncovered : True no-segment → covered-of asked ≡ false
+  is-uncovered : {q : ℕ} → True (no-segment q) → covered-of asked ≡ false
   is-uncovered (uncovered r e) = ap covered-of (is-reckoned r) ∙ e
 
-  is-cut : True cut-away → kept-of asked ≡ false
+  is-cut : {q : ℕ} → True (cut-away q) → kept-of asked ≡ false
   is-cut (cut r e) = ap kept-of (is-reckoned r) ∙ e
 
-  is-untouched : True row-untouched → touched-of asked ≡ false
+  is-untouched : {q : ℕ} → True (row-untouched q) → touched-of asked ≡ false
   is-untouched (untouched r e) = ap touched-of (is-reckoned r) ∙ e
 
-  hides-it : {h : ℕ} → True (hidden-by h) → Hidden w v row tile xs a h
+  hides-it : {h b q : ℕ} → True (hidden-by h b q) → Hidden w v row tile xs a h b q
   hides-it (hidden x) = x
 
-  lists-it : {p : ℕ} → True (shown-at p) → Listed a p (plain w v row tile xs)
+  lists-it : {p q : ℕ} → True (shown-at p q) → Listed a p q (plain w v row tile xs)
   lists-it (listed x) = x
+
+  -- .. and its panel
+  uncovered-panel : {q : ℕ} → True (no-segment q) → panel-of asked ≡ q
+  uncovered-panel (uncovered r e) = ap panel-of (is-reckoned r)
+
+  cut-panel : {q : ℕ} → True (cut-away q) → panel-of asked ≡ q
+  cut-panel (cut r e) = ap panel-of (is-reckoned r)
+
+  untouched-panel : {q : ℕ} → True (row-untouched q) → panel-of asked ≡ q
+  untouched-panel (untouched r e) = ap panel-of (is-reckoned r)
+
+  hidden-panel : {h b q : ℕ} (x : Hidden w v row tile xs a h b q) → teller (x .told) (x .at) (x .of) .account .panel ≡ q
+  hidden-panel x =
+      let t = teller (x .told) (x .at) (x .of) in
+      sym (place-all (panels (t .account) (t .is)) (x .at) (naming a (x .told) (x .of))) ∙ x .panel
+
+  shown-panel : {p q : ℕ} (l : Listed a p q (plain w v row tile xs)) → listed-teller p q l .account .panel ≡ q
+  shown-panel {p} {q} l = let t = listed-teller p q l in listed-panel (t .account) (t .is) p q l
 
   -- none of the first n holds
   none-before : (n : ℕ) → (0 < n → asked ≡ none → ⊥) → (1 < n → covered-of asked ≡ false → ⊥) → (2 < n → kept-of asked ≡ false → ⊥) → (3 < n → touched-of asked ≡ false → ⊥)
       → (4 < n → where-shown ≡ none → ⊥) → n ≤ 5 → (s : Reason) → rank s < n → True s → ⊥
   unfolding rank
   none-before n a₀ a₁ a₂ a₃ a₄ le unknown-attribute l h = a₀ l (is-unknown h)
-  none-before n a₀ a₁ a₂ a₃ a₄ le no-segment l h = a₁ l (is-uncovered h)
-  none-before n a₀ a₁ a₂ a₃ a₄ le cut-away l h = a₂ l (is-cut h)
-  none-before n a₀ a₁ a₂ a₃ a₄ le row-untouched l h = a₃ l (is-untouched h)
-  none-before n a₀ a₁ a₂ a₃ a₄ le (hidden-by i) l h = a₄ l (unlisted-at (hides-it h .gone))
-  none-before n a₀ a₁ a₂ a₃ a₄ le (shown-at p) l h = omega arith
+  none-before n a₀ a₁ a₂ a₃ a₄ le (no-segment q) l h = a₁ l (is-uncovered h)
+  none-before n a₀ a₁ a₂ a₃ a₄ le (cut-away q) l h = a₂ l (is-cut h)
+  none-before n a₀ a₁ a₂ a₃ a₄ le (row-untouched q) l h = a₃ l (is-untouched h)
+  none-before n a₀ a₁ a₂ a₃ a₄ le (hidden-by i b q) l h = a₄ l (unlisted-at (hides-it h .gone))
+  none-before n a₀ a₁ a₂ a₃ a₄ le (shown-at p q) l h = omega arith
 
   abbrev Earliest : Reason → Type 0
   Earliest r = First w v row tile xs a r
@@ -279,7 +329,7 @@ module _ (w : ℕ) (v : Box) (row tile : ℕ) (xs : List Step) (a : Asked) (fair
     touches-it : k .touched ≡ true → touched-of asked ≡ false → ⊥
     touches-it c n = never (sym c ∙ sym (ap touched-of e) ∙ n)
 
-    first-uncovered : k .covered ≡ false → Earliest no-segment
+    first-uncovered : k .covered ≡ false → Earliest (no-segment (k .panel))
     unfolding rank
     first-uncovered c =
         record {
@@ -287,7 +337,7 @@ module _ (w : ℕ) (v : Box) (row tile : ℕ) (xs : List Step) (a : Asked) (fair
           earlier = none-before 1 (λ l. there-is k e) (λ l. absurd (omega arith)) (λ l. absurd (omega arith)) (λ l. absurd (omega arith)) (λ l. absurd (omega arith)) (omega arith);
         }
 
-    first-cut : k .covered ≡ true → k .kept ≡ false → Earliest cut-away
+    first-cut : k .covered ≡ true → k .kept ≡ false → Earliest (cut-away (k .panel))
     unfolding rank
     first-cut c m =
         record {
@@ -295,7 +345,7 @@ module _ (w : ℕ) (v : Box) (row tile : ℕ) (xs : List Step) (a : Asked) (fair
           earlier = none-before 2 (λ l. there-is k e) (λ l. covers-it c) (λ l. absurd (omega arith)) (λ l. absurd (omega arith)) (λ l. absurd (omega arith)) (omega arith);
         }
 
-    first-untouched : k .covered ≡ true → k .kept ≡ true → k .touched ≡ false → Earliest row-untouched
+    first-untouched : k .covered ≡ true → k .kept ≡ true → k .touched ≡ false → Earliest (row-untouched (k .panel))
     unfolding rank
     first-untouched c m t =
         record {
@@ -303,7 +353,7 @@ module _ (w : ℕ) (v : Box) (row tile : ℕ) (xs : List Step) (a : Asked) (fair
           earlier = none-before 3 (λ l. there-is k e) (λ l. covers-it c) (λ l. keeps-it m) (λ l. absurd (omega arith)) (λ l. absurd (omega arith)) (omega arith);
         }
 
-    first-hidden : tells k ≡ true → where-shown ≡ none → Earliest (hidden-by (newest-hider ts))
+    first-hidden : tells k ≡ true → where-shown ≡ none → Earliest (hidden-for (newest-hider ts) (k .panel))
     unfolding rank
     first-hidden y n =
         let (c, m, t) = told-parts (k .covered) (k .kept) (k .touched) y in
@@ -312,12 +362,13 @@ module _ (w : ℕ) (v : Box) (row tile : ℕ) (xs : List Step) (a : Asked) (fair
           earlier = none-before 4 (λ l. there-is k e) (λ l. covers-it c) (λ l. keeps-it m) (λ l. touches-it t) (λ l. absurd (omega arith)) (omega arith);
         }
 
-    first-shown : tells k ≡ true → (p : ℕ) → where-shown ≡ some p → Earliest (shown-at p)
+    first-shown : tells k ≡ true → (p : ℕ) → where-shown ≡ some p → Earliest (shown-at p (k .panel))
     unfolding rank
     first-shown y p n =
         let (c, m, t) = told-parts (k .covered) (k .kept) (k .touched) y in
+        let (q, l) = is-listed p n in
         record {
-          holds = listed (is-listed p n);
+          holds = listed (subst (λ (i : ℕ). Listed a p i (plain w v row tile xs)) (sym (listed-panel k e p q l)) l);
           earlier = none-before 5 (λ l. there-is k e) (λ l. covers-it c) (λ l. keeps-it m) (λ l. touches-it t)
               (λ l z. let q : _≡_ {A = Option ℕ} (some p) none = sym n ∙ z in let x : _≡_ {A = ℕ} 0 1 = cc in omega arith) (omega arith);
         }
@@ -345,20 +396,26 @@ module _ (w : ℕ) (v : Box) (row tile : ℕ) (xs : List Step) (a : Asked) (fair
   -- a reason that holds, by its place in the order
   abbrev by-rank : ℕ → Reason
   by-rank zero = unknown-attribute
-  by-rank (suc zero) = no-segment
-  by-rank (suc (suc zero)) = cut-away
-  by-rank (suc (suc (suc zero))) = row-untouched
-  by-rank (suc (suc (suc (suc zero)))) = hidden-by (newest-hider ts)
-  by-rank (suc (suc (suc (suc (suc n))))) = shown-at (Option·getD where-shown 0)
+  by-rank (suc zero) = no-segment (panel-of asked)
+  by-rank (suc (suc zero)) = cut-away (panel-of asked)
+  by-rank (suc (suc (suc zero))) = row-untouched (panel-of asked)
+  by-rank (suc (suc (suc (suc zero)))) = hidden-for (newest-hider ts) (panel-of asked)
+  by-rank (suc (suc (suc (suc (suc n))))) = shown-at (Option·getD where-shown 0) (panel-of asked)
 
   ranked : (r : Reason) → True r → r ≡ by-rank (rank r)
   unfolding rank
   ranked unknown-attribute h = refl
-  ranked no-segment h = refl
-  ranked cut-away h = refl
-  ranked row-untouched h = refl
-  ranked (hidden-by i) h = ap hidden-by (sym (newest-only (hides-it h .hider)))
-  ranked (shown-at p) h = ap shown-at (sym (ap (λ (o : Option ℕ). Option·getD o 0) (listed-at p (lists-it h))))
+  ranked (no-segment q) h = ap no-segment (sym (uncovered-panel h))
+  ranked (cut-away q) h = ap cut-away (sym (cut-panel h))
+  ranked (row-untouched q) h = ap row-untouched (sym (untouched-panel h))
+  ranked (hidden-by i b q) h =
+      let x = hides-it h in
+      let t = teller (x .told) (x .at) (x .of) in
+      ap (hidden-by i b) (sym (ap panel-of (t .is) ∙ hidden-panel x)) ∙ ap (λ (y : Hider). hidden-for y (panel-of asked)) (sym (newest-only (x .hider)))
+  ranked (shown-at p q) h =
+      let l = lists-it h in
+      let t = listed-teller p q l in
+      ap (shown-at p) (sym (ap panel-of (t .is) ∙ shown-panel l)) ∙ ap (λ (o : Option ℕ). shown-at (Option·getD o 0) (panel-of asked)) (sym (listed-at p q l))
 
   is-only : (r : Reason) → Earliest r → r ≡ reason w v row tile xs a
   is-only r f =
@@ -382,13 +439,20 @@ module _ (w : ℕ) (v : Box) (row tile : ℕ) (xs : List Step) (a : Asked) (fair
       below-it : True unknown-attribute → attributes w v row tile xs a ≤ a .attribute
       below-it (unknown le) = le
 
-  exact-shown : (p : ℕ) → (reason w v row tile xs a ≡ shown-at p) ↔ Listed a p (plain w v row tile xs)
-  exact-shown p = (λ e. lists-it (true-at e), λ l. let t = listed-teller p l in gives-shown (t .account) (t .is) (t .does) p (listed-at p l))
+  exact-shown : (p q : ℕ) → (reason w v row tile xs a ≡ shown-at p q) ↔ Listed a p q (plain w v row tile xs)
+  exact-shown p q = (
+    λ e. lists-it (true-at e),
+    λ l. let t = listed-teller p q l in gives-shown (t .account) (t .is) (t .does) p (listed-at p q l) ∙ ap (shown-at p) (shown-panel l),
+  )
 
-  exact-hidden : (h : ℕ) → (reason w v row tile xs a ≡ hidden-by h) ↔ Hidden w v row tile xs a h
-  exact-hidden h = (
+  exact-hidden : (h b q : ℕ) → (reason w v row tile xs a ≡ hidden-by h b q) ↔ Hidden w v row tile xs a h b q
+  exact-hidden h b q = (
     λ e. hides-it (true-at e),
-    λ x. let t = teller (x .told) (x .at) (x .of) in gives-hidden (t .account) (t .is) (t .does) (unlisted-at (x .gone)) ∙ ap hidden-by (newest-only (x .hider)),
+    λ x.
+        let t = teller (x .told) (x .at) (x .of) in
+        gives-hidden (t .account) (t .is) (t .does) (unlisted-at (x .gone))
+        ∙ ap (λ (y : Hider). hidden-for y (t .account .panel)) (newest-only (x .hider))
+        ∙ ap (hidden-by h b) (hidden-panel x),
   )
 
 -- the accounts of a built screen tell what they say
@@ -406,7 +470,7 @@ told-exact f xs u g b row tile a =
     own : {ks : List Account} {ls : List Line} → Say ks ls → All TellsOwn ks
     own said = nil
     own (says {k = k} {l = l} s r) =
-        cons {x = k} (record { entry = record { entry = entry-of l; id = s .id; hides = s .hides }; layer = s .layer; attribute = s .attribute; told = s .told }) (own r)
+        cons {x = k} (record { entry = record { entry = entry-of l; id = s .id; hides = s .hides }; layer = s .layer; attribute = s .attribute; panel = s .panel; told = s .told }) (own r)
 
 pub reason-true : Reason-true
 reason-true f xs u g b row tile a =
@@ -424,7 +488,7 @@ hidden-exact f xs u g b row tile a = exact-hidden (bucket f) (f .viewport) row t
 
 -- where the reason is none of shown-at, the tile's list has no entry of the attribute
 pub not-shown : (f : Frame) (xs : List Step) (u : Screen Row) → good-viewport (f .viewport) ≡ true → Built xs (reset fresh-row f) u
-    → (row tile : ℕ) (a : Asked) → ((p : ℕ) → reason (bucket f) (f .viewport) row tile xs a ≡ shown-at p → ⊥) → Unlisted a (plain (bucket f) (f .viewport) row tile xs)
+    → (row tile : ℕ) (a : Asked) → ((p q : ℕ) → reason (bucket f) (f .viewport) row tile xs a ≡ shown-at p q → ⊥) → Unlisted a (plain (bucket f) (f .viewport) row tile xs)
 not-shown f xs u g b row tile a n = go (where-shown (bucket f) v row tile xs a h) refl
   where
     v : Box
@@ -435,4 +499,6 @@ not-shown f xs u g b row tile a n = go (where-shown (bucket f) v row tile xs a h
 
     go : (o : Option ℕ) → where-shown (bucket f) (f .viewport) row tile xs a h ≡ o → Unlisted a (plain (bucket f) (f .viewport) row tile xs)
     go none e = is-unlisted (bucket f) (f .viewport) row tile xs a h e
-    go (some p) e = absurd (n p (exact-shown (bucket f) (f .viewport) row tile xs a h p .1 (is-listed (bucket f) (f .viewport) row tile xs a h p e)))
+    go (some p) e =
+        let (q, l) = is-listed (bucket f) (f .viewport) row tile xs a h p e in
+        absurd (n p q (exact-shown (bucket f) (f .viewport) row tile xs a h p q .1 l))

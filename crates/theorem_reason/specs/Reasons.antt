@@ -3,7 +3,8 @@
 use Prim.Native.Nat.{ℕ, suc, _/_, _≤_, _<_}
 use mathlib.Core.Path.{_≡_}
 use mathlib.Core.Logic.{_↔_}
-use mathlib.Core.Bool.{true, false, _&&_, cond}
+use mathlib.Core.Bool.{Bool, true, false, _&&_, cond}
+use mathlib.Core.Option.{Option, none, some}
 use mathlib.Core.List.{List, [], _∷_}
 use Rattle.rules.specs.Lists.{keep}
 use Rattle.rules.specs.Answers.{Done}
@@ -11,7 +12,8 @@ use Rattle.rules.specs.Boxes.{Box, width, rows-of, good-viewport}
 use Rattle.rules.specs.Rows.{Row, fresh-row}
 use Rattle.rules.specs.Plans.{Frame, bucket, Step}
 use Rattle.rules.specs.Steps.{Screen, reset}
-use Rattle.rules.specs.Painting.{Entry, received}
+use Rattle.rules.specs.Attributes.{Attrs}
+use Rattle.rules.specs.Painting.{paint-panel, layer-panel, Entry, received}
 use Rattle.rules.specs.Plain.{Told, Story, untold, tell-steps, plain}
 use Rattle.rules.specs.Calls.{Canvas, begin-call}
 use Rattle.rules.proofs.All.{All}
@@ -33,20 +35,22 @@ pub record AccountOf (a : Asked) (k : Account) : Type 0 where
   pub layer : k .layer ≡ a .layer
   pub attribute : k .attribute ≡ a .attribute
 
--- the entry at place p is the asked attribute's
-pub record Listed (a : Asked) (p : ℕ) (es : List Entry) : Type 0 where
+-- the entry at place p is the asked attribute's, of panel q
+pub record Listed (a : Asked) (p q : ℕ) (es : List Entry) : Type 0 where
   pub entry : Entry
   pub at : Place p es entry
   pub of : EntryOf a entry
+  pub panel : entry .panel ≡ q
 
 -- no entry is
 abbrev pub Unlisted : Asked → List Entry → Type 0
 Unlisted a es = All (λ (e : Entry). EntryOf a e → ⊥) es
 
--- h is the attribute of the newest entry that hides, a draw's
-pub data Newest : List Told → ℕ → Type 0 where
-  newest : {t : Told} {ts : List Told} → t .hides ≡ true → t .entry .layer ≡ false → All (λ (u : Told). u .hides ≡ false) ts → Newest (t ∷ ts) (t .entry .attribute)
-  older : {h : ℕ} {t : Told} {ts : List Told} → Newest ts h → Newest (t ∷ ts) h
+-- h is the attribute of the newest entry that hides, a draw's, and b its panel
+pub data Newest : List Told → ℕ → ℕ → Type 0 where
+  newest : {t : Told} {ts : List Told} → t .hides ≡ true → t .entry .layer ≡ false → All (λ (u : Told). u .hides ≡ false) ts
+      → Newest (t ∷ ts) (t .entry .attribute) (t .entry .panel)
+  older : {h b : ℕ} {t : Told} {ts : List Told} → Newest ts h b → Newest (t ∷ ts) h b
 
 module _ (w : ℕ) (v : Box) (row tile : ℕ) (xs : List Step) (a : Asked) where
   -- what plain draw order has told the tile
@@ -64,32 +68,33 @@ module _ (w : ℕ) (v : Box) (row tile : ℕ) (xs : List Step) (a : Asked) where
     pub at : Place place (accounts w v row tile xs untold) account
     pub of : AccountOf a account
 
-  -- an entry of the asked attribute was told, is not in the tile's list, and h is the newest that hides
-  pub record Hidden (h : ℕ) : Type 0 where
+  -- an entry of the asked attribute, of panel q, was told, is not in the tile's list, and h of panel b is the newest that hides
+  pub record Hidden (h b q : ℕ) : Type 0 where
     pub place : ℕ
     pub told : Told
     pub at : Place place (story .told) told
     pub of : EntryOf a (told .entry)
+    pub panel : told .entry .panel ≡ q
     pub gone : Unlisted a (plain w v row tile xs)
-    pub hider : Newest (story .told) h
+    pub hider : Newest (story .told) h b
 
   -- each reason by itself
   pub data Holds : Reason → Type 0 where
     unknown : attributes ≤ a .attribute → Holds unknown-attribute
-    uncovered : (r : Reckoned) → r .account .covered ≡ false → Holds no-segment
-    cut : (r : Reckoned) → r .account .kept ≡ false → Holds cut-away
-    untouched : (r : Reckoned) → r .account .touched ≡ false → Holds row-untouched
-    hidden : {h : ℕ} → Hidden h → Holds (hidden-by h)
-    listed : {p : ℕ} → Listed a p (plain w v row tile xs) → Holds (shown-at p)
+    uncovered : (r : Reckoned) → r .account .covered ≡ false → Holds (no-segment (r .account .panel))
+    cut : (r : Reckoned) → r .account .kept ≡ false → Holds (cut-away (r .account .panel))
+    untouched : (r : Reckoned) → r .account .touched ≡ false → Holds (row-untouched (r .account .panel))
+    hidden : {h b q : ℕ} → Hidden h b q → Holds (hidden-by h b q)
+    listed : {p q : ℕ} → Listed a p q (plain w v row tile xs) → Holds (shown-at p q)
 
 -- the order of the reasons
 unfoldable pub rank : Reason → ℕ
 rank unknown-attribute = 0
-rank no-segment = 1
-rank cut-away = 2
-rank row-untouched = 3
-rank (hidden-by h) = 4
-rank (shown-at p) = 5
+rank (no-segment q) = 1
+rank (cut-away q) = 2
+rank (row-untouched q) = 3
+rank (hidden-by h b q) = 4
+rank (shown-at p q) = 5
 
 -- r holds, and none before it
 pub record First (w : ℕ) (v : Box) (row tile : ℕ) (xs : List Step) (a : Asked) (r : Reason) : Type 0 where
@@ -102,11 +107,12 @@ Of-built P =
     (f : Frame) (xs : List Step) (u : Screen Row) → good-viewport (f .viewport) ≡ true → Built xs (reset fresh-row f) u
     → (row tile : ℕ) (a : Asked) → P (bucket f) (f .viewport) row tile xs a
 
--- an account tells one entry, of its own attribute, exactly if it is covered, kept and touched
+-- an account tells one entry, of its own attribute and panel, exactly if it is covered, kept and touched
 pub record TellsOwn (k : Account) : Type 0 where
   pub entry : Told
   pub layer : entry .entry .layer ≡ k .layer
   pub attribute : entry .entry .attribute ≡ k .attribute
+  pub panel : entry .entry .panel ≡ k .panel
   pub told : k .told ≡ keep (k .covered && k .kept && k .touched) entry []
 
 abbrev pub Told-exact : Type 0
@@ -120,19 +126,44 @@ Reason-true = Of-built (λ w v row tile xs a. First w v row tile xs a (reason w 
 abbrev pub Unknown-exact : Type 0
 Unknown-exact = Of-built (λ w v row tile xs a. (reason w v row tile xs a ≡ unknown-attribute) ↔ (attributes w v row tile xs a ≤ a .attribute))
 
--- shown at p: place p of the tile's list is an entry of that attribute
+-- shown at p, panel q: place p of the tile's list is an entry of that attribute and that panel
 abbrev pub Shown-exact : Type 0
-Shown-exact = Of-built (λ w v row tile xs a. (p : ℕ) → (reason w v row tile xs a ≡ shown-at p) ↔ Listed a p (plain w v row tile xs))
+Shown-exact = Of-built (λ w v row tile xs a. (p q : ℕ) → (reason w v row tile xs a ≡ shown-at p q) ↔ Listed a p q (plain w v row tile xs))
 
--- hidden by h: an entry of that attribute was told, is not in the tile's list, and h is the newest that hides
+-- hidden by h of panel b, panel q: an entry of that attribute and that panel was told, is not in the tile's list, and h of panel b is the newest
+-- that hides
 abbrev pub Hidden-exact : Type 0
-Hidden-exact = Of-built (λ w v row tile xs a. (h : ℕ) → (reason w v row tile xs a ≡ hidden-by h) ↔ Hidden w v row tile xs a h)
+Hidden-exact = Of-built (λ w v row tile xs a. (h b q : ℕ) → (reason w v row tile xs a ≡ hidden-by h b q) ↔ Hidden w v row tile xs a h b q)
 
--- Beside painting (demand 3): where the reason is shown at p, the tile has received the attribute's entry at place p; where it is any other, the
--- tile has received no entry of the attribute
+-- the panel that a reason ends in
+abbrev pub panel-in : Reason → Option ℕ
+panel-in unknown-attribute = none
+panel-in (no-segment q) = some q
+panel-in (cut-away q) = some q
+panel-in (row-untouched q) = some q
+panel-in (hidden-by h b q) = some q
+panel-in (shown-at p q) = some q
+
+-- the panel of a layer's attribute, or of a draw's
+abbrev pub panel-at : Bool → ℕ → Attrs → ℕ
+panel-at true i t = layer-panel t i
+panel-at false i t = paint-panel t i
+
+-- Beside the screen's attributes t (T-07): the reason ends in the asked attribute's panel, and what hides has its own
+pub record Paneled (a : Asked) (r : Reason) (t : Attrs) : Type 0 where
+  pub own : (q : ℕ) → panel-in r ≡ some q → panel-at (a .layer) (a .attribute) t ≡ q
+  pub hider : (h b q : ℕ) → r ≡ hidden-by h b q → paint-panel t h ≡ b
+
+abbrev pub Panel-true : Type 0
+Panel-true =
+    (f : Frame) (xs : List Step) (u : Screen Row) → good-viewport (f .viewport) ≡ true → Built xs (reset fresh-row f) u
+    → (row tile : ℕ) (a : Asked) → Paneled a (reason (bucket f) (f .viewport) row tile xs a) (u .state .attrs)
+
+-- Beside painting (demand 3): where the reason is shown at p, the tile has received the attribute's entry at place p, with the reason's panel; where
+-- it is any other, the tile has received no entry of the attribute
 pub record Painted (a : Asked) (r : Reason) (es : List Entry) : Type 0 where
-  pub shown : (p : ℕ) → r ≡ shown-at p → Listed a p es
-  pub other : ((p : ℕ) → r ≡ shown-at p → ⊥) → Unlisted a es
+  pub shown : (p q : ℕ) → r ≡ shown-at p q → Listed a p q es
+  pub other : ((p q : ℕ) → r ≡ shown-at p q → ⊥) → Unlisted a es
 
 abbrev pub Reason-painted : Type 0
 Reason-painted =

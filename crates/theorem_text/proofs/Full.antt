@@ -1,5 +1,5 @@
--- A row that waits is painted to its end by one call of `paint_row` into a list of 12,672 words: it has at most 64 buckets and 64 commands, and gives at most
--- one piece for each bucket and 32 for each command. So `row_text` writes the rules' text of it wherever that fits. Assumes nothing.
+-- A row that waits is painted to its end by one call of `paint_row` into a list of the programs' length: it has at most 64 buckets and 64 commands, and
+-- gives at most one piece for each bucket and 32 for each command. So `row_text` writes the rules' text of it wherever that fits. Assumes nothing.
 use mathlib.Core.Path.{_≡_, refl, sym, ap, _∙_}
 use mathlib.Core.Bool.{Bool, true, false, cond}
 use mathlib.Core.List.{List, [], _∷_, _++_}
@@ -10,6 +10,7 @@ use lib.Dec.{ltb, eqb}
 use lib.ListN.{length, getD, take, drop, length-append, length-drop, length-replicate}
 use lib.Seq.{length-take-le}
 use borrow.Author.Tests.{le-ltb, ltb-false}
+use Rattle.sizes.specs.Sizes.{piece-size}
 use Rattle.rules.specs.Answers.{Done}
 use Rattle.rules.specs.Rows.{Row, fresh-row}
 use Rattle.rules.specs.Commands.{DepthFill}
@@ -30,7 +31,8 @@ use Rattle.paint_whole.specs.Running.{goes-on, ended, one-more, run, most, stan
 use Rattle.text_screen.specs.Listed.{written, begun-with}
 use Rattle.text_details.specs.Details as detail
 use Rattle.text_details.specs.Bytes.{details-text}
-use Rattle.text_row.specs.Dumped.{with-text, row-dumped}
+use Rattle.text_row.specs.Pieces.{most-pieces, piece-list}
+use Rattle.text_row.specs.Dumped.{with-text, row-most, row-dumped}
 use Rattle.refine_steps.specs.Sound.{Fitting}
 use Rattle.refine_paint.specs.Canvases.{given-out}
 use Rattle.refine_paint.proofs.Painters.{all-taken}
@@ -51,11 +53,11 @@ use Rattle.theorem_text.proofs.Rows.{many, row-gave, Waits, waiting-pri
 settled-long : (x : Option rules.Painted) (d p l : List ℕ) → length (settled x d p l .list) ≡ length l
 unfolding settled
 settled-long none d p l = refl
-settled-long (some o) d p l = go (ltb (length l / 6) (length (o .pieces))) refl
+settled-long (some o) d p l = go (ltb (length l / piece-size) (length (o .pieces))) refl
   where
-    go : (b : Bool) → ltb (length l / 6) (length (o .pieces)) ≡ b → length (cond b (out (refused 14) d p l) (left o l) .list) ≡ length l
+    go : (b : Bool) → ltb (length l / piece-size) (length (o .pieces)) ≡ b → length (cond b (out (refused 14) d p l) (left o l) .list) ≡ length l
     go true e = refl
-    go false e = rw (length-append, length-drop, length-pieces (o .pieces)) (omega (arith, ltb-false (length l / 6) (length (o .pieces)) e))
+    go false e = rw (length-append, length-drop, length-pieces (o .pieces)) (omega (arith, ltb-false (length l / piece-size) (length (o .pieces)) e))
 
 step-long : (s : declared.Screen) (r : ℕ) (a : Attributes) (l : paint.RowLent) → length (stepped s r a l .list) ≡ length (l .list)
 unfolding stepped row-step painted-row
@@ -70,7 +72,7 @@ module _ (i : ℕ) (l : ScreenLent) where
   unfolding one-more
   one-long g h =
       let o = step-long (l .screen) i (attributes (l .tables .paint-attrs) (l .tables .layer-attrs)) (paint.lent (l .tables .rows) (l .tables .render) (l .tables .fills) (g .depth) (g .painting) (next i l g .list)) in
-      rw (length-append, length-take-le (6 * g .answer .pieces) (g .list) h, o, length-drop) (omega arith)
+      rw (length-append, length-take-le (piece-size * g .answer .pieces) (g .list) h, o, length-drop) (omega arith)
 
   run-long : (f k : ℕ) (g : StepOut) → Holds i l g → length (run (step i l) f k g .list) ≡ length (g .list)
   unfolding run
@@ -87,14 +89,14 @@ module _ (i : ℕ) (l : ScreenLent) where
   unfolding row-out row-painted
   row-long list = run-long most 0 (standing (l .tables .depth) (l .tables .painting) list) (omega arith)
 
--- The call on a row that waits says finished, is not refused, and lists at most 2,112 pieces.
+-- The call on a row that waits says finished, is not refused, and lists no more pieces than a row can have.
 pub record Whole (o : StepOut) : Type 0 where
   pub number : o .answer .number ≡ 0
   pub finished : o .answer .finished ≡ true
-  pub pieces : o .answer .pieces ≤ 2112
+  pub pieces : o .answer .pieces ≤ most-pieces
 
 module _ {s : Screen Row} {r : ℕ} {m : ScreenLent} (h : Waits s r m) (few : length (getD (s .rows) r fresh-row .commands) ≤ 64)
-    (narrow : buckets-across (s .state .frame) ≤ 64) (list : List ℕ) (long : 12672 ≤ length list) where
+    (narrow : buckets-across (s .state .frame) ≤ 64) (list : List ℕ) (long : piece-list ≤ length list) where
   abbrev k : Canvas
   k = h .canvas
 
@@ -119,9 +121,9 @@ module _ {s : Screen Row} {r : ℕ} {m : ScreenLent} (h : Waits s r m) (few : le
   started-there : row-out r list (canvas-words k) .answer .number ≡ 0
   started-there =
       row-number r (canvas-words k) list ∙ ap (λ (o : StepOut). o .answer .number) (paint-gives k (h .whole) r list)
-      ∙ room-done k r (length list / 6) (h .there) (h .goes-on) (omega (arith, step-few (bucket-on k) (k .screen .state .attrs) row (painter-of k r) wide .pieces, long))
+      ∙ room-done k r (length list / piece-size) (h .there) (h .goes-on) (omega (arith, step-few (bucket-on k) (k .screen .state .attrs) row (painter-of k r) wide .pieces, long))
 
-  few-there : row-out r list (canvas-words k) .answer .pieces ≤ 2112
+  few-there : row-out r list (canvas-words k) .answer .pieces ≤ most-pieces
   few-there =
       let o = row-out r list (canvas-words k) in
       let e = ap (λ (ps : List Piece). length ps) (row-gave k (h .whole) r (h .there) (h .fresh) list ended-there) in
@@ -132,25 +134,25 @@ module _ {s : Screen Row} {r : ℕ} {m : ScreenLent} (h : Waits s r m) (few : le
   row-whole = rw (h .same) (record { number = started-there; finished = ended-there; pieces = few-there })
 
   -- the rules' text of the row
-  abbrev pub theirs-text : List ℕ
-  theirs-text = details-text (detail.painted-row r (paint-row (bucket (s .state .frame)) (s .state .attrs) (buckets-across (s .state .frame)) (getD (s .rows) r fresh-row)))
+  abbrev pub theirs-text : Bool → List ℕ
+  theirs-text v = details-text v (detail.painted-row r (paint-row (bucket (s .state .frame)) (s .state .attrs) (buckets-across (s .state .frame)) (getD (s .rows) r fresh-row)))
 
   -- `row_text` writes it wherever it fits
-  pub row-written : (bs : List ℕ) → length theirs-text ≤ length bs
-      → row-dumped (m .screen) r (attributes (m .tables .paint-attrs) (m .tables .layer-attrs))
+  pub row-written : (v : Bool) (bs : List ℕ) → length (theirs-text v) ≤ length bs
+      → row-dumped v (m .screen) r (attributes (m .tables .paint-attrs) (m .tables .layer-attrs))
       (paint.lent (m .tables .rows) (m .tables .render) (m .tables .fills) (m .tables .depth) (m .tables .painting) list)
       bs
-      ≡ with-text (row-out r list m) (begun-with theirs-text bs)
+      ≡ with-text (row-out r list m) (begun-with (theirs-text v) bs)
   unfolding written
-  row-written bs fits =
-      waiting-printed h list bs (row-whole .number) (row-whole .finished) (omega (arith, row-whole .pieces))
-      ∙ rw (le-ltb (length bs) (length theirs-text) fits)
+  row-written v bs fits =
+      waiting-printed v h list bs (row-whole .number) (row-whole .finished) (omega (arith, row-whole .pieces))
+      ∙ rw (le-ltb (length bs) (length (theirs-text v)) fits)
 
--- What a file's screen prints of its rows has at most 135,232 bytes a row.
-pub rows-text-few : (w : ℕ) (a : Attrs) (n i : ℕ) (rs : List Row) → n ≤ 64 → ((j : ℕ) → Fitting 64 64 (getD rs j fresh-row))
-    → ((j : ℕ) → All (λ (f : DepthFill). 1 ≤ paint-id a (f .attribute)) (getD rs j fresh-row .fills)) → length (details-text (detail.painted-lines w a n i rs)) ≤ length rs * 135232
+-- What a file's screen prints of its rows has its most of each row.
+pub rows-text-few : (v : Bool) (w : ℕ) (a : Attrs) (n i : ℕ) (rs : List Row) → n ≤ 64 → ((j : ℕ) → Fitting 64 64 (getD rs j fresh-row))
+    → ((j : ℕ) → All (λ (f : DepthFill). 1 ≤ paint-id a (f .attribute)) (getD rs j fresh-row .fills)) → length (details-text v (detail.painted-lines w a n i rs)) ≤ length rs * row-most
 unfolding detail.painted-lines
-rows-text-few w a n i [] h f g = omega arith
-rows-text-few w a n i (r ∷ rs) h f g =
-    let t = ap (λ (ts : List ℕ). length ts) (rows-parts w a n i r rs) ∙ length-append (details-text (detail.painted-row i (paint-row w a n r))) (details-text (detail.painted-lines w a n (suc i) rs)) in
-    omega (arith, t, row-text-few i (paint-row w a n r), row-few w a n r h (g 0), f 0 .commands, rows-text-few w a n (suc i) rs h (λ j. f (suc j)) (λ j. g (suc j)))
+rows-text-few v w a n i [] h f g = omega arith
+rows-text-few v w a n i (r ∷ rs) h f g =
+    let t = ap (λ (ts : List ℕ). length ts) (rows-parts v w a n i r rs) ∙ length-append (details-text v (detail.painted-row i (paint-row w a n r))) (details-text v (detail.painted-lines w a n (suc i) rs)) in
+    omega (arith, t, row-text-few v i (paint-row w a n r), row-few w a n r h (g 0), f 0 .commands, rows-text-few v w a n (suc i) rs h (λ j. f (suc j)) (λ j. g (suc j)))

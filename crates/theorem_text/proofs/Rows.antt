@@ -3,12 +3,12 @@ use mathlib.Core.Path.{_≡_, refl, sym, ap, _∙_}
 use mathlib.Core.Bool.{Bool, true, false, cond}
 use mathlib.Core.List.{List, [], _∷_, _++_, map}
 use Prim.Native.Nat.{ℕ, zero, suc, _+_, _-_, _*_, _/_, _≤_, _<_}
-use native.Mathlib.Nat.{add-zero}
 use native.Mathlib.Omega.{arith}
 use lib.Dec.{leb, eqb}
 use lib.ListN.{length, getD, drop}
-use lib.Seq.{getD-drop, drop-drop}
+use lib.Seq.{drop-drop}
 use borrow.Author.Tests.{le-leb, lt-leb, leb-true, leb-false, le-ltb, eq-eqb, eqb-true}
+use Rattle.sizes.specs.Sizes.{piece-size}
 use Rattle.rules.specs.Lists.{every}
 use Rattle.rules.specs.Answers.{Answer, Done}
 use Rattle.rules.specs.Boxes.{rows-of}
@@ -50,33 +50,23 @@ either t x y = go (leb t 2) refl
     go true e = rw (lt-leb 3 t (omega (arith, leb-true t 2 e)))
     go false e = rw (le-leb 3 t (omega (arith, leb-false t 2 e)))
 
--- the line of six words is the line of the piece that they say
-piece-same : (ws : List ℕ) (k : ℕ) → piece-at ws k ≡ piece-line (piece-in (drop (6 * k) ws))
+-- the line of a piece's words is the line of the piece that they say
+piece-same : (ws : List ℕ) (k : ℕ) → piece-at ws k ≡ piece-line (piece-in (drop (piece-size * k) ws))
 unfolding piece-at
-piece-same ws k =
-    rw (
-      getD-drop (6 * k) ws 0 0,
-      getD-drop (6 * k) ws 1 0,
-      getD-drop (6 * k) ws 2 0,
-      getD-drop (6 * k) ws 3 0,
-      getD-drop (6 * k) ws 4 0,
-      getD-drop (6 * k) ws 5 0,
-      add-zero (6 * k),
-    )
-    (either (word ws (6 * k)) _ _)
+piece-same ws k = either (word (drop (piece-size * k) ws) 0) _ _
 
 -- the pieces in a list, the last apart
-last-piece : (n : ℕ) (ws : List ℕ) → pieces-in (suc n) ws ≡ pieces-in n ws ++ (piece-in (drop (6 * n) ws) ∷ [])
+last-piece : (n : ℕ) (ws : List ℕ) → pieces-in (suc n) ws ≡ pieces-in n ws ++ (piece-in (drop (piece-size * n) ws) ∷ [])
 unfolding pieces-in
 last-piece zero ws = refl
 last-piece (suc n) ws =
-    let e : 6 + 6 * n ≡ 6 * suc n = omega arith in
-    ap (λ (ps : List Piece). piece-in ws ∷ ps) (last-piece n (drop 6 ws)) ∙ rw (drop-drop (6 * n) 6 ws, e)
+    let e : piece-size + piece-size * n ≡ piece-size * suc n = omega arith in
+    ap (λ (ps : List Piece). piece-in ws ∷ ps) (last-piece n (drop piece-size ws)) ∙ rw (drop-drop (piece-size * n) piece-size ws, e)
 
 pub many : (n : ℕ) (ws : List ℕ) → length (pieces-in n ws) ≡ n
 unfolding pieces-in
 many zero ws = refl
-many (suc n) ws = ap suc (many n (drop 6 ws))
+many (suc n) ws = ap suc (many n (drop piece-size ws))
 
 map-two : {A B : Type 0} (f : A → B) (xs ys : List A) → map f (xs ++ ys) ≡ map f xs ++ map f ys
 map-two f [] ys = refl
@@ -86,7 +76,7 @@ pieces-same : (n : ℕ) (ws : List ℕ) → joined (λ (k : ℕ). piece-at ws k 
 unfolding joined pieces-in
 pieces-same zero ws = refl
 pieces-same (suc n) ws =
-    rw (pieces-same n ws, piece-same ws n) (sym (ap (map piece-line) (last-piece n ws) ∙ map-two piece-line (pieces-in n ws) (piece-in (drop (6 * n) ws) ∷ [])))
+    rw (pieces-same n ws, piece-same ws n) (sym (ap (map piece-line) (last-piece n ws) ∙ map-two piece-line (pieces-in n ws) (piece-in (drop (piece-size * n) ws) ∷ [])))
 
 lines-same : (r n : ℕ) (ws : List ℕ) → row-lines r ws n ≡ painted-row r (pieces-in n ws)
 unfolding row-lines
@@ -126,13 +116,13 @@ module _ (k : Canvas) (w : WholeCanvas k) (r : ℕ) (there : r < length (k .scre
       ∙ ap (λ (n : ℕ). paint-steps (bucket-on k) (k .screen .state .attrs) n row p) (sub-zero (length (row .fills) + length (row .commands)))
 
   -- The text that `row_text` writes then is that of the rules' own lines.
-  pub row-printed : (bs : List ℕ) → o .answer .number ≡ 0 → o .answer .finished ≡ true → o .answer .pieces ≤ 65536
-      → row-dumped (l .screen) r (attributes (l .tables .paint-attrs) (l .tables .layer-attrs))
+  pub row-printed : (v : Bool) (bs : List ℕ) → o .answer .number ≡ 0 → o .answer .finished ≡ true → o .answer .pieces ≤ 65536
+      → row-dumped v (l .screen) r (attributes (l .tables .paint-attrs) (l .tables .layer-attrs))
       (paint.lent (l .tables .rows) (l .tables .render) (l .tables .fills) (l .tables .depth) (l .tables .painting) list)
       bs
-      ≡ with-text o (written (details-text (painted-row r theirs)) bs)
+      ≡ with-text o (written (details-text v (painted-row r theirs)) bs)
   unfolding row-dumped row-out pieces-written
-  row-printed bs z f h =
+  row-printed v bs z f h =
       let e : row-lines r (o .list) (o .answer .pieces) ≡ painted-row r theirs = lines-same r (o .answer .pieces) (o .list) ∙ ap (painted-row r) (row-gave f) in
       rw (eq-eqb (o .answer .number) 0 z, f, le-ltb 65536 (o .answer .pieces) h, e)
 
@@ -152,9 +142,9 @@ others : (i r : ℕ) → (i ≡ r → ⊥) → (ts : List Turn) → every (λ (t
 unfolding turns
 others i r d [] e k = refl
 others i r d (t ∷ ts) e k =
-    let g = paint-call (t .row) (length (t .list) / 6) k in
+    let g = paint-call (t .row) (length (t .list) / piece-size) k in
     let o : t .row ≡ r → ⊥ = λ q. d (sym (eqb-true (t .row) i (and-left _ _ e)) ∙ q) in
-    others i r d ts (and-right (eqb (t .row) i) _ e) (g .value .canvas) ∙ call-other (t .row) (length (t .list) / 6) k r o
+    others i r d ts (and-right (eqb (t .row) i) _ e) (g .value .canvas) ∙ call-other (t .row) (length (t .list) / piece-size) k r o
 
 -- Once painting has begun at reached words, every row does, ..
 pub begin-waits : {f : Frame} {xs : List Step} {l : ScreenLent} (h : Reached f xs l) → begin-at l .number ≡ Done → (r : ℕ) → r < rows-of (f .viewport)
@@ -194,13 +184,13 @@ row-waits {s} {r} {m} h i list d =
     }
 
 -- The text that `row_text` writes of a row that waits is that of the rules' own lines of the row.
-pub waiting-printed : {s : Screen Row} {r : ℕ} {m : ScreenLent} (h : Waits s r m) (list bs : List ℕ) → row-out r list m .answer .number ≡ 0 → row-out r list m .answer .finished ≡ true
+pub waiting-printed : (v : Bool) {s : Screen Row} {r : ℕ} {m : ScreenLent} (h : Waits s r m) (list bs : List ℕ) → row-out r list m .answer .number ≡ 0 → row-out r list m .answer .finished ≡ true
     → row-out r list m .answer .pieces ≤ 65536
-    → row-dumped (m .screen) r (attributes (m .tables .paint-attrs) (m .tables .layer-attrs))
+    → row-dumped v (m .screen) r (attributes (m .tables .paint-attrs) (m .tables .layer-attrs))
     (paint.lent (m .tables .rows) (m .tables .render) (m .tables .fills) (m .tables .depth) (m .tables .painting) list)
     bs
     ≡ with-text (row-out r list m)
-    (written (details-text (painted-row r (paint-row (bucket (s .state .frame)) (s .state .attrs) (buckets-across (s .state .frame)) (getD (s .rows) r fresh-row)))) bs)
-waiting-printed {s} {r} {m} h list bs z f g =
+    (written (details-text v (painted-row r (paint-row (bucket (s .state .frame)) (s .state .attrs) (buckets-across (s .state .frame)) (getD (s .rows) r fresh-row)))) bs)
+waiting-printed v {s} {r} {m} h list bs z f g =
     let q = h .same in
-    rw (q, ← h .screen) (row-printed (h .canvas) (h .whole) r (h .there) (h .fresh) list bs (rw q at z) (rw q at f) (rw q at g))
+    rw (q, ← h .screen) (row-printed (h .canvas) (h .whole) r (h .there) (h .fresh) list v bs (rw q at z) (rw q at f) (rw q at g))

@@ -10,7 +10,7 @@ use lib.ListN.{length, getD, take, drop}
 use Rattle.rules.specs.Lists.{is-empty}
 use Rattle.rules.specs.Answers.{answer, Done, BadRecord}
 use Rattle.rules.specs.Boxes.{Box}
-use Rattle.rules.specs.Inputs.{Draw, Props, Filter, draw-segments, few-paints, good-filter}
+use Rattle.rules.specs.Inputs.{Draw, Props, Filter, draw-segments, good-filter-fill}
 use Rattle.rules.specs.Attributes.{LayerAttr, Attrs}
 use Rattle.rules.specs.Rows.{Row, row-ops}
 use Rattle.rules.specs.Plans.{Layer, State, Step, a-fill, a-push, a-pop, a-filter, Plan, still, box-of, with-paint, filter-box, draws-nothing, plan-fill, plan-push, plan-pop, plan-filter-in, plan-filter, plan}
@@ -93,7 +93,7 @@ abbrev SmallStep : Step → Type 0
 SmallStep (a-fill ps ss d) = Unit {0}
 SmallStep (a-push p) = Word (p .opacity)
 SmallStep (a-pop ss) = Unit {0}
-SmallStep (a-filter n f) = Unit {0}
+SmallStep (a-filter n f q) = Unit {0}
 
 module _ (s : State) (ol : All (λ (l : Layer). Word (l .props .opacity)) (s .layers)) (oa : All (λ (a : LayerAttr). Word (a .opacity)) (s .attrs .layers)) where
   still-small : (n : ℕ) → Planned (still n s)
@@ -108,11 +108,11 @@ module _ (s : State) (ol : All (λ (l : Layer). Word (l .props .opacity)) (s .la
   pop-small [] a ss js = still-small _
   pop-small (l ∷ ls) (cons p a) ss js = record { layers = a; attrs = all-append oa (cons p nil) }
 
-  filter-small : (n : ℕ) (f : Filter) → Planned (plan-filter n f s)
+  filter-small : (n : ℕ) (f : Filter) (q : ℕ) → Planned (plan-filter n f q s)
   unfolding plan-filter plan-filter-in
-  filter-small n f = let b = filter-box (s .frame .viewport) (box-of s) f in go (not (good-filter f && few-paints n)) (draws-nothing f b) b
+  filter-small n f q = let b = filter-box (s .frame .viewport) (box-of s) f in go (not (good-filter-fill n f q)) (draws-nothing f b) b
     where
-      go : (x y : Bool) (b : Box) → Planned (cond x (still BadRecord s) (cond y (still Done s) (plan-filter-in b n f s)))
+      go : (x y : Bool) (b : Box) → Planned (cond x (still BadRecord s) (cond y (still Done s) (plan-filter-in b n f q s)))
       go true y b = still-small _
       go false true b = still-small _
       go false false b = record { layers = ol; attrs = oa }
@@ -122,7 +122,7 @@ module _ (s : State) (ol : All (λ (l : Layer). Word (l .props .opacity)) (s .la
   plan-small (a-fill ps ss d) h js = record { layers = ol; attrs = drawn-small (is-empty (draw-segments ss d)) _ refl }
   plan-small (a-push p) h js = record { layers = cons h ol; attrs = oa }
   plan-small (a-pop ss) h js = pop-small (s .layers) ol ss js
-  plan-small (a-filter n f) h js = filter-small n f
+  plan-small (a-filter n f q) h js = filter-small n f q
 
 step-small : (x : Step) → SmallStep x → Keeps Opacities (call Row row-ops x)
 unfolding call perform done
@@ -143,7 +143,7 @@ walk-small ss a =
     let r = recording ss in
     walk-keeps-by SmallLayer r (layers-small ss a) (λ d. step-small (a-fill (r .paints) (r .segments) d) tt) (λ y h. step-small (a-push (props-of y)) h)
     (step-small (a-pop (r .segments)) tt)
-    (λ y. step-small (a-filter (length (r .paints)) (y .filter)) tt)
+    (λ y. step-small (a-filter (length (r .paints)) (y .filter) (y .panel)) tt)
 
 pub said-small : (sh : List (ℕ × Bool)) (ws : List ℕ) (ss : List (List (List ℕ))) → sections sh ws ≡ some ss → All Word ws → All (All (All Word)) ss
 said-small sh ws ss e a = rw e at (sections-small sh a)

@@ -8,7 +8,7 @@ use mathlib.Core.List.{List}
 use lib.Dec.{eqb}
 use borrow.Author.Tests.{eq-eqb, ne-eqb, le-leb, lt-leb}
 use Rattle.rules_reason.specs.Reasons.{Asked}
-use Rattle.tile_reason.specs.Reading.{Mark, mark-at, marks, Search, is-asked, is-told, renewed, met, counted, read, read-all}
+use Rattle.tile_reason.specs.Reading.{Mark, mark-at, marks, Search, is-asked, is-told, anew, renewed, found-now, met, one-more, counted, read, read-all}
 
 found-either : (b : Bool) (x y : Search) (v : Bool) → x .found ≡ v → y .found ≡ v → cond b x y .found ≡ v
 found-either true x y v p q = p
@@ -17,17 +17,6 @@ found-either false x y v p q = q
 count-either : (b : Bool) (x y : Search) (k : ℕ) → x .count ≤ k → y .count ≤ k → cond b x y .count ≤ k
 count-either true x y k p q = p
 count-either false x y k p q = q
-
--- what each branch leaves where it is taken
-abbrev pub anew : Mark → Search → Search
-anew m s = record { found = s .found; standing = s .standing; place = s .place; hidden = s .found; count = 0; hider = m .attribute }
-
-abbrev pub found-now : Mark → Search → Search
-found-now m s = record { found = true; standing = m .standing; place = s .count; hidden = false; count = s .count; hider = s .hider }
-
-abbrev pub one-more : Search → Search
-one-more s =
-    record { found = s .found; standing = s .standing; place = s .place; hidden = s .hidden; count = s .count + 1; hider = s .hider }
 
 module _ (m : Mark) (s : Search) where
   pub renewed-new : m .standing ≡ 4 → anew m s ≡ renewed m s

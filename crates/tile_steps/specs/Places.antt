@@ -26,7 +26,14 @@ use Rattle.tile_steps.specs.Telling.{Telling}
 
 abbrev pub line-of : Line → tell.Line
 line-of l =
-    record { layer = l .layer; attribute = l .attribute; standing = l .standing; alpha = alpha (l .alpha); nesting = l .nesting }
+    record {
+      layer = l .layer;
+      attribute = l .attribute;
+      standing = l .standing;
+      alpha = alpha (l .alpha);
+      nesting = l .nesting;
+      panel = l .panel;
+    }
 
 abbrev pub look-of : Look → tell.Look
 look-of k = record { covered = k .covered; reached = k .reached; kept = k .kept; alpha = alpha (k .alpha); whole = k .whole }

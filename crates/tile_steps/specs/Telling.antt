@@ -35,6 +35,7 @@ pub record Line : Type 0 where
   pub standing : ℕ
   pub alpha : Option ℕ
   pub nesting : ℕ
+  pub panel : ℕ
 
 abbrev pub standing-of : Bool → Bool → Bool → Bool → ℕ
 standing-of covered kept touched hides = cond (not covered) 0 (cond (not kept) 1 (cond (not touched) 2 (cond hides 4 3)))
@@ -43,9 +44,17 @@ abbrev pub alpha-words : Option ℕ → List ℕ → List ℕ
 alpha-words none ws = 0 ∷ 0 ∷ ws
 alpha-words (some a) ws = 1 ∷ a ∷ ws
 
--- layer or draw, attribute, standing, whether it has an alpha index, that index, nesting
+-- the words after the alpha index
+abbrev pub after-alpha : Line → List ℕ
+after-alpha l = l .nesting ∷ l .panel ∷ []
+
+-- layer or draw, attribute, standing, whether it has an alpha index, that index, nesting, panel
 abbrev pub line-words : Line → List ℕ
-line-words l = cond (l .layer) 1 0 ∷ l .attribute ∷ l .standing ∷ alpha-words (l .alpha) (l .nesting ∷ [])
+line-words l = cond (l .layer) 1 0 ∷ l .attribute ∷ l .standing ∷ alpha-words (l .alpha) (after-alpha l)
+
+-- where the panel stands
+abbrev pub line-panel-at : ℕ
+line-panel-at = 6
 
 -- What a list of segments is to the tile. covered: one covers it before the cut; reached: one is left in its row; kept: one that is left covers
 -- it, with the tile's alpha index, and whether it covers the tile's whole bucket
@@ -58,6 +67,41 @@ pub record Look : Type 0 where
 
 abbrev pub no-look : Look
 no-look = record { covered = false; reached = false; kept = false; alpha = none; whole = false }
+
+-- The lines of the steps, for attribute i of panel q with n layers open: of a draw that is k to the tile (e: its segments are eligible if solid),
+-- of a closing layer, of a filter fill
+abbrev pub draw-line : Look → Bool → ℕ → ℕ → ℕ → Line
+draw-line k e i n q =
+    record {
+      layer = false;
+      attribute = i;
+      standing = standing-of (k .covered) (k .kept) true (e && is-none (k .alpha) && k .whole);
+      alpha = k .alpha;
+      nesting = n;
+      panel = q;
+    }
+
+abbrev pub closing-line : Look → Bool → ℕ → ℕ → ℕ → Line
+closing-line k touched i n q =
+    record {
+      layer = true;
+      attribute = i;
+      standing = standing-of (k .covered) (k .kept) touched false;
+      alpha = k .alpha;
+      nesting = n;
+      panel = q;
+    }
+
+abbrev pub filter-line : Bool → Bool → ℕ → ℕ → ℕ → Line
+filter-line covered kept i n q =
+    record {
+      layer = false;
+      attribute = i;
+      standing = standing-of covered kept true false;
+      alpha = none;
+      nesting = n;
+      panel = q;
+    }
 
 -- a box meets the row r
 abbrev pub in-row : Box → ℕ → Bool
@@ -118,9 +162,9 @@ module _ (w : ℕ) (v : Box) (row tile : ℕ) where
   abbrev pub no-id : Telling → Bool
   no-id t = ltb last-id (t .next)
 
-  -- rule 3: a draw with the segments `own`; e: they are eligible if solid
-  abbrev pub drawn : List Segment → Bool → Telling → Telling
-  drawn own e t =
+  -- rule 3: a draw of panel q with the segments `own`; e: they are eligible if solid
+  abbrev pub drawn : List Segment → Bool → ℕ → Telling → Telling
+  drawn own e q t =
       let k = look (clip-box v (t .opened)) no-look own in
       record {
         next = t .next + 1;
@@ -129,15 +173,7 @@ module _ (w : ℕ) (v : Box) (row tile : ℕ) where
         filters = t .filters;
         levels = touch (k .reached) t;
         opened = t .opened;
-        lines =
-            with-line t
-            (record {
-              layer = false;
-              attribute = t .paints;
-              standing = standing-of (k .covered) (k .kept) true (e && is-none (k .alpha) && k .whole);
-              alpha = k .alpha;
-              nesting = length (t .opened);
-            });
+        lines = with-line t (draw-line k e (t .paints) (length (t .opened)) q);
       }
 
   -- .. with none: an id and nothing else
@@ -153,10 +189,10 @@ module _ (w : ℕ) (v : Box) (row tile : ℕ) where
         lines = t .lines;
       }
 
-  unfoldable pub tell-fill : List Segment → Bool → Telling → Answer Telling
-  tell-fill own e t =
+  unfoldable pub tell-fill : List Segment → Bool → ℕ → Telling → Answer Telling
+  tell-fill own e q t =
       settle (first-of ((no-id t, Ids) ∷ (not (is-empty own) && leb most-attrs (t .paints), FullAttrs) ∷ [])) t
-      (cond (is-empty own) (undrawn t) (drawn own e t))
+      (cond (is-empty own) (undrawn t) (drawn own e q t))
 
   -- rule 8
   unfoldable pub tell-push : Props → Telling → Answer Telling
@@ -191,24 +227,16 @@ module _ (w : ℕ) (v : Box) (row tile : ℕ) where
         filters = t .filters;
         levels = min (t .levels) (length ls);
         opened = ls;
-        lines =
-            with-line t
-            (record {
-              layer = true;
-              attribute = t .layers;
-              standing = standing-of (k .covered) (k .kept) (ltb (length ls) (t .levels)) false;
-              alpha = k .alpha;
-              nesting = suc (length ls);
-            });
+        lines = with-line t (closing-line k (ltb (length ls) (t .levels)) (t .layers) (suc (length ls)) (l .props .panel));
       }
 
   unfoldable pub tell-pop : List Layer → List Segment → Telling → Answer Telling
   tell-pop [] ss t = settle NoLayer t t
   tell-pop (l ∷ ls) ss t = settle (first-of ((no-id t, Ids) ∷ (leb most-attrs (t .layers), FullAttrs) ∷ [])) t (closed l ls ss t)
 
-  -- rule 11: a filter fill of the box b, its dest box met with the clip box
-  abbrev pub filtered : Box → Filter → Telling → Telling
-  filtered b f t =
+  -- rule 11: a filter fill of panel q into the box b, its dest box met with the clip box
+  abbrev pub filtered : Box → Filter → ℕ → Telling → Telling
+  filtered b f q t =
       record {
         next = t .next + 1;
         paints = t .paints + 1;
@@ -218,27 +246,21 @@ module _ (w : ℕ) (v : Box) (row tile : ℕ) where
         opened = t .opened;
         lines =
             with-line t
-            (record {
-              layer = false;
-              attribute = t .paints;
-              standing = standing-of (met (f .dest) (row + v .y0 / 4) (tile + v .x0 / 4)) (met b row tile) true false;
-              alpha = none;
-              nesting = length (t .opened);
-            });
+            (filter-line (met (f .dest) (row + v .y0 / 4) (tile + v .x0 / 4)) (met b row tile) (t .paints) (length (t .opened)) q);
       }
 
-  unfoldable pub tell-filter : Filter → Telling → Answer Telling
-  tell-filter f t =
+  unfoldable pub tell-filter : Filter → ℕ → Telling → Answer Telling
+  tell-filter f q t =
       let b = filter-box v (clip-box v (t .opened)) f in
       cond (draws-nothing f b) (settle Done t t)
-      (settle (first-of ((no-id t, Ids) ∷ (leb most-attrs (t .paints) || leb most-filters (t .filters), FullAttrs) ∷ [])) t (filtered b f t))
+      (settle (first-of ((no-id t, Ids) ∷ (leb most-attrs (t .paints) || leb most-filters (t .filters), FullAttrs) ∷ [])) t (filtered b f q t))
 
   unfoldable pub tell-at : Step → Telling → Answer Telling
   tell-at (a-fill ps ss d) t =
-      tell-fill (draw-segments ss d) (eligible (is-empty (t .opened)) (draw-paint ps d) d) t
+      tell-fill (draw-segments ss d) (eligible (is-empty (t .opened)) (draw-paint ps d) d) (d .panel) t
   tell-at (a-push p) t = tell-push p t
   tell-at (a-pop ss) t = tell-pop (t .opened) ss t
-  tell-at (a-filter n f) t = tell-filter f t
+  tell-at (a-filter n f q) t = tell-filter f q t
 
 -- nothing told yet, into these words
 abbrev pub nothing-told : List ℕ → Telling

@@ -100,7 +100,7 @@ fn is_hiding(eligible: bool, look: Look) -> bool
     }
 }
 
-// Rules 3, 4 and 6: a draw with the segments from start to end; `eligible`: they are if solid.
+// Rules 3, 4 and 6: a draw of this panel with the segments from start to end; `eligible`: they are if solid.
 pub fn tell_fill(
     spot: Spot,
     within: Within,
@@ -109,11 +109,12 @@ pub fn tell_fill(
     start: usize,
     end: usize,
     eligible: bool,
+    panel: u32,
     lines: &mut [u32],
 ) -> Told
     requires { ⌜ Spotted spot × Bounded within × Low tale × (length (now lines) ≡ line-table) × (start ≤ «end») × (5 * «end» ≤ length (now segments)) × (every good-segment (segs (now segments) start («end» - start)) ≡ true) ⌝ }
     ensures { λ r. ⌜ ((ls : List Layer) → Holds (box-of (spot .viewport)) within ls
-        → Says (tell.tell-fill (spot .width) (box-of (spot .viewport)) (spot .row) (spot .tile) (segs (now (segments .entry)) start («end» - start)) eligible (telling tale ls (now (lines .entry)))) (r .number) (telling (r .tale) ls (now (lines .exit)))) × Low (r .tale) ⌝ }
+        → Says (tell.tell-fill (spot .width) (box-of (spot .viewport)) (spot .row) (spot .tile) (segs (now (segments .entry)) start («end» - start)) eligible panel (telling tale ls (now (lines .entry)))) (r .number) (telling (r .tale) ls (now (lines .exit)))) × Low (r .tale) ⌝ }
 {
     if is_out_of_ids(tale) {
         return Told { number: IDS, tale };
@@ -141,6 +142,7 @@ pub fn tell_fill(
         standing: standing(look.covered, look.kept, true, is_hiding(eligible, look)),
         alpha,
         nesting: within.open,
+        panel,
     };
     put_line(lines, wide(tale.paints + tale.layers), line);
     next.paints = tale.paints + 1;
@@ -223,18 +225,19 @@ fn closing_look(spot: Spot, own: Rect, parent: Rect, clip: LayerClip, segments: 
     }
 }
 
-// Rule 9: the innermost layer closes; `outer` holds outside of it. Its entry is told only in a touched row.
+// Rule 9: the innermost layer, of this panel, closes; `outer` holds outside of it. Its entry is told only in a touched row.
 pub fn tell_pop(
     spot: Spot,
     within: Within,
     outer: Within,
     tale: Tale,
     clip: LayerClip,
+    panel: u32,
     segments: &[u32],
     lines: &mut [u32],
 ) -> Told
     requires { ⌜ Spotted spot × Bounded within × Bounded outer × (within .«open» ≡ outer .«open» + 1) × Low tale × (length (now lines) ≡ line-table) × ClipReady clip (now segments) ⌝ }
-    ensures { λ r. ⌜ ((l : Layer) (ls : List Layer) → l .props .clip ≡ clip-of clip → l .bounds ≡ box-of (within .clip) → Holds (box-of (spot .viewport)) outer ls
+    ensures { λ r. ⌜ ((l : Layer) (ls : List Layer) → l .props .clip ≡ clip-of clip → l .props .panel ≡ panel → l .bounds ≡ box-of (within .clip) → Holds (box-of (spot .viewport)) outer ls
         → Says (tell.tell-pop (spot .width) (box-of (spot .viewport)) (spot .row) (spot .tile) (l ∷ ls) (segs-of (now (segments .entry))) (telling tale (l ∷ ls) (now (lines .entry)))) (r .number) (telling (r .tale) ls (now (lines .exit)))) × Low (r .tale) ⌝ }
 {
     if is_out_of_ids(tale) {
@@ -257,6 +260,7 @@ pub fn tell_pop(
         standing: standing(look.covered, look.kept, touched, false),
         alpha,
         nesting: within.open,
+        panel,
     };
     put_line(lines, wide(tale.paints + tale.layers), line);
     let mut next = tale;
@@ -271,18 +275,19 @@ pub fn tell_pop(
     }
 }
 
-// Rule 11: a filter fill into a dest box, in each row of what the clip box leaves of it.
+// Rule 11: a filter fill of this panel into a dest box, in each row of what the clip box leaves of it.
 pub fn tell_filter(
     spot: Spot,
     within: Within,
     tale: Tale,
     dest: Rect,
     pixmap: Pixmap,
+    panel: u32,
     lines: &mut [u32],
 ) -> Told
     requires { ⌜ Spotted spot × Bounded within × Low tale × (length (now lines) ≡ line-table) × Small (box-of dest) ⌝ }
     ensures { λ r. ⌜ ((f : Filter) (ls : List Layer) → f .dest ≡ box-of dest → f .pixmap ≡ picture-of pixmap → Holds (box-of (spot .viewport)) within ls
-        → Says (tell.tell-filter (spot .width) (box-of (spot .viewport)) (spot .row) (spot .tile) f (telling tale ls (now (lines .entry)))) (r .number) (telling (r .tale) ls (now (lines .exit)))) × Low (r .tale) ⌝ }
+        → Says (tell.tell-filter (spot .width) (box-of (spot .viewport)) (spot .row) (spot .tile) f panel (telling tale ls (now (lines .entry)))) (r .number) (telling (r .tale) ls (now (lines .exit)))) × Low (r .tale) ⌝ }
 {
     let viewport = spot.viewport;
     let clip = within.clip;
@@ -317,6 +322,7 @@ pub fn tell_filter(
         standing: standing(covered, kept, true, false),
         alpha: Alpha::Solid,
         nesting: within.open,
+        panel,
     };
     put_line(lines, wide(tale.paints + tale.layers), line);
     let mut next = tale;

@@ -1,5 +1,5 @@
-// The lines that are told of a tile, one for each attribute, six words each: layer (1) or draw (0), attribute, standing, whether it has an alpha
-// index, that index, nesting.
+// The lines that are told of a tile, one for each attribute, LINE words each: layer (1) or draw (0), attribute, standing, whether it has an alpha
+// index, that index, nesting, panel.
 ghost use mathlib.Core.Path.{_≡_};
 ghost use mathlib.Core.Bool.{cond};
 ghost use mathlib.Core.List.{[], _∷_};
@@ -32,7 +32,11 @@ pub struct Line {
     pub standing: u32,
     pub alpha: Alpha,
     pub nesting: u32,
+    pub panel: u32,
 }
+
+// Where the panel stands.
+pub const LINE_PANEL: usize = 6;
 
 // The first that holds.
 pub fn standing(covered: bool, kept: bool, touched: bool, hides: bool) -> u32
@@ -85,4 +89,5 @@ pub fn put_line(lines: &mut [u32], i: usize, line: Line)
     lines[at + 3] = index.flag;
     lines[at + 4] = index.index;
     lines[at + 5] = line.nesting;
+    lines[at + LINE_PANEL] = line.panel;
 }

@@ -31,7 +31,7 @@ module _ (s : Spot) (r : Recording) (y : LayerRec) where
   pushing = told s (a-push (props-of y))
 
   abbrev pub drawing : Telling → Answer Telling
-  drawing = told s (a-filter (length (r .paints)) (y .filter))
+  drawing = told s (a-filter (length (r .paints)) (y .filter) (y .panel))
 
   abbrev pub popping : Telling → Answer Telling
   popping = told s (a-pop (r .segments))

@@ -13,7 +13,7 @@ use Rattle.rules.specs.Boxes.{Box, by-4, bounded, good-box, good-dest}
 use Rattle.rules.specs.Blends.{good-blend}
 use Rattle.rules.specs.Segments.{good-segment}
 use Rattle.rules.specs.Spans.{good-range}
-use Rattle.rules.specs.Inputs.{Draw, Clip, draw-paint, good-thread, good-paint, good-handle, good-draw, good-clip, good-filter, good-pixmap, all-good}
+use Rattle.rules.specs.Inputs.{Draw, Clip, draw-paint, good-thread, good-paint, good-handle, good-panel, good-draw, good-clip, good-filter, good-pixmap, all-good}
 use Rattle.rules.specs.Recording.{Recording, LayerRec, good-clip-rec, good-layer-rec, zero-clip, zero-filter, layer-rec}
 use Rattle.rules.proofs.All.{both}
 use Rattle.rect.specs.Rects.{Small}
@@ -77,7 +77,9 @@ drawable r d g =
     let p = ltb (d .paint) (length (r .paints)) in
     let q = good-paint (draw-paint (r .paints) d) in
     let b = good-blend (d .blend) in
-    let h4 = both (t && s && p && q && b) (good-handle (d .mask)) g in
+    let m = good-handle (d .mask) in
+    let h5 = both (t && s && p && q && b && m) (good-panel (d .panel)) g in
+    let h4 = both (t && s && p && q && b) m (h5 .0) in
     let h3 = both (t && s && p && q) b (h4 .0) in
     let h2 = both (t && s && p) q (h3 .0) in
     let h1 = both (t && s) p (h2 .0) in
@@ -94,7 +96,9 @@ clear : (r : Recording) (y : LayerRec) → good-layer-rec r y ≡ true → Clear
 clear r y e =
     let a = leb (y .kind) 1 && good-range (y .start) (y .end) (length (r .nodes)) && good-blend (y .blend) && good-handle (y .mask) && leb (y .flag) 1 in
     let c = cond (eqb (y .flag) 1) (good-clip-rec r (y .clip)) (zero-clip (y .clip)) in
-    let h1 = both (a && c) (cond (eqb (y .kind) 1) (good-filter (y .filter)) (zero-filter (y .filter))) e in
+    let f = cond (eqb (y .kind) 1) (good-filter (y .filter)) (zero-filter (y .filter)) in
+    let h2 = both (a && c && f) (good-panel (y .panel)) e in
+    let h1 = both (a && c) f (h2 .0) in
     record { clip = both a c (h1 .0) .1; filter = h1 .1 }
 
 -- a filter layer's dest box is good

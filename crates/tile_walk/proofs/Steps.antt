@@ -46,7 +46,7 @@ module _ (s : Spot) (l : Layout) (ws : List ℕ) (g : WalkReady ws l) (i : ℕ) 
   pub draw-told : (w : Within) (x : Telling) → Holds (box-of (s .viewport)) w (x .opened) → {n : ℕ} {t : Telling}
       → Says (tell-fill (s .width) (box-of (s .viewport)) (s .row) (s .tile)
       (segs (segments-of l ws g) (draw-from ws (l .draws .at + 7 * i) .start) (draw-from ws (l .draws .at + 7 * i) .end - draw-from ws (l .draws .at + 7 * i) .start))
-      (eligible (eqb (w .«open») 0) (draw-paint (paints-of (lent-paints l ws (g .fits))) (draw-from ws (l .draws .at + 7 * i))) (draw-from ws (l .draws .at + 7 * i))) x) n t
+      (eligible (eqb (w .«open») 0) (draw-paint (paints-of (lent-paints l ws (g .fits))) (draw-from ws (l .draws .at + 7 * i))) (draw-from ws (l .draws .at + 7 * i))) (draw-from ws (l .draws .at + 7 * i) .panel) x) n t
       → Says (told s (a-fill (recorded l ws .paints) (recorded l ws .segments) (draw-from ws (l .draws .at + 7 * i))) x) n t
   unfolding tell-at
   draw-told w x o e =
@@ -55,9 +55,9 @@ module _ (s : Spot) (l : Layout) (ws : List ℕ) (g : WalkReady ws l) (i : ℕ) 
 
 -- the other steps; a pop is lent the recording's segments
 module _ (s : Spot) {n : ℕ} {t : Telling} where
-  pub filter-told : (k : ℕ) (f : Filter) (x : Telling) → Says (tell-filter (s .width) (box-of (s .viewport)) (s .row) (s .tile) f x) n t → Says (told s (a-filter k f) x) n t
+  pub filter-told : (k : ℕ) (f : Filter) {p q : ℕ} → q ≡ p → (x : Telling) → Says (tell-filter (s .width) (box-of (s .viewport)) (s .row) (s .tile) f p x) n t → Says (told s (a-filter k f q) x) n t
   unfolding tell-at
-  filter-told k f x e = e
+  filter-told k f z x e = rw z e
 
   pub push-told : (p : Props) (x : Telling) → Says (tell-push (s .width) (box-of (s .viewport)) (s .row) (s .tile) p x) n t → Says (told s (a-push p) x) n t
   unfolding tell-at
@@ -77,6 +77,9 @@ module _ {q : LayerProps} (y : LayerRec) (e : q ≡ props-in (props-of y)) where
 
   pub clip-told : props-of y .clip ≡ clip-of (q .clip)
   clip-told = rw e (sym (clip-back (clip-read y)))
+
+  pub panel-told : props-of y .panel ≡ q .panel
+  panel-told = rw e
 
   pub buffer-told : (b : Bool) → b ≡ buffered q → y .opacity < 4294967296 → needs-buffer (props-of y) ≡ b
   buffer-told b k h = sym (k ∙ rw e (buffered-by-bits (props-of y) h))

@@ -68,6 +68,7 @@ fn tell_draw(
         draw.start,
         draw.end,
         eligible,
+        draw.panel,
         lines,
     )
 }
@@ -104,23 +105,24 @@ fn tell_draws(
     }
 }
 
-// The filter fill of the layer at a place.
+// The filter fill of the layer at a place, of this panel.
 fn tell_picture(
     spot: Spot,
     within: Within,
     tale: Tale,
     w: &[u32],
     at: usize,
+    panel: u32,
     lines: &mut [u32],
 ) -> Told
     requires { ⌜ Spotted spot × Bounded within × Low tale × (length (now lines) ≡ line-table) × (at + 22 ≤ length (now w)) × (good-dest (file.filter-from (now w) at .dest) ≡ true) ⌝ }
     ensures { λ r. ⌜ ((ls : List Layer) → Holds (box-of (spot .viewport)) within ls
-        → Says (tell-filter (spot .width) (box-of (spot .viewport)) (spot .row) (spot .tile) (file.filter-from (now (w .entry)) at) (telling tale ls (now (lines .entry))))
+        → Says (tell-filter (spot .width) (box-of (spot .viewport)) (spot .row) (spot .tile) (file.filter-from (now (w .entry)) at) panel (telling tale ls (now (lines .entry))))
         (r .number) (telling (r .tale) ls (now (lines .exit)))) × Low (r .tale) ⌝ }
 {
     let dest = box_at(w, at + 16);
     let pixmap = pixmap_of(w[at + 15]);
-    tell_filter(spot, within, tale, dest, pixmap, lines)
+    tell_filter(spot, within, tale, dest, pixmap, panel, lines)
 }
 
 // The filter layer at a place: its nodes are not walked. It is pushed and popped only if it needs a buffer.
@@ -140,7 +142,7 @@ fn tell_filter_layer(
 {
     let props = props_at(w, at);
     if !needs_buffer(props) {
-        return tell_picture(spot, within, tale, w, at, lines);
+        return tell_picture(spot, within, tale, w, at, props.panel, lines);
     }
     let blend = props.blend;
     let clip = props.clip;
@@ -153,7 +155,7 @@ fn tell_filter_layer(
     }
     let inner = pushed.within;
     let begun = pushed.tale;
-    let drawn = tell_picture(spot, inner, begun, w, at, lines);
+    let drawn = tell_picture(spot, inner, begun, w, at, props.panel, lines);
     if drawn.number != DONE {
         return drawn;
     }
@@ -161,7 +163,16 @@ fn tell_filter_layer(
     let s = segments.at;
     let e = s + 5 * segments.count;
     let over = drawn.tale;
-    tell_pop(spot, inner, within, over, clip, &w[s..e], lines)
+    tell_pop(
+        spot,
+        inner,
+        within,
+        over,
+        clip,
+        props.panel,
+        &w[s..e],
+        lines,
+    )
 }
 
 // Nodes a to b, each its draws and then its layer, up to the first step that is refused. Layers in them may be nested `depth` deep.
@@ -253,5 +264,14 @@ fn tell_layer(
     let s = segments.at;
     let e = s + 5 * segments.count;
     let over = told.tale;
-    tell_pop(spot, inner, within, over, clip, &w[s..e], lines)
+    tell_pop(
+        spot,
+        inner,
+        within,
+        over,
+        clip,
+        props.panel,
+        &w[s..e],
+        lines,
+    )
 }

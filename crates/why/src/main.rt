@@ -195,7 +195,7 @@ fn ask_one(want: Want, row: u32, tile: u32, i: usize)
 }
 
 fn main() {
-    let options = read_options();
+    let options = read_options(false);
     let want = options.want;
     let i = options.next;
     let n = options.others;

@@ -5,6 +5,7 @@ use super::cmd::{PaintFillAttrs, RenderCmd};
 use super::depth::{split_opaque_span, BucketRange, DepthBuffer, DepthSegment, DepthState};
 use super::{probe, CommandBucketer};
 use crate::painting::Piece;
+use crate::panels::Panels;
 use crate::peniko::BlendMode;
 use crate::record::RecordedFill;
 use crate::scene::Scene;
@@ -183,10 +184,11 @@ impl Screen for CommandBucketer {
         }
     }
 
-    fn pieces(&self, row: usize, skip: bool) -> Vec<Piece> {
+    fn pieces(&self, row: usize, skip: bool, panels: &Panels) -> Vec<Piece> {
         let mut depth = DepthBuffer::new(self.width());
         let mut pieces = Vec::new();
-        paint(self, &self.rows()[row], skip, &mut depth, &mut pieces);
+        let row = &self.rows()[row];
+        paint(self, row, skip, panels, &mut depth, &mut pieces);
         pieces
     }
 
@@ -290,6 +292,7 @@ pub(crate) fn paint(
     bucketer: &CommandBucketer,
     row: &RowState,
     skip: bool,
+    panels: &Panels,
     depth: &mut DepthBuffer,
     pieces: &mut Vec<Piece>,
 ) {
@@ -304,6 +307,7 @@ pub(crate) fn paint(
                 end: run.span().tile_end(),
                 alpha,
                 nesting,
+                panel: panels.of(layer, attribute),
             });
         });
     }
@@ -337,6 +341,7 @@ pub(crate) fn paint(
                 end: run.tile_end(),
                 alpha,
                 nesting,
+                panel: panels.of(layer, attribute),
             });
         };
         if skip && row.can_skip_depth(span, id) {

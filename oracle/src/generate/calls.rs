@@ -4,13 +4,18 @@ use super::boxes::{across, axis, down, longest, loosened, Edge};
 use super::damage::WORDS;
 use super::draft::{solid, HALF, ONE};
 use super::scenes::{any_pixmap, blend, bounds, new_list, viewport, OPACITIES};
-use crate::calls::Call;
-use crate::limits::{LAST_ID, MOST_ROOM};
+use crate::calls::{answers, Call};
+use crate::limits::{LAST_ID, MOST_ROOM, PANELS};
 use crate::random::Random;
+use crate::sizes::PIECE;
 use crate::viewport::{snapped, Mode};
 use crate::width::{Width, NO_WIDTHS};
 
 const DEFAULT: [u32; 2] = [0, 3];
+
+/// Words of a list for one piece, and for as many as a step of an edge gives.
+pub(crate) const ONE_PIECE: u32 = PIECE as u32;
+const PIECES: u32 = 8 * ONE_PIECE;
 
 /// Words that a program which replays sequences has for the arenas of a screen.
 const MOST_ROWS: u32 = 32;
@@ -37,6 +42,34 @@ pub fn stream(seed: u32, count: u32, most: u32) -> Vec<u8> {
     crate::calls::stream(&words)
 }
 
+/// So many histories as a stream, those of the panels' edges first: a reset that is done, then building steps.
+pub fn histories(seed: u32, count: u32) -> Vec<u8> {
+    let mut random = Random::new(seed);
+    let more = std::iter::repeat_with(|| sequence(&mut random));
+    let all = panel_edges().into_iter().chain(more);
+    let words: Vec<Vec<u32>> = all
+        .filter_map(|calls| history(&calls))
+        .take(count as usize)
+        .map(|calls| calls.iter().flat_map(Call::words).collect())
+        .collect();
+    crate::calls::stream(&words)
+}
+
+/// The first reset of a sequence that is done, and the building steps up to the next; none where ids are skipped.
+fn history(calls: &[Call]) -> Option<Vec<Call>> {
+    let is_reset = |call: &Call| matches!(call, Call::Reset { .. });
+    let done = |call: &Call| is_reset(call) && answers(std::slice::from_ref(call)) == [0];
+    let (first, rest) = calls[calls.iter().position(done)?..].split_first()?;
+    let next = rest.iter().position(is_reset).unwrap_or(rest.len());
+    let own = &rest[..next];
+    if own.iter().any(|call| matches!(call, Call::NextId(_))) {
+        return None;
+    }
+    let builds = |call: &&Call| call.builds();
+    let steps = own.iter().filter(builds);
+    Some(std::iter::once(first).chain(steps).cloned().collect())
+}
+
 // Edges.
 
 const OPAQUE: [u32; 4] = [1, 7, 0, 0];
@@ -54,7 +87,7 @@ pub(crate) fn reset(width: u32, height: u32, c: u32, d: u32) -> Call {
 pub(crate) fn fill(segments: &[[u32; 5]]) -> Call {
     let end = u32::try_from(segments.len()).expect("few");
     Call::Fill {
-        draw: [0, 0, end, 0, DEFAULT[0], DEFAULT[1], 0],
+        draw: [0, 0, end, 0, DEFAULT[0], DEFAULT[1], 0, 0],
         paints: vec![OPAQUE],
         segments: segments.to_vec(),
     }
@@ -72,6 +105,7 @@ pub(crate) fn push() -> Call {
         mask: 0,
         flag: 0,
         clip: [0; 7],
+        panel: 0,
     }
 }
 
@@ -83,6 +117,7 @@ fn destructive() -> Call {
         mask: 0,
         flag: 0,
         clip: [0; 7],
+        panel: 0,
     }
 }
 
@@ -95,10 +130,11 @@ fn clipped(bounds: [u32; 4], start: u32, end: u32) -> Call {
         mask: 0,
         flag: 1,
         clip: [x0, y0, x1, y1, start, end, 9],
+        panel: 0,
     }
 }
 
-fn pop(segments: &[[u32; 5]]) -> Call {
+pub(crate) fn pop(segments: &[[u32; 5]]) -> Call {
     Call::Pop {
         segments: segments.to_vec(),
     }
@@ -110,11 +146,29 @@ pub(crate) fn filter(pixmap: impl Into<Option<u32>>, dest: [u32; 4]) -> Call {
         dest,
         source: [4, 32_768],
         count: 3,
+        panel: 0,
     }
 }
 
 fn step(row: u32) -> Call {
-    Call::Step { row, words: 48 }
+    Call::Step { row, words: PIECES }
+}
+
+/// The step with this panel.
+pub(crate) fn of(panel: u32, mut call: Call) -> Call {
+    *call.panel().expect("a step with a panel") = panel;
+    call
+}
+
+/// The same sequence, its steps of nine panels by turns.
+pub(crate) fn panelled(mut calls: Vec<Call>) -> Vec<Call> {
+    for (panel, own) in (1..=9)
+        .cycle()
+        .zip(calls.iter_mut().filter_map(Call::panel))
+    {
+        *own = panel;
+    }
+    calls
 }
 
 /// The same sequence with buckets of so many pixels.
@@ -127,7 +181,8 @@ fn at(mut calls: Vec<Call>, pixels: u32) -> Vec<Call> {
     calls
 }
 
-/// Those at 128 pixels a bucket, the same at the other widths, viewports at one width after another, and what is made for the widths.
+/// Those at 128 pixels a bucket, the same at the other widths, viewports at one width after another, and what is made for the widths and for the
+/// panels.
 fn edges() -> Vec<Vec<Call>> {
     let others = [64, 256].map(|pixels| plain_edges().into_iter().map(move |e| at(e, pixels)));
     let turns = Width::ALL.into_iter().cycle().skip(1);
@@ -136,6 +191,8 @@ fn edges() -> Vec<Vec<Call>> {
     all.extend(others.into_iter().flatten());
     all.extend(viewports.map(|(calls, width)| at(calls, width.pixels())));
     all.extend(width_edges());
+    all = all.into_iter().map(panelled).collect();
+    all.extend(panel_edges());
     all
 }
 
@@ -301,24 +358,28 @@ fn plain_edges() -> Vec<Vec<Call>> {
                 dest: [32_764, 32_768, 32_768, 32_768],
                 source: [0, 0],
                 count: 0,
+                panel: 0,
             },
             Call::Filter {
                 pixmap: Some(5),
                 dest: [0, 0, 32_768, 32_768],
                 source: [0, 0],
                 count: 4_096,
+                panel: 0,
             },
             Call::Filter {
                 pixmap: Some(5),
                 dest: [0, 0, 32_768, 32_768],
                 source: [32_768, 32_768],
                 count: 4_097,
+                panel: 0,
             },
             Call::Filter {
                 pixmap: Some(5),
                 dest: [40, 10, 44, 11],
                 source: [32_768, 0],
                 count: 7,
+                panel: 0,
             },
             Call::Show,
         ],
@@ -343,7 +404,10 @@ fn plain_edges() -> Vec<Vec<Call>> {
             Call::Begin,
             pop(&[]),
             Call::Begin,
-            Call::Step { row: 0, words: 5 },
+            Call::Step {
+                row: 0,
+                words: ONE_PIECE - 1,
+            },
             step(2),
             step(0),
             step(0),
@@ -698,6 +762,168 @@ fn skips_at(width: Width) -> Vec<Call> {
     calls
 }
 
+/// Numbers that are no panel.
+const NO_PANELS: [u32; 5] = [PANELS, PANELS + 1, 65_536, 1 << 31, u32::MAX];
+
+/// What is made for the panels.
+fn panel_edges() -> Vec<Vec<Call>> {
+    let wide = [solid(0, 0, 64)];
+    let (on, off) = ([0, 0, 64, 8], [512, 0, 516, 8]);
+    let mut all = vec![
+        // The last panel, and one more: 4 in place of 5, 8, 10 and 11.
+        vec![
+            reset(256, 8, 2, 1),
+            of(255, fill(&[solid(0, 4, 8), solid(0, 0, 4)])),
+            of(256, fill(&[solid(0, 4, 8), solid(0, 0, 4)])),
+            of(255, fill(&wide)),
+            of(254, fill(&wide)),
+            of(256, fill(&wide)),
+            of(253, alpha(0, 0, 4)),
+            of(252, alpha(0, 0, 4)),
+            of(251, alpha(0, 0, 4)),
+            of(256, alpha(0, 0, 4)),
+            Call::NextId(LAST_ID),
+            of(250, fill(&[])),
+            of(249, fill(&[])),
+            of(256, fill(&[])),
+            of(256, push()),
+            of(248, push()),
+            pop(&[]),
+            of(256, filter(5, on)),
+            of(255, filter(5, on)),
+            Call::Show,
+        ],
+        // A filter fill that draws nothing is judged all the same, and takes no attribute; nor does a fill without segments.
+        vec![
+            reset(256, 8, 8, 8),
+            of(1, fill(&[])),
+            of(2, filter(None, on)),
+            of(3, filter(5, off)),
+            of(256, filter(None, on)),
+            of(256, filter(5, off)),
+            of(4, alpha(0, 0, 4)),
+            of(5, fill(&[])),
+            of(6, filter(5, on)),
+            of(7, alpha(1, 0, 4)),
+            Call::Show,
+        ],
+        // A layer in another: each closes with its own panel, and its piece has it.
+        vec![
+            reset(128, 4, 8, 4),
+            of(1, push()),
+            of(2, push()),
+            of(3, alpha(0, 0, 4)),
+            pop(&[]),
+            pop(&[]),
+            Call::Begin,
+            small_step(),
+            small_step(),
+            small_step(),
+            small_step(),
+            small_step(),
+            small_step(),
+            small_step(),
+            small_step(),
+            Call::Show,
+        ],
+        // Depth fills that hide others of other panels.
+        vec![
+            reset(256, 4, 8, 4),
+            of(0, fill(&wide)),
+            of(255, fill(&[solid(0, 32, 64)])),
+            of(128, alpha(0, 30, 34)),
+            Call::Begin,
+            small_step(),
+            small_step(),
+            small_step(),
+            small_step(),
+            Call::Show,
+        ],
+        // A reset closes what is open; a panel of before is nowhere.
+        vec![
+            reset(256, 8, 8, 8),
+            of(5, push()),
+            of(6, fill(&wide)),
+            of(7, push()),
+            reset(256, 8, 8, 8),
+            pop(&[]),
+            of(8, push()),
+            of(9, alpha(1, 0, 4)),
+            pop(&[]),
+            Call::Show,
+        ],
+    ];
+    all.extend(NO_PANELS.map(no_panel));
+    all.push(deep_panels());
+    all.extend(Width::ALL.map(|width| at(nested_panels(), width.pixels())));
+    all
+}
+
+/// A step of row 0 into a list of one piece.
+fn small_step() -> Call {
+    Call::Step {
+        row: 0,
+        words: ONE_PIECE,
+    }
+}
+
+/// A number that is no panel refuses each step by 4 and leaves what was there.
+fn no_panel(panel: u32) -> Vec<Call> {
+    let mut calls = vec![reset(256, 8, 8, 8), of(3, push()), of(4, alpha(0, 0, 8))];
+    calls.extend([
+        of(panel, fill(&[solid(0, 0, 64)])),
+        of(panel, push()),
+        of(panel, clipped([0, 0, 64, 8], 0, 1)),
+        of(panel, filter(5, [0, 0, 64, 8])),
+        Call::Show,
+        of(255, filter(5, [0, 0, 64, 8])),
+        pop(&[]),
+        pop(&[]),
+        Call::Show,
+    ]);
+    calls
+}
+
+/// 16 layers of 16 panels and a 17th, which a number that is no panel refuses before its depth does; each closes with its own.
+fn deep_panels() -> Vec<Call> {
+    let mut calls = vec![reset(64, 4, 64, 8)];
+    calls.extend((0..16).map(|depth| of(240 + depth, push())));
+    calls.extend([of(255, push()), of(256, push()), of(1, alpha(0, 0, 8))]);
+    calls.extend((0..17).map(|_| pop(&[])));
+    calls.extend([Call::Show, Call::Begin]);
+    calls.extend((0..50).map(|_| small_step()));
+    calls
+}
+
+/// Layers in layers of other panels, filter fills of panels of their own in them, depth fills that hide others; then all is painted.
+fn nested_panels() -> Vec<Call> {
+    let mut calls = vec![
+        reset(512, 8, 16, 8),
+        of(10, fill(&[solid(0, 0, 128), solid(1, 0, 128)])),
+        of(20, fill(&[solid(0, 0, 64)])),
+        of(30, push()),
+        of(40, alpha(0, 60, 70)),
+        of(50, clipped([0, 0, 400, 8], 0, 1)),
+        of(60, filter(0, [128, 0, 300, 8])),
+        of(70, destructive()),
+        of(80, alpha(1, 10, 90)),
+        pop(&[]),
+        of(256, push()),
+        pop(&[[1, 1, 0, 100, 160]]),
+        of(90, filter(None, [0, 0, 64, 8])),
+        pop(&[]),
+        of(100, filter(7, [0, 4, 64, 8])),
+        of(110, fill(&[solid(1, 0, 64)])),
+        Call::Show,
+        Call::Begin,
+    ];
+    for row in [0, 1] {
+        calls.extend((0..16).map(|_| step(row)));
+    }
+    calls.push(Call::Show);
+    calls
+}
+
 /// Words that a sequence of viewports has with its answers, unless one viewport alone has more.
 const MOST_WORDS: usize = 380;
 
@@ -736,7 +962,7 @@ fn viewport_edges() -> Vec<Edge> {
 /// The words of a sequence with its answers.
 fn size(calls: &[Call]) -> usize {
     let words: usize = calls.iter().map(|call| call.words().len()).sum();
-    words + crate::calls::answers(calls).len()
+    words + answers(calls).len()
 }
 
 /// Whether a program has room for what a reset asks for.
@@ -1055,6 +1281,17 @@ fn lent(sketch: &Sketch, random: &mut Random) -> (Vec<[u32; 5]>, (u32, u32)) {
     ([before, own, after].concat(), range)
 }
 
+/// A panel: one of ten, any, or at times the first or the last; now and then a number that is none.
+fn any_panel(random: &mut Random) -> u32 {
+    match random.below(100) {
+        0..45 => random.below(10),
+        45..92 => random.below(PANELS),
+        92..97 => random.pick(&[0, PANELS - 1]),
+        97..99 => PANELS,
+        _ => random.pick(&NO_PANELS),
+    }
+}
+
 fn any_fill(sketch: &Sketch, random: &mut Random) -> Call {
     let (segments, (start, end)) = lent(sketch, random);
     let end = if random.chance(5) { start } else { end };
@@ -1084,6 +1321,7 @@ fn any_fill(sketch: &Sketch, random: &mut Random) -> Call {
             mix,
             compose,
             mask,
+            any_panel(random),
         ],
         paints,
         segments,
@@ -1109,7 +1347,10 @@ fn open(sketch: &mut Sketch, random: &mut Random) {
     } else {
         (0, [0; 7], None)
     };
-    sketch.open.push(range);
+    let panel = any_panel(random);
+    if panel < PANELS {
+        sketch.open.push(range);
+    }
     sketch.calls.push(Call::Push {
         mix,
         compose,
@@ -1117,6 +1358,7 @@ fn open(sketch: &mut Sketch, random: &mut Random) {
         mask,
         flag,
         clip,
+        panel,
     });
 }
 
@@ -1142,6 +1384,7 @@ fn any_filter(sketch: &Sketch, random: &mut Random) -> Call {
         dest,
         source,
         count: random.pick(&[0, 1, 3, 4_096]),
+        panel: any_panel(random),
     }
 }
 
@@ -1187,23 +1430,23 @@ fn damaged(sketch: &mut Sketch, random: &mut Random) -> Call {
             }
         }
         2 => {
-            let mut words = [0, 3, ONE, 0, 0];
+            let mut words = [0, 3, ONE, 0, random.below(PANELS)];
             let mut clip = [0; 7];
-            if random.chance(60) {
-                words[4] = 1;
+            let flag = u32::from(random.chance(60));
+            if flag == 1 {
                 let [x0, y0, x1, y1] = bounds(random, sketch.viewport, 4);
                 clip = [x0, y0, x1, y1, 0, 0, 0];
                 change(random, &mut clip);
             } else {
-                change(random, &mut words[..4]);
+                change(random, &mut words);
             }
             // A push that is done all the same stands open.
-            sketch.open.push(if words[4] == 1 {
+            sketch.open.push(if flag == 1 {
                 Some((clip[4], clip[5].min(64)))
             } else {
                 None
             });
-            let [mix, compose, opacity, mask, flag] = words;
+            let [mix, compose, opacity, mask, panel] = words;
             Call::Push {
                 mix,
                 compose,
@@ -1211,6 +1454,7 @@ fn damaged(sketch: &mut Sketch, random: &mut Random) -> Call {
                 mask,
                 flag,
                 clip,
+                panel,
             }
         }
         _ => {
@@ -1219,18 +1463,20 @@ fn damaged(sketch: &mut Sketch, random: &mut Random) -> Call {
                 dest: [x0, y0, x1, y1],
                 source: [x, y],
                 count,
+                panel,
             } = any_filter(sketch, random)
             else {
                 unreachable!()
             };
-            let mut words = [pixmap.unwrap_or(0), x0, y0, x1, y1, x, y, count];
+            let mut words = [pixmap.unwrap_or(0), x0, y0, x1, y1, x, y, count, panel];
             change(random, &mut words);
-            let [handle, x0, y0, x1, y1, x, y, count] = words;
+            let [handle, x0, y0, x1, y1, x, y, count, panel] = words;
             Call::Filter {
                 pixmap: pixmap.map(|_| handle),
                 dest: [x0, y0, x1, y1],
                 source: [x, y],
                 count,
+                panel,
             }
         }
     }
@@ -1254,7 +1500,8 @@ fn paint(sketch: &mut Sketch, random: &mut Random) {
     if random.chance(97) {
         sketch.calls.push(Call::Begin);
     }
-    let words = random.pick(&[48, 48, 48, 60, 7, 6, 0]);
+    let more = PIECES + ONE_PIECE;
+    let words = random.pick(&[PIECES, PIECES, PIECES, more, ONE_PIECE + 1, ONE_PIECE, 0]);
     for _ in 0..random.from(1, 6 * rows.clamp(1, 8)) {
         let row = if random.chance(3) {
             rows
@@ -1379,6 +1626,48 @@ mod tests {
         }
         assert!((1..6).contains(&(100 * none / all)), "{none} of {all}");
         assert!(changed > 200 && wide > 200, "{changed} {wide}");
+    }
+
+    /// Each step that has a panel is met with every panel and with numbers that are none; layers close in layers of other panels.
+    #[test]
+    fn panels_of_every_sort() {
+        let mut random = Random::new(1);
+        let (mut met, mut none) = ([[0; 256]; 3], [0; 3]);
+        let mut inside_another = 0;
+        for calls in (0..3_000).map(|_| sequence(&mut random)) {
+            let mut open = Vec::new();
+            for mut call in calls {
+                let kind = match &call {
+                    Call::Fill { .. } => 0,
+                    Call::Push { .. } => 1,
+                    Call::Filter { .. } => 2,
+                    Call::Pop { .. } => {
+                        let own = open.pop();
+                        let other = |parent: &u32| own.is_some_and(|own| own != *parent);
+                        inside_another += u32::from(open.last().is_some_and(other));
+                        continue;
+                    }
+                    Call::Reset { .. } => {
+                        open.clear();
+                        continue;
+                    }
+                    _ => continue,
+                };
+                let panel = *call.panel().expect("a panel");
+                match met[kind].get_mut(panel as usize) {
+                    None => none[kind] += 1,
+                    Some(times) => {
+                        *times += 1;
+                        if kind == 1 {
+                            open.push(panel);
+                        }
+                    }
+                }
+            }
+        }
+        assert!(met.iter().flatten().all(|&times| times > 0));
+        assert!(none.iter().all(|&times| times > 100), "{none:?}");
+        assert!(inside_another > 1_000, "{inside_another}");
     }
 
     /// A number that is no width comes after 3 and before 1, and leaves the screen as it was.

@@ -1,8 +1,10 @@
 //! Sequences that end in a call on a forged screen. No Rust answers these: document 01 and the calls' definitions do.
 
-use super::calls::{alpha, fill, filter, push, reset};
+use super::calls::{alpha, fill, filter, panelled, push, reset, ONE_PIECE};
 use super::draft::solid;
 use crate::calls::Call;
+use crate::limits::PANELS;
+use crate::sizes::{LAYER_ATTR, OPEN_LAYER, PAINT_ATTR};
 
 /// What is forged: a word of a table, or a table lent one word short; and how a reader calls it.
 struct Forging {
@@ -123,6 +125,18 @@ fn forgings() -> Vec<Forging> {
     for (place, word) in [(4, 0), (4, 1_048_577)] {
         set(7, place, word, "the first paint attribute's id");
     }
+    // The panel is a record's last word.
+    let last = |record: usize, words: usize| u32::try_from(words * (record + 1) - 1).expect("few");
+    for (table, place, what) in [
+        (6, last(0, OPEN_LAYER), "the layer's panel"),
+        (7, last(0, PAINT_ATTR), "the first paint attribute's panel"),
+        (7, last(1, PAINT_ATTR), "the second paint attribute's panel"),
+        (8, last(0, LAYER_ATTR), "the first layer attribute's panel"),
+    ] {
+        for panel in [PANELS - 1, PANELS, u32::MAX] {
+            set(table, place, panel, what);
+        }
+    }
     for table in 1..11 {
         all.push(Forging {
             name: format!("{} lent one word short", TABLES[table as usize]),
@@ -138,16 +152,17 @@ fn forgings() -> Vec<Forging> {
 
 /// The screen that is forged: depth fills and a command on row 0, a layer open with a command on row 1.
 fn built() -> Vec<Call> {
-    vec![
+    panelled(vec![
         reset(256, 8, 8, 8),
         fill(&[solid(0, 0, 64)]),
         alpha(0, 0, 4),
         push(),
         alpha(1, 0, 16),
-    ]
+    ])
 }
 
-/// Four calls on it with the layer open, seven with the layer closed and painting begun: a step that takes a depth fill, and one that takes a command.
+/// Four calls on it with the layer open, eight with the layer closed and painting begun: among them a step that takes a depth fill, one that takes a
+/// command, and the last one, which takes the layer's closing fill.
 fn calls() -> Vec<(Vec<Call>, Call)> {
     let pop = || Call::Pop {
         segments: Vec::new(),
@@ -160,6 +175,11 @@ fn calls() -> Vec<(Vec<Call>, Call)> {
         mask: 0,
         flag: 0,
         clip: [0; 7],
+        panel: 5,
+    };
+    let step = |row| Call::Step {
+        row,
+        words: 2 * ONE_PIECE,
     };
     let both = [[1, 0, 8, 12, 160], [1, 1, 8, 12, 160]];
     vec![
@@ -168,11 +188,8 @@ fn calls() -> Vec<(Vec<Call>, Call)> {
         (built(), pop()),
         (built(), filter(5, [0, 0, 64, 8])),
         (painting(), Call::Begin),
-        (painting(), Call::Step { row: 0, words: 12 }),
-        (
-            [painting(), vec![Call::Step { row: 0, words: 12 }]].concat(),
-            Call::Step { row: 0, words: 12 },
-        ),
+        (painting(), step(0)),
+        ([painting(), vec![step(0)]].concat(), step(0)),
         (
             painting(),
             Call::Unset {
@@ -207,6 +224,7 @@ fn calls() -> Vec<(Vec<Call>, Call)> {
                 id: 1,
             },
         ),
+        ([painting(), vec![step(1), step(1)]].concat(), step(1)),
     ]
 }
 

@@ -608,11 +608,16 @@ mod tests {
     use crate::viewport::Mode;
     use crate::walk::Player;
 
-    /// The lines of `why` in short.
+    /// The lines of `why` in short. Every attribute of a file is of panel 0.
     fn short(lines: &str) -> String {
+        let reason = |line: &str| {
+            let (_, reason) = line.split_once(": ").expect("a reason");
+            let panels = reason.strip_suffix(", panel 0").expect("a panel");
+            panels.replace(" of panel 0", "")
+        };
         let of = |kind: &str| {
             let lines = lines.lines().filter_map(|line| line.strip_prefix(kind));
-            let reasons = lines.map(|line| match line.split_once(": ").expect("a reason").1 {
+            let reasons = lines.map(|line| match &reason(line)[..] {
                 "no segment covers the tile" => "-".into(),
                 "cut away by a clip box" => "cut".into(),
                 "row never touched by the closing layer" => "untouched".into(),

@@ -167,7 +167,7 @@ mod tests {
     fn every_snapped_edge_has_its_number() {
         let mut player = Player::new(Mode::Snapping, 1);
         for edge in edges() {
-            let text = rowdump(&mut player, &edge.made.bytes);
+            let text = rowdump(&mut player, &edge.made.bytes, true);
             let refused = text.strip_prefix("refused ");
             let answer = refused.map_or(0, |number| number.trim().parse().expect("a number"));
             assert_eq!(answer, edge.answer, "{}", edge.made.name);
@@ -181,9 +181,14 @@ mod tests {
         for edge in edges() {
             let bytes = &edge.made.bytes[..];
             let aligned = (4..20).step_by(4).all(|at| bytes[at] % 4 == 0);
-            let text = rowdump(&mut exact, bytes);
+            let text = rowdump(&mut exact, bytes, true);
             if aligned {
-                assert_eq!(text, rowdump(&mut snapping, bytes), "{}", edge.made.name);
+                assert_eq!(
+                    text,
+                    rowdump(&mut snapping, bytes, true),
+                    "{}",
+                    edge.made.name
+                );
             } else {
                 assert_eq!(text, "refused 2\n", "{}", edge.made.name);
             }
@@ -198,9 +203,9 @@ mod tests {
         for _ in 0..300 {
             let bytes = scene(&mut random).bytes();
             let loose = loosened_file(&bytes, &mut random);
-            let text = rowdump(&mut exact, &bytes);
-            assert_eq!(text, rowdump(&mut snapping, &bytes));
-            assert_eq!(text, rowdump(&mut snapping, &loose));
+            let text = rowdump(&mut exact, &bytes, true);
+            assert_eq!(text, rowdump(&mut snapping, &bytes, true));
+            assert_eq!(text, rowdump(&mut snapping, &loose, true));
         }
     }
 }

@@ -297,7 +297,7 @@ mod tests {
         for (i, width) in Width::ALL.into_iter().enumerate() {
             let mut player = Player::new(Mode::Exact, 1).at(width.pixels());
             for (made, answers) in edges() {
-                let said = number(&rowdump(&mut player, &made.bytes));
+                let said = number(&rowdump(&mut player, &made.bytes, true));
                 assert_eq!(said, answers[i], "{} at {width:?}", made.name);
             }
         }
@@ -352,7 +352,7 @@ mod tests {
         let all: Vec<_> = (0..1_500).map(|_| another(&mut random)).collect();
         let dumps = Width::ALL.map(|width| {
             let mut player = Player::new(Mode::Exact, 1).at(width.pixels());
-            let dump = |made: &crate::generate::Made| rowdump(&mut player, &made.bytes);
+            let dump = |made: &crate::generate::Made| rowdump(&mut player, &made.bytes, true);
             all.iter().map(dump).collect::<Vec<String>>()
         });
         let differ = |a: usize, b: usize| {

@@ -4,6 +4,7 @@ use mathlib.Core.Path.{sym, _∙_}
 use borrow.Author.Tests.{lt-ltb, le-ltb, not-true, not-false}
 use Rattle.file_form.specs.Places.{draw-from}
 use Rattle.file_judge.specs.Judging.{draw-fields}
+use Rattle.file_judge.proofs.Fields.{no-panel-test}
 use borrow.Author.Needs.{needs}
 use Rattle.file_judge.proofs.is_good_draw.Statement.{statement}
 use Rattle.file_judge.proofs.is_good_draw.Tie as tie
@@ -126,7 +127,7 @@ returns-5 c =
       sym (at-is-good-range .is-good-range .ensures) ∙ not-false _ (at-if2 .if2 .left),
       lt-ltb _ _ (rw (at-wide .wide .ensures) at (at-if3 .if3 .left)),
       sym (at-is-good-blend .is-good-blend .ensures) ∙ not-false _ (c .before .if4 .left),
-    )
+    ) (no-panel-test _)
 
 pub is-good-draw-spec : {M : Type 1} → statement M
 is-good-draw-spec =

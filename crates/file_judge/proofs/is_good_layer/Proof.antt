@@ -4,6 +4,7 @@ use mathlib.Core.Path.{sym, _∙_}
 use borrow.Author.Tests.{le-leb, lt-leb, lt-ltb, le-ltb, not-true, not-false}
 use Rattle.file_form.specs.Places.{layer-from}
 use Rattle.file_judge.specs.Judging.{layer-fields}
+use Rattle.file_judge.proofs.Fields.{no-panel-test}
 use borrow.Author.Needs.{needs}
 use Rattle.file_judge.proofs.is_good_layer.Statement.{statement}
 use Rattle.file_judge.proofs.is_good_layer.Tie as tie
@@ -169,7 +170,7 @@ returns-7 c =
       lt-ltb _ _ (at-if4 .if4 .left),
       le-leb _ _ (at-if5 .if5 .left),
       sym (at-is-good-clip-part .is-good-clip-part .ensures) ∙ not-false _ (c .before .if6 .left),
-    ) (c .is-good-filter-part .ensures)
+    ) (c .is-good-filter-part .ensures ∙ no-panel-test _)
 
 pub is-good-layer-spec : {M : Type 1} → statement M
 is-good-layer-spec =

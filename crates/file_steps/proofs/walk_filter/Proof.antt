@@ -49,7 +49,7 @@ returns c =
     let entry = at-shared-slice-known .before in
     λ t. plain (recorded (entry .args .l) (entry .args .w .now)) (layer-from (entry .args .w .now) (entry .args .at)) (sym (at-needs-buffer .needs-buffer .ensures ∙ rw (at-props-at .props-at .ensures) (buffered-by-bits (props-of (layer-from (entry .args .w .now) (entry .args .at)))
     (omega (arith, at-shared-slice-known .shared-slice-known .given (entry .args .at + 5))))) ∙ not-true _ (at-if1 .if1 .taken)) _ _
-    (filter-step t _ _ _ _ _ _ _ _ _ _ _ _ _ _ (at-filter-at .filter-at .ensures))
+    (filter-step t _ _ _ _ _ _ _ _ _ _ _ _ _ _ _ (rw (at-props-at .props-at .ensures) at (at-filter-at .filter-at .ensures)))
 
 push-layer-requires : tie.Need-push-layer-requires
 push-layer-requires c κs = search needs
@@ -142,7 +142,7 @@ returns-3 c =
     λ t. not-drawn (recorded (entry .args .l) (entry .args .w .now)) (layer-from (entry .args .w .now) (entry .args .at)) (sym (at-needs-buffer .needs-buffer .ensures ∙ rw (at-props-at .props-at .ensures) (buffered-by-bits (props-of (layer-from (entry .args .w .now) (entry .args .at)))
     (omega (arith, at-shared-slice-known .shared-slice-known .given (entry .args .at + 5))))) ∙ not-false _ (at-if1 .if1 .left)) _ _ _
     (push-step t _ _ _ _ _ _ _ _ _ _ _ _ _ (rw (at-props-at .props-at .ensures) at (at-push-layer .push-layer .ensures))) (at-if2 .if2 .left) _ _
-    (filter-step t _ _ _ _ _ _ _ _ _ _ _ _ _ _ (at-filter-at2 .filter-at2 .ensures)) (c .if3 .taken)
+    (filter-step t _ _ _ _ _ _ _ _ _ _ _ _ _ _ _ (rw (at-props-at .props-at .ensures) at (at-filter-at2 .filter-at2 .ensures))) (c .if3 .taken)
 
 pop-at-requires : tie.Need-pop-at-requires
 pop-at-requires c κs =
@@ -220,7 +220,7 @@ returns-4 c =
     λ t. closed (recorded (entry .args .l) (entry .args .w .now)) (layer-from (entry .args .w .now) (entry .args .at)) (sym (at-needs-buffer .needs-buffer .ensures ∙ rw (at-props-at .props-at .ensures) (buffered-by-bits (props-of (layer-from (entry .args .w .now) (entry .args .at)))
     (omega (arith, at-shared-slice-known .shared-slice-known .given (entry .args .at + 5))))) ∙ not-false _ (at-if1 .if1 .left)) _ _ _
     (push-step t _ _ _ _ _ _ _ _ _ _ _ _ _ (rw (at-props-at .props-at .ensures) at (at-push-layer .push-layer .ensures))) (at-if2 .if2 .left) _ _
-    (filter-step t _ _ _ _ _ _ _ _ _ _ _ _ _ _ (at-filter-at2 .filter-at2 .ensures)) (at-if3 .if3 .left) _
+    (filter-step t _ _ _ _ _ _ _ _ _ _ _ _ _ _ _ (rw (at-props-at .props-at .ensures) at (at-filter-at2 .filter-at2 .ensures))) (at-if3 .if3 .left) _
     (pop-step t _ _ _ _ _ _ _ _ _ _ _ _ _ _ (at-pop-at .pop-at .ensures))
 
 pub walk-filter-spec : {M : Type 1} → statement M

@@ -1,8 +1,9 @@
--- Six words are stored one after the other.
+-- The words are stored one after the other.
 use mathlib.Core.List.{[], _∷_}
 use Prim.Native.Nat.{_*_}
 use native.Mathlib.Omega.{arith}
 use lib.ListN.{length-set}
+use Rattle.sizes.specs.Sizes.{piece-size}
 use Rattle.cmd.proofs.Tables.{stored}
 use borrow.Author.Needs.{needs}
 use Rattle.paint_pieces.proofs.put_words.Statement.{statement}
@@ -62,11 +63,20 @@ mul-list-6 c = search needs
 slice-write-list-6 : tie.Need-slice-write-list-6
 slice-write-list-6 c = simp length-set (omega arith)
 
+add-list-6 : tie.Need-add-list-6
+add-list-6 c = search needs
+
+mul-list-7 : tie.Need-mul-list-7
+mul-list-7 c = search needs
+
+slice-write-list-7 : tie.Need-slice-write-list-7
+slice-write-list-7 c = simp length-set (omega arith)
+
 same-length : tie.Need-same-length
 same-length c = simp length-set
 
 returns : tie.Need-returns
-returns c = stored _ (6 * c .args .k) _ (_ ∷ _ ∷ _ ∷ _ ∷ _ ∷ []) (omega arith)
+returns c = stored _ (piece-size * c .args .k) _ (_ ∷ _ ∷ _ ∷ _ ∷ _ ∷ _ ∷ []) (omega arith)
 
 pub put-words-spec : {M : Type 1} → statement M
 put-words-spec =
@@ -90,5 +100,8 @@ put-words-spec =
     add-list-5
     mul-list-6
     slice-write-list-6
+    add-list-6
+    mul-list-7
+    slice-write-list-7
     same-length
     returns)

@@ -15,19 +15,19 @@ slice-reshare-prefix-print : tie.Need-slice-reshare-prefix-print
 slice-reshare-prefix-print c =
     let at-text = c .before .before in
     let entry = at-text .before .before .before .before in
-    first-fits (dump-by-width (entry .args .want .«no_width») (entry .args .i) (entry .args .file .now) (rowdump-text (setup-of (entry .args .want .setup)) (entry .args .i) (entry .args .file .now))) (entry .args .out .now) (at-text .wanted-text .result) _ (at-text .wanted-text .ensures .0) (at-text .wanted-text .ensures .1)
+    first-fits (dump-by-width (entry .args .want .«no_width») (entry .args .i) (entry .args .file .now) (rowdump-text (entry .args .want .panels) (setup-of (entry .args .want .setup)) (entry .args .i) (entry .args .file .now))) (entry .args .out .now) (at-text .wanted-text .result) _ (at-text .wanted-text .ensures .0) (at-text .wanted-text .ensures .1)
 
 slice-aggregate-print : tie.Need-slice-aggregate-print
 slice-aggregate-print c =
     let at-text = c .before .before .before in
     let entry = at-text .before .before .before .before in
-    sym (length-take-le _ _ (first-fits (dump-by-width (entry .args .want .«no_width») (entry .args .i) (entry .args .file .now) (rowdump-text (setup-of (entry .args .want .setup)) (entry .args .i) (entry .args .file .now))) (entry .args .out .now) (at-text .wanted-text .result) _ (at-text .wanted-text .ensures .0) (at-text .wanted-text .ensures .1)))
+    sym (length-take-le _ _ (first-fits (dump-by-width (entry .args .want .«no_width») (entry .args .i) (entry .args .file .now) (rowdump-text (entry .args .want .panels) (setup-of (entry .args .want .setup)) (entry .args .i) (entry .args .file .now))) (entry .args .out .now) (at-text .wanted-text .result) _ (at-text .wanted-text .ensures .0) (at-text .wanted-text .ensures .1)))
 
 print-requires : tie.Need-print-requires
 print-requires c κs =
     let at-text = c .before .before .before in
     let entry = at-text .before .before .before .before in
-    first-taken (dump-by-width (entry .args .want .«no_width») (entry .args .i) (entry .args .file .now) (rowdump-text (setup-of (entry .args .want .setup)) (entry .args .i) (entry .args .file .now))) (entry .args .out .now) (at-text .wanted-text .result) _ (at-text .wanted-text .ensures .0) (at-text .wanted-text .ensures .1)
+    first-taken (dump-by-width (entry .args .want .«no_width») (entry .args .i) (entry .args .file .now) (rowdump-text (entry .args .want .panels) (setup-of (entry .args .want .setup)) (entry .args .i) (entry .args .file .now))) (entry .args .out .now) (at-text .wanted-text .result) _ (at-text .wanted-text .ensures .0) (at-text .wanted-text .ensures .1)
 
 same-length : tie.Need-same-length
 same-length c = search needs

@@ -13,7 +13,7 @@ use Rattle.rules.specs.Answers.{answer, first-of, Done, BadRecord, BadOr
 use Rattle.rules.specs.Boxes.{Box, width, height, by-4, bounded, good-box, good-dest, good-viewport, empty-box, rows-in, span-of, scene-tiles}
 use Rattle.rules.specs.Spans.{Span, span, Stretch, common, meeting, cut-at, cut-when, cut-to}
 use Rattle.rules.specs.Segments.{Segment, good-segment, ordered, judge-segments, stretch-of, Cut, localised, cut-in, cuts}
-use Rattle.rules.specs.Inputs.{Paint, Draw, Clip, Props, good-clip, good-handle, all-good, good-props, Filter, good-pixmap, good-filter, draw-segments, good-fill}
+use Rattle.rules.specs.Inputs.{Paint, Draw, Clip, Props, good-clip, good-handle, all-good, good-props, Filter, good-pixmap, good-filter, good-panel, good-filter-fill, draw-segments, good-fill}
 use Rattle.rules.specs.Blends.{good-blend}
 use Rattle.rules.specs.Rows.{RowOps}
 use Rattle.rules.specs.Plans.{Frame, Layer, State, Step, a-fill, a-push, a-pop, a-filter, paint, touch, close, pop, on, Plan, still, clip-box, box-of, draw-act, draw-puts, plan-fill, layer-box, touches-all, plan-push, clip-segments, clip-fits, close-puts, closing, plan-pop, filter-box, draws-nothing, filter-puts, plan-filter-in, plan-filter, plan}
@@ -212,33 +212,33 @@ module _ (s : State) (f : Framed s) where
       (judged-facts (not (clip-fits (l .props .clip) ss)) (clip-segments (l .props .clip) ss) e .1))
       (all-mapped (on pop) (λ x. record { act = pops }) touched)
 
-  filter-in-ok : (b : Box) (count : ℕ) (q : Filter) → Inside (s .frame .viewport) b → All (PutOk BoundedSpan) (plan-filter-in b count q s .puts)
+  filter-in-ok : (b : Box) (count : ℕ) (q : Filter) (g : ℕ) → Inside (s .frame .viewport) b → All (PutOk BoundedSpan) (plan-filter-in b count q g s .puts)
   unfolding plan-filter-in filter-puts
-  filter-in-ok b count q i = all-mapped (on (paint (span-of b) none (length (s .attrs .paints)))) (λ x. record { act = paints (inside-short b i) }) (rows-in b)
+  filter-in-ok b count q g i = all-mapped (on (paint (span-of b) none (length (s .attrs .paints)))) (λ x. record { act = paints (inside-short b i) }) (rows-in b)
 
-  filter-ok : (count : ℕ) (q : Filter) → All (PutOk BoundedSpan) (plan-filter count q s .puts)
+  filter-ok : (count : ℕ) (q : Filter) (g : ℕ) → All (PutOk BoundedSpan) (plan-filter count q g s .puts)
   unfolding plan-filter
-  filter-ok count q = go (good-filter q && leb count 4096) (draws-nothing q (filter-box (s .frame .viewport) (box-of s) q)) refl
+  filter-ok count q g = go (good-filter-fill count q g) (draws-nothing q (filter-box (s .frame .viewport) (box-of s) q)) refl
     where
       b : Box
       b = filter-box (s .frame .viewport) (box-of s) q
 
-      go : (t u : Bool) → (good-filter q && leb count 4096) ≡ t
-          → All (PutOk BoundedSpan) (cond (not t) (still BadRecord s) (cond u (still Done s) (plan-filter-in (filter-box (s .frame .viewport) (box-of s) q) count q s)) .puts)
+      go : (t u : Bool) → good-filter-fill count q g ≡ t
+          → All (PutOk BoundedSpan) (cond (not t) (still BadRecord s) (cond u (still Done s) (plan-filter-in (filter-box (s .frame .viewport) (box-of s) q) count q g s)) .puts)
       go false u e = nil
       go true true e = nil
-      go true false e = filter-in-ok (filter-box (s .frame .viewport) (box-of s) q) count q (filter-inside q (both (good-filter q) (leb count 4096) e .0))
+      go true false e = filter-in-ok (filter-box (s .frame .viewport) (box-of s) q) count q g (filter-inside q (both (good-filter q) (leb count 4096) (both (good-filter q && leb count 4096) (good-panel g) e .0) .0))
 
   pub plan-ok : (x : Step) (touched : List ℕ) → plan x touched s .refused ≡ Done → All (PutOk BoundedSpan) (plan x touched s .puts)
   unfolding plan
   plan-ok (a-fill ps ss d) touched e = fill-ok ps ss d e
   plan-ok (a-push p) touched e = push-ok p
   plan-ok (a-pop ss) touched e = pop-ok (s .layers) ss touched (f .boxes) e
-  plan-ok (a-filter count q) touched e = filter-ok count q
+  plan-ok (a-filter count q g) touched e = filter-ok count q g
 
   -- the boxes of the layers that a plan leaves open are inside
   good-layers : (p : Props) → good-props p ≡ true → Inside (s .frame .viewport) (layer-box (s .frame .viewport) (box-of s) (p .clip))
-  good-layers p g = layer-inside (box-of s) (p .clip) (both (good-blend (p .blend) && good-handle (p .mask)) (all-good (p .clip)) g .1) box-inside
+  good-layers p g = layer-inside (box-of s) (p .clip) (both (good-blend (p .blend) && good-handle (p .mask)) (all-good (p .clip)) (both (good-blend (p .blend) && good-handle (p .mask) && all-good (p .clip)) (good-panel (p .panel)) g .0) .1) box-inside
 
   not-refused : (t : Bool) → cond t Done BadRecord ≡ Done → t ≡ true
   not-refused true e = refl
@@ -253,12 +253,12 @@ module _ (s : State) (f : Framed s) where
   pop-boxes [] ss touched e = f .boxes
   pop-boxes (l ∷ ls) ss touched e = tail (rw e at (f .boxes))
 
-  filter-boxes : (count : ℕ) (q : Filter) → All (λ (l : Layer). Inside (s .frame .viewport) (l .bounds)) (plan-filter count q s .layers)
+  filter-boxes : (count : ℕ) (q : Filter) (g : ℕ) → All (λ (l : Layer). Inside (s .frame .viewport) (l .bounds)) (plan-filter count q g s .layers)
   unfolding plan-filter plan-filter-in
-  filter-boxes count q = go (not (good-filter q && leb count 4096)) (draws-nothing q (filter-box (s .frame .viewport) (box-of s) q))
+  filter-boxes count q g = go (not (good-filter-fill count q g)) (draws-nothing q (filter-box (s .frame .viewport) (box-of s) q))
     where
       go : (t u : Bool)
-          → All (λ (l : Layer). Inside (s .frame .viewport) (l .bounds)) (cond t (still BadRecord s) (cond u (still Done s) (plan-filter-in (filter-box (s .frame .viewport) (box-of s) q) count q s)) .layers)
+          → All (λ (l : Layer). Inside (s .frame .viewport) (l .bounds)) (cond t (still BadRecord s) (cond u (still Done s) (plan-filter-in (filter-box (s .frame .viewport) (box-of s) q) count q g s)) .layers)
       go true u = f .boxes
       go false true = f .boxes
       go false false = f .boxes
@@ -268,7 +268,7 @@ module _ (s : State) (f : Framed s) where
   plan-boxes (a-fill ps ss d) touched e = f .boxes
   plan-boxes (a-push p) touched e = push-boxes p e
   plan-boxes (a-pop ss) touched e = pop-boxes (s .layers) ss touched refl
-  plan-boxes (a-filter count q) touched e = filter-boxes count q
+  plan-boxes (a-filter count q g) touched e = filter-boxes count q g
 
 -- a step leaves the state framed
 module _ (R : Type 0) (ops : RowOps R) where

@@ -4,6 +4,7 @@ use Prim.Native.Nat.{_≤_, _+_, _*_, _-_}
 use lib.ListN.{length, length-set}
 use lib.Seq.{sets}
 use native.Mathlib.Omega.{arith}
+use Rattle.sizes.specs.Sizes.{open-layer-size}
 use Rattle.screen_layers.proofs.Laws.{Dropping, begun, again, dropped}
 use Rattle.screen_layers.proofs.drop_layer.Statement.{statement}
 use Rattle.screen_layers.proofs.drop_layer.Tie as tie
@@ -12,7 +13,7 @@ abbrev Inv-loop : tie.InvT-loop
 Inv-loop layers₀ k at i₀ layers i = Dropping layers₀ at layers i
 
 abbrev μ-loop : tie.MeasureT-loop
-μ-loop layers₀ k at i₀ layers i = 16 - i
+μ-loop layers₀ k at i₀ layers i = open-layer-size - i
 
 mul-at : tie.Need-mul-at Inv-loop μ-loop
 mul-at c = omega arith

@@ -41,7 +41,8 @@ returns-4 c =
 returns-5 : tie.Need-returns-5
 unfolding good-layer
 returns-5 c =
-    let at-if3 = c .before .before .before in
+    let at-if4 = c .before .before in
+    let at-if3 = at-if4 .before .before in
     let at-if2 = at-if3 .before .before in
     let at-if1 = at-if2 .before .before in
     let at-is-good = at-if1 .before in
@@ -49,9 +50,27 @@ returns-5 c =
       sym (at-is-good .is-good .ensures) ∙ not-false _ (at-if1 .if1 .left),
       lt-ltb _ _ (at-if2 .if2 .left),
       le-leb _ _ (at-if3 .if3 .left),
-      le-leb _ _ (c .before .if4 .left),
+      le-leb _ _ (at-if4 .if4 .left),
+      le-ltb _ _ (c .if5 .taken),
+    )
+
+returns-6 : tie.Need-returns-6
+unfolding good-layer
+returns-6 c =
+    let at-if5 = c .before in
+    let at-if4 = at-if5 .before .before in
+    let at-if3 = at-if4 .before .before in
+    let at-if2 = at-if3 .before .before in
+    let at-if1 = at-if2 .before .before in
+    let at-is-good = at-if1 .before in
+    rw (
+      sym (at-is-good .is-good .ensures) ∙ not-false _ (at-if1 .if1 .left),
+      lt-ltb _ _ (at-if2 .if2 .left),
+      le-leb _ _ (at-if3 .if3 .left),
+      le-leb _ _ (at-if4 .if4 .left),
+      lt-ltb _ _ (at-if5 .if5 .left),
     )
 
 pub is-good-layer-spec : {M : Type 1} → statement M
 is-good-layer-spec =
-    tie.close (tie.spec is-good-requires returns returns-2 returns-3 returns-4 returns-5)
+    tie.close (tie.spec is-good-requires returns returns-2 returns-3 returns-4 returns-5 returns-6)

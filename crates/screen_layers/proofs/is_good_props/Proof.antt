@@ -34,15 +34,28 @@ is-good-clip-requires c κs = search needs
 
 returns-4 : tie.Need-returns-4
 returns-4 c =
-    let at-mask = c .before in
+    let at-mask = c .before .before in
     let at-blend = at-mask .before .before in
     let at-pattern = at-blend .before .before in
     rw (
       sym (at-pattern .before .is-good-pattern .ensures) ∙ not-false _ (at-pattern .if1 .left),
       sym (at-blend .before .is-good .ensures) ∙ not-false _ (at-blend .if2 .left),
       lt-ltb _ _ (at-mask .if3 .left),
+      sym (c .before .is-good-clip .ensures) ∙ not-true _ (c .if4 .taken),
     )
-    (c .is-good-clip .ensures)
+
+returns-5 : tie.Need-returns-5
+returns-5 c =
+    let at-clip = c .before in
+    let at-mask = at-clip .before .before in
+    let at-blend = at-mask .before .before in
+    let at-pattern = at-blend .before .before in
+    rw (
+      sym (at-pattern .before .is-good-pattern .ensures) ∙ not-false _ (at-pattern .if1 .left),
+      sym (at-blend .before .is-good .ensures) ∙ not-false _ (at-blend .if2 .left),
+      lt-ltb _ _ (at-mask .if3 .left),
+      sym (at-clip .before .is-good-clip .ensures) ∙ not-false _ (at-clip .if4 .left),
+    )
 
 pub is-good-props-spec : {M : Type 1} → statement M
 is-good-props-spec =
@@ -54,4 +67,5 @@ is-good-props-spec =
     returns-2
     returns-3
     is-good-clip-requires
-    returns-4)
+    returns-4
+    returns-5)

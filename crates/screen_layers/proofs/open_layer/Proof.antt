@@ -1,7 +1,8 @@
--- The sixteen words of layer k, read one after the other.
+-- The words of layer k, read one after the other.
 use Prim.Native.Nat.{_*_}
 use Rattle.screen_layers.proofs.Laws.{plus-none}
 use borrow.Author.Needs.{needs}
+use Rattle.sizes.specs.Sizes.{open-layer-size}
 use Rattle.screen_layers.proofs.open_layer.Statement.{statement}
 use Rattle.screen_layers.proofs.open_layer.Tie as tie
 
@@ -80,11 +81,20 @@ mul-t29 c = search needs
 shared-slice-read-t31 : tie.Need-shared-slice-read-t31
 shared-slice-read-t31 c = search needs
 
+add-t32 : tie.Need-add-t32
+add-t32 c = search needs
+
+mul-t33 : tie.Need-mul-t33
+mul-t33 c = search needs
+
+shared-slice-read-t35 : tie.Need-shared-slice-read-t35
+shared-slice-read-t35 c = search needs
+
 returns : tie.Need-returns
 returns c =
-    let at-box-at = c .before .before .before .before .before .before .before .before in
+    let at-box-at = c .before .before .before .before .before .before .before .before .before in
     let at-args = at-box-at .before .before in
-    rw (plus-none (16 * at-args .args .k), at-box-at .box-at .ensures)
+    rw (plus-none (open-layer-size * at-args .args .k), at-box-at .box-at .ensures)
 
 pub open-layer-spec : {M : Type 1} → statement M
 open-layer-spec =
@@ -115,4 +125,7 @@ open-layer-spec =
     add-t28
     mul-t29
     shared-slice-read-t31
+    add-t32
+    mul-t33
+    shared-slice-read-t35
     returns)

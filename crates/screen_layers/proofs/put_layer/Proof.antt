@@ -1,10 +1,11 @@
--- Sixteen words are stored one after the other; each store keeps the table's length, and together they are the layer's words.
+-- The words are stored one after the other; each store keeps the table's length, and together they are the layer's words.
 use mathlib.Core.List.{[], _∷_}
 use Prim.Native.Nat.{_*_}
 use native.Mathlib.Omega.{arith}
 use lib.ListN.{length-set}
 use Rattle.cmd.proofs.Tables.{stored}
 use borrow.Author.Needs.{needs}
+use Rattle.sizes.specs.Sizes.{open-layer-size}
 use Rattle.screen_layers.proofs.put_layer.Statement.{statement}
 use Rattle.screen_layers.proofs.put_layer.Tie as tie
 
@@ -155,6 +156,15 @@ mul-layers-16 c = search needs
 slice-write-layers-16 : tie.Need-slice-write-layers-16
 slice-write-layers-16 c = simp length-set (omega arith)
 
+add-layers-16 : tie.Need-add-layers-16
+add-layers-16 c = search needs
+
+mul-layers-17 : tie.Need-mul-layers-17
+mul-layers-17 c = search needs
+
+slice-write-layers-17 : tie.Need-slice-write-layers-17
+slice-write-layers-17 c = simp length-set (omega arith)
+
 same-length : tie.Need-same-length
 same-length c = simp length-set
 
@@ -162,11 +172,11 @@ returns : tie.Need-returns
 returns c =
     let at-flat = c .before in
     let at-args = at-flat .before .before .before in
-    rw (← at-flat .flat .ensures) (stored (at-args .args .layers .now) (16 * at-args .args .k) (at-args .args .props .blend .mix)
+    rw (← at-flat .flat .ensures) (stored (at-args .args .layers .now) (open-layer-size * at-args .args .k) (at-args .args .props .blend .mix)
     (at-args .args .props .blend .compose ∷ at-args .args .props .mask ∷ at-flat .flat .result .flag ∷ at-flat .flat .result .bbox .x0 ∷
     at-flat .flat .result .bbox .y0 ∷ at-flat .flat .result .bbox .x1 ∷ at-flat .flat .result .bbox .y1 ∷ at-flat .flat .result .start ∷
     at-flat .flat .result .«end» ∷ at-flat .flat .result .thread ∷ at-args .args .bbox .x0 ∷ at-args .args .bbox .y0 ∷ at-args .args .bbox .x1 ∷
-    at-args .args .bbox .y1 ∷ at-args .args .props .nan ∷ []) (omega arith))
+    at-args .args .bbox .y1 ∷ at-args .args .props .nan ∷ at-args .args .props .panel ∷ []) (omega arith))
 
 pub put-layer-spec : {M : Type 1} → statement M
 put-layer-spec =
@@ -221,5 +231,8 @@ put-layer-spec =
     add-layers-15
     mul-layers-16
     slice-write-layers-16
+    add-layers-16
+    mul-layers-17
+    slice-write-layers-17
     same-length
     returns)

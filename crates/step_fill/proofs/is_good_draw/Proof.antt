@@ -1,8 +1,5 @@
 -- One test for each field in order; the first that fails decides.
-use Rattle.step_fill.proofs.Inputs.{paints-count, paint-there, handle-test}
-use Prim.Native.Nat.{_+_, _*_}
-use native.Mathlib.Omega.{arith}
-use lib.ListN.{getD}
+use Rattle.step_fill.proofs.Inputs.{paints-count, paint-there}
 use borrow.Author.Tests.{le-ltb, lt-ltb, le-leb, lt-leb, not-true, not-false}
 use Rattle.segments.proofs.Laws.{segs-count}
 use borrow.Author.Needs.{needs}
@@ -13,16 +10,15 @@ use Rattle.step_fill.proofs.is_good_draw.Lts as lts
 use Rattle.cmd.proofs.blend.Blend.is_good.Reads as is-good-reads
 
 returns : tie.Need-returns
-returns c = rw (le-ltb (c .before .before .before .before .before .args .draw .thread) 256 (omega arith))
+returns c = rw (le-ltb _ _ (c .if1 .taken))
 
 returns-2 : tie.Need-returns-2
-returns-2 c = rw (lt-ltb (c .before .before .before .before .before .before .before .args .draw .thread) 256 (omega arith), lt-leb _ _ (c .if2 .taken))
+returns-2 c = rw (lt-ltb _ _ (c .before .before .if1 .left), lt-leb _ _ (c .if2 .taken))
 
 returns-3 : tie.Need-returns-3
 returns-3 c =
     let at-if2 = c .before .before in
-    let at-args = at-if2 .before .before .before .before .before .before .before in
-    rw (lt-ltb (at-args .args .draw .thread) 256 (omega arith), le-leb _ _ (at-if2 .if2 .left), segs-count, lt-leb _ _ (c .if3 .taken))
+    rw (lt-ltb _ _ (at-if2 .before .before .if1 .left), le-leb _ _ (at-if2 .if2 .left), segs-count, lt-leb _ _ (c .if3 .taken))
 
 cast-paint : tie.Need-cast-paint
 cast-paint c = search needs
@@ -31,9 +27,9 @@ returns-4 : tie.Need-returns-4
 returns-4 c =
     let at-if3 = c .before .before in
     let at-if2 = at-if3 .before .before in
-    let at-args = at-if2 .before .before .before .before .before .before .before in
+    let at-if1 = at-if2 .before .before in
     rw (
-      lt-ltb (at-args .args .draw .thread) 256 (omega arith),
+      lt-ltb _ _ (at-if1 .if1 .left),
       le-leb _ _ (at-if2 .if2 .left),
       segs-count,
       le-leb _ _ (at-if3 .if3 .left),
@@ -55,9 +51,9 @@ returns-5 c =
     let at-if4 = c .before .before in
     let at-if3 = at-if4 .before .before in
     let at-if2 = at-if3 .before .before in
-    let at-args = at-if2 .before .before .before .before .before .before .before in
+    let at-if1 = at-if2 .before .before in
     rw (
-      lt-ltb (at-args .args .draw .thread) 256 (omega arith),
+      lt-ltb _ _ (at-if1 .if1 .left),
       le-leb _ _ (at-if2 .if2 .left),
       segs-count,
       le-leb _ _ (at-if3 .if3 .left),
@@ -85,9 +81,9 @@ returns-6 c =
     let at-if4 = at-if5 .before .before in
     let at-if3 = at-if4 .before .before in
     let at-if2 = at-if3 .before .before in
-    let at-args = at-if2 .before .before .before .before .before .before .before in
+    let at-if1 = at-if2 .before .before in
     rw (
-      lt-ltb (at-args .args .draw .thread) 256 (omega arith),
+      lt-ltb _ _ (at-if1 .if1 .left),
       le-leb _ _ (at-if2 .if2 .left),
       segs-count,
       le-leb _ _ (at-if3 .if3 .left),
@@ -95,7 +91,7 @@ returns-6 c =
       lt-ltb _ _ (at-if4 .if4 .left),
       paint-there _ _ _ (at-if4 .if4 .left),
       le-leb _ _ (at-if5 .if5 .left),
-      le-ltb (getD (at-args .args .paints .now) (4 * at-args .args .draw .paint + 1) 0) 2147483648 (omega arith),
+      le-ltb _ _ (c .if6 .taken),
     )
 
 is-good-requires : tie.Need-is-good-requires
@@ -104,13 +100,14 @@ is-good-requires c κs = search needs
 returns-7 : tie.Need-returns-7
 returns-7 c =
     let at-is-good = c .before in
-    let at-if5 = at-is-good .before .before .before in
+    let at-if6 = at-is-good .before in
+    let at-if5 = at-if6 .before .before in
     let at-if4 = at-if5 .before .before in
     let at-if3 = at-if4 .before .before in
     let at-if2 = at-if3 .before .before in
-    let at-args = at-if2 .before .before .before .before .before .before .before in
+    let at-if1 = at-if2 .before .before in
     rw (
-      lt-ltb (at-args .args .draw .thread) 256 (omega arith),
+      lt-ltb _ _ (at-if1 .if1 .left),
       le-leb _ _ (at-if2 .if2 .left),
       segs-count,
       le-leb _ _ (at-if3 .if3 .left),
@@ -118,21 +115,23 @@ returns-7 c =
       lt-ltb _ _ (at-if4 .if4 .left),
       paint-there _ _ _ (at-if4 .if4 .left),
       le-leb _ _ (at-if5 .if5 .left),
-      lt-ltb (getD (at-args .args .paints .now) (4 * at-args .args .draw .paint + 1) 0) 2147483648 (omega arith),
+      lt-ltb _ _ (at-if6 .if6 .left),
       ← at-is-good .is-good .ensures,
       not-true (at-is-good .is-good .result) (c .if7 .taken),
     )
 
 returns-8 : tie.Need-returns-8
 returns-8 c =
-    let at-is-good = c .before .before in
-    let at-if5 = at-is-good .before .before .before in
+    let at-if7 = c .before .before in
+    let at-is-good = at-if7 .before in
+    let at-if6 = at-is-good .before in
+    let at-if5 = at-if6 .before .before in
     let at-if4 = at-if5 .before .before in
     let at-if3 = at-if4 .before .before in
     let at-if2 = at-if3 .before .before in
-    let at-args = at-if2 .before .before .before .before .before .before .before in
+    let at-if1 = at-if2 .before .before in
     rw (
-      lt-ltb (at-args .args .draw .thread) 256 (omega arith),
+      lt-ltb _ _ (at-if1 .if1 .left),
       le-leb _ _ (at-if2 .if2 .left),
       segs-count,
       le-leb _ _ (at-if3 .if3 .left),
@@ -140,10 +139,37 @@ returns-8 c =
       lt-ltb _ _ (at-if4 .if4 .left),
       paint-there _ _ _ (at-if4 .if4 .left),
       le-leb _ _ (at-if5 .if5 .left),
-      lt-ltb (getD (at-args .args .paints .now) (4 * at-args .args .draw .paint + 1) 0) 2147483648 (omega arith),
+      lt-ltb _ _ (at-if6 .if6 .left),
       ← at-is-good .is-good .ensures,
-      not-false (at-is-good .is-good .result) (c .before .if7 .left),
-    ) (handle-test (at-args .args .draw .mask))
+      not-false (at-is-good .is-good .result) (at-if7 .if7 .left),
+      le-ltb _ _ (c .if8 .taken),
+    )
+
+returns-9 : tie.Need-returns-9
+returns-9 c =
+    let at-if8 = c .before in
+    let at-if7 = at-if8 .before .before in
+    let at-is-good = at-if7 .before in
+    let at-if6 = at-is-good .before in
+    let at-if5 = at-if6 .before .before in
+    let at-if4 = at-if5 .before .before in
+    let at-if3 = at-if4 .before .before in
+    let at-if2 = at-if3 .before .before in
+    let at-if1 = at-if2 .before .before in
+    rw (
+      lt-ltb _ _ (at-if1 .if1 .left),
+      le-leb _ _ (at-if2 .if2 .left),
+      segs-count,
+      le-leb _ _ (at-if3 .if3 .left),
+      paints-count,
+      lt-ltb _ _ (at-if4 .if4 .left),
+      paint-there _ _ _ (at-if4 .if4 .left),
+      le-leb _ _ (at-if5 .if5 .left),
+      lt-ltb _ _ (at-if6 .if6 .left),
+      ← at-is-good .is-good .ensures,
+      not-false (at-is-good .is-good .result) (at-if7 .if7 .left),
+      lt-ltb _ _ (at-if8 .if8 .left),
+    )
 
 pub is-good-draw-spec : {M : Type 1} → statement M
 is-good-draw-spec =
@@ -165,4 +191,5 @@ is-good-draw-spec =
     returns-6
     is-good-requires
     returns-7
-    returns-8)
+    returns-8
+    returns-9)

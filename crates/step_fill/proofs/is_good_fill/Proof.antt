@@ -2,9 +2,9 @@
 use mathlib.Core.Path.{_≡_}
 use mathlib.Core.Bool.{true}
 use lib.ListN.{length}
-use lib.Dec.{leb}
 use borrow.Author.Needs.{needs}
 use borrow.Author.Tests.{le-leb, lt-leb}
+use Rattle.rules.specs.Inputs.{few-paints}
 use Rattle.step_fill.specs.Fills.{paints-of}
 use Rattle.step_fill.proofs.Inputs.{paints-count}
 use Rattle.step_fill.proofs.is_good_fill.Statement.{statement}
@@ -19,7 +19,7 @@ is-good-draw-requires c κs = search needs
 returns-2 : tie.Need-returns-2
 returns-2 c =
     let ps = c .before .before .before .before .args .paints .now in
-    let few : leb (length (paints-of ps)) 4096 ≡ true = rw (paints-count ps) (le-leb _ _ (c .before .if1 .left)) in
+    let few : few-paints (length (paints-of ps)) ≡ true = rw (paints-count ps) (le-leb _ _ (c .before .if1 .left)) in
     rw few (c .is-good-draw .ensures)
 
 pub is-good-fill-spec : {M : Type 1} → statement M

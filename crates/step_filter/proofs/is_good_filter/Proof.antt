@@ -40,7 +40,8 @@ returns-4 c =
 
 returns-5 : tie.Need-returns-5
 returns-5 c =
-    let at-if3 = c .before .before in
+    let at-if4 = c .before in
+    let at-if3 = at-if4 .before .before in
     let at-if2 = at-if3 .before .before in
     let at-is-good-dest = at-if2 .before in
     let at-if1 = at-is-good-dest .before in
@@ -48,9 +49,25 @@ returns-5 c =
       sym (at-if1 .before .is-good-pixmap .ensures) ∙ not-false _ (at-if1 .if1 .left),
       sym (at-is-good-dest .is-good-dest .ensures) ∙ not-false _ (at-if2 .if2 .left),
       le-leb _ _ (at-if3 .if3 .left),
-      le-leb _ _ (c .if4 .left),
+      le-leb _ _ (at-if4 .if4 .left),
+      lt-leb _ _ (c .if5 .taken),
+    )
+
+returns-6 : tie.Need-returns-6
+returns-6 c =
+    let at-if4 = c .before in
+    let at-if3 = at-if4 .before .before in
+    let at-if2 = at-if3 .before .before in
+    let at-is-good-dest = at-if2 .before in
+    let at-if1 = at-is-good-dest .before in
+    rw (
+      sym (at-if1 .before .is-good-pixmap .ensures) ∙ not-false _ (at-if1 .if1 .left),
+      sym (at-is-good-dest .is-good-dest .ensures) ∙ not-false _ (at-if2 .if2 .left),
+      le-leb _ _ (at-if3 .if3 .left),
+      le-leb _ _ (at-if4 .if4 .left),
+      le-leb _ _ (c .if5 .left),
     )
 
 pub is-good-filter-spec : {M : Type 1} → statement M
 is-good-filter-spec =
-    tie.close (tie.spec is-good-pixmap-requires returns is-good-dest-requires returns-2 returns-3 returns-4 returns-5)
+    tie.close (tie.spec is-good-pixmap-requires returns is-good-dest-requires returns-2 returns-3 returns-4 returns-5 returns-6)

@@ -65,7 +65,7 @@ add-judge-rows c =
     let a = at-args .args in
     omega (
       arith,
-      bottom-small (given (a .placement) (picture-of (a .pixmap)) (a .paint-count)) (a .screen) (words (a .rows .now) (a .render .now) (a .fills .now)) (sym
+      bottom-small (given (a .placement) (picture-of (a .pixmap)) (a .paint-count) (a .panel)) (a .screen) (words (a .rows .now) (a .render .now) (a .fills .now)) (sym
           (at-judge-screen .judge-screen .ensures) ∙ at-if1 .if1 .left) _ (at-filter-box .filter-box .ensures),
     )
 
@@ -79,7 +79,7 @@ judge-rows-requires c κs =
     let at-judge-screen = at-if1 .before in
     let at-args = at-judge-screen .before .before .before .before .before in
     let a = at-args .args in
-    rows-asked (given (a .placement) (picture-of (a .pixmap)) (a .paint-count)) (a .screen) (words (a .rows .now) (a .render .now) (a .fills .now)) (sym
+    rows-asked (given (a .placement) (picture-of (a .pixmap)) (a .paint-count) (a .panel)) (a .screen) (words (a .rows .now) (a .render .now) (a .fills .now)) (sym
     (at-judge-screen .judge-screen .ensures) ∙ at-if1 .if1 .left) _ (at-filter-box .filter-box .ensures)
 
 returns-6 : tie.Need-returns-6

@@ -8,15 +8,11 @@ use Rattle.step_pop.proofs.do_tables.Reads as reads
 use Rattle.step_pop.proofs.do_tables.Lts as lts
 use Rattle.cmd.proofs.attrs.put_layer_attrs.Reads as put-layer-attrs-reads
 use Rattle.screen_layers.proofs.drop_layer.Reads as drop-layer-reads
-use Rattle.screen_layers.proofs.open_layer.Reads as open-layer-reads
-use Rattle.step_pop.proofs.thread_of.Reads as thread-of-reads
+use Rattle.step_pop.proofs.attr_of.Reads as attr-of-reads
 use Rattle.sizes.proofs.wide.Reads as wide-reads
 
 sub-k : tie.Need-sub-k
 sub-k c = search needs
-
-open-layer-requires : tie.Need-open-layer-requires
-open-layer-requires c κs = search needs
 
 wide-requires : tie.Need-wide-requires
 wide-requires c κs = search needs
@@ -27,8 +23,8 @@ mul-opacity c = search needs
 slice-read-opacity : tie.Need-slice-read-opacity
 slice-read-opacity c = search needs
 
-thread-of-requires : tie.Need-thread-of-requires
-thread-of-requires c κs = search needs
+attr-of-requires : tie.Need-attr-of-requires
+attr-of-requires c κs = search needs
 
 wide-requires-2 : tie.Need-wide-requires-2
 wide-requires-2 c κs = search needs
@@ -59,24 +55,22 @@ returns c =
     let at-drop-layer = c .before .before in
     let at-put-layer-attrs = at-drop-layer .before .before .before .before .before .before in
     let at-wide2 = at-put-layer-attrs .before in
-    let at-thread-of = at-wide2 .before .before .before in
-    let at-wide = at-thread-of .before .before in
-    let at-open-layer = at-wide .before .before in
-    let at-args = at-open-layer .before .before .before .before .before .before in
+    let at-attr-of = at-wide2 .before .before .before in
+    let at-wide = at-attr-of .before .before .before in
+    let at-args = at-wide .before .before .before .before .before in
     tables-done (at-args .args .screen) (at-args .args .layers .now) (at-args .args .opacities .now) (at-args .args .layer-attrs .now)
-    (at-open-layer .open-layer .ensures) (at-wide2 .wide2 .ensures) (at-wide .wide .ensures) (at-thread-of .thread-of .ensures)
-    (at-drop-layer .drop-layer .ensures) (at-put-layer-attrs .put-layer-attrs .ensures) refl
+    (at-attr-of .attr-of .ensures) (at-wide2 .wide2 .ensures) (at-wide .wide .ensures) (at-drop-layer .drop-layer .ensures)
+    (at-put-layer-attrs .put-layer-attrs .ensures) refl
 
 pub do-tables-spec : {M : Type 1} → statement M
 do-tables-spec =
     tie.close
     (tie.spec
     sub-k
-    open-layer-requires
     wide-requires
     mul-opacity
     slice-read-opacity
-    thread-of-requires
+    attr-of-requires
     wide-requires-2
     put-layer-attrs-requires
     mul-opacities

@@ -5,7 +5,7 @@ use lib.ListN.{length}
 use Prim.Native.Nat.{_≤_, _<_, _-_}
 use native.Mathlib.Omega.{arith}
 use borrow.Author.Needs.{needs}
-use Rattle.sizes.specs.Sizes.{program-depth}
+use Rattle.sizes.specs.Sizes.{program-depth, open-layer-table, opacity-count, paint-attr-table, layer-attr-table, filter-paint-table}
 use Rattle.test_answers.proofs.main.Statement.{statement}
 use Rattle.test_answers.proofs.main.Tie as tie
 use Rattle.test_answers.proofs.main.Reads as reads
@@ -18,8 +18,8 @@ use Rattle.test_answers.proofs.write_list.Reads as write-list-reads
 abbrev Inv-loop : tie.InvT-loop
 Inv-loop bytes₀ input₀ out₀ render₀ fills₀ depth₀ rows₀ painting₀ layers₀ opacities₀ paint-attrs₀ layer-attrs₀ filter-paints₀ list₀ left₀ bytes input out render fills depth rows painting layers opacities paint-attrs layer-attrs filter-paints list left =
     (length bytes ≡ 131072) × (length input ≡ 32768) × (length out ≡ 32768) × (length render ≡ 16384) × (length fills ≡ 8192) × (length depth ≡ program-depth) × (length
-    rows ≡ 1728) × (length painting ≡ 64) × (length layers ≡ 256) × (length opacities ≡ 1040) × (length paint-attrs ≡ 8192) × (length layer-attrs ≡ 6144) ×
-    (length filter-paints ≡ 1024) × (length list ≡ 64)
+    rows ≡ 1728) × (length painting ≡ 64) × (length layers ≡ open-layer-table) × (length opacities ≡ opacity-count) × (length paint-attrs ≡ paint-attr-table) × (length layer-attrs ≡ layer-attr-table) ×
+    (length filter-paints ≡ filter-paint-table) × (length list ≡ 64)
 
 abbrev μ-loop : tie.MeasureT-loop
 μ-loop bytes₀ input₀ out₀ render₀ fills₀ depth₀ rows₀ painting₀ layers₀ opacities₀ paint-attrs₀ layer-attrs₀ filter-paints₀ list₀ left₀ bytes input out render fills depth rows painting layers opacities paint-attrs layer-attrs filter-paints list left =

@@ -4,6 +4,7 @@ use lib.ListN.{length}
 use Prim.Native.Nat.{_≤_, _-_}
 use native.Mathlib.Omega.{arith}
 use borrow.Author.Needs.{needs}
+use Rattle.sizes.specs.Sizes.{open-layer-table, opacity-count, paint-attr-table, layer-attr-table, filter-paint-table}
 use Rattle.test_forged.proofs.answer_all.Statement.{statement}
 use Rattle.test_forged.proofs.answer_all.Tie as tie
 use Rattle.test_forged.proofs.answer_all.Reads as reads
@@ -18,7 +19,7 @@ use Rattle.test_forged.proofs.word.Reads as word-reads
 abbrev Inv-loop : tie.InvT-loop
 Inv-loop words out₀ render₀ fills₀ depth₀ rows₀ painting₀ layers₀ opacities₀ paint-attrs₀ layer-attrs₀ filter-paints₀ list₀ column₀ at₀ out render fills depth rows painting layers opacities paint-attrs layer-attrs filter-paints list column at =
     (at ≤ length words) × (length out ≡ 256) × (length render ≡ 1024) × (length fills ≡ 512) × (length depth ≡ 64) × (length rows ≡ 1728) × (length painting ≡
-    64) × (length layers ≡ 256) × (length opacities ≡ 1040) × (length paint-attrs ≡ 8192) × (length layer-attrs ≡ 6144) × (length filter-paints ≡ 1024) ×
+    64) × (length layers ≡ open-layer-table) × (length opacities ≡ opacity-count) × (length paint-attrs ≡ paint-attr-table) × (length layer-attrs ≡ layer-attr-table) × (length filter-paints ≡ filter-paint-table) ×
     (length list ≡ 64)
 
 abbrev μ-loop : tie.MeasureT-loop

@@ -1,4 +1,5 @@
 use Rattle.text_details.proofs.Lines.{filter-written}
+use mathlib.Core.Bool.{false}
 use borrow.Author.Needs.{needs}
 use Rattle.text_details.proofs.put_filter.Statement.{statement}
 use Rattle.text_details.proofs.put_filter.Tie as tie
@@ -82,7 +83,7 @@ returns c =
     let at-flag = at-pixmap .before in
     let at-args = at-flag .before .before in
     filter-written ((at-args .args) .table .now) ((at-args .args) .i) ((at-flag .flag) .given) ((at-pixmap .pixmap) .given) ((at-x .x) .given)
-    ((at-y .y) .given) ((at-magnitude .magnitude) .ensures) ((at-magnitude2 .magnitude2) .ensures) ((at-put-byte .put-byte) .ensures)
+    ((at-y .y) .given) false ((at-magnitude .magnitude) .ensures) ((at-magnitude2 .magnitude2) .ensures) ((at-put-byte .put-byte) .ensures)
     ((at-put-number .put-number) .ensures) ((at-put-number2 .put-number2) .ensures) ((at-put-signed .put-signed) .ensures)
     ((at-put-signed2 .put-signed2) .ensures) ((at-put-byte2 .put-byte2) .ensures)
 

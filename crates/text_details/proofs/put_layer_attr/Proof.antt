@@ -81,6 +81,18 @@ shared-slice-read-put-number-2 c = search needs
 put-number-requires-2 : tie.Need-put-number-requires-2
 put-number-requires-2 c κs = search needs
 
+add-put-panel : tie.Need-add-put-panel
+add-put-panel c = search needs
+
+mul-put-panel : tie.Need-mul-put-panel
+mul-put-panel c = search needs
+
+shared-slice-read-put-panel : tie.Need-shared-slice-read-put-panel
+shared-slice-read-put-panel c = search needs
+
+put-panel-requires : tie.Need-put-panel-requires
+put-panel-requires c κs = search needs
+
 put-byte-requires-2 : tie.Need-put-byte-requires-2
 put-byte-requires-2 c κs = search needs
 
@@ -90,14 +102,16 @@ same-length c = search needs
 returns : tie.Need-returns
 returns c =
     let at-put-byte2 = c .before .before in
-    let at-put-number2 = at-put-byte2 .before .before .before .before in
+    let at-put-panel = at-put-byte2 .before .before .before .before in
+    let at-put-number2 = at-put-panel .before .before .before .before .before in
     let at-put-number = at-put-number2 .before .before .before .before .before in
     let at-put-four = at-put-number .before .before .before .before .before in
     let at-put-byte = at-put-four .before .before .before .before .before .before .before in
     let at-opacity-bits = at-put-byte .before .before in
     let at-args = at-opacity-bits .before .before .before .before .before .before in
-    layer-attr-written ((at-args .args) .table .now) ((at-args .args) .opacities .now) ((at-args .args) .i) _ ((at-opacity-bits .opacity-bits) .ensures)
-    ((at-put-byte .put-byte) .ensures) ((at-put-four .put-four) .ensures) ((at-put-number .put-number) .ensures) ((at-put-number2 .put-number2) .ensures)
+    layer-attr-written ((at-args .args) .panels) ((at-args .args) .table .now) ((at-args .args) .opacities .now) ((at-args .args) .i) _
+    ((at-opacity-bits .opacity-bits) .ensures) ((at-put-byte .put-byte) .ensures) ((at-put-four .put-four) .ensures)
+    ((at-put-number .put-number) .ensures) ((at-put-number2 .put-number2) .ensures) ((at-put-panel .put-panel) .ensures)
     ((at-put-byte2 .put-byte2) .ensures)
 
 pub put-layer-attr-spec : {M : Type 1} → statement M
@@ -130,6 +144,10 @@ put-layer-attr-spec =
     mul-put-number-2
     shared-slice-read-put-number-2
     put-number-requires-2
+    add-put-panel
+    mul-put-panel
+    shared-slice-read-put-panel
+    put-panel-requires
     put-byte-requires-2
     same-length
     returns)

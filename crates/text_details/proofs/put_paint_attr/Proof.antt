@@ -84,6 +84,18 @@ shared-slice-read-put-four-8 c = search needs
 put-four-requires-2 : tie.Need-put-four-requires-2
 put-four-requires-2 c κs = search needs
 
+add-put-panel : tie.Need-add-put-panel
+add-put-panel c = search needs
+
+mul-put-panel : tie.Need-mul-put-panel
+mul-put-panel c = search needs
+
+shared-slice-read-put-panel : tie.Need-shared-slice-read-put-panel
+shared-slice-read-put-panel c = search needs
+
+put-panel-requires : tie.Need-put-panel-requires
+put-panel-requires c κs = search needs
+
 put-byte-requires-2 : tie.Need-put-byte-requires-2
 put-byte-requires-2 c κs = search needs
 
@@ -93,12 +105,13 @@ same-length c = search needs
 returns : tie.Need-returns
 returns c =
     let at-put-byte2 = c .before .before in
-    let at-put-four2 = at-put-byte2 .before .before .before .before in
+    let at-put-panel = at-put-byte2 .before .before .before .before in
+    let at-put-four2 = at-put-panel .before .before .before .before .before in
     let at-put-four = at-put-four2 .before .before .before .before .before .before .before .before in
     let at-put-byte = at-put-four .before .before .before .before .before .before .before .before in
     let at-args = at-put-byte .before .before .before .before in
-    paint-attr-written ((at-args .args) .table .now) ((at-args .args) .i) ((at-put-byte .put-byte) .ensures) ((at-put-four .put-four) .ensures)
-    ((at-put-four2 .put-four2) .ensures) ((at-put-byte2 .put-byte2) .ensures)
+    paint-attr-written ((at-args .args) .panels) ((at-args .args) .table .now) ((at-args .args) .i) ((at-put-byte .put-byte) .ensures)
+    ((at-put-four .put-four) .ensures) ((at-put-four2 .put-four2) .ensures) ((at-put-panel .put-panel) .ensures) ((at-put-byte2 .put-byte2) .ensures)
 
 pub put-paint-attr-spec : {M : Type 1} → statement M
 put-paint-attr-spec =
@@ -131,6 +144,10 @@ put-paint-attr-spec =
     mul-put-four-8
     shared-slice-read-put-four-8
     put-four-requires-2
+    add-put-panel
+    mul-put-panel
+    shared-slice-read-put-panel
+    put-panel-requires
     put-byte-requires-2
     same-length
     returns)

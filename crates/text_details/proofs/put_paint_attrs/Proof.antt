@@ -7,17 +7,17 @@ use native.Mathlib.Omega.{arith}
 use Rattle.text.specs.Texts.{text, Wrote}
 use Rattle.text_screen.specs.Places.{joined}
 use Rattle.text_screen.proofs.Joins.{one-of, places-none, places-more, places-all}
-use Rattle.text_details.specs.Bytes.{detail-bytes, details-text}
+use Rattle.text_details.specs.Bytes.{detail-room, detail-bytes, details-text}
 use Rattle.text_details.specs.Details.{paint-attr-line}
 use Rattle.text_details.specs.Tables.{paint-attr-at}
 use Rattle.text_details.proofs.put_paint_attrs.Statement.{statement}
 use Rattle.text_details.proofs.put_paint_attrs.Tie as tie
 
 abbrev Inv-loop : tie.InvT-loop
-Inv-loop out₀ at table n place₀ count i₀ out place i = (i ≤ n) × Wrote (details-text (joined (λ (k : ℕ). paint-attr-line (paint-attr-at table k) ∷ []) i)) (96 * i) (text out₀ place₀) (text out place)
+Inv-loop out₀ at table n panels place₀ count i₀ out place i = (i ≤ n) × Wrote (details-text panels (joined (λ (k : ℕ). paint-attr-line (paint-attr-at table k) ∷ []) i)) (detail-room * i) (text out₀ place₀) (text out place)
 
 abbrev μ-loop : tie.MeasureT-loop
-μ-loop out₀ at table n place₀ count i₀ out place i = n - i
+μ-loop out₀ at table n panels place₀ count i₀ out place i = n - i
 
 slice-aggregate-put-heading : tie.Need-slice-aggregate-put-heading Inv-loop μ-loop
 slice-aggregate-put-heading c = refl
@@ -38,7 +38,7 @@ loop-less : tie.Need-loop-less Inv-loop μ-loop
 loop-less c = omega arith
 
 loop-again : tie.Need-loop-again Inv-loop μ-loop
-loop-again c = (omega arith, places-more detail-bytes _ _ (omega arith) ((c .before .before .before .before .before .loop) .inv .1) (one-of detail-bytes _ ((c .before .before .put-paint-attr) .ensures)))
+loop-again c = (omega arith, places-more (detail-bytes _) _ _ (omega arith) ((c .before .before .before .before .before .loop) .inv .1) (one-of (detail-bytes _) _ ((c .before .before .put-paint-attr) .ensures)))
 
 same-length : tie.Need-same-length Inv-loop μ-loop
 same-length c = omega arith
@@ -48,7 +48,7 @@ returns c =
     let at-loop = c .before in
     let at-put-heading = at-loop .before .before .before in
     let at-args = at-put-heading .before .before .before .before .before in
-    paint-lines-written _ ((at-args .args) .table .now) ((at-put-heading .put-heading) .ensures) (places-all detail-bytes _ (λ (k : ℕ). 96 * k) _ _ (omega
+    paint-lines-written _ _ ((at-args .args) .table .now) ((at-put-heading .put-heading) .ensures) (places-all (detail-bytes _) _ (λ (k : ℕ). detail-room * k) _ _ (omega
     arith) ((at-loop .loop) .inv .0) ((at-loop .loop) .inv .1))
 
 pub put-paint-attrs-spec : {M : Type 1} → statement M

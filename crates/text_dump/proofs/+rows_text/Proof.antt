@@ -33,7 +33,7 @@ rows-text-returns : (t : ℕ) → rows-text-lts.Need-returns (
 rows-text-returns t c =
     let back = c .before .before .before .before .before .before .before .before .before .before in
     let entry = back in (
-      rows-none (entry .args .screen) (entry .args .n) (entry .args .r) (attributes (entry .args .paint-attrs .now) (entry .args .layer-attrs .now)) (lent
+      rows-none (entry .args .panels) (entry .args .screen) (entry .args .n) (entry .args .r) (attributes (entry .args .paint-attrs .now) (entry .args .layer-attrs .now)) (lent
           (entry .args .rows .now) (entry .args .render .now) (entry .args .fills .now) (entry .args .depth .now) (entry .args .painting .now)
           (entry .args .list .now)) (entry .args .out .now) (c .if1 .taken),
       omega arith,
@@ -66,7 +66,7 @@ rows-text-sub-rows-text t c =
     let entry = at-row .before .before .before .before .before .before .before .before .before .before .before .before .before .before .before in
     omega (
       arith,
-      one-few (entry .args .screen) (entry .args .n) (entry .args .r) (attributes (entry .args .paint-attrs .now) (entry .args .layer-attrs .now))
+      one-few (entry .args .panels) (entry .args .screen) (entry .args .n) (entry .args .r) (attributes (entry .args .paint-attrs .now) (entry .args .layer-attrs .now))
           (lent (entry .args .rows .now) (entry .args .render .now) (entry .args .fills .now) (entry .args .depth .now) (entry .args .painting .now) (entry .args .list .now)) (entry .args .out .now) (at-row .row-text .ensures),
     )
 
@@ -81,7 +81,7 @@ rows-text-part-rows-text-start t c =
     let entry = at-row .before .before .before .before .before .before .before .before .before .before .before .before .before .before .before in
     omega (
       arith,
-      one-few (entry .args .screen) (entry .args .n) (entry .args .r) (attributes (entry .args .paint-attrs .now) (entry .args .layer-attrs .now))
+      one-few (entry .args .panels) (entry .args .screen) (entry .args .n) (entry .args .r) (attributes (entry .args .paint-attrs .now) (entry .args .layer-attrs .now))
           (lent (entry .args .rows .now) (entry .args .render .now) (entry .args .fills .now) (entry .args .depth .now) (entry .args .painting .now) (entry .args .list .now)) (entry .args .out .now) (at-row .row-text .ensures),
     )
 
@@ -112,9 +112,9 @@ rows-text-add-result t c =
     let at-out = at-rows .before .before .before .before .before .before in
     let at-row = at-out .before .before .before .before .before .before .before in
     let entry = at-row .before .before .before .before .before .before .before .before .before .before .before .before .before .before .before in
-    let few = one-few (entry .args .screen) (entry .args .n) (entry .args .r) (attributes (entry .args .paint-attrs .now) (entry .args .layer-attrs .now))
+    let few = one-few (entry .args .panels) (entry .args .screen) (entry .args .n) (entry .args .r) (attributes (entry .args .paint-attrs .now) (entry .args .layer-attrs .now))
     (lent (entry .args .rows .now) (entry .args .render .now) (entry .args .fills .now) (entry .args .depth .now) (entry .args .painting .now) (entry .args .list .now)) (entry .args .out .now) (at-row .row-text .ensures) in
-    record { fits = omega (arith, few, at-out .out .given, entry .good .1 .1 .1 .1 .1 .1 .1 .1 .1 .1 .1 .0, simp (length-take, length-drop) at (at-rows .rows-text .ensures .1)) }
+    record { fits = omega (arith, few, at-out .out .given, entry .good .1 .1 .1 .1 .1 .1 .1 .1 .1 .1 .1 .1 .0, simp (length-take, length-drop) at (at-rows .rows-text .ensures .1)) }
 
 rows-text-same-length : (t : ℕ) → rows-text-lts.Need-same-length (
   row-text-reads.Asked,
@@ -159,12 +159,12 @@ rows-text-returns-2 t c =
     let at-out = at-rows .before .before .before .before .before .before in
     let at-row = at-out .before .before .before .before .before .before .before in
     let entry = at-row .before .before .before .before .before .before .before .before .before .before .before .before .before .before .before in
-    let few = one-few (entry .args .screen) (entry .args .n) (entry .args .r) (attributes (entry .args .paint-attrs .now) (entry .args .layer-attrs .now))
+    let few = one-few (entry .args .panels) (entry .args .screen) (entry .args .n) (entry .args .r) (attributes (entry .args .paint-attrs .now) (entry .args .layer-attrs .now))
     (lent (entry .args .rows .now) (entry .args .render .now) (entry .args .fills .now) (entry .args .depth .now) (entry .args .painting .now) (entry .args .list .now)) (entry .args .out .now) (at-row .row-text .ensures) in (
-      rows-more (entry .args .screen) (entry .args .n) (entry .args .r) (attributes (entry .args .paint-attrs .now) (entry .args .layer-attrs .now))
+      rows-more (entry .args .panels) (entry .args .screen) (entry .args .n) (entry .args .r) (attributes (entry .args .paint-attrs .now) (entry .args .layer-attrs .now))
           (lent (entry .args .rows .now) (entry .args .render .now) (entry .args .fills .now) (entry .args .depth .now) (entry .args .painting .now) (entry .args .list .now)) (entry .args .out .now)
           (at-row .row-text .ensures) (at-row .before .before .before .before .before .if1 .left) (at-rows .rows-text .ensures .0) (omega arith),
-      omega (arith, few, at-out .out .given, entry .good .1 .1 .1 .1 .1 .1 .1 .1 .1 .1 .1 .0, simp (length-take, length-drop) at (at-rows .rows-text .ensures .1)),
+      omega (arith, few, at-out .out .given, entry .good .1 .1 .1 .1 .1 .1 .1 .1 .1 .1 .1 .1 .0, simp (length-take, length-drop) at (at-rows .rows-text .ensures .1)),
     )
 
 pub +rows-text-spec : {M : Type 1} → statement M

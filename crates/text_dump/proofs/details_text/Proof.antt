@@ -16,21 +16,25 @@ begin-painting-requires c κs = search needs
 
 sub-rows-text : tie.Need-sub-rows-text
 sub-rows-text c =
-    let at-attrs = c .before .before .before .before .before .before .before .before .before .before .before .before .before in
+    let at-out = c .before .before .before .before .before .before .before .before .before .before .before .before in
+    let at-attrs = at-out .before in
     let entry = at-attrs .before .before .before .before .before .before .before .before .before .before .before .before in
     omega (
       arith,
-      heads-few (entry .args .screen) (entry .args .n) (tables (entry .args .paint-attrs .now) (entry .args .layer-attrs .now) (entry .args .opacities .now) (entry .args .filter-paints .now))
+      at-out .out .given,
+      heads-few (entry .args .panels) (entry .args .screen) (entry .args .n) (tables (entry .args .paint-attrs .now) (entry .args .layer-attrs .now) (entry .args .opacities .now) (entry .args .filter-paints .now))
           (lent (entry .args .rows .now) (entry .args .render .now) (entry .args .fills .now) (entry .args .depth .now) (entry .args .painting .now) (entry .args .list .now)) (entry .args .out .now) (at-attrs .attrs-text .ensures),
     )
 
 part-rows-text-start : tie.Need-part-rows-text-start
 part-rows-text-start c =
-    let at-attrs = c .before .before .before .before .before .before .before .before .before .before .before .before .before in
+    let at-out = c .before .before .before .before .before .before .before .before .before .before .before .before in
+    let at-attrs = at-out .before in
     let entry = at-attrs .before .before .before .before .before .before .before .before .before .before .before .before in
     omega (
       arith,
-      heads-few (entry .args .screen) (entry .args .n) (tables (entry .args .paint-attrs .now) (entry .args .layer-attrs .now) (entry .args .opacities .now) (entry .args .filter-paints .now))
+      at-out .out .given,
+      heads-few (entry .args .panels) (entry .args .screen) (entry .args .n) (tables (entry .args .paint-attrs .now) (entry .args .layer-attrs .now) (entry .args .opacities .now) (entry .args .filter-paints .now))
           (lent (entry .args .rows .now) (entry .args .render .now) (entry .args .fills .now) (entry .args .depth .now) (entry .args .painting .now) (entry .args .list .now)) (entry .args .out .now) (at-attrs .attrs-text .ensures),
     )
 
@@ -47,9 +51,9 @@ add-result c =
     let at-out = at-begin .before .before .before .before in
     let at-attrs = at-out .before in
     let entry = at-attrs .before .before .before .before .before .before .before .before .before .before .before .before in
-    let few = heads-few (entry .args .screen) (entry .args .n) (tables (entry .args .paint-attrs .now) (entry .args .layer-attrs .now) (entry .args .opacities .now) (entry .args .filter-paints .now))
+    let few = heads-few (entry .args .panels) (entry .args .screen) (entry .args .n) (tables (entry .args .paint-attrs .now) (entry .args .layer-attrs .now) (entry .args .opacities .now) (entry .args .filter-paints .now))
     (lent (entry .args .rows .now) (entry .args .render .now) (entry .args .fills .now) (entry .args .depth .now) (entry .args .painting .now) (entry .args .list .now)) (entry .args .out .now) (at-attrs .attrs-text .ensures) in
-    record { fits = omega (arith, few, at-out .out .given, entry .good .1 .1 .1 .1 .1 .1 .1 .1 .1 .1 .1 .1 .0, simp (length-take, length-drop) at (at-rows .rows-text .ensures .1)) }
+    record { fits = omega (arith, few, at-out .out .given, entry .good .1 .1 .1 .1 .1 .1 .1 .1 .1 .1 .1 .1 .1 .0, simp (length-take, length-drop) at (at-rows .rows-text .ensures .1)) }
 
 same-length : tie.Need-same-length
 same-length c = search needs
@@ -70,12 +74,12 @@ returns c =
     let at-out = at-begin .before .before .before .before in
     let at-attrs = at-out .before in
     let entry = at-attrs .before .before .before .before .before .before .before .before .before .before .before .before in
-    let few = heads-few (entry .args .screen) (entry .args .n) (tables (entry .args .paint-attrs .now) (entry .args .layer-attrs .now) (entry .args .opacities .now) (entry .args .filter-paints .now))
+    let few = heads-few (entry .args .panels) (entry .args .screen) (entry .args .n) (tables (entry .args .paint-attrs .now) (entry .args .layer-attrs .now) (entry .args .opacities .now) (entry .args .filter-paints .now))
     (lent (entry .args .rows .now) (entry .args .render .now) (entry .args .fills .now) (entry .args .depth .now) (entry .args .painting .now) (entry .args .list .now)) (entry .args .out .now) (at-attrs .attrs-text .ensures) in (
-      details-more (entry .args .screen) (entry .args .n) (tables (entry .args .paint-attrs .now) (entry .args .layer-attrs .now) (entry .args .opacities .now) (entry .args .filter-paints .now))
+      details-more (entry .args .panels) (entry .args .screen) (entry .args .n) (tables (entry .args .paint-attrs .now) (entry .args .layer-attrs .now) (entry .args .opacities .now) (entry .args .filter-paints .now))
           (lent (entry .args .rows .now) (entry .args .render .now) (entry .args .fills .now) (entry .args .depth .now) (entry .args .painting .now) (entry .args .list .now)) (entry .args .out .now)
           (at-attrs .attrs-text .ensures) (at-begin .begin-painting .ensures) (at-rows .rows-text .ensures .0) (omega (arith, at-out .out .given)),
-      omega (arith, few, at-out .out .given, entry .good .1 .1 .1 .1 .1 .1 .1 .1 .1 .1 .1 .1 .0, simp (length-take, length-drop) at (at-rows .rows-text .ensures .1)),
+      omega (arith, few, at-out .out .given, entry .good .1 .1 .1 .1 .1 .1 .1 .1 .1 .1 .1 .1 .1 .0, simp (length-take, length-drop) at (at-rows .rows-text .ensures .1)),
     )
 
 pub details-text-spec : {M : Type 1} → statement M

@@ -24,8 +24,8 @@ layer-words-requires c κs = tt
 opacity-words-requires : tie.Need-opacity-words-requires
 opacity-words-requires c κs = tt
 
-render-words-requires-2 : tie.Need-render-words-requires-2
-render-words-requires-2 c κs = tt
+paint-attr-words-requires : tie.Need-paint-attr-words-requires
+paint-attr-words-requires c κs = tt
 
 layer-attr-words-requires : tie.Need-layer-attr-words-requires
 layer-attr-words-requires c κs = tt
@@ -73,8 +73,8 @@ slice-aggregate-tables-text-7 c =
 
 slice-aggregate-tables-text-8 : tie.Need-slice-aggregate-tables-text-8
 slice-aggregate-tables-text-8 c =
-    let at-render-words2 = c .before .before .before .before .before .before .before .before .before .before .before in
-    at-render-words2 .render-words2 .ensures
+    let at-paint-attr-words = c .before .before .before .before .before .before .before .before .before .before .before in
+    at-paint-attr-words .paint-attr-words .ensures
 
 slice-aggregate-tables-text-9 : tie.Need-slice-aggregate-tables-text-9
 slice-aggregate-tables-text-9 c =
@@ -96,8 +96,8 @@ tables-text-requires c κs =
     let at-piece-words = c .before .before .before .before .before .before .before .before .before .before .before .before in
     let at-filter-words = at-piece-words .before in
     let at-layer-attr-words = at-filter-words .before in
-    let at-render-words2 = at-layer-attr-words .before in
-    let at-opacity-words = at-render-words2 .before in
+    let at-paint-attr-words = at-layer-attr-words .before in
+    let at-opacity-words = at-paint-attr-words .before in
     let at-layer-words = at-opacity-words .before in
     let at-painting-words = at-layer-words .before in
     let at-row-words = at-painting-words .before in
@@ -114,7 +114,7 @@ tables-text-requires c κs =
         painting = at-painting-words .painting-words .ensures;
         layers = at-layer-words .layer-words .ensures;
         opacities = at-opacity-words .opacity-words .ensures;
-        paint-attrs = at-render-words2 .render-words2 .ensures;
+        paint-attrs = at-paint-attr-words .paint-attr-words .ensures;
         layer-attrs = at-layer-attr-words .layer-attr-words .ensures;
         filter-paints = at-filter-words .filter-words .ensures;
         pieces = at-piece-words .piece-words .ensures;
@@ -141,7 +141,7 @@ recording-text-spec =
     painting-words-requires
     layer-words-requires
     opacity-words-requires
-    render-words-requires-2
+    paint-attr-words-requires
     layer-attr-words-requires
     filter-words-requires
     piece-words-requires

@@ -49,7 +49,7 @@ returns c =
     let at-put = c .before .before .before .before .before .before in
     let entry = at-put .before .before .before .before in
     let line = line-first (entry .args .i) (entry .args .out .now) (omega (arith, entry .pre .1)) (at-put .put-recording .ensures) in
-    whole-text (entry .args .i) (file-lines-text (setup-of (entry .args .setup)) (entry .args .file .now)) (entry .args .out .now) (line .0) (line .1)
+    whole-text (entry .args .i) (file-lines-text (entry .args .panels) (setup-of (entry .args .setup)) (entry .args .file .now)) (entry .args .out .now) (line .0) (line .1)
     (c .before .before .recording-text .ensures .count) (c .before .before .recording-text .ensures .bytes) (omega (arith, c .before .before .before .before .before .out .given))
 
 pub rowdump-text-spec : {M : Type 1} → statement M

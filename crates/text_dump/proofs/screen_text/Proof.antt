@@ -103,7 +103,7 @@ returns c =
     let at-buckets = at-details .before .before .before .before .before .before .before .before in
     let at-rows = at-buckets .before in
     let entry = at-rows .before .before .before .before .before .before .before .before .before .before .before in (
-      screen-more (entry .args .screen) (tables (entry .args .paint-attrs .now) (entry .args .layer-attrs .now) (entry .args .opacities .now) (entry .args .filter-paints .now))
+      screen-more (entry .args .panels) (entry .args .screen) (tables (entry .args .paint-attrs .now) (entry .args .layer-attrs .now) (entry .args .opacities .now) (entry .args .filter-paints .now))
           (lent (entry .args .rows .now) (entry .args .render .now) (entry .args .fills .now) (entry .args .depth .now) (entry .args .painting .now) (entry .args .list .now)) (entry .args .out .now) (at-rows .rows .ensures) (at-buckets .buckets .ensures) (at-details .details-text .ensures .0),
       at-details .details-text .ensures .1,
     )

@@ -144,7 +144,7 @@ returns c =
     (a .layer-attrs .now) (a .filter-paints .now) in
     let h : Long t = long-of t (a .list .now) (a .out .now) p in
     let byte : (i : ℕ) → getD (a .file .now) i 0 < 256 = λ i. omega (arith, known .shared-slice-known .given i) in
-    refused-whole (setup-of (a .setup)) (entry .pre .0) (a .file .now) byte t h (a .out .now) (p .room) (at-file .file-text .ensures) (c .if1 .taken)
+    refused-whole (a .panels) (setup-of (a .setup)) (entry .pre .0) (a .file .now) byte t h (a .out .now) (p .room) (at-file .file-text .ensures) (c .if1 .taken)
 
 sub-screen-text : tie.Need-sub-screen-text
 sub-screen-text c =
@@ -168,7 +168,7 @@ sub-screen-text c =
     (a .layer-attrs .now) (a .filter-paints .now) in
     let h : Long t = long-of t (a .list .now) (a .out .now) p in
     let byte : (i : ℕ) → getD (a .file .now) i 0 < 256 = λ i. omega (arith, known .shared-slice-known .given i) in
-    omega (arith, lines-few (setup-of (a .setup)) (entry .pre .0) (a .file .now) byte t h (a .out .now) (p .room) (at-file .file-text .ensures), p .room, at-out .out .given)
+    omega (arith, lines-few (a .panels) (setup-of (a .setup)) (entry .pre .0) (a .file .now) byte t h (a .out .now) (p .room) (at-file .file-text .ensures), p .room, at-out .out .given)
 
 part-screen-text-start : tie.Need-part-screen-text-start
 part-screen-text-start c =
@@ -192,7 +192,7 @@ part-screen-text-start c =
     (a .layer-attrs .now) (a .filter-paints .now) in
     let h : Long t = long-of t (a .list .now) (a .out .now) p in
     let byte : (i : ℕ) → getD (a .file .now) i 0 < 256 = λ i. omega (arith, known .shared-slice-known .given i) in
-    omega (arith, lines-few (setup-of (a .setup)) (entry .pre .0) (a .file .now) byte t h (a .out .now) (p .room) (at-file .file-text .ensures), p .room, at-out .out .given)
+    omega (arith, lines-few (a .panels) (setup-of (a .setup)) (entry .pre .0) (a .file .now) byte t h (a .out .now) (p .room) (at-file .file-text .ensures), p .room, at-out .out .given)
 
 part-screen-text-end : tie.Need-part-screen-text-end
 part-screen-text-end c = omega arith
@@ -220,7 +220,7 @@ screen-text-requires c κs =
     (a .layer-attrs .now) (a .filter-paints .now) in
     let h : Long t = long-of t (a .list .now) (a .out .now) p in
     let byte : (i : ℕ) → getD (a .file .now) i 0 < 256 = λ i. omega (arith, known .shared-slice-known .given i) in
-    screen-wide (setup-of (a .setup)) (entry .pre .0) (a .file .now) byte t h (a .out .now) (p .room) (at-file .file-text .ensures)
+    screen-wide (a .panels) (setup-of (a .setup)) (entry .pre .0) (a .file .now) byte t h (a .out .now) (p .room) (at-file .file-text .ensures)
     (record {
       render = omega (arith, p .render, at-render .render .given);
       fills = omega (arith, p .fills, at-fills .fills .given);
@@ -259,9 +259,9 @@ add-result c =
     (a .layer-attrs .now) (a .filter-paints .now) in
     let h : Long t = long-of t (a .list .now) (a .out .now) p in
     let byte : (i : ℕ) → getD (a .file .now) i 0 < 256 = λ i. omega (arith, known .shared-slice-known .given i) in
-    let few = lines-few (setup-of (a .setup)) (entry .pre .0) (a .file .now) byte t h (a .out .now) (p .room) (at-file .file-text .ensures) in
+    let few = lines-few (a .panels) (setup-of (a .setup)) (entry .pre .0) (a .file .now) byte t h (a .out .now) (p .room) (at-file .file-text .ensures) in
     let more = simp (length-take, length-drop) at (at-screen .screen-text .ensures .1) in
-    record { fits = omega (arith, few, p .room, at-out .out .given, entry .good .1 .1 .1 .1 .1 .1 .1 .1 .1 .1 .1 .1 .1 .0, more) }
+    record { fits = omega (arith, few, p .room, at-out .out .given, entry .good .1 .1 .1 .1 .1 .1 .1 .1 .1 .1 .1 .1 .1 .1 .0, more) }
 
 same-length-12 : tie.Need-same-length-12
 same-length-12 c =
@@ -422,7 +422,7 @@ returns-2 c =
     (a .layer-attrs .now) (a .filter-paints .now) in
     let h : Long t = long-of t (a .list .now) (a .out .now) p in
     let byte : (i : ℕ) → getD (a .file .now) i 0 < 256 = λ i. omega (arith, known .shared-slice-known .given i) in
-    accepted-whole (setup-of (a .setup)) (entry .pre .0) (a .file .now) byte t h (a .out .now) (p .room) (at-file .file-text .ensures)
+    accepted-whole (a .panels) (setup-of (a .setup)) (entry .pre .0) (a .file .now) byte t h (a .out .now) (p .room) (at-file .file-text .ensures)
     (record {
       render = omega (arith, p .render, at-render .render .given);
       fills = omega (arith, p .fills, at-fills .fills .given);

@@ -27,8 +27,8 @@ layer-words-requires c κs = search needs
 opacity-words-requires : tie.Need-opacity-words-requires
 opacity-words-requires c κs = search needs
 
-render-words-requires-2 : tie.Need-render-words-requires-2
-render-words-requires-2 c κs = search needs
+paint-attr-words-requires : tie.Need-paint-attr-words-requires
+paint-attr-words-requires c κs = search needs
 
 layer-attr-words-requires : tie.Need-layer-attr-words-requires
 layer-attr-words-requires c κs = search needs
@@ -78,8 +78,8 @@ returns c =
     let at-file-text = back in
     let at-filter-words = at-file-text .before .before .before .before .before .before .before .before .before .before .before .before in
     let at-layer-attr-words = at-filter-words .before in
-    let at-render-words2 = at-layer-attr-words .before in
-    let at-opacity-words = at-render-words2 .before in
+    let at-paint-attr-words = at-layer-attr-words .before in
+    let at-opacity-words = at-paint-attr-words .before in
     let at-layer-words = at-opacity-words .before in
     let at-painting-words = at-layer-words .before in
     let at-row-words = at-painting-words .before in
@@ -89,7 +89,7 @@ returns c =
     let entry = at-render-words .before .before .before in
     let t = tables (at-render-words .render-words .result) (at-fill-words .fill-words .result) (at-depth-words .depth-words .result)
     (at-row-words .row-words .result) (at-painting-words .painting-words .result) (at-layer-words .layer-words .result)
-    (at-opacity-words .opacity-words .result) (at-render-words2 .render-words2 .result) (at-layer-attr-words .layer-attr-words .result)
+    (at-opacity-words .opacity-words .result) (at-paint-attr-words .paint-attr-words .result) (at-layer-attr-words .layer-attr-words .result)
     (at-filter-words .filter-words .result) in
     let h : Long t = record {
       render = at-render-words .render-words .ensures;
@@ -99,7 +99,7 @@ returns c =
       painting = at-painting-words .painting-words .ensures;
       layers = at-layer-words .layer-words .ensures;
       opacities = at-opacity-words .opacity-words .ensures;
-      paint-attrs = at-render-words2 .render-words2 .ensures;
+      paint-attrs = at-paint-attr-words .paint-attr-words .ensures;
       layer-attrs = at-layer-attr-words .layer-attr-words .ensures;
       filter-paints = at-filter-words .filter-words .ensures;
     } in
@@ -120,7 +120,7 @@ list-file-spec =
     painting-words-requires
     layer-words-requires
     opacity-words-requires
-    render-words-requires-2
+    paint-attr-words-requires
     layer-attr-words-requires
     filter-words-requires
     slice-aggregate-file-text

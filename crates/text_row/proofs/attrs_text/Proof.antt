@@ -17,7 +17,7 @@ is-good-tables-requires c κs = search needs
 returns : tie.Need-returns
 returns c =
     let entry = c .before .before .before .before .before .before in
-    attrs-bad _ (tables (entry .args .paint-attrs .now) (entry .args .layer-attrs .now) (entry .args .opacities .now) (entry .args .filter-paints .now)) _
+    attrs-bad _ _ (tables (entry .args .paint-attrs .now) (entry .args .layer-attrs .now) (entry .args .opacities .now) (entry .args .filter-paints .now)) _
     (sym (c .before .is-good-tables .ensures) ∙ not-true _ (c .if1 .taken))
 
 is-short-attrs-requires : tie.Need-is-short-attrs-requires
@@ -30,7 +30,7 @@ returns-2 c =
     let at-is-good-tables = at-if1 .before in
     let entry = at-is-good-tables .before .before .before .before .before in
     let t = tables (entry .args .paint-attrs .now) (entry .args .layer-attrs .now) (entry .args .opacities .now) (entry .args .filter-paints .now) in
-    attrs-full _ t _ (sym (at-is-good-tables .is-good-tables .ensures) ∙ not-false _ (at-if1 .if1 .left)) (short-yes _ _ _ (sym
+    attrs-full _ _ t _ (sym (at-is-good-tables .is-good-tables .ensures) ∙ not-false _ (at-if1 .if1 .left)) (short-yes _ _ _ (sym
     (c .before .is-short-attrs .ensures) ∙ c .if2 .taken))
 
 put-attrs-requires : tie.Need-put-attrs-requires
@@ -53,8 +53,8 @@ returns-3 c =
     let entry = at-is-good-tables .before .before .before .before .before in
     let t = (tables (entry .args .paint-attrs .now) (entry .args .layer-attrs .now) (entry .args .opacities .now) (entry .args .filter-paints .now)) in
     let x = at-put-attrs .put-attrs .ensures in
-    let few : length (attrs-text (entry .args .screen) t) ≤ attrs-room (entry .args .screen) = omega (arith, x .near, measured x) in
-    attrs-done (entry .args .screen) t _ (sym (at-is-good-tables .is-good-tables .ensures) ∙ not-false _ (at-if1 .if1 .left)) (short-no _ _ _ (sym
+    let few : length (attrs-text (entry .args .panels) (entry .args .screen) t) ≤ attrs-room (entry .args .screen) = omega (arith, x .near, measured x) in
+    attrs-done (entry .args .panels) (entry .args .screen) t _ (sym (at-is-good-tables .is-good-tables .ensures) ∙ not-false _ (at-if1 .if1 .left)) (short-no _ _ _ (sym
     (at-is-short-attrs .is-short-attrs .ensures) ∙ at-if2 .if2 .left) few) x
 
 pub attrs-text-spec : {M : Type 1} → statement M

@@ -51,7 +51,7 @@ returns c =
     let at-put-paint-attrs = at-put-layer-attrs .before .before .before .before in
     let entry = at-put-paint-attrs .before .before .before .before .before .before in
     let t = tables (entry .args .paint-attrs .now) (entry .args .layer-attrs .now) (entry .args .opacities .now) (entry .args .filter-paints .now) in
-    attrs-written _ t (at-put-paint-attrs .put-paint-attrs .ensures) (at-put-layer-attrs .put-layer-attrs .ensures)
+    attrs-written _ _ t (at-put-paint-attrs .put-paint-attrs .ensures) (at-put-layer-attrs .put-layer-attrs .ensures)
     (at-put-filter-paints .put-filter-paints .ensures)
 
 pub put-attrs-spec : {M : Type 1} → statement M

@@ -67,6 +67,15 @@ mul-put-piece-fields-4 c = search needs
 shared-slice-read-put-piece-fields-4 : tie.Need-shared-slice-read-put-piece-fields-4
 shared-slice-read-put-piece-fields-4 c = search needs
 
+add-put-piece-fields-5 : tie.Need-add-put-piece-fields-5
+add-put-piece-fields-5 c = search needs
+
+mul-put-piece-fields-5 : tie.Need-mul-put-piece-fields-5
+mul-put-piece-fields-5 c = search needs
+
+shared-slice-read-put-piece-fields-5 : tie.Need-shared-slice-read-put-piece-fields-5
+shared-slice-read-put-piece-fields-5 c = search needs
+
 put-piece-fields-requires : tie.Need-put-piece-fields-requires
 put-piece-fields-requires c κs = search needs
 
@@ -80,11 +89,11 @@ returns : tie.Need-returns
 returns c =
     let at-put-byte2 = c .before .before in
     let at-put-piece-fields = at-put-byte2 .before .before .before .before in
-    let at-put-byte = at-put-piece-fields .before .before .before .before .before .before .before .before in
+    let at-put-byte = at-put-piece-fields .before .before .before .before .before .before .before .before .before in
     let at-letter = at-put-byte .before in
     let at-alpha-of = at-letter .before .before in
     let at-args = at-alpha-of .before .before .before .before .before in
-    piece-written ((at-args .args) .list .now) ((at-args .args) .k) ((at-letter .letter) .ensures) ((at-alpha-of .alpha-of) .ensures)
+    piece-written ((at-args .args) .panels) ((at-args .args) .list .now) ((at-args .args) .k) ((at-letter .letter) .ensures) ((at-alpha-of .alpha-of) .ensures)
     ((at-put-byte .put-byte) .ensures) ((at-put-piece-fields .put-piece-fields) .ensures) ((at-put-byte2 .put-byte2) .ensures)
 
 pub put-piece-spec : {M : Type 1} → statement M
@@ -112,6 +121,9 @@ put-piece-spec =
     add-put-piece-fields-4
     mul-put-piece-fields-4
     shared-slice-read-put-piece-fields-4
+    add-put-piece-fields-5
+    mul-put-piece-fields-5
+    shared-slice-read-put-piece-fields-5
     put-piece-fields-requires
     put-byte-requires-2
     same-length

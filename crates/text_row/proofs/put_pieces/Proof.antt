@@ -5,17 +5,17 @@ use native.Mathlib.Omega.{arith}
 use Rattle.text.specs.Texts.{text, Wrote}
 use Rattle.text_screen.specs.Places.{joined}
 use Rattle.text_screen.proofs.Joins.{one-of, places-none, places-more, places-all}
-use Rattle.text_details.specs.Bytes.{detail-bytes, details-text}
+use Rattle.text_details.specs.Bytes.{piece-room, detail-bytes, details-text}
 use Rattle.text_row.specs.Pieces.{piece-at}
 use Rattle.text_row.proofs.Pieces.{row-written}
 use Rattle.text_row.proofs.put_pieces.Statement.{statement}
 use Rattle.text_row.proofs.put_pieces.Tie as tie
 
 abbrev Inv-loop : tie.InvT-loop
-Inv-loop out₀ row list n place₀ k₀ out place k = (k ≤ n) × Wrote (details-text (joined (λ (i : ℕ). piece-at list i ∷ []) k)) (64 * k) (text out₀ place₀) (text out place)
+Inv-loop out₀ row list n panels place₀ k₀ out place k = (k ≤ n) × Wrote (details-text panels (joined (λ (i : ℕ). piece-at list i ∷ []) k)) (piece-room * k) (text out₀ place₀) (text out place)
 
 abbrev μ-loop : tie.MeasureT-loop
-μ-loop out₀ row list n place₀ k₀ out place k = n - k
+μ-loop out₀ row list n panels place₀ k₀ out place k = n - k
 
 cast-put-painted : tie.Need-cast-put-painted Inv-loop μ-loop
 cast-put-painted c = omega arith
@@ -36,13 +36,13 @@ loop-less : tie.Need-loop-less Inv-loop μ-loop
 loop-less c = omega arith
 
 loop-again : tie.Need-loop-again Inv-loop μ-loop
-loop-again c = (omega arith, places-more detail-bytes _ _ (omega arith) ((c .before .before .before .before .before .loop) .inv .1) (one-of detail-bytes _ ((c .before .before .put-piece) .ensures)))
+loop-again c = (omega arith, places-more (detail-bytes _) _ _ (omega arith) ((c .before .before .before .before .before .loop) .inv .1) (one-of (detail-bytes _) _ ((c .before .before .put-piece) .ensures)))
 
 same-length : tie.Need-same-length Inv-loop μ-loop
 same-length c = omega arith
 
 returns : tie.Need-returns Inv-loop μ-loop
-returns c = row-written ((c .before .before .before .before .before .before .before .before .args) .list .now) _ _ ((c .before .before .before .before .put-painted) .ensures) (places-all detail-bytes _ (λ (k : ℕ). 64 * k) _ _ (omega arith) ((c .before .loop) .inv .0) ((c .before .loop) .inv .1))
+returns c = row-written _ ((c .before .before .before .before .before .before .before .before .args) .list .now) _ _ ((c .before .before .before .before .put-painted) .ensures) (places-all (detail-bytes _) _ (λ (k : ℕ). piece-room * k) _ _ (omega arith) ((c .before .loop) .inv .0) ((c .before .loop) .inv .1))
 
 pub put-pieces-spec : {M : Type 1} → statement M
 put-pieces-spec =

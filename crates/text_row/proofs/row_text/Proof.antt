@@ -24,7 +24,7 @@ returns : tie.Need-returns
 returns c =
     let at-paint-row = c .before .before .before .before .before .before .before in
     let entry = at-paint-row .before .before .before .before .before .before .before .before .before .before .before .before .before in
-    row-refused _ _ (attributes (entry .args .paint-attrs .now) (entry .args .layer-attrs .now)) (lent (entry .args .rows .now) (entry .args .render .now)
+    row-refused _ _ _ (attributes (entry .args .paint-attrs .now) (entry .args .layer-attrs .now)) (lent (entry .args .rows .now) (entry .args .render .now)
     (entry .args .fills .now) (entry .args .depth .now) (entry .args .painting .now) (entry .args .list .now)) (at-paint-row .paint-row .result)
     (at-paint-row .paint-row .ensures) _ (c .if1 .taken)
 
@@ -48,7 +48,7 @@ returns-2 c =
     let at-if1 = at-if2 .before .before in
     let at-paint-row = at-if1 .before .before .before .before .before .before .before in
     let entry = at-paint-row .before .before .before .before .before .before .before .before .before .before .before .before .before in
-    row-ended _ _ (attributes (entry .args .paint-attrs .now) (entry .args .layer-attrs .now)) (lent (entry .args .rows .now) (entry .args .render .now)
+    row-ended _ _ _ (attributes (entry .args .paint-attrs .now) (entry .args .layer-attrs .now)) (lent (entry .args .rows .now) (entry .args .render .now)
     (entry .args .fills .now) (entry .args .depth .now) (entry .args .painting .now) (entry .args .list .now)) (at-paint-row .paint-row .result)
     (at-paint-row .paint-row .ensures) _ (at-if1 .if1 .left) (not-true _ (at-if2 .if2 .taken)) (at-refused-at .refused-at .ensures)
 
@@ -56,7 +56,7 @@ write-pieces-requires : tie.Need-write-pieces-requires
 write-pieces-requires c κs =
     let at-paint-row = c .before .before .before .before .before .before .before .before .before .before .before in
     let entry = at-paint-row .before .before .before .before .before .before .before .before .before .before .before .before .before in
-    row-few _ _ (attributes (entry .args .paint-attrs .now) (entry .args .layer-attrs .now)) (lent (entry .args .rows .now) (entry .args .render .now)
+    row-few (entry .args .panels) _ _ (attributes (entry .args .paint-attrs .now) (entry .args .layer-attrs .now)) (lent (entry .args .rows .now) (entry .args .render .now)
     (entry .args .fills .now) (entry .args .depth .now) (entry .args .painting .now) (entry .args .list .now)) (at-paint-row .paint-row .result)
     (at-paint-row .paint-row .ensures) []
 
@@ -80,7 +80,7 @@ returns-3 c =
     let at-if1 = at-if2 .before .before in
     let at-paint-row = at-if1 .before .before .before .before .before .before .before in
     let entry = at-paint-row .before .before .before .before .before .before .before .before .before .before .before .before .before in
-    row-done _ _ (attributes (entry .args .paint-attrs .now) (entry .args .layer-attrs .now)) (lent (entry .args .rows .now) (entry .args .render .now)
+    row-done _ _ _ (attributes (entry .args .paint-attrs .now) (entry .args .layer-attrs .now)) (lent (entry .args .rows .now) (entry .args .render .now)
     (entry .args .fills .now) (entry .args .depth .now) (entry .args .painting .now) (entry .args .list .now)) (at-paint-row .paint-row .result)
     (at-paint-row .paint-row .ensures) _ (at-if1 .if1 .left) (not-false _ (at-if2 .if2 .left))
     (at-write-pieces .write-pieces .ensures)

@@ -3,13 +3,13 @@ use Prim.Native.Nat.{_*_, _-_, _≤_}
 use native.Mathlib.Omega.{arith}
 use Rattle.rules_reason.specs.Answers.{kind-lines}
 use Rattle.text.specs.Texts.{text, Wrote}
-use Rattle.text_why.specs.Questions.{read-by}
+use Rattle.text_why.specs.Questions.{read-by, line-most}
 use Rattle.text_why.proofs.Lines.{no-lines, more-lines, all-lines}
 use Rattle.text_why.proofs.put_kind_lines.Statement.{statement}
 use Rattle.text_why.proofs.put_kind_lines.Tie as tie
 
 abbrev Inv-loop : tie.InvT-loop
-Inv-loop out₀ at lines n layer count place₀ i₀ out place i = (i ≤ count) × Wrote (kind-lines (read-by lines n) layer i) (69 * i) (text out₀ at) (text out place)
+Inv-loop out₀ at lines n layer count place₀ i₀ out place i = (i ≤ count) × Wrote (kind-lines (read-by lines n) layer i) (line-most * i) (text out₀ at) (text out place)
 
 abbrev μ-loop : tie.MeasureT-loop
 μ-loop out₀ at lines n layer count place₀ i₀ out place i = count - i

@@ -4,6 +4,7 @@ use mathlib.Core.Path.{sym, _∙_}
 use Prim.Native.Nat.{ℕ}
 use native.Mathlib.Omega.{arith}
 use lib.ListN.{length-replicate}
+use Rattle.sizes.specs.Sizes.{line-table}
 use Rattle.rules.proofs.All.{never}
 use Rattle.rect.specs.Rects.{box-of}
 use Rattle.screen.specs.Screens.{setup-of}
@@ -127,7 +128,7 @@ tell-tile-requires c κs =
       ready u (a .file .now) (entry .pre) (a .row) (a .tile) (question-of (a .question)) _ good,
       rw view at (good-view u (a .file .now) (entry .pre) (a .row) (a .tile) (question-of (a .question)) l good),
       sym (at-off .is-off-screen .ensures) ∙ at-if1 .if1 .left,
-      length-replicate {A = ℕ} 12288 0,
+      length-replicate {A = ℕ} line-table 0,
     )
 
 put-refused-requires-4 : tie.Need-put-refused-requires-4

@@ -7,7 +7,7 @@ use borrow.Author.Needs.{needs}
 use borrow.Author.Tests.{not-true, not-false}
 use Rattle.rules_reason.specs.Reasons.{Asked}
 use Rattle.tile_reason.specs.Reading.{Mark, Search, renewed, met}
-use Rattle.tile_reason.specs.Reasons.{asked-of, search-of}
+use Rattle.tile_reason.specs.Reasons.{asked-of, mark-of, search-of}
 use Rattle.tile_reason.proofs.Lines.{renewed-new, renewed-same, renewed-found, met-first, met-late, met-other, counted-more, counted-same, all-three, count-before}
 use Rattle.tile_reason.proofs.read_line.Statement.{statement}
 use Rattle.tile_reason.proofs.read_line.Tie as tie
@@ -20,13 +20,13 @@ module _ (c : lts.Joined2 (is-asked-reads.Asked, is-asked-reads.Learnt) reads.Pr
   at-if1 = c .before .before
 
   abbrev line : Mark
-  line = let a = at-if1 .before .args in record { layer = a .layer; attribute = a .attribute; standing = a .standing }
+  line = mark-of (at-if1 .before .before .args .mark)
 
   abbrev asked : Asked
-  asked = asked-of (at-if1 .before .args .asked)
+  asked = asked-of (at-if1 .before .before .args .asked)
 
   abbrev known : Search
-  known = search-of (at-if1 .before .args .search)
+  known = search-of (at-if1 .before .before .args .search)
 
   begun : search-of (at-if1 .if1 .next) ≡ renewed line known
   begun = ⊎-elim (λ w. ap search-of (w .1) ∙ renewed-new line known (w .0 .taken)) (λ w. ap search-of (w .1) ∙ renewed-same line known (w .0 .left)) (at-if1 .if1 .came)
@@ -47,17 +47,17 @@ is-asked-requires c κs = search needs
 
 add-next : tie.Need-add-next
 add-next c =
-    let at-if2 = c .before .before in
+    let at-if2 = c .before .before .before in
     omega (arith, count-before (asked at-if2) (line at-if2) (known at-if2) (begun at-if2) (asked-next at-if2))
 
 returns : tie.Need-returns
 returns c =
-    let at-if2 = c .before .before in
+    let at-if2 = c .before .before .before in
     all-three (asked at-if2) (line at-if2) (known at-if2) (begun at-if2) (asked-next at-if2) (counted-more (line at-if2) (search-of (at-if2 .if2 .next)) (c .before .if4 .taken))
 
 returns-2 : tie.Need-returns-2
 returns-2 c =
-    let at-if2 = c .before in
+    let at-if2 = c .before .before in
     all-three (asked at-if2) (line at-if2) (known at-if2) (begun at-if2) (asked-next at-if2) (counted-same (line at-if2) (search-of (at-if2 .if2 .next)) (c .if4 .left))
 
 pub read-line-spec : {M : Type 1} → statement M

@@ -4,7 +4,7 @@ use Prim.Native.Nat.{_+_, _-_, _≤_}
 use native.Mathlib.Omega.{arith}
 use mathlib.Core.Path.{_≡_, ap, _∙_}
 use borrow.Author.Needs.{needs}
-use Rattle.tile_reason.specs.Reading.{Search, mark-at, marks, no-search, read-all, reason-by, reason-read}
+use Rattle.tile_reason.specs.Reading.{Mark, Search, mark-at, marks, no-search, read, read-all, reason-by, reason-read}
 use Rattle.tile_reason.specs.Reasons.{asked-of, search-of}
 use Rattle.tile_reason.proofs.Lines.{read-count, begun, turned, ended}
 use Rattle.tile_reason.proofs.reason_of.Statement.{statement}
@@ -24,32 +24,8 @@ loop-holds c =
     let args = c .before .args in
     (omega arith, omega arith, begun (asked-of (args .asked)) (args .lines .now) (args .n) no-search)
 
-mul-at : tie.Need-mul-at Inv-loop μ-loop
-mul-at c = omega arith
-
-mul-read-line : tie.Need-mul-read-line Inv-loop μ-loop
-mul-read-line c = omega arith
-
-shared-slice-read-read-line : tie.Need-shared-slice-read-read-line Inv-loop μ-loop
-shared-slice-read-read-line c = omega arith
-
-add-read-line : tie.Need-add-read-line Inv-loop μ-loop
-add-read-line c = omega arith
-
-mul-read-line-2 : tie.Need-mul-read-line-2 Inv-loop μ-loop
-mul-read-line-2 c = omega arith
-
-shared-slice-read-read-line-2 : tie.Need-shared-slice-read-read-line-2 Inv-loop μ-loop
-shared-slice-read-read-line-2 c = omega arith
-
-add-read-line-2 : tie.Need-add-read-line-2 Inv-loop μ-loop
-add-read-line-2 c = omega arith
-
-mul-read-line-3 : tie.Need-mul-read-line-3 Inv-loop μ-loop
-mul-read-line-3 c = omega arith
-
-shared-slice-read-read-line-3 : tie.Need-shared-slice-read-read-line-3 Inv-loop μ-loop
-shared-slice-read-read-line-3 c = omega arith
+mark-at-requires : tie.Need-mark-at-requires Inv-loop μ-loop
+mark-at-requires c κs = (omega arith, omega arith)
 
 read-line-requires : tie.Need-read-line-requires Inv-loop μ-loop
 read-line-requires c κs = omega arith
@@ -61,16 +37,16 @@ loop-less : tie.Need-loop-less Inv-loop μ-loop
 loop-less c = omega arith
 
 loop-again : tie.Need-loop-again Inv-loop μ-loop
-unfolding mark-at
 loop-again c =
-    let at-loop = c .before .before .before .before .before in
+    let at-loop = c .before .before .before in
     let args = at-loop .before .before .args in
     let asked = asked-of (args .asked) in
     let known = search-of (at-loop .loop .search) in
-    let line = mark-at (args .lines .now) (at-loop .loop .i) in (
+    let line = mark-at (args .lines .now) (at-loop .loop .i) in
+    let one = c .read-line .ensures ∙ ap (λ (m : Mark). read asked m known) (c .before .mark-at .ensures) in (
       omega arith,
-      omega (arith, read-count asked line known, ap (λ (s : Search). s .count) (c .read-line .ensures)),
-      ap (λ (s : Search). read-all asked s (marks (args .lines .now) (at-loop .loop .i + 1) (args .n - (at-loop .loop .i + 1)))) (c .read-line .ensures)
+      omega (arith, read-count asked line known, ap (λ (s : Search). s .count) one),
+      ap (λ (s : Search). read-all asked s (marks (args .lines .now) (at-loop .loop .i + 1) (args .n - (at-loop .loop .i + 1)))) one
           ∙ turned asked (args .lines .now) (args .n) (at-loop .loop .i) known (omega arith) (at-loop .loop .inv .2),
     )
 
@@ -92,15 +68,7 @@ reason-of-spec =
     Inv-loop
     μ-loop
     loop-holds
-    mul-at
-    mul-read-line
-    shared-slice-read-read-line
-    add-read-line
-    mul-read-line-2
-    shared-slice-read-read-line-2
-    add-read-line-2
-    mul-read-line-3
-    shared-slice-read-read-line-3
+    mark-at-requires
     read-line-requires
     add-i
     loop-less

@@ -1,4 +1,5 @@
 -- Refused with no id left, or no room for one more attribute; with no segments only an id is used; else a line is told.
+use mathlib.Core.Path.{_∙_}
 use Prim.Native.Nat.{_-_, _≤_}
 use native.Mathlib.Omega.{arith}
 use Rattle.rect.specs.Rects.{box-of}
@@ -19,7 +20,7 @@ returns c =
     let s = at-args .args in (
       (λ ls h.
           fill-ids (s .spot .width) (box-of (s .spot .viewport)) (s .spot .row) (s .spot .tile)
-          (segs (s .segments .now) (s .start) (s .end - s .start)) (s .eligible) (telling (s .tale) ls (s .lines .now)) _
+          (segs (s .segments .now) (s .start) (s .end - s .start)) (s .eligible) (s .panel) (telling (s .tale) ls (s .lines .now)) _
           (out-of-ids (at-is-out-of-ids .is-out-of-ids .ensures) (c .if1 .taken))),
       at-args .pre .2,
     )
@@ -38,7 +39,7 @@ returns-2 c =
     let left : s .tale .next ≤ 1048576 = ids-left (at-is-out-of-ids .is-out-of-ids .ensures) (at-if1 .if1 .left) in (
       (λ ls h.
           fill-empty (s .spot .width) (box-of (s .spot .viewport)) (s .spot .row) (s .spot .tile)
-          (segs (s .segments .now) (s .start) (s .end - s .start)) (s .eligible) (telling (s .tale) ls (s .lines .now))
+          (segs (s .segments .now) (s .start) (s .end - s .start)) (s .eligible) (s .panel) (telling (s .tale) ls (s .lines .now))
           left (none-there (s .segments .now) (s .start) (s .end) (c .if2 .taken))),
       record { next = omega (arith, left); paints = at-args .pre .2 .paints; layers = at-args .pre .2 .layers; filters = at-args .pre .2 .filters; levels = at-args .pre .2 .levels },
     )
@@ -53,7 +54,7 @@ returns-3 c =
     let left : s .tale .next ≤ 1048576 = ids-left (at-is-out-of-ids .is-out-of-ids .ensures) (at-if1 .if1 .left) in (
       (λ ls h.
           fill-full (s .spot .width) (box-of (s .spot .viewport)) (s .spot .row) (s .spot .tile)
-          (segs (s .segments .now) (s .start) (s .end - s .start)) (s .eligible) (telling (s .tale) ls (s .lines .now))
+          (segs (s .segments .now) (s .start) (s .end - s .start)) (s .eligible) (s .panel) (telling (s .tale) ls (s .lines .now))
           left _ (some-there (s .segments .now) (s .start) (s .end) (at-if2 .if2 .left)) (c .if3 .taken)),
       at-args .pre .2,
     )
@@ -107,9 +108,9 @@ returns-4 c =
     let left : s .tale .next ≤ 1048576 = ids-left (at-is-out-of-ids .is-out-of-ids .ensures) (at-if1 .if1 .left) in (
       (λ ls h.
           fill-drawn (s .spot .width) (box-of (s .spot .viewport)) (s .spot .row) (s .spot .tile)
-          (segs (s .segments .now) (s .start) (s .end - s .start)) (s .eligible) (telling (s .tale) ls (s .lines .now))
+          (segs (s .segments .now) (s .start) (s .end - s .start)) (s .eligible) (s .panel) (telling (s .tale) ls (s .lines .now))
           left (some-there (s .segments .now) (s .start) (s .end) (at-if2 .if2 .left)) (at-if3 .if3 .left) (h .clip) (h .count)
-          (at-look-at .look-at .ensures) (at-is-hiding .is-hiding .ensures) (at-standing .standing .ensures) (at-wide .wide .ensures) (at-put-line .put-line .ensures) (rw (c .if4 .taken))),
+          (at-look-at .look-at .ensures) (at-wide .wide .ensures) (at-put-line .put-line .ensures ∙ rw (at-standing .standing .ensures, at-is-hiding .is-hiding .ensures)) (rw (c .if4 .taken))),
       record { next = omega (arith, left); paints = omega (arith, at-if3 .if3 .left); layers = at-args .pre .2 .layers; filters = at-args .pre .2 .filters; levels = at-args .pre .1 .few },
     )
 
@@ -132,9 +133,9 @@ returns-5 c =
     let left : s .tale .next ≤ 1048576 = ids-left (at-is-out-of-ids .is-out-of-ids .ensures) (at-if1 .if1 .left) in (
       (λ ls h.
           fill-drawn (s .spot .width) (box-of (s .spot .viewport)) (s .spot .row) (s .spot .tile)
-          (segs (s .segments .now) (s .start) (s .end - s .start)) (s .eligible) (telling (s .tale) ls (s .lines .now))
+          (segs (s .segments .now) (s .start) (s .end - s .start)) (s .eligible) (s .panel) (telling (s .tale) ls (s .lines .now))
           left (some-there (s .segments .now) (s .start) (s .end) (at-if2 .if2 .left)) (at-if3 .if3 .left) (h .clip) (h .count)
-          (at-look-at .look-at .ensures) (at-is-hiding .is-hiding .ensures) (at-standing .standing .ensures) (at-wide .wide .ensures) (at-put-line .put-line .ensures) (rw (c .if4 .left))),
+          (at-look-at .look-at .ensures) (at-wide .wide .ensures) (at-put-line .put-line .ensures ∙ rw (at-standing .standing .ensures, at-is-hiding .is-hiding .ensures)) (rw (c .if4 .left))),
       record { next = omega (arith, left); paints = omega (arith, at-if3 .if3 .left); layers = at-args .pre .2 .layers; filters = at-args .pre .2 .filters; levels = at-args .pre .2 .levels },
     )
 

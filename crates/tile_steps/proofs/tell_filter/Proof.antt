@@ -1,4 +1,5 @@
 -- Nothing is drawn without a picture or a box; refused with no id left, or no room for one more attribute or picture; else a line is told.
+use mathlib.Core.Path.{_∙_}
 use Prim.Native.Nat.{_≤_}
 use native.Mathlib.Omega.{arith}
 use Rattle.rect.specs.Rects.{box-of}
@@ -21,7 +22,7 @@ returns c =
     let at-args = at-filter-box .before .before .before .before in
     let s = at-args .args in (
       (λ f ls fd fm h.
-          filter-nothing (s .spot .width) (box-of (s .spot .viewport)) (s .spot .row) (s .spot .tile) f
+          filter-nothing (s .spot .width) (box-of (s .spot .viewport)) (s .spot .row) (s .spot .tile) f (s .panel)
           (telling (s .tale) ls (s .lines .now)) (h .clip) fd fm (at-filter-box .filter-box .ensures) (at-draws-nothing .draws-nothing .ensures)
           (c .if1 .taken)),
       at-args .pre .2,
@@ -39,7 +40,7 @@ returns-2 c =
     let at-args = at-filter-box .before .before .before .before in
     let s = at-args .args in (
       (λ f ls fd fm h.
-          filter-ids (s .spot .width) (box-of (s .spot .viewport)) (s .spot .row) (s .spot .tile) f
+          filter-ids (s .spot .width) (box-of (s .spot .viewport)) (s .spot .row) (s .spot .tile) f (s .panel)
           (telling (s .tale) ls (s .lines .now)) (h .clip) fd fm (at-filter-box .filter-box .ensures) (at-draws-nothing .draws-nothing .ensures)
           (at-if1 .if1 .left) _ (out-of-ids (at-is-out-of-ids .is-out-of-ids .ensures) (c .if2 .taken))),
       at-args .pre .2,
@@ -56,7 +57,7 @@ returns-3 c =
     let s = at-args .args in
     let left : s .tale .next ≤ 1048576 = ids-left (at-is-out-of-ids .is-out-of-ids .ensures) (at-if2 .if2 .left) in (
       (λ f ls fd fm h.
-          filter-full (s .spot .width) (box-of (s .spot .viewport)) (s .spot .row) (s .spot .tile) f
+          filter-full (s .spot .width) (box-of (s .spot .viewport)) (s .spot .row) (s .spot .tile) f (s .panel)
           (telling (s .tale) ls (s .lines .now)) (h .clip) fd fm (at-filter-box .filter-box .ensures) (at-draws-nothing .draws-nothing .ensures)
           (at-if1 .if1 .left) left _ (c .if3 .taken)),
       at-args .pre .2,
@@ -74,7 +75,7 @@ returns-4 c =
     let s = at-args .args in
     let left : s .tale .next ≤ 1048576 = ids-left (at-is-out-of-ids .is-out-of-ids .ensures) (at-if2 .if2 .left) in (
       (λ f ls fd fm h.
-          filter-crowded (s .spot .width) (box-of (s .spot .viewport)) (s .spot .row) (s .spot .tile) f
+          filter-crowded (s .spot .width) (box-of (s .spot .viewport)) (s .spot .row) (s .spot .tile) f (s .panel)
           (telling (s .tale) ls (s .lines .now)) (h .clip) fd fm (at-filter-box .filter-box .ensures) (at-draws-nothing .draws-nothing .ensures)
           (at-if1 .if1 .left) left (at-if3 .if3 .left) _ (c .if4 .taken)),
       at-args .pre .2,
@@ -161,10 +162,10 @@ returns-5 c =
     let s = at-args .args in
     let left : s .tale .next ≤ 1048576 = ids-left (at-is-out-of-ids .is-out-of-ids .ensures) (at-if2 .if2 .left) in (
       (λ f ls fd fm h.
-          filter-done (s .spot .width) (box-of (s .spot .viewport)) (s .spot .row) (s .spot .tile) f
+          filter-done (s .spot .width) (box-of (s .spot .viewport)) (s .spot .row) (s .spot .tile) f (s .panel)
           (telling (s .tale) ls (s .lines .now)) (h .clip) fd fm (at-filter-box .filter-box .ensures) (at-draws-nothing .draws-nothing .ensures)
           (at-if1 .if1 .left) left (at-if3 .if3 .left) (at-if4 .if4 .left) (h .count)
-          (at-is-met .is-met .ensures) (at-is-met2 .is-met2 .ensures) (at-standing .standing .ensures) (at-wide .wide .ensures) (at-put-line .put-line .ensures) (at-is-in-row .is-in-row .ensures) (rw (c .if5 .taken))),
+          (at-is-met .is-met .ensures) (at-is-met2 .is-met2 .ensures) (at-wide .wide .ensures) (at-put-line .put-line .ensures ∙ rw (at-standing .standing .ensures)) (at-is-in-row .is-in-row .ensures) (rw (c .if5 .taken))),
       record { next = omega (arith, left); paints = omega (arith, at-if3 .if3 .left); layers = at-args .pre .2 .layers; filters = omega (arith, at-if4 .if4 .left); levels = at-args .pre .1 .few },
     )
 
@@ -190,10 +191,10 @@ returns-6 c =
     let s = at-args .args in
     let left : s .tale .next ≤ 1048576 = ids-left (at-is-out-of-ids .is-out-of-ids .ensures) (at-if2 .if2 .left) in (
       (λ f ls fd fm h.
-          filter-done (s .spot .width) (box-of (s .spot .viewport)) (s .spot .row) (s .spot .tile) f
+          filter-done (s .spot .width) (box-of (s .spot .viewport)) (s .spot .row) (s .spot .tile) f (s .panel)
           (telling (s .tale) ls (s .lines .now)) (h .clip) fd fm (at-filter-box .filter-box .ensures) (at-draws-nothing .draws-nothing .ensures)
           (at-if1 .if1 .left) left (at-if3 .if3 .left) (at-if4 .if4 .left) (h .count)
-          (at-is-met .is-met .ensures) (at-is-met2 .is-met2 .ensures) (at-standing .standing .ensures) (at-wide .wide .ensures) (at-put-line .put-line .ensures) (at-is-in-row .is-in-row .ensures) (rw (c .if5 .left))),
+          (at-is-met .is-met .ensures) (at-is-met2 .is-met2 .ensures) (at-wide .wide .ensures) (at-put-line .put-line .ensures ∙ rw (at-standing .standing .ensures)) (at-is-in-row .is-in-row .ensures) (rw (c .if5 .left))),
       record { next = omega (arith, left); paints = omega (arith, at-if3 .if3 .left); layers = at-args .pre .2 .layers; filters = omega (arith, at-if4 .if4 .left); levels = at-args .pre .2 .levels },
     )
 

@@ -1,5 +1,5 @@
 -- Refused with no id left, or no room for one more attribute; else a line is told, and the parent holds again.
-use mathlib.Core.Path.{refl}
+use mathlib.Core.Path.{refl, _∙_}
 use mathlib.Core.List.{_∷_}
 use Prim.Native.Nat.{_≤_}
 use native.Mathlib.Omega.{arith}
@@ -20,7 +20,7 @@ returns c =
     let at-is-out-of-ids = c .before in
     let at-args = at-is-out-of-ids .before .before .before in
     let s = at-args .args in (
-      (λ l ls lo lb h.
+      (λ l ls lo lp lb h.
           pop-ids (s .spot .width) (box-of (s .spot .viewport)) (s .spot .row) (s .spot .tile) l ls
           (segs-of (s .segments .now)) (telling (s .tale) (l ∷ ls) (s .lines .now)) _
           (out-of-ids (at-is-out-of-ids .is-out-of-ids .ensures) (c .if1 .taken))),
@@ -34,7 +34,7 @@ returns-2 c =
     let at-args = at-is-out-of-ids .before .before .before in
     let s = at-args .args in
     let left : s .tale .next ≤ 1048576 = ids-left (at-is-out-of-ids .is-out-of-ids .ensures) (at-if1 .if1 .left) in (
-      (λ l ls lo lb h.
+      (λ l ls lo lp lb h.
           pop-full (s .spot .width) (box-of (s .spot .viewport)) (s .spot .row) (s .spot .tile) l ls
           (segs-of (s .segments .now)) (telling (s .tale) (l ∷ ls) (s .lines .now))
           left _ (c .if2 .taken)),
@@ -88,11 +88,11 @@ returns-3 c =
     let at-args = at-is-out-of-ids .before .before .before in
     let s = at-args .args in
     let left : s .tale .next ≤ 1048576 = ids-left (at-is-out-of-ids .is-out-of-ids .ensures) (at-if1 .if1 .left) in (
-      (λ l ls lo lb h.
+      (λ l ls lo lp lb h.
           pop-done (s .spot .width) (box-of (s .spot .viewport)) (s .spot .row) (s .spot .tile) l ls
           (segs-of (s .segments .now)) (telling (s .tale) (l ∷ ls) (s .lines .now))
-          left (at-if2 .if2 .left) (h .clip) (h .count) lo lb
-          (at-closing-look .closing-look .ensures) refl (at-standing .standing .ensures) (at-wide .wide .ensures) (at-args .pre .3) (at-put-line .put-line .ensures)
+          left (at-if2 .if2 .left) (h .clip) (h .count) lo lp lb
+          (at-closing-look .closing-look .ensures) refl (at-wide .wide .ensures) (at-args .pre .3) (at-put-line .put-line .ensures ∙ rw (at-standing .standing .ensures))
           (omega (arith, ltb-true (at-args .args .outer .«open») (at-args .args .tale .levels) (c .if3 .taken)))),
       record { next = omega (arith, left); paints = at-args .pre .4 .paints; layers = omega (arith, at-if2 .if2 .left); filters = at-args .pre .4 .filters; levels = at-args .pre .2 .few },
     )
@@ -112,11 +112,11 @@ returns-4 c =
     let at-args = at-is-out-of-ids .before .before .before in
     let s = at-args .args in
     let left : s .tale .next ≤ 1048576 = ids-left (at-is-out-of-ids .is-out-of-ids .ensures) (at-if1 .if1 .left) in (
-      (λ l ls lo lb h.
+      (λ l ls lo lp lb h.
           pop-done (s .spot .width) (box-of (s .spot .viewport)) (s .spot .row) (s .spot .tile) l ls
           (segs-of (s .segments .now)) (telling (s .tale) (l ∷ ls) (s .lines .now))
-          left (at-if2 .if2 .left) (h .clip) (h .count) lo lb
-          (at-closing-look .closing-look .ensures) refl (at-standing .standing .ensures) (at-wide .wide .ensures) (at-args .pre .3) (at-put-line .put-line .ensures)
+          left (at-if2 .if2 .left) (h .clip) (h .count) lo lp lb
+          (at-closing-look .closing-look .ensures) refl (at-wide .wide .ensures) (at-args .pre .3) (at-put-line .put-line .ensures ∙ rw (at-standing .standing .ensures))
           (omega (arith, ltb-false (at-args .args .outer .«open») (at-args .args .tale .levels) (c .if3 .left)))),
       record { next = omega (arith, left); paints = at-args .pre .4 .paints; layers = omega (arith, at-if2 .if2 .left); filters = at-args .pre .4 .filters; levels = at-args .pre .4 .levels },
     )

@@ -16,7 +16,7 @@ use Rattle.file_nodes.proofs.Places.{node-range, node-room, layer-kind, layer-r
 use Rattle.tile_steps.specs.Places.{Low, layer-in, telling}
 use Rattle.tile_walk.proofs.Said.{said-by, Left}
 use Rattle.tile_walk.proofs.Records.{layer-good}
-use Rattle.tile_walk.proofs.Steps.{push-told, pop-told, blend-told, clip-told, good-told, ready-told}
+use Rattle.tile_walk.proofs.Steps.{push-told, pop-told, blend-told, clip-told, panel-told, good-told, ready-told}
 use Rattle.tile_walk.proofs.Layers.{as-filter, unpushed, unwalked, closed, names-none, names-one}
 use Rattle.tile_walk.proofs.Nodes.{nodes, all-walked, draws-refused, layer-refused, node-turned}
 use Rattle.sizes.proofs.wide.Reads as wide-reads
@@ -360,7 +360,7 @@ tell-layer-same-length-3 : (t : ℕ) → tell-layer-lts.Need-same-length-3 (laye
 tell-layer-same-length-3 t c =
     let at-tell-pop = c .before .before in
     let at-tell-nodes = at-tell-pop .before .before .before .before .before .before .before .before .before .before in
-    at-tell-pop .tell-pop .kept .1 .1 .1 .1 .1 .1 .0 ∙ at-tell-nodes .tell-nodes .kept .1 .1 .1 .1 .1 .1 .1 .1 .0
+    at-tell-pop .tell-pop .kept .1 .1 .1 .1 .1 .1 .1 .0 ∙ at-tell-nodes .tell-nodes .kept .1 .1 .1 .1 .1 .1 .1 .1 .0
 
 tell-layer-returns-5 : (t : ℕ) → tell-layer-lts.Need-returns-5 (layer-claims t) (tell-layer-at t) tell-layer.Post
 unfolding layer-from
@@ -385,7 +385,7 @@ tell-layer-returns-5 t c =
           said-by (names-one (s .args .spot) (s .args .l) (s .args .w .now) _ _ _ (at-wide .wide .result) (at-wide .wide .ensures) (at-if1 .if1 .left) (s .pre .1 .2))
           (closed (s .args .spot) r y (at-if2 .if2 .left) (telling (s .args .tale) ls (s .args .lines .now)) (push-told (s .args .spot) _ _ (p .0)) _ (omega (arith, s .pre .1 .1, at-tell-push .tell-push .ensures .3 (at-if3 .if3 .left), at-tell-push .tell-push .ensures .2 .few)) (at-if3 .if3 .left)
           (rw (at-wide2 .wide2 .ensures, at-wide3 .wide3 .ensures) at (at-tell-nodes .tell-nodes .ensures .0 (layer-in (props-of y) (at-tell-push .tell-push .result .within) ∷ ls) (p .1 (at-if3 .if3 .left)))) (at-if4 .if4 .left)
-          (pop-told (s .args .spot) (s .args .l) (s .args .w .now) (s .pre .1 .0 .walk) _ (at-tell-pop .tell-pop .ensures .0 (layer-in (props-of y) (at-tell-push .tell-push .result .within)) ls (clip-told y e) refl o))),
+          (pop-told (s .args .spot) (s .args .l) (s .args .w .now) (s .pre .1 .0 .walk) _ (at-tell-pop .tell-pop .ensures .0 (layer-in (props-of y) (at-tell-push .tell-push .result .within)) ls (clip-told y e) (panel-told y e) refl o))),
       at-tell-pop .tell-pop .ensures .1,
     )
 

@@ -10,7 +10,7 @@ use Rattle.rules.specs.Walk.{props-of}
 use Rattle.file_form.specs.Places.{recorded, layer-from}
 use Rattle.tile_steps.specs.Places.{layer-in, telling}
 use Rattle.tile_walk.proofs.Records.{filter-dest}
-use Rattle.tile_walk.proofs.Steps.{filter-told, push-told, pop-told, blend-told, clip-told, good-told, ready-told, buffer-told}
+use Rattle.tile_walk.proofs.Steps.{filter-told, push-told, pop-told, blend-told, clip-told, panel-told, good-told, ready-told, buffer-told}
 use Rattle.tile_walk.proofs.Layers.{plain, filter-unpushed, filter-undrawn, filter-closed}
 use Rattle.tile_walk.proofs.tell_filter_layer.Statement.{statement}
 use Rattle.tile_walk.proofs.tell_filter_layer.Tie as tie
@@ -43,8 +43,9 @@ returns c =
     let s = at-shared-slice-known .before in
     let r = recorded (s .args .l) (s .args .w .now) in
     let y = layer-from (s .args .w .now) (s .args .at) in
-    let q = buffer-told y (at-props-at .props-at .ensures) _ (at-needs-buffer .needs-buffer .ensures) (omega (arith, at-shared-slice-known .shared-slice-known .given (s .args .at + 5))) in (
-      λ ls o. plain (s .args .spot) r y (q ∙ not-true _ (at-if1 .if1 .taken)) (telling (s .args .tale) ls (s .args .lines .now)) (filter-told (s .args .spot) _ _ _ (at-tell-picture .tell-picture .ensures .0 ls o)),
+    let q = buffer-told y (at-props-at .props-at .ensures) _ (at-needs-buffer .needs-buffer .ensures) (omega (arith, at-shared-slice-known .shared-slice-known .given (s .args .at + 5))) in
+    let e = at-props-at .props-at .ensures in (
+      λ ls o. plain (s .args .spot) r y (q ∙ not-true _ (at-if1 .if1 .taken)) (telling (s .args .tale) ls (s .args .lines .now)) (filter-told (s .args .spot) _ _ (panel-told y e) _ (at-tell-picture .tell-picture .ensures .0 ls o)),
       at-tell-picture .tell-picture .ensures .1,
     )
 
@@ -105,7 +106,7 @@ returns-3 c =
       λ ls o.
           let p = at-tell-push .tell-push .ensures .0 (props-of y) ls (s .args .lines .now) (blend-told y e) (clip-told y e) o in
           filter-undrawn (s .args .spot) r y (q ∙ not-false _ (at-if1 .if1 .left)) (telling (s .args .tale) ls (s .args .lines .now)) (push-told (s .args .spot) _ _ (p .0)) (at-if2 .if2 .left)
-          (filter-told (s .args .spot) _ _ _ (at-tell-picture2 .tell-picture2 .ensures .0 (layer-in (props-of y) (at-tell-push .tell-push .result .within) ∷ ls) (p .1 (at-if2 .if2 .left)))) (c .if3 .taken) _,
+          (filter-told (s .args .spot) _ _ (panel-told y e) _ (at-tell-picture2 .tell-picture2 .ensures .0 (layer-in (props-of y) (at-tell-push .tell-push .result .within) ∷ ls) (p .1 (at-if2 .if2 .left)))) (c .if3 .taken) _,
       at-tell-picture2 .tell-picture2 .ensures .1,
     )
 
@@ -148,7 +149,7 @@ tell-pop-requires c κs =
       s .pre .0 .bounded,
       at-tell-push .tell-push .ensures .3 (at-if2 .if2 .left),
       at-tell-picture2 .tell-picture2 .ensures .1,
-      at-tell-picture2 .tell-picture2 .kept .1 .1 .1 .1 .1 .0 ∙ s .pre .0 .room,
+      at-tell-picture2 .tell-picture2 .kept .1 .1 .1 .1 .1 .1 .0 ∙ s .pre .0 .room,
       ready-told y (at-props-at .props-at .ensures) (s .args .l) (s .args .w .now) (s .pre .0 .walk) (s .pre .2),
     )
 
@@ -175,8 +176,8 @@ returns-4 c =
       λ ls o.
           let p = at-tell-push .tell-push .ensures .0 (props-of y) ls (s .args .lines .now) (blend-told y e) (clip-told y e) o in
           filter-closed (s .args .spot) r y (q ∙ not-false _ (at-if1 .if1 .left)) (telling (s .args .tale) ls (s .args .lines .now)) (push-told (s .args .spot) _ _ (p .0)) (at-if2 .if2 .left)
-          (filter-told (s .args .spot) _ _ _ (at-tell-picture2 .tell-picture2 .ensures .0 (layer-in (props-of y) (at-tell-push .tell-push .result .within) ∷ ls) (p .1 (at-if2 .if2 .left)))) (at-if3 .if3 .left)
-          (pop-told (s .args .spot) (s .args .l) (s .args .w .now) (s .pre .0 .walk) _ (at-tell-pop .tell-pop .ensures .0 (layer-in (props-of y) (at-tell-push .tell-push .result .within)) ls (clip-told y e) refl o)),
+          (filter-told (s .args .spot) _ _ (panel-told y e) _ (at-tell-picture2 .tell-picture2 .ensures .0 (layer-in (props-of y) (at-tell-push .tell-push .result .within) ∷ ls) (p .1 (at-if2 .if2 .left)))) (at-if3 .if3 .left)
+          (pop-told (s .args .spot) (s .args .l) (s .args .w .now) (s .pre .0 .walk) _ (at-tell-pop .tell-pop .ensures .0 (layer-in (props-of y) (at-tell-push .tell-push .result .within)) ls (clip-told y e) (panel-told y e) refl o)),
       at-tell-pop .tell-pop .ensures .1,
     )
 

@@ -3,6 +3,7 @@ use Prim.Native.Nat.{_*_}
 use native.Mathlib.Omega.{arith}
 use lib.ListN.{length-set}
 use borrow.Author.Needs.{needs}
+use Rattle.sizes.specs.Sizes.{layer-attr-size}
 use Rattle.cmd.proofs.Tables.{stored}
 use Rattle.cmd.proofs.attrs.put_layer_attrs.Statement.{statement}
 use Rattle.cmd.proofs.attrs.put_layer_attrs.Tie as tie
@@ -61,6 +62,15 @@ mul-table-6 c = search needs
 slice-write-table-6 : tie.Need-slice-write-table-6
 slice-write-table-6 c = simp length-set (omega arith)
 
+add-table-6 : tie.Need-add-table-6
+add-table-6 c = search needs
+
+mul-table-7 : tie.Need-mul-table-7
+mul-table-7 c = search needs
+
+slice-write-table-7 : tie.Need-slice-write-table-7
+slice-write-table-7 c = simp length-set (omega arith)
+
 add-opacities : tie.Need-add-opacities
 add-opacities c = search needs
 
@@ -81,8 +91,8 @@ returns c =
     let xs = c .before .args .table .now in
     let a = c .before .args .a in
     rw
-    (stored xs (6 * c .before .args .i) (a .blend .mix)
-    (a .blend .compose ∷ a .mask ∷ a .«draw_id» ∷ a .«thread_idx» ∷ a .nan ∷ []) (omega arith))
+    (stored xs (layer-attr-size * c .before .args .i) (a .blend .mix)
+    (a .blend .compose ∷ a .mask ∷ a .«draw_id» ∷ a .«thread_idx» ∷ a .nan ∷ a .panel ∷ []) (omega arith))
 
 pub put-layer-attrs-spec : {M : Type 1} → statement M
 put-layer-attrs-spec =
@@ -106,6 +116,9 @@ put-layer-attrs-spec =
     add-table-5
     mul-table-6
     slice-write-table-6
+    add-table-6
+    mul-table-7
+    slice-write-table-7
     add-opacities
     mul-opacities
     slice-write-opacities

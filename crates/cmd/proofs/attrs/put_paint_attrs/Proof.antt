@@ -3,6 +3,7 @@ use Prim.Native.Nat.{_*_}
 use native.Mathlib.Omega.{arith}
 use lib.ListN.{length-set}
 use borrow.Author.Needs.{needs}
+use Rattle.sizes.specs.Sizes.{paint-attr-size}
 use Rattle.cmd.proofs.Tables.{stored}
 use Rattle.cmd.proofs.attrs.put_paint_attrs.Statement.{statement}
 use Rattle.cmd.proofs.attrs.put_paint_attrs.Tie as tie
@@ -79,6 +80,15 @@ mul-table-8 c = search needs
 slice-write-table-8 : tie.Need-slice-write-table-8
 slice-write-table-8 c = simp length-set (omega arith)
 
+add-table-8 : tie.Need-add-table-8
+add-table-8 c = search needs
+
+mul-table-9 : tie.Need-mul-table-9
+mul-table-9 c = search needs
+
+slice-write-table-9 : tie.Need-slice-write-table-9
+slice-write-table-9 c = simp length-set (omega arith)
+
 same-length : tie.Need-same-length
 same-length c = search needs
 
@@ -86,8 +96,8 @@ returns : tie.Need-returns
 returns c =
     let xs = c .before .args .table .now in
     let a = c .before .args .a in
-    stored xs (8 * c .before .args .i) (a .paint)
-    (a .blend .mix ∷ a .blend .compose ∷ a .mask ∷ a .«draw_id» ∷ a .«thread_idx» ∷ a .«origin_x» ∷ a .«origin_y» ∷ []) (omega arith)
+    stored xs (paint-attr-size * c .before .args .i) (a .paint)
+    (a .blend .mix ∷ a .blend .compose ∷ a .mask ∷ a .«draw_id» ∷ a .«thread_idx» ∷ a .«origin_x» ∷ a .«origin_y» ∷ a .panel ∷ []) (omega arith)
 
 pub put-paint-attrs-spec : {M : Type 1} → statement M
 put-paint-attrs-spec =
@@ -117,5 +127,8 @@ put-paint-attrs-spec =
     add-table-7
     mul-table-8
     slice-write-table-8
+    add-table-8
+    mul-table-9
+    slice-write-table-9
     same-length
     returns)

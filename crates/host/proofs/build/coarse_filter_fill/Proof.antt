@@ -27,7 +27,7 @@ returns : tie.Need-returns
 returns c =
     let at-enum-told = c .before .before in
     let at-screen-of = at-enum-told .before .before in
-    filter-unheld _ _ _ _ _ _ (words _ _ _) _ _ (sym (at-enum-told .enum-told .given .1) ∙ at-screen-of .screen-of .ensures) (c .refuse-build .ensures)
+    filter-unheld _ _ _ _ (words _ _ _) _ _ (sym (at-enum-told .enum-told .given .1) ∙ at-screen-of .screen-of .ensures) (c .refuse-build .ensures)
 
 pixmap-of-requires : tie.Need-pixmap-of-requires
 pixmap-of-requires c κs = search needs
@@ -67,7 +67,7 @@ returns-2 c =
     let at-screen = at-pixmap-of .before .before in
     let at-screen-of = at-screen .before .before in
     rw (← at-pixmap-of .pixmap-of .ensures) (filter-built _ _ _ _ _ _ _ (sym (at-screen .screen .given .1) ∙ at-screen-of .screen-of .ensures)
-    (at-leave .leave .ensures .0) (at-leave .leave .ensures .1) _ _ _ _ _ _ _ _ _ (at-filter-fill .filter-fill .ensures))
+    (at-leave .leave .ensures .0) (at-leave .leave .ensures .1) _ _ _ _ _ _ _ (at-filter-fill .filter-fill .ensures))
 
 pub coarse-filter-fill-spec : {M : Type 1} → statement M
 coarse-filter-fill-spec =

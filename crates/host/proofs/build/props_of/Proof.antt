@@ -12,7 +12,7 @@ props-at-requires c κs = search needs
 
 returns : tie.Need-returns
 unfolding layer-from clip-from
-returns c = c .props-at .ensures
+returns c = rw (c .props-at .ensures)
 
 pub props-of-spec : {M : Type 1} → statement M
 props-of-spec = tie.close (tie.spec slice-aggregate-props-at props-at-requires returns)

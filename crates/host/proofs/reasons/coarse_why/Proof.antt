@@ -11,6 +11,7 @@ use Rattle.screen.specs.Tables.{Tables, tables}
 use Rattle.host_screen.specs.State.{screen-of}
 use Rattle.host_screen.specs.Asked.{asked-for}
 use Rattle.host_screen.proofs.Words.{long, was-good}
+use Rattle.host.specs.Reasons.{reason-size}
 use Rattle.host.proofs.Asked.{why-unasked, why-asked}
 use Rattle.host.proofs.Questions.{why-unheld, why-built}
 use borrow.Author.Needs.{needs}
@@ -94,7 +95,7 @@ put-reason-requires c κs =
     let at-good = at-screen-of .before .before in
     let args = at-good .before .before .before .before .before .before .before .before .before .before .before .before .before .before .before .before .before .args in
     let good = was-good _ _ _ (sym (at-screen .screen .given .1) ∙ at-screen-of .screen-of .ensures) in
-    eqb-true _ _ (both (leb (args .layer) 1) (eqb (length (args .result .now)) 2) (sym (at-good .is-good-question .ensures) ∙ good) .1)
+    eqb-true _ _ (both (leb (args .layer) 1) (eqb (length (args .result .now)) reason-size) (sym (at-good .is-good-question .ensures) ∙ good) .1)
 
 same-length-2 : tie.Need-same-length-2
 same-length-2 c = search needs

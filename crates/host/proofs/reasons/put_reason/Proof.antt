@@ -1,6 +1,6 @@
--- A refusal leaves the result; else it is the reason's two words.
+-- A refusal leaves the result; else it is the reason's words.
 use borrow.Author.Tests.{ne-eqb}
-use Rattle.host_results.proofs.Stored.{two-stored}
+use Rattle.host_results.proofs.Stored.{four-stored}
 use borrow.Author.Needs.{needs}
 use Rattle.host.proofs.reasons.put_reason.Statement.{statement}
 use Rattle.host.proofs.reasons.put_reason.Tie as tie
@@ -17,13 +17,19 @@ slice-write-result c = search needs
 slice-write-result-2 : tie.Need-slice-write-result-2
 slice-write-result-2 c = search needs
 
+slice-write-result-3 : tie.Need-slice-write-result-3
+slice-write-result-3 c = search needs
+
+slice-write-result-4 : tie.Need-slice-write-result-4
+slice-write-result-4 c = search needs
+
 same-length : tie.Need-same-length
 same-length c = search needs
 
 returns-2 : tie.Need-returns-2
 returns-2 c =
     let at-if1 = c .before in
-    rw (at-if1 .if1 .left, two-stored _ _ _ (at-if1 .before .before .pre), c .words-of .ensures)
+    rw (at-if1 .if1 .left, four-stored _ _ _ _ _ (at-if1 .before .before .pre), c .words-of .ensures)
 
 pub put-reason-spec : {M : Type 1} → statement M
 put-reason-spec =
@@ -33,5 +39,7 @@ put-reason-spec =
     words-of-requires
     slice-write-result
     slice-write-result-2
+    slice-write-result-3
+    slice-write-result-4
     same-length
     returns-2)

@@ -1,4 +1,4 @@
--- The unset runs go to the front of the list, are spread to pieces of six words, and the place moves on.
+-- The unset runs go to the front of the list, are spread to pieces, and the place moves on.
 use mathlib.Core.Path.{sym}
 use Rattle.paint_command.proofs.Listing.{lent-length}
 use Rattle.paint_command.proofs.Filling.{depth-refused, depth-ready, depth-done}
@@ -31,7 +31,7 @@ returns : tie.Need-returns
 returns c =
     let at-found = c .before .before .before .before .before .before in
     let at-args = at-found .before .before .before .before .before .before .before in
-    depth-refused (at-args .args .width) _ _ (at-args .args .list .now) _ _ _ _ (at-args .args .fill .buckets) (at-args .pre .0 .0) (at-args .pre .0 .1) (at-args .pre .0 .3) _
+    depth-refused (at-args .args .width) _ _ (at-args .args .list .now) _ _ _ _ (at-args .args .panel) (at-args .args .fill .buckets) (at-args .pre .0 .0) (at-args .pre .0 .1) (at-args .pre .0 .3) _
     (at-found .unset-runs-and-write .ensures) _ (c .before .if1 .taken) (c .refused .ensures)
 
 tiles-requires : tie.Need-tiles-requires
@@ -43,7 +43,7 @@ spread-requires c κs =
     let at-found = at-if1 .before .before .before .before .before in
     let at-args = at-found .before .before .before .before .before .before .before in
     rw (c .tiles .ensures) (depth-ready (at-args .args .width) _ (at-args .args .painting .now) (at-args .args .list .now) _ _ _
-    (at-args .args .fill .«attrs_idx») (at-args .args .fill .buckets) (at-args .pre .0 .0) (at-args .pre .0 .1) (at-args .pre .0 .3) _
+    (at-args .args .fill .«attrs_idx») (at-args .args .panel) (at-args .args .fill .buckets) (at-args .pre .0 .0) (at-args .pre .0 .1) (at-args .pre .0 .3) _
     (at-found .unset-runs-and-write .ensures) (at-if1 .if1 .left) (at-args .pre .0 .2))
 
 slice-read-nesting : tie.Need-slice-read-nesting
@@ -69,7 +69,7 @@ returns-2 c =
     let at-if1 = at-tiles .before .before in
     let at-found = at-if1 .before .before .before .before .before in
     let at-args = at-found .before .before .before .before .before .before .before in
-    depth-done (at-args .args .width) _ (at-args .args .painting .now) (at-args .args .list .now) _ _ _ _ (at-args .args .fill .buckets)
+    depth-done (at-args .args .width) _ (at-args .args .painting .now) (at-args .args .list .now) _ _ _ _ (at-args .args .panel) (at-args .args .fill .buckets)
     (at-args .pre .0 .0) (at-args .pre .0 .1) (at-args .pre .0 .3) _ (at-found .unset-runs-and-write .ensures) (at-if1 .if1 .left) _ _ _
     (at-advance .advance .ensures) (rw (at-tiles .tiles .ensures) at (at-spread .spread .ensures))
 

@@ -1,4 +1,4 @@
--- The shown runs go to the front of the list, are spread to pieces of six words, and the place moves on.
+-- The shown runs go to the front of the list, are spread to pieces, and the place moves on.
 use mathlib.Core.Path.{sym}
 use Rattle.depth.specs.Answers.{summary}
 use Rattle.paint_command.proofs.Listing.{lent-length}
@@ -29,7 +29,7 @@ returns : tie.Need-returns
 returns c =
     let at-found = c .before .before .before .before in
     let at-args = at-found .before .before .before .before .before .before in
-    fill-refused (at-args .args .width) _ _ (at-args .args .list .now) _ (summary (at-args .args .sum)) _ _ _ (at-args .args .fill .span) (at-args .args .fill .alpha)
+    fill-refused (at-args .args .width) _ _ (at-args .args .list .now) _ (summary (at-args .args .sum)) _ _ _ (at-args .args .panel) (at-args .args .fill .span) (at-args .args .fill .alpha)
     (at-args .pre .0 .0) (at-args .pre .0 .1) _ (at-found .shown-runs .ensures) _ (c .before .if1 .taken) (c .refused .ensures)
 
 slice-read-nesting : tie.Need-slice-read-nesting
@@ -41,7 +41,7 @@ spread-requires c κs =
     let at-found = at-if1 .before .before .before in
     let at-args = at-found .before .before .before .before .before .before in
     fill-ready (at-args .args .width) _ (at-args .args .painting .now) (at-args .args .list .now) _ (summary (at-args .args .sum)) (at-args .args .layer) _
-    (at-args .args .fill .«attrs_idx») (at-args .args .fill .span) (at-args .args .fill .alpha) (at-args .pre .0 .0) (at-args .pre .0 .1) _
+    (at-args .args .fill .«attrs_idx») (at-args .args .panel) (at-args .args .fill .span) (at-args .args .fill .alpha) (at-args .pre .0 .0) (at-args .pre .0 .1) _
     (at-found .shown-runs .ensures) (at-if1 .if1 .left) (at-args .pre .0 .2)
 
 advance-requires : tie.Need-advance-requires
@@ -60,7 +60,7 @@ returns-2 c =
     let at-if1 = at-spread .before .before .before in
     let at-found = at-if1 .before .before .before in
     let at-args = at-found .before .before .before .before .before .before in
-    fill-done (at-args .args .width) _ (at-args .args .painting .now) (at-args .args .list .now) _ (summary (at-args .args .sum)) _ _ _ (at-args .args .fill .span)
+    fill-done (at-args .args .width) _ (at-args .args .painting .now) (at-args .args .list .now) _ (summary (at-args .args .sum)) _ _ _ (at-args .args .panel) (at-args .args .fill .span)
     (at-args .args .fill .alpha) (at-args .pre .0 .0) (at-args .pre .0 .1) _ (at-found .shown-runs .ensures) (at-if1 .if1 .left) _ _ _
     (at-advance .advance .ensures) (at-spread .spread .ensures)
 

@@ -1,6 +1,8 @@
 -- By the command's kind: a fill gives its runs, a PushBuf and a PopBuf change the nesting; a bad one is answered by its number.
 use Rattle.depth.specs.Answers.{summary}
+use Rattle.paint_command.proofs.Judging.{paint-below, layer-below}
 use Rattle.paint_command.proofs.Steps.{paint-forged, paint-taken, layer-forged, layer-taken, push-forged, pushed, pop-forged, popped, paint-good, layer-good}
+use native.Mathlib.Omega.{arith}
 use Rattle.sizes.specs.Widths.{bucket-tiles}
 use borrow.Author.Needs.{needs}
 use Rattle.paint_command.proofs.row.step_command.Statement.{statement}
@@ -23,9 +25,20 @@ returns c =
     paint-forged (bucket-tiles (at-args .args .width)) _ _ _ _ _ (at-args .args .painting .now) _ (summary (at-args .args .sum)) _ _ (at-cmd .cmd .given .1) _ (at-paint-taken .paint-taken .ensures)
     _ (c .before .if1 .taken) (c .refused .ensures)
 
+wide-requires : tie.Need-wide-requires
+wide-requires c κs = search needs
+
+paint-panel-requires : tie.Need-paint-panel-requires
+paint-panel-requires c κs =
+    let at-if1 = c .before in
+    let at-paint-taken = at-if1 .before in
+    let at-pre = at-paint-taken .before .before .before .before .before .before .before .before .before in
+    let below = paint-below (at-pre .args .paint-attrs .now) (at-pre .args .paints) (at-pre .args .layer-attrs .now) (at-pre .args .layers) _ _ (at-if1 .if1 .left) (at-paint-taken .paint-taken .ensures) in
+    (omega (arith, below, c .wide .ensures, at-pre .pre .0 .1), at-pre .pre .0 .0)
+
 paint-fill-requires : tie.Need-paint-fill-requires
 paint-fill-requires c κs =
-    let at-cmd = c .before .before .before .before .before in
+    let at-cmd = c .before .before .before .before .before .before .before in
     let at-pre = at-cmd .before .before .before .before .before .before .before in
     let g = paint-good _ _ (at-cmd .cmd .given .1) (at-pre .pre .1 .0) in
     ((g .0, g .1, g .2, at-pre .pre .1 .1), (at-pre .pre .1 .2, at-pre .pre .1 .3))
@@ -47,9 +60,20 @@ returns-2 c =
     layer-forged (bucket-tiles (at-args .args .width)) _ _ _ _ _ (at-args .args .painting .now) _ (summary (at-args .args .sum)) _ _ (at-cmd2 .cmd2 .given .1) _
     (at-layer-taken .layer-taken .ensures) _ (c .before .if2 .taken) (c .refused2 .ensures)
 
+wide-requires-2 : tie.Need-wide-requires-2
+wide-requires-2 c κs = search needs
+
+layer-panel-requires : tie.Need-layer-panel-requires
+layer-panel-requires c κs =
+    let at-if2 = c .before in
+    let at-layer-taken = at-if2 .before in
+    let at-pre = at-layer-taken .before .before .before .before .before .before .before .before .before in
+    let below = layer-below (at-pre .args .paint-attrs .now) (at-pre .args .paints) (at-pre .args .layer-attrs .now) (at-pre .args .layers) _ _ (at-if2 .if2 .left) (at-layer-taken .layer-taken .ensures) in
+    (omega (arith, below, c .wide2 .ensures, at-pre .pre .0 .3), at-pre .pre .0 .2)
+
 paint-fill-requires-2 : tie.Need-paint-fill-requires-2
 paint-fill-requires-2 c κs =
-    let at-cmd2 = c .before .before .before .before .before in
+    let at-cmd2 = c .before .before .before .before .before .before .before in
     let at-pre = at-cmd2 .before .before .before .before .before .before .before in
     let g = layer-good _ _ (at-cmd2 .cmd2 .given .1) (at-pre .pre .1 .0) in
     ((g .0, g .1, g .2, at-pre .pre .1 .1), (at-pre .pre .1 .2, at-pre .pre .1 .3))
@@ -117,12 +141,14 @@ same-length-4 c = search needs
 returns-5 : tie.Need-returns-5
 returns-5 c =
     let at-paint-fill = c .before .before .before .before in
-    let at-if1 = at-paint-fill .before .before .before in
+    let at-paint-panel = at-paint-fill .before .before .before in
+    let at-wide = at-paint-panel .before in
+    let at-if1 = at-wide .before in
     let at-paint-taken = at-if1 .before in
     let at-cmd = at-paint-taken .before .before in
     let at-args = at-cmd .before .before .before .before .before .before .before in
     paint-taken (bucket-tiles (at-args .args .width)) _ _ _ _ _ (at-args .args .painting .now) _ (summary (at-args .args .sum)) _ _ (at-cmd .cmd .given .1) _ (at-paint-taken .paint-taken .ensures) _
-    (at-if1 .if1 .left) (at-paint-fill .paint-fill .ensures)
+    (at-if1 .if1 .left) _ _ (at-wide .wide .ensures) (at-paint-panel .paint-panel .ensures) (at-paint-fill .paint-fill .ensures)
 
 same-length-5 : tie.Need-same-length-5
 same-length-5 c = search needs
@@ -133,12 +159,14 @@ same-length-6 c = search needs
 returns-6 : tie.Need-returns-6
 returns-6 c =
     let at-paint-fill2 = c .before .before .before .before in
-    let at-if2 = at-paint-fill2 .before .before .before in
+    let at-layer-panel = at-paint-fill2 .before .before .before in
+    let at-wide2 = at-layer-panel .before in
+    let at-if2 = at-wide2 .before in
     let at-layer-taken = at-if2 .before in
     let at-cmd2 = at-layer-taken .before .before in
     let at-args = at-cmd2 .before .before .before .before .before .before .before in
     layer-taken (bucket-tiles (at-args .args .width)) _ _ _ _ _ (at-args .args .painting .now) _ (summary (at-args .args .sum)) _ _ (at-cmd2 .cmd2 .given .1) _ (at-layer-taken .layer-taken .ensures)
-    _ (at-if2 .if2 .left) (at-paint-fill2 .paint-fill2 .ensures)
+    _ (at-if2 .if2 .left) _ _ (at-wide2 .wide2 .ensures) (at-layer-panel .layer-panel .ensures) (at-paint-fill2 .paint-fill2 .ensures)
 
 returns-7 : tie.Need-returns-7
 returns-7 c =
@@ -162,11 +190,15 @@ step-command-spec =
     paint-taken-requires
     refused-requires
     returns
+    wide-requires
+    paint-panel-requires
     paint-fill-requires
     enum-known-cmd-2
     layer-taken-requires
     refused-requires-2
     returns-2
+    wide-requires-2
+    layer-panel-requires
     paint-fill-requires-2
     enum-told
     slice-read-nesting

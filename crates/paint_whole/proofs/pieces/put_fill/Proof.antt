@@ -1,9 +1,10 @@
 -- What the look has seen of the fill is its first run or none, and the search gives those from where it stopped.
-use mathlib.Core.Path.{_≡_, refl, ap, _∙_}
-use Prim.Native.Nat.{_+_, _*_, _≤_}
+use mathlib.Core.Path.{refl, ap, _∙_}
+use Prim.Native.Nat.{_*_}
 use native.Mathlib.Omega.{arith}
 use lib.ListN.{length}
 use borrow.Author.Needs.{needs}
+use Rattle.sizes.specs.Sizes.{piece-size}
 use Rattle.rules.specs.Spans.{span}
 use Rattle.sizes.specs.Widths.{bucket-tiles}
 use Rattle.cmd.proofs.Tables.{length-at}
@@ -60,8 +61,8 @@ put-runs-requires c κs =
     let a = entry .args in
     let look = entry .pre .0 in
     let found = rw (at-if1 .if1 .taken) at (look .found) in
-    let words = run-words (bucket-tiles (a .width)) (a .tag) (a .i) (a .tiles) (a .alpha) (a .level) (span (at-wide2 .wide2 .result) (a .stop)) in
-    let long = length-at (a .list .now) (6 * a .k) words (omega (arith, entry .pre .2, ap length found)) in
+    let words = run-words (bucket-tiles (a .width)) (a .tag) (a .i) (a .tiles) (a .alpha) (a .level) (a .panel) (span (at-wide2 .wide2 .result) (a .stop)) in
+    let long = length-at (a .list .now) (piece-size * a .k) words (omega (arith, entry .pre .2, ap length found)) in
     let high = at-wide .wide .ensures ∙ at-above .above .ensures in
     rw high (
       (look .within, look .fits, (rw (at-if1 .if1 .taken) at (look .other))),
@@ -85,7 +86,7 @@ returns c =
     let low = at-wide2 .wide2 .ensures ∙ at-below .below .ensures in
     let high = at-wide .wide .ensures ∙ at-above .above .ensures in
     let rest = rw high at (put .put-runs .ensures) in
-    put-both _ _ _ _ _ _ _ _ _ _ _ _ _ found (entry .pre .2) _ _ _ (rw low at (first .put-run .ensures)) (rest .0) (rest .1)
+    put-both _ _ _ _ _ _ _ _ _ _ _ _ _ _ found (entry .pre .2) _ _ _ (rw low at (first .put-run .ensures)) (rest .0) (rest .1)
 
 put-runs-requires-2 : tie.Need-put-runs-requires-2
 put-runs-requires-2 c κs =

@@ -6,6 +6,7 @@ use Prim.Native.Nat.{_<_, _≤_, _-_, _+_, _*_}
 use native.Mathlib.Omega.{arith}
 use lib.ListN.{length, getD}
 use borrow.Author.Tests.{le-leb}
+use Rattle.sizes.specs.Sizes.{piece-size}
 use Rattle.rules.specs.Depth.{is-visible}
 use Rattle.sizes.specs.Widths.{bucket-tiles}
 use Rattle.depth.proofs.Searching.{Reached, reach-first, reach-more}
@@ -19,20 +20,20 @@ use Rattle.paint_whole.proofs.pieces.put_runs.Lts as lts
 use Rattle.paint_whole.proofs.pieces.put_run.Reads as put-run-reads
 
 abbrev Inv-loop2 : tie.InvT-loop2
-Inv-loop2 depth start shown e id list k tag i tiles alpha level width at «open» n next₀ next = Reached (is-visible id) depth e at next
+Inv-loop2 depth start shown e id list k tag i tiles alpha level panel width at «open» n next₀ next = Reached (is-visible id) depth e at next
 
 abbrev μ-loop2 : tie.MeasureT-loop2
-μ-loop2 depth start shown e id list k tag i tiles alpha level width at «open» n next₀ next = e - next
+μ-loop2 depth start shown e id list k tag i tiles alpha level panel width at «open» n next₀ next = e - next
 
 abbrev Inv-loop : tie.InvT-loop
-Inv-loop depth start shown e id list₀ k tag i tiles alpha level width at₀ open₀ n₀ list at «open» n =
-    Put depth id e (bucket-tiles width) tag i tiles alpha level start k list₀ at n list × (at < e → is-visible id (getD depth at 0) ≡ «open»)
+Inv-loop depth start shown e id list₀ k tag i tiles alpha level panel width at₀ open₀ n₀ list at «open» n =
+    Put depth id e (bucket-tiles width) tag i tiles alpha level panel start k list₀ at n list × (at < e → is-visible id (getD depth at 0) ≡ «open»)
 
 abbrev μ-loop : tie.MeasureT-loop
-μ-loop depth start shown e id list₀ k tag i tiles alpha level width at₀ open₀ n₀ list at «open» n = e - at
+μ-loop depth start shown e id list₀ k tag i tiles alpha level panel width at₀ open₀ n₀ list at «open» n = e - at
 
 loop-holds : tie.Need-loop-holds Inv-loop2 μ-loop2 Inv-loop μ-loop
-loop-holds c = (put-first _ _ _ _ _ _ _ _ _ _ _ _, λ h. c .before .before .pre .0 .2)
+loop-holds c = (put-first _ _ _ _ _ _ _ _ _ _ _ _ _, λ h. c .before .before .pre .0 .2)
 
 add-next : tie.Need-add-next Inv-loop2 μ-loop2 Inv-loop μ-loop
 add-next c = omega arith
@@ -75,10 +76,10 @@ stopped c =
 
 -- the run's piece has room in the list
 room : (c : tie.Joined2 Inv-loop2 μ-loop2 Inv-loop μ-loop) →
-    let at-loop = c .before .before .before .before .loop in 6 * at-loop .n + 6 ≤ length (at-loop .list)
+    let at-loop = c .before .before .before .before .loop in piece-size * at-loop .n + piece-size ≤ length (at-loop .list)
 room c =
     let at-loop = c .before .before .before .before in
-    put-room _ _ _ _ _ _ _ _ _ _ _ _ _ _ _ (at-loop .loop .inv .0) (at-loop .before .before .before .pre .1 .2) _ (stopped c)
+    put-room _ _ _ _ _ _ _ _ _ _ _ _ _ _ _ _ (at-loop .loop .inv .0) (at-loop .before .before .before .pre .1 .2) _ (stopped c)
 
 put-run-requires : tie.Need-put-run-requires Inv-loop2 μ-loop2 Inv-loop μ-loop
 put-run-requires c κs =
@@ -99,7 +100,7 @@ loop-again c =
     let at-stop = at-put .before .before in
     let at-loop = at-stop .before .before .before .before in
     let entry = at-loop .before .before .before in (
-      put-more _ _ _ _ _ _ _ _ _ _ _ _ _ _ _ (at-loop .loop .inv .0) (entry .pre .1 .2) _ (stopped at-stop) _ (at-put .put-run .ensures),
+      put-more _ _ _ _ _ _ _ _ _ _ _ _ _ _ _ _ (at-loop .loop .inv .0) (entry .pre .1 .2) _ (stopped at-stop) _ (at-put .put-run .ensures),
       stopped at-stop .other,
     )
 
@@ -122,7 +123,7 @@ loop-again-2 c =
     let at-loop = at-if1 .before .before in
     let entry = at-loop .before .before .before in
     let in-range = at-if1 .before .loop-test .taken in
-    (put-skip _ _ _ _ _ _ _ _ _ _ _ _ _ _ _ (at-loop .loop .inv .0) (entry .pre .0 .1) in-range (at-loop .loop .inv .1 in-range ∙ at-if1 .if1 .left), λ h. refl)
+    (put-skip _ _ _ _ _ _ _ _ _ _ _ _ _ _ _ _ (at-loop .loop .inv .0) (entry .pre .0 .1) in-range (at-loop .loop .inv .1 in-range ∙ at-if1 .if1 .left), λ h. refl)
 
 loop-less-3 : tie.Need-loop-less-3 Inv-loop2 μ-loop2 Inv-loop μ-loop
 loop-less-3 c = omega arith
@@ -133,13 +134,13 @@ loop-again-3 c =
     let at-loop = at-if1 .before .before in
     let entry = at-loop .before .before .before in
     let in-range = at-if1 .before .loop-test .taken in
-    (put-skip _ _ _ _ _ _ _ _ _ _ _ _ _ _ _ (at-loop .loop .inv .0) (entry .pre .0 .1) in-range (at-loop .loop .inv .1 in-range ∙ at-if1 .if1 .left), λ h. absurd (omega arith))
+    (put-skip _ _ _ _ _ _ _ _ _ _ _ _ _ _ _ _ (at-loop .loop .inv .0) (entry .pre .0 .1) in-range (at-loop .loop .inv .1 in-range ∙ at-if1 .if1 .left), λ h. absurd (omega arith))
 
 same-length : tie.Need-same-length Inv-loop2 μ-loop2 Inv-loop μ-loop
 same-length c = c .before .loop .inv .0 .kept
 
 returns : tie.Need-returns Inv-loop2 μ-loop2 Inv-loop μ-loop
-returns c = put-end _ _ _ _ _ _ _ _ _ _ _ _ _ _ _ (c .before .loop .inv .0) (c .loop-test .left)
+returns c = put-end _ _ _ _ _ _ _ _ _ _ _ _ _ _ _ _ (c .before .loop .inv .0) (c .loop-test .left)
 
 pub put-runs-spec : {M : Type 1} → statement M
 put-runs-spec =

@@ -1,9 +1,8 @@
 -- Invariant: so far the commands are painted as single steps would paint them. A run of commands that one look settles goes on from there, and then a fill
 -- that is shown in part, whose pieces are those of its step.
-use Prim.Native.Nat.{_+_, _-_, _*_, _/_, _≤_}
-use mathlib.Core.Path.{_≡_, refl, _∙_}
+use Prim.Native.Nat.{_+_, _-_, _*_, _≤_}
+use mathlib.Core.Path.{_∙_}
 use native.Mathlib.Omega.{arith}
-use lib.ListN.{length}
 use Rattle.sizes.specs.Widths.{bucket-tiles}
 use Rattle.rules.specs.Depth.{is-visible}
 use Rattle.depth.proofs.Searching.{runs-few}
@@ -263,7 +262,7 @@ loop-again c =
     let few = runs-few (is-visible (at-sure .run-sure .result .look .id)) (entry .args .depth .now) (low-met (bucket-tiles (entry .args .width)) tiles) (high-met (bucket-tiles (entry .args .width)) tiles) in
     let all = reach-both _ _ _ _ _ _ (at-loop .loop .inv .0) (sure .0) in (
       rw (at-put .put-fill .ensures .0) (on-partly (bucket-tiles (entry .args .width)) _ (entry .args .state .now) (entry .args .render .now) (entry .args .fills .now) (entry .args .depth .now) (entry .pre .1 .0 .1) _
-          _ _ _ _ all (omega (arith, ahead .0, entry .pre .1 .1 .1)) _ _ _ (ahead .1) (omega (
+          _ _ _ _ all (omega (arith, ahead .0, entry .pre .1 .1 .1)) _ _ _ _ (ahead .1) (omega (
             arith,
             at-if2 .if2 .left,
             at-if2 .before .most-runs .ensures,

@@ -1,8 +1,7 @@
 -- So far the commands before this one are painted as single steps would paint them: each gave one piece, none, or changed the nesting.
-use mathlib.Core.Path.{_≡_, refl, _∙_}
+use mathlib.Core.Path.{_≡_, refl}
 use Prim.Native.Nat.{_-_, _≤_}
 use native.Mathlib.Omega.{arith}
-use lib.ListN.{length}
 use Rattle.sizes.specs.Widths.{bucket-tiles}
 use Rattle.paint_command.specs.Painting.{word, attrs-at}
 use Rattle.paint_whole.specs.Running.{own-step}
@@ -165,7 +164,7 @@ loop-again c =
             arith,
             at-loop-test .loop-test .taken,
             at-args .pre .1 .1 .1,
-          )) _ _ _ (rw (at-loop .loop .inv .2, at-loop .loop .inv .3, at-loop .loop .inv .4) at (at-sure-kind .sure-kind .ensures)) (at-if2 .if2 .left)
+          )) _ _ _ _ (rw (at-loop .loop .inv .2, at-loop .loop .inv .3, at-loop .loop .inv .4) at (at-sure-kind .sure-kind .ensures)) (at-if2 .if2 .left)
           (at-if1 .if1 .taken) _ (at-put-words .put-words .ensures),
       omega (arith, at-loop-test .loop-test .taken),
       at-loop .loop .inv .2,
@@ -191,7 +190,7 @@ loop-again-2 c =
             arith,
             at-loop-test .loop-test .taken,
             at-args .pre .1 .1 .1,
-          )) _ _ _ (rw (at-loop .loop .inv .2, at-loop .loop .inv .3, at-loop .loop .inv .4) at (at-sure-kind .sure-kind .ensures)) (c .if3 .taken),
+          )) _ _ _ _ (rw (at-loop .loop .inv .2, at-loop .loop .inv .3, at-loop .loop .inv .4) at (at-sure-kind .sure-kind .ensures)) (c .if3 .taken),
       omega (arith, at-loop-test .loop-test .taken),
       at-loop .loop .inv .2,
       at-loop .loop .inv .3,
@@ -219,7 +218,7 @@ loop-again-3 c =
             arith,
             at-loop-test .loop-test .taken,
             at-args .pre .1 .1 .1,
-          )) _ _ _ (rw (at-loop .loop .inv .2, at-loop .loop .inv .3, at-loop .loop .inv .4) at (at-sure-kind .sure-kind .ensures)) (c .if4 .taken),
+          )) _ _ _ _ (rw (at-loop .loop .inv .2, at-loop .loop .inv .3, at-loop .loop .inv .4) at (at-sure-kind .sure-kind .ensures)) (c .if4 .taken),
       omega (arith, at-loop-test .loop-test .taken),
       at-loop .loop .inv .2,
       at-loop .loop .inv .3,
@@ -247,7 +246,7 @@ loop-again-4 c =
             arith,
             at-loop-test .loop-test .taken,
             at-args .pre .1 .1 .1,
-          )) _ _ _ (rw (at-loop .loop .inv .2, at-loop .loop .inv .3, at-loop .loop .inv .4) at (at-sure-kind .sure-kind .ensures)) (c .if5 .taken),
+          )) _ _ _ _ (rw (at-loop .loop .inv .2, at-loop .loop .inv .3, at-loop .loop .inv .4) at (at-sure-kind .sure-kind .ensures)) (c .if5 .taken),
       omega (arith, at-loop-test .loop-test .taken),
       at-loop .loop .inv .2,
       at-loop .loop .inv .3,

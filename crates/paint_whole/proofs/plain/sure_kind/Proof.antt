@@ -10,7 +10,7 @@ use Rattle.paint_whole.proofs.plain.sure_kind.Reads as reads
 use Rattle.paint_whole.proofs.plain.sure_kind.Lts as lts
 use Rattle.paint_whole.proofs.plain.sure_buffer.Reads as sure-buffer-reads
 use Rattle.paint_whole.proofs.plain.sure_fill.Reads as sure-fill-reads
-use Rattle.paint_whole.proofs.plain.id_of.Reads as id-of-reads
+use Rattle.paint_whole.proofs.plain.mark_of.Reads as mark-of-reads
 
 sure-buffer-requires : tie.Need-sure-buffer-requires
 sure-buffer-requires c κs = search needs
@@ -28,8 +28,8 @@ returns-2 c =
     (at-args .args .from) (at-args .args .to) (at-args .args .largest)) (at-args .args .depth .now) (at-args .args .nesting) (at-args .args .tag)
     (at-args .args .tiles) (at-args .args .alpha) (at-args .args .i)
 
-id-of-requires : tie.Need-id-of-requires
-id-of-requires c κs = search needs
+mark-of-requires : tie.Need-mark-of-requires
+mark-of-requires c κs = search needs
 
 returns-3 : tie.Need-returns-3
 returns-3 c =
@@ -43,16 +43,16 @@ sure-fill-requires c κs = search needs
 
 returns-4 : tie.Need-returns-4
 returns-4 c =
-    let at-id-of = c .before .before in
-    let at-if2 = at-id-of .before in
+    let at-mark-of = c .before .before in
+    let at-if2 = at-mark-of .before in
     let at-if1 = at-if2 .before in
     let at-args = at-if1 .before .before .before .before in
     said-fill (bucket-tiles (at-args .args .width)) (at-args .args .paint-attrs .now) (at-args .args .paints) (at-args .args .layer-attrs .now) (at-args .args .layers) (summary-by
     (at-args .args .from) (at-args .args .to) (at-args .args .largest)) (at-args .args .depth .now) (at-args .args .nesting) (at-args .args .tag)
-    (at-args .args .tiles) (at-args .args .alpha) (at-args .args .i) _ _ _ _ (c .before .if3 .left) (c .sure-fill .ensures) (omega (
+    (at-args .args .tiles) (at-args .args .alpha) (at-args .args .i) _ _ _ _ _ (c .before .if3 .left) (c .sure-fill .ensures) (omega (
       arith,
       at-if2 .if2 .left,
-    )) (at-if1 .if1 .left) (at-id-of .id-of .ensures)
+    )) (at-if1 .if1 .left) (at-mark-of .mark-of .ensures .0) (at-mark-of .mark-of .ensures .1 (c .before .if3 .left))
 
 pub sure-kind-spec : {M : Type 1} → statement M
 sure-kind-spec =
@@ -61,7 +61,7 @@ sure-kind-spec =
     sure-buffer-requires
     returns
     returns-2
-    id-of-requires
+    mark-of-requires
     returns-3
     sure-fill-requires
     returns-4)

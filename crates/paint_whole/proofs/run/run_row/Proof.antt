@@ -4,6 +4,7 @@ use mathlib.Core.Path.{_≡_, refl, _∙_}
 use Prim.Native.Nat.{_-_, _≤_, _*_}
 use native.Mathlib.Omega.{arith}
 use lib.ListN.{length}
+use Rattle.sizes.specs.Sizes.{piece-size}
 use Rattle.sizes.specs.Widths.{bucket-tiles}
 use Rattle.paint_command.specs.Painting.{attrs-at, out, listed}
 use Rattle.paint_whole.specs.Running.{standing, own-step, own-run}
@@ -18,7 +19,7 @@ use Rattle.paint_whole.proofs.run.step_on.Reads as step-on-reads
 abbrev Inv-loop : tie.InvT-loop
 Inv-loop state render fills depth₀ painting₀ paint-attrs paints layer-attrs layers list₀ limit width pieces₀ steps₀ depth painting list pieces steps =
     Rest (own-step (bucket-tiles width) (attrs-at paint-attrs paints layer-attrs layers) state render fills) limit (standing depth₀ painting₀ list₀) (out (listed pieces) depth painting list) steps
-    × (6 * pieces ≤ length list₀) × (length depth ≡ length depth₀) × (length painting ≡ length painting₀) × (length list ≡ length list₀)
+    × (piece-size * pieces ≤ length list₀) × (length depth ≡ length depth₀) × (length painting ≡ length painting₀) × (length list ≡ length list₀)
 
 abbrev μ-loop : tie.MeasureT-loop
 μ-loop state render fills depth₀ painting₀ paint-attrs paints layer-attrs layers list₀ limit width pieces₀ steps₀ depth painting list pieces steps =

@@ -13,7 +13,7 @@ want-of-requires c κs = search needs
 returns : tie.Need-returns
 returns c =
     let a = c .before .args in
-    (as-usual (mode-of (a .mode)) (width-of (a .pixels)) (c .want-of .ensures), refl, refl)
+    (as-usual (mode-of (a .mode)) (width-of (a .pixels)) (a .panels) (c .want-of .ensures), refl, refl)
 
 pub options-at-spec : {M : Type 1} → statement M
 options-at-spec = tie.close (tie.spec want-of-requires returns)

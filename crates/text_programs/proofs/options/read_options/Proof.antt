@@ -6,10 +6,10 @@ use Rattle.text_programs.proofs.options.read_options.Statement.{stateme
 use Rattle.text_programs.proofs.options.read_options.Tie as tie
 
 abbrev Inv-loop : tie.InvT-loop
-Inv-loop n mode₀ pixels₀ i₀ t6 mode pixels i = i ≤ 18446744073709551615
+Inv-loop known n mode₀ pixels₀ panels₀ i₀ t8 mode pixels panels i = i ≤ 18446744073709551615
 
 abbrev μ-loop : tie.MeasureT-loop
-μ-loop n mode₀ pixels₀ i₀ t6 mode pixels i = n - i
+μ-loop known n mode₀ pixels₀ panels₀ i₀ t8 mode pixels panels i = n - i
 
 arg-count-requires : tie.Need-arg-count-requires Inv-loop μ-loop
 arg-count-requires c κs = search needs
@@ -32,8 +32,20 @@ loop-less c = omega arith
 loop-again : tie.Need-loop-again Inv-loop μ-loop
 loop-again c = omega arith
 
-sub-if2 : tie.Need-sub-if2 Inv-loop μ-loop
-sub-if2 c = omega arith
+is-panels-requires : tie.Need-is-panels-requires Inv-loop μ-loop
+is-panels-requires c κs = search needs
+
+add-i-2 : tie.Need-add-i-2 Inv-loop μ-loop
+add-i-2 c = omega arith
+
+loop-less-2 : tie.Need-loop-less-2 Inv-loop μ-loop
+loop-less-2 c = omega arith
+
+loop-again-2 : tie.Need-loop-again-2 Inv-loop μ-loop
+loop-again-2 c = omega arith
+
+sub-if3 : tie.Need-sub-if3 Inv-loop μ-loop
+sub-if3 c = omega arith
 
 sub-options-at : tie.Need-sub-options-at Inv-loop μ-loop
 sub-options-at c = omega arith
@@ -62,14 +74,14 @@ options-at-requires-2 c κs = search needs
 returns-2 : tie.Need-returns-2 Inv-loop μ-loop
 returns-2 c = (c .options-at2 .ensures .0, omega (arith, c .options-at2 .ensures .1, c .options-at2 .ensures .2))
 
-add-i-2 : tie.Need-add-i-2 Inv-loop μ-loop
-add-i-2 c = omega arith
+add-i-3 : tie.Need-add-i-3 Inv-loop μ-loop
+add-i-3 c = omega arith
 
-loop-less-2 : tie.Need-loop-less-2 Inv-loop μ-loop
-loop-less-2 c = omega arith
+loop-less-3 : tie.Need-loop-less-3 Inv-loop μ-loop
+loop-less-3 c = omega arith
 
-loop-again-2 : tie.Need-loop-again-2 Inv-loop μ-loop
-loop-again-2 c = omega arith
+loop-again-3 : tie.Need-loop-again-3 Inv-loop μ-loop
+loop-again-3 c = omega arith
 
 options-at-requires-3 : tie.Need-options-at-requires-3 Inv-loop μ-loop
 options-at-requires-3 c κs = search needs
@@ -90,7 +102,11 @@ read-options-spec =
     add-i
     loop-less
     loop-again
-    sub-if2
+    is-panels-requires
+    add-i-2
+    loop-less-2
+    loop-again-2
+    sub-if3
     sub-options-at
     options-at-requires
     returns
@@ -100,8 +116,8 @@ read-options-spec =
     sub-options-at-2
     options-at-requires-2
     returns-2
-    add-i-2
-    loop-less-2
-    loop-again-2
+    add-i-3
+    loop-less-3
+    loop-again-3
     options-at-requires-3
     returns-3)

@@ -22,7 +22,7 @@ returns c =
     let at-bad = c .before in
     let at-read = at-bad .before .before in
     let a = at-read .before .args in
-    no-want (mode-of (a .mode)) (a .pixels) (at-read .read-width .ensures) (at-bad .enum-told .given .1) (c .usual .ensures)
+    no-want (mode-of (a .mode)) (a .pixels) (a .panels) (at-read .read-width .ensures) (at-bad .enum-told .given .1) (c .usual .ensures)
 
 usual-requires-2 : tie.Need-usual-requires-2
 usual-requires-2 c κs = search needs
@@ -32,7 +32,7 @@ returns-2 c =
     let at-width = c .before .before in
     let at-read = at-width .before .before in
     let a = at-read .before .args in
-    want-at (mode-of (a .mode)) (a .pixels) (at-read .read-width .ensures) _ (at-width .width .given .1) (c .usual2 .ensures)
+    want-at (mode-of (a .mode)) (a .pixels) (a .panels) (at-read .read-width .ensures) _ (at-width .width .given .1) (c .usual2 .ensures)
 
 pub want-of-spec : {M : Type 1} → statement M
 want-of-spec =

@@ -2,6 +2,7 @@
 use Prim.Native.Nat.{_*_}
 use native.Mathlib.Omega.{arith}
 use lib.ListN.{length-set}
+use Rattle.sizes.specs.Sizes.{line-size}
 use Rattle.tile_steps.specs.Places.{line-of}
 use Rattle.tile_steps.proofs.Wording.{line-stored}
 use borrow.Author.Needs.{needs}
@@ -68,6 +69,15 @@ mul-lines-6 c = search needs
 slice-write-lines-6 : tie.Need-slice-write-lines-6
 slice-write-lines-6 c = simp length-set (omega arith)
 
+add-lines-6 : tie.Need-add-lines-6
+add-lines-6 c = search needs
+
+mul-lines-7 : tie.Need-mul-lines-7
+mul-lines-7 c = search needs
+
+slice-write-lines-7 : tie.Need-slice-write-lines-7
+slice-write-lines-7 c = simp length-set (omega arith)
+
 same-length : tie.Need-same-length
 same-length c = search needs
 
@@ -77,7 +87,7 @@ returns c =
     let at-args = at-index-of .before .before in
     let xs = at-args .args .lines .now in
     let l = at-args .args .line in
-    line-stored (line-of l) (c .bit .result) (at-index-of .index-of .result .flag) (at-index-of .index-of .result .index) (c .bit .ensures) (at-index-of .index-of .ensures) xs (6 * at-args .args .i) (omega arith)
+    line-stored (line-of l) (c .bit .result) (at-index-of .index-of .result .flag) (at-index-of .index-of .result .index) (c .bit .ensures) (at-index-of .index-of .ensures) xs (line-size * at-args .args .i) (omega arith)
 
 pub put-line-spec : {M : Type 1} → statement M
 put-line-spec =
@@ -103,5 +113,8 @@ put-line-spec =
     add-lines-5
     mul-lines-6
     slice-write-lines-6
+    add-lines-6
+    mul-lines-7
+    slice-write-lines-7
     same-length
     returns)

@@ -1,11 +1,16 @@
 //! Times the original and the port on the same scenes, in one process.
 
+mod measured;
 mod port;
 mod reads;
 mod scenes;
 mod timing;
 mod widths;
 
+use measured::{
+    original_build, original_paint, original_recording, original_reset, port_build, port_by_steps,
+    port_paint, port_recording, port_reset,
+};
 use oracle::original::Original;
 use oracle::painting::Piece;
 use oracle::sizes;
@@ -44,49 +49,51 @@ fn race(it: &scenes::Scene, rounds: usize) {
     let mut port = Port::new(&it.draft, it.setup());
     let [mut reset, mut build, mut paint, mut by_steps] = [(); 4].map(|()| Race::new());
     for _ in 0..rounds {
-        reset.original(|| original.reset());
-        reset.port(|| port.reset());
-        build.original(|| original.build(&steps));
-        build.port(|| port.build(&steps));
-        for race in [&mut paint, &mut by_steps] {
-            race.original(|| original.paint(read));
-        }
-        paint.port(|| port.paint(read));
-        by_steps.port(|| port.paint_by_steps(read));
+        reset.original(|| original_reset(&mut original));
+        reset.port(|| port_reset(&mut port));
+        build.original(|| original_build(&mut original, &steps));
+        build.port(|| port_build(&mut port, &steps));
+        paint.original(|| original_paint(&mut original));
+        paint.port(|| port_paint(&mut port));
+        by_steps.port(|| port_by_steps(&mut port));
     }
     reset.line(it.name, "reset");
     build.line(it.name, "build");
     paint.line(it.name, "paint");
-    by_steps.line(it.name, "by steps");
-
-    // Both sides have given the same pieces, of the same panels.
-    let [mut given, mut listed, mut stepped] = [(); 3].map(|()| Vec::<Piece>::new());
-    original.paint(|pieces| given.extend(pieces));
-    port.paint(|pieces| listed.extend(pieces.iter().map(port::piece)));
-    port.paint_by_steps(|pieces| stepped.extend(pieces.iter().map(port::piece)));
-    assert!(
-        given == listed && given == stepped,
-        "{}: the pieces differ",
-        it.name
-    );
+    by_steps.against(&paint).line(it.name, "by steps");
+    let pieces = compared(it.name, &mut original, &mut port);
 
     let file = it.draft.words();
     if port.record(&file) {
         let mut walk = Race::new();
         for _ in 0..rounds {
-            walk.original(|| original.walk());
-            walk.port(|| assert!(port.record(&file)));
+            walk.original(|| original_recording(&mut original));
+            walk.port(|| port_recording(&mut port, &file));
         }
         walk.line(it.name, "recording");
+        compared(it.name, &mut original, &mut port);
     }
     println!(
         "{:<14} {} steps, {} segments, {} pieces",
         it.name,
         steps.len(),
         it.draft.segments.len(),
-        given.len()
+        pieces
     );
-    words(it, &original, &reset, &build, &paint, given.len(), rounds);
+    words(it, &original, &reset, &build, &paint, pieces, rounds);
+}
+
+/// How many pieces both sides give of the scene that they hold: they must be the same, of the same panels.
+fn compared(scene: &str, original: &mut Original, port: &mut Port) -> usize {
+    let [mut given, mut listed, mut stepped] = [(); 3].map(|()| Vec::<Piece>::new());
+    original.paint(|pieces| given.extend(pieces));
+    port.paint(|pieces| listed.extend(pieces.iter().map(port::piece)));
+    port.paint_by_steps(|pieces| stepped.extend(pieces.iter().map(port::piece)));
+    assert!(
+        given == listed && given == stepped,
+        "{scene}: the pieces differ"
+    );
+    given.len()
 }
 
 /// Takes what was painted.

@@ -44,7 +44,7 @@ impl Numbers {
 }
 
 pub(crate) fn all() -> Vec<Scene> {
-    vec![banner(), wall(), text(), nested()]
+    vec![banner(), wall(), text(), nested(), status(), small()]
 }
 
 /// The scenes that are timed at each width of a bucket.
@@ -100,6 +100,24 @@ fn banner() -> Scene {
         draft.draw(range);
     }
     finished("banner page", draft, 64, 64)
+}
+
+/// A page of 1,024 x 768 with 400 fills of one segment each, opaque or alpha by chance.
+fn small() -> Scene {
+    let mut draft = Draft::new(1_024, 768);
+    let mut numbers = Numbers(6);
+    for _ in 0..400 {
+        let (row, first) = (numbers.below(192), numbers.below(200));
+        let segment = if numbers.below(100) < 50 {
+            solid(row, first, first + 6 + numbers.below(50))
+        } else {
+            let alpha = 16 * numbers.below(1_000_000);
+            [1, row, first, first + 1 + numbers.below(4), alpha]
+        };
+        let range = draft.segments(&[segment]);
+        draft.draw(range);
+    }
+    finished("small fills", draft, 64, 64)
 }
 
 /// A wall screen of 4,096 x 2,048 with 40 wide opaque panels.

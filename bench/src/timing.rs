@@ -36,6 +36,14 @@ impl Race {
         self.port.push(micros(run));
     }
 
+    /// The same beside the original's times in another race.
+    pub(crate) fn against(self, other: &Self) -> Self {
+        Self {
+            original: other.original.clone(),
+            ..self
+        }
+    }
+
     pub(crate) fn line(&self, scene: &str, what: &str) {
         let (original, port) = (median(&self.original), median(&self.port));
         println!(

@@ -17,12 +17,13 @@ use Rattle.segments.proofs.Laws.{segs-end, segs-first}
 use Rattle.segments.proofs.Judging as list
 use Rattle.segments.proofs.Judging.{AtPlace, judging}
 use Rattle.step_fill_rows.specs.declared.Job.{Job}
+use Rattle.step_fill_rows.proofs.Runs.{at-most-one}
 use Rattle.row_room.specs.declared.Limits.{Limits}
 use Rattle.row_room.specs.declared.Hand.{Hand}
 use Rattle.row_room.specs.Room.{record-at, hand-of, loaded, turned-to, noted, added-to, Low}
 use Rattle.row_room.proofs.Laws.{good-small}
 use Rattle.step_fill_judge.specs.Tallies.{Tally, job-adds, known, tallied, tally-cuts, verdict, cuts-of, none-yet, Rowed, list-number, marked-by, limits-of, stretched, counted-cut, hand-cuts}
-use Rattle.step_fill_judge.proofs.Laws.{turned, Fits, took-none, took-bad, took-good, tally-more, tally-stop, at-most-one, fits-after, lands}
+use Rattle.step_fill_judge.proofs.Laws.{turned, Fits, took-none, took-bad, took-good, tally-more, tally-stop, fits-after, lands}
 
 -- the number for an order that is kept if ok, and for rows that are full or deep
 abbrev code-of : Bool → Bool → Bool → ℕ
@@ -232,7 +233,7 @@ pub record Passing (j : Job) (n : ℕ) (rows ws : List ℕ) (a b : ℕ) (s : Seg
 abbrev pub nowhere : Segment
 nowhere = record { kind = 0; row = 0; first = 0; end = 0; alpha = 0 }
 
-first-follows : (r x : ℕ) → (ltb 0 r || eqb 0 r && leb 0 x) ≡ true
+pub first-follows : (r x : ℕ) → (ltb 0 r || eqb 0 r && leb 0 x) ≡ true
 first-follows zero x = le-leb 0 x (omega arith)
 first-follows (suc r) x = rw (lt-ltb 0 (suc r) (omega arith))
 
@@ -241,7 +242,7 @@ unfolding ordered
 ordered-first [] = refl
 ordered-first (t ∷ ts) = rw (first-follows (t .row) (t .first))
 
-none-before : (ss : List Segment) → judging nowhere true ss ≡ judge-segments false ss
+pub none-before : (ss : List Segment) → judging nowhere true ss ≡ judge-segments false ss
 unfolding judging judge-segments
 none-before ss = rw (ordered-first ss)
 

@@ -29,7 +29,8 @@ use Rattle.step_fill_rows.specs.Filling.{draws, puts-of, done, Roomy, none-put,
 use Rattle.row_room.specs.Room.{record-at}
 use Rattle.row_room.proofs.Laws.{good-small}
 use Rattle.step_fill_judge.specs.Tallies.{Tally, stored, known, drawn-counts, tally-of, tallied, tally-cuts, verdict, none-yet, Rowed}
-use Rattle.step_fill_judge.proofs.Laws.{at-most-one, lands}
+use Rattle.step_fill_rows.proofs.Runs.{at-most-one}
+use Rattle.step_fill_judge.proofs.Laws.{lands}
 use Rattle.step_fill_judge.proofs.Running.{full-at, running, SaneAt, sane-after, runs, passes-are}
 use Rattle.step_fill_judge.proofs.Rising.{Rising, then}
 

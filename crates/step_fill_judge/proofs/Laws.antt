@@ -10,10 +10,9 @@ use lib.Dec.{leb, ltb, eqb}
 use lib.ListN.{length}
 use borrow.Author.Tests.{le-leb, lt-leb, leb-true, leb-false}
 use Rattle.rules.specs.Lists.{times, keep}
-use Rattle.rules.specs.Spans.{Span, span, Stretch, cut-to}
+use Rattle.rules.specs.Spans.{Span, span}
 use Rattle.rules.specs.Split.{Part, regular, buckets, split, raised, lowered}
-use Rattle.rules.specs.Boxes.{Box}
-use Rattle.rules.specs.Segments.{Segment, good-segment, Cut, localised, on-row, stretch-of, cut-in}
+use Rattle.rules.specs.Segments.{Segment, good-segment, Cut, cut-in}
 use Rattle.rules.specs.Plans.{draw-act}
 use Rattle.rules.specs.Steps.{do-act, put-part, ensure}
 use Rattle.rules.proofs.laws.Widths.{bucket-some, raised-off, lowered-off}
@@ -233,15 +232,6 @@ module _ (j : Job) (rows : List ℕ) (t : Tally) (ks : List Cut) where
     pub took-good : (u : Tally) → good-row (j .c) (j .d) (j .layers) (record-at rows (k .row)) ≡ true → u ≡ tallied j (record-at rows (k .row)) t k → some u ≡ tally-cuts j rows t ks
     unfolding tally-cuts
     took-good u g h = rw (← e, g, h)
-
--- rule 4 leaves at most one
-one-left : (v : Box) (r : ℕ) (m : Option Stretch) → length (localised v r m) ≤ 1
-one-left v r none = omega arith
-one-left v r (some k) = omega arith
-
-pub at-most-one : (v b : Box) (g : Segment) → length (cut-in v b g) ≤ 1
-unfolding cut-in
-at-most-one v b g = one-left v (g .row) (on-row b g (cut-to (span (b .x0) (b .x1)) (stretch-of g)))
 
 module _ (j : Job) (rows : List ℕ) (t u : Tally) (i : ℕ) (f : Fits j i t) (c : j .c ≤ 1024) (d : j .d ≤ 1024) (l : j .layers ≤ 16) where
   later : t ≡ u → Fits j (i + 1) u

@@ -89,13 +89,13 @@ roomy-by : {rs ts rs′ ts′ : List Words} → ((x : ℕ) → Room (getD rs x n
 roomy-by f none-put = none-put
 roomy-by f (one-more {p = p} r a) = one-more (f (p .row) r) (roomy-by f a)
 
-puts-join : (j : Job) (ks ls : List Cut) → puts-of j (ks ++ ls) ≡ puts-of j ks ++ puts-of j ls
+pub puts-join : (j : Job) (ks ls : List Cut) → puts-of j (ks ++ ls) ≡ puts-of j ks ++ puts-of j ls
 unfolding draw-puts
 puts-join j [] ls = refl
 puts-join j (k ∷ ks) ls = ap (λ (t : List Put). on (draw-act (j .eligible) (j .attr) (j .id) (k .stretch .tiles) (k .stretch .alpha)) (k .row) ∷ t) (puts-join j ks ls)
 
 module _ (j : Job) (m : j .layers ≤ 16) where
-  done-append : (ps qs : List Put) (rs : List Words) → done j (ps ++ qs) rs ≡ done j qs (done j ps rs)
+  pub done-append : (ps qs : List Put) (rs : List Words) → done j (ps ++ qs) rs ≡ done j qs (done j ps rs)
   done-append ps qs rs = puts-append Words word-ops (bucket-tiles (j .width)) (j .layers) ps qs rs
 
   -- a row that is sound stays so through any puts
@@ -111,7 +111,7 @@ module _ (j : Job) (m : j .layers ≤ 16) where
       sound-trans s (done-sound ps (change f (p .row) rs) x (s .grown .state ∙ l) (s .levels))
 
   -- room for all puts is room for the first, and after them for the rest
-  room-one : (ps qs : List Put) (rs : List Words) → Roomy (ps ++ qs) rs (done j (ps ++ qs) rs) → Roomy ps rs (done j ps rs)
+  pub room-one : (ps qs : List Put) (rs : List Words) → Roomy (ps ++ qs) rs (done j (ps ++ qs) rs) → Roomy ps rs (done j ps rs)
   room-one ps qs rs a =
       roomy-by
       (λ x r.
@@ -120,7 +120,7 @@ module _ (j : Job) (m : j .layers ≤ 16) where
       room-first (t .grown) (rw (done-append ps qs rs) at r))
       (roomy-first ps qs a)
 
-  room-more : (ps qs : List Put) (rs : List Words) → Roomy (ps ++ qs) rs (done j (ps ++ qs) rs) → Roomy qs (done j ps rs) (done j qs (done j ps rs))
+  pub room-more : (ps qs : List Put) (rs : List Words) → Roomy (ps ++ qs) rs (done j (ps ++ qs) rs) → Roomy qs (done j ps rs) (done j qs (done j ps rs))
   room-more ps qs rs a =
       roomy-by (λ x r. room-after (done-sound ps rs x (r .state) (r .levels)) (rw (done-append ps qs rs) at r)) (roomy-rest ps qs a)
 

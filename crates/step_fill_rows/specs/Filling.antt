@@ -1,5 +1,5 @@
 -- The doing half of a fill: the rules' puts at rows of words, and what the judging half has shown.
-use Prim.Native.Nat.{ℕ, _+_, _-_, _*_, _/_, _≤_}
+use Prim.Native.Nat.{ℕ, _+_, _-_, _*_, _/_, _≤_, _<_}
 use mathlib.Core.Path.{_≡_}
 use mathlib.Core.Bool.{Bool, true, not}
 use mathlib.Core.List.{List, [], _∷_}
@@ -42,6 +42,23 @@ puts j ws i k = puts-of j (join (cut-in (origin (j .scene)) (bounds (j .scene)))
 abbrev pub done : Job → List Put → List Words → List Words
 done j ps rs = do-puts Words word-ops (bucket-tiles (j .width)) (j .layers) ps rs
 
+-- cut segments on one row's words, one after the other
+abbrev pub draw-all : Job → List Cut → Words → Words
+draw-all j [] w = w
+draw-all j (k ∷ ks) w = draw-all j ks (draws j (k .stretch .tiles) (k .stretch .alpha) w)
+
+-- what is left of the segments from a to b
+abbrev pub cuts-in : Job → List ℕ → ℕ → ℕ → List Cut
+cuts-in j ws a b = join (cut-in (origin (j .scene)) (bounds (j .scene))) (segs ws a (b - a))
+
+-- those of one row, on its words
+abbrev pub run-of : Job → List ℕ → ℕ → ℕ → Words → Words
+run-of j ws a b w = draw-all j (cuts-in j ws a b) w
+
+-- the segments from a to b stand on a row
+abbrev pub OnRow : List ℕ → ℕ → ℕ → ℕ → Type 0
+OnRow ws row a b = (i : ℕ) → a ≤ i → i < b → seg-at ws i .row ≡ row
+
 -- each row that is put on has room for what the whole makes of it
 pub data Roomy : List Put → List Words → List Words → Type 0 where
   none-put : {rs ts : List Words} → Roomy [] rs ts
@@ -61,3 +78,16 @@ pub record FillReady (j : Job) (n : ℕ) (ws : List ℕ) (a b : ℕ) (w : Words)
   pub within : 5 * b ≤ length ws
   pub good : every good-segment (segs ws a (b - a)) ≡ true
   pub room : Roomy (puts j ws a (b - a)) (cut (sizes (j .c) (j .d)) n w) (done j (puts j ws a (b - a)) (cut (sizes (j .c) (j .d)) n w))
+
+-- a run of segments that are not solid begins at a, on a row whose words w have room for it, up to b at most; something is left of the first
+pub record RunReady (j : Job) (ws : List ℕ) (row a b : ℕ) (w : Words) : Type 0 where
+  pub before : a < b
+  pub within : 5 * b ≤ length ws
+  pub layers : j .layers ≤ most-layers
+  pub starts : Starts (origin (j .scene)) (bounds (j .scene))
+  pub good : (i : ℕ) → a ≤ i → i < b → good-segment (seg-at ws i) ≡ true
+  pub here : seg-at ws a .row ≡ row
+  pub index : seg-at ws a .kind ≡ 0 → ⊥
+  pub first : Cut
+  pub left : first ∷ [] ≡ cut-in (origin (j .scene)) (bounds (j .scene)) (seg-at ws a)
+  pub room : (t : ℕ) → a < t → t ≤ b → OnRow ws row a t → Room w (run-of j ws a t w)

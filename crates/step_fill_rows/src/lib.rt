@@ -1,5 +1,6 @@
 // The doing half of a fill (rules 3 to 7), over a whole screen's words. Parts: each has a `requires`, which `fill` has judged.
 use row::push_paint;
+use row_acts::ensure_row_layers;
 use row_acts::push_fill;
 use row_screen::place_of;
 use segments::Placed;
@@ -25,7 +26,7 @@ ghost use Rattle.row.specs.Cmds.{Short};
 ghost use Rattle.row_acts.specs.Acts.{alpha-of, drawn};
 ghost use Rattle.row_screen.specs.Arena.{nowhere, sizes, cut, lay, count-rows};
 ghost use Rattle.segments.specs.Segs.{seg-at};
-ghost use Rattle.step_fill_rows.specs.Filling.{draws, one-put, puts, done, unsplit, Roomy, Fits, FillReady};
+ghost use Rattle.step_fill_rows.specs.Filling.{draws, one-put, puts, done, unsplit, run-of, OnRow, Roomy, Fits, FillReady, RunReady};
 
 // What stays the same over all the segments of a fill: the scene, room for commands and depth fills in a row, open layers, whether
 // solid segments are eligible, attribute and id, and the width of a depth bucket.
@@ -149,7 +150,89 @@ fn fill_segment(
     }
 }
 
-// The segments from start to end of a list that is judged.
+// The alpha segments from start on that stand on one row, in a row: a command each, on the row's own words.
+fn push_run(
+    state: &mut [u32],
+    render: &mut [u32],
+    fills: &mut [u32],
+    segs: &[u32],
+    start: usize,
+    end: usize,
+    row: u32,
+    job: Job,
+) -> usize
+    requires { ⌜ RunReady job (now segs) row start «end» (words (now state) (now render) (now fills)) ⌝ }
+    ensures { λ r. ⌜ (start < r) × (r ≤ «end») × OnRow (now (segs .entry)) row start r
+        × (words (now (state .exit)) (now (render .exit)) (now (fills .exit)) ≡ run-of job (now (segs .entry)) start r (words (now (state .entry)) (now (render .entry)) (now (fills .entry)))) ⌝ }
+{
+    let scene = job.scene;
+    ensure_row_layers(state, render, fills, job.layers);
+    let mut next = start;
+    while next < end {
+        let segment = segment_at(segs, next);
+        if segment.row != row {
+            return next;
+        }
+        if segment.kind == 0 {
+            return next;
+        }
+        let placed = place(segment, scene);
+        match placed {
+            Placed::Nothing => {}
+            Placed::On(_, stretch) => {
+                let tiles = stretch.tiles;
+                let alpha = stretch.alpha;
+                push_paint(state, render, fills, tiles, alpha, job.attr);
+            }
+        }
+        next += 1;
+    }
+    next
+}
+
+// The same on the whole screen, from a segment that is not solid: its row is found once for all. Where nothing is left of it, it alone.
+fn fill_run(
+    rows: &mut [u32],
+    render: &mut [u32],
+    fills: &mut [u32],
+    segs: &[u32],
+    start: usize,
+    end: usize,
+    job: Job,
+) -> usize
+    requires { ⌜ FillReady job (count-rows (now rows)) (now segs) start «end» (words (now rows) (now render) (now fills)) × (start < «end») × (seg-at (now segs) start .kind ≡ 0 → ⊥) ⌝ }
+    ensures { λ r. ⌜ (start < r) × (r ≤ «end»)
+        × (cut (sizes (job .c) (job .d)) (count-rows (now (rows .entry))) (words (now (rows .exit)) (now (render .exit)) (now (fills .exit)))
+        ≡ done job (puts job (now (segs .entry)) start (r - start)) (cut (sizes (job .c) (job .d)) (count-rows (now (rows .entry))) (words (now (rows .entry)) (now (render .entry)) (now (fills .entry))))) ⌝ }
+{
+    let scene = job.scene;
+    let first = segment_at(segs, start);
+    let placed = place(first, scene);
+    match placed {
+        Placed::Nothing => start + 1,
+        Placed::On(r, _) => {
+            let p = place_of(job.c, job.d, r as usize);
+            let x0 = p.x0;
+            let x1 = p.x1;
+            let y0 = p.y0;
+            let y1 = p.y1;
+            let z0 = p.z0;
+            let z1 = p.z1;
+            push_run(
+                &mut rows[x0..x1],
+                &mut render[y0..y1],
+                &mut fills[z0..z1],
+                segs,
+                start,
+                end,
+                first.row,
+                job,
+            )
+        }
+    }
+}
+
+// The segments from start to end of a list that is judged: solid ones one by one, others in runs.
 pub fn fill_rows(
     rows: &mut [u32],
     render: &mut [u32],
@@ -165,7 +248,11 @@ pub fn fill_rows(
 {
     let mut i = start;
     while i < end {
-        fill_segment(rows, render, fills, segs, i, job);
-        i += 1;
+        if segs[5 * i] == 0 {
+            fill_segment(rows, render, fills, segs, i, job);
+            i += 1;
+        } else {
+            i = fill_run(rows, render, fills, segs, i, end, job);
+        }
     }
 }

@@ -10,7 +10,7 @@ use sizes::{
 };
 
 // Rule 3: what a fill's commands share.
-#[derive(Drop)]
+#[derive(Clone, Copy)]
 pub struct PaintFillAttrs {
     pub paint: u32,
     pub blend: Blend,
@@ -23,7 +23,7 @@ pub struct PaintFillAttrs {
 }
 
 // Rule 9: what a closing layer's fills share. `nan` is the pattern of a NaN opacity that came from a file, else 0.
-#[derive(Drop)]
+#[derive(Clone, Copy)]
 pub struct LayerFillAttrs {
     pub blend: Blend,
     pub opacity: f32,
@@ -35,7 +35,7 @@ pub struct LayerFillAttrs {
 }
 
 // Rule 11: the paint of a filter fill. The shift is source minus destination, and may be negative.
-#[derive(Drop)]
+#[derive(Clone, Copy)]
 pub struct FilterPaint {
     pub pixmap: u32,
     pub shift_x: i32,

@@ -3,7 +3,7 @@ ghost use Rattle.std.specs.Prelude.{◌≡◌};
 ghost use Rattle.rules.specs.Blends.{default-blend, is-default, good-blend, destructive};
 ghost use Rattle.cmd.specs.Blends.{blend_of};
 
-#[derive(Drop)]
+#[derive(Clone, Copy)]
 pub struct Blend {
     pub mix: u32,
     pub compose: u32,

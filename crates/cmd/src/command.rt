@@ -11,20 +11,20 @@ use sizes::{TILE_ALPHAS, TILE_END};
 use span::{Alpha, TileSpan};
 
 // A buffer's span: the union of the fills at its own level, or nothing.
-#[derive(Drop)]
+#[derive(Clone, Copy)]
 pub enum Recorded {
     Nothing,
     Tiles(TileSpan),
 }
 
-#[derive(Drop)]
+#[derive(Clone, Copy)]
 pub struct Fill {
     pub span: TileSpan,
     pub alpha: Alpha,
     pub attrs_idx: u32,
 }
 
-#[derive(Drop)]
+#[derive(Clone, Copy)]
 pub enum RenderCmd {
     PaintFill(Fill),
     LayerFill(Fill),
@@ -33,7 +33,7 @@ pub enum RenderCmd {
 }
 
 // Tag, span, alpha index and attribute, as they stand in a row. Unused words are 0.
-#[derive(Drop)]
+#[derive(Clone, Copy)]
 pub struct CmdWords {
     pub tag: u32,
     pub span: u32,
@@ -42,7 +42,7 @@ pub struct CmdWords {
 }
 
 // What four words stand for.
-#[derive(Drop)]
+#[derive(Clone, Copy)]
 pub enum ReadCmd {
     Bad,
     Cmd(RenderCmd),

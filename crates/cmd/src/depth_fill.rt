@@ -8,21 +8,21 @@ ghost use Rattle.cmd.specs.DepthFills.{depth-fill, depth-words-of, read-depth-of
 use crate::command::{good_span_word, span_word};
 use span::BucketRange;
 
-#[derive(Drop)]
+#[derive(Clone, Copy)]
 pub struct DepthFill {
     pub buckets: BucketRange,
     pub attrs_idx: u32,
 }
 
 // Span of buckets and attribute, as they stand in a row.
-#[derive(Drop)]
+#[derive(Clone, Copy)]
 pub struct DepthWords {
     pub span: u32,
     pub attrs_idx: u32,
 }
 
 // What two words stand for.
-#[derive(Drop)]
+#[derive(Clone, Copy)]
 pub enum ReadDepth {
     Bad,
     Fill(DepthFill),

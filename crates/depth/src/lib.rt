@@ -1,4 +1,6 @@
 // Depth of one row (depth.rs): the split of an opaque span, the row's summary, and the runs of its depth words.
+#![tactic(auto)]
+
 pub mod runs;
 pub mod split;
 pub mod state;

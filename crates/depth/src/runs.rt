@@ -13,7 +13,7 @@ use sizes::width::Width;
 use span::{BucketRange, TileSpan, larger, smaller};
 
 // What a call over runs gives: its number, and how many runs are listed.
-#[derive(Drop)]
+#[derive(Clone, Copy)]
 pub struct Runs {
     pub number: u32,
     pub count: usize,

@@ -10,14 +10,14 @@ use sizes::width::Width;
 use span::{BucketRange, TileSpan};
 
 // A regular piece beside a depth fill, where there is one.
-#[derive(Drop)]
+#[derive(Clone, Copy)]
 pub enum Edge {
     Absent,
     Tiles(TileSpan),
 }
 
 // No range, which is answer 12; the span itself where it covers no whole bucket; or a depth fill with its edges.
-#[derive(Drop)]
+#[derive(Clone, Copy)]
 pub enum Split {
     Refused,
     Whole(TileSpan),

@@ -9,21 +9,21 @@ use sizes::answers::{BAD_RUN, DONE};
 use span::{TileSpan, larger};
 
 // The union of a row's depth fills, as tiles.
-#[derive(Drop)]
+#[derive(Clone, Copy)]
 pub enum Bounds {
     Nothing,
     Tiles(TileSpan),
 }
 
 // max_draw_id is 0 where the row has no depth fill.
-#[derive(Drop)]
+#[derive(Clone, Copy)]
 pub struct DepthState {
     pub bounds: Bounds,
     pub max_draw_id: u32,
 }
 
 // What `can_skip` gives: its number, and whether the draw need not look.
-#[derive(Drop)]
+#[derive(Clone, Copy)]
 pub struct Skip {
     pub number: u32,
     pub yes: bool,

@@ -1,4 +1,6 @@
 // Forms over references to structs that document 01 names, each beside its covered form in `depth`.
+#![tactic(auto)]
+
 pub mod listed;
 pub mod runs;
 pub mod spans;

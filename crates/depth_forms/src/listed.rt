@@ -15,7 +15,7 @@ use sizes::width::Width;
 use span::TileSpan;
 
 // What the call gives, how many runs it lists, and their tile numbers.
-#[derive(Drop)]
+#[derive(Clone, Copy)]
 struct Found {
     runs: Runs,
     count: usize,

@@ -14,7 +14,7 @@ use sizes::width::Width;
 use span::TileSpan;
 
 // The number, how many runs are listed, and the spans.
-#[derive(Drop)]
+#[derive(Clone, Copy)]
 pub struct Visible {
     pub runs: Runs,
     pub spans: [TileSpan; MOST_RUNS],

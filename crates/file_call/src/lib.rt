@@ -1,4 +1,6 @@
 // The recording call: a file judged, and walked as building steps (rule 2). `bucket_recording` is a public call; the others are parts of it.
+#![tactic(auto)]
+
 ghost use Rattle.std.specs.Prelude.{◌≡◌};
 ghost use Rattle.rules.specs.Answers.{answer};
 ghost use Rattle.rules.specs.Walk.{◌then◌, walk-all};

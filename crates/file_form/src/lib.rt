@@ -1,4 +1,6 @@
 // The recording file's form (answer 3): where each section stands. A section is a part of the caller's words, not a copy.
+#![tactic(auto)]
+
 ghost use Rattle.std.specs.Prelude.{◌≡◌, ◌+◌, ◌*◌, ◌/◌, ◌≤◌, ◌<◌, length};
 ghost use Rattle.rules.specs.Recording.{good-count};
 ghost use Rattle.file_form.specs.Layouts.{section-at, form_of};
@@ -7,14 +9,14 @@ ghost use Rattle.file_form.specs.Words.{word-from, filled, filled-with};
 use sizes::wide;
 
 // Its first record's place, and how many records it has.
-#[derive(Drop)]
+#[derive(Clone, Copy)]
 pub struct Section {
     pub at: usize,
     pub count: usize,
 }
 
 // The viewport's four words stand at place 1.
-#[derive(Drop)]
+#[derive(Clone, Copy)]
 pub struct Layout {
     pub paints: Section,
     pub segments: Section,
@@ -24,14 +26,14 @@ pub struct Layout {
     pub root: Section,
 }
 
-#[derive(Drop)]
+#[derive(Clone, Copy)]
 pub enum Form {
     Bad,
     Good(Layout),
 }
 
 // A section, and the place past it.
-#[derive(Drop)]
+#[derive(Clone, Copy)]
 pub enum Found {
     Bad,
     At(Section, usize),

@@ -1,5 +1,7 @@
 // The recording file's records (answer 4) and their order (answer 5). Every record is judged, also one that no walk reaches. Parts: a
 // caller has read the form.
+#![tactic(auto)]
+
 ghost use Rattle.std.specs.Prelude.{◌≡◌, true, ◌+◌, ◌*◌, ◌/◌, ◌≤◌, length};
 ghost use Rattle.rules.specs.Blends.{good-blend};
 ghost use Rattle.rules.specs.Lists.{every, slice};

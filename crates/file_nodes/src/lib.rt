@@ -1,5 +1,7 @@
 // The walk over a recording (rule 2): the node-run walk and the layer walk, which call each other. Parts: callers have read the form and judged
 // the records.
+#![tactic(auto)]
+
 ghost use Rattle.std.specs.Prelude.{[], ◌≡◌, not, ◌-◌, ◌≤◌, eqb, get_or};
 ghost use Rattle.rules.specs.Answers.{answer};
 ghost use Rattle.rules.specs.Recording.{layer-rec};

@@ -1,5 +1,7 @@
 // The building steps of a recording, called from its words: a draw's fill and a run of them, a pop, a filter layer. Parts: callers have read
 // the form and judged the records. Paints and segments are parts of the file's words, handed on.
+#![tactic(auto)]
+
 ghost use Rattle.std.specs.Prelude.{◌≡◌, ◌+◌, ◌*◌, ◌≤◌, ◌<◌, length};
 ghost use Rattle.rules.specs.Answers.{answer};
 ghost use Rattle.rules.specs.Lists.{join, slice};

@@ -17,7 +17,7 @@ use tile_reason::{Asked, Reason};
 const REASON: usize = 4;
 
 // A reason's case; the attribute that hides or the place in the tile's list, else 0; the asked attribute's panel; that of the one that hides, else 0.
-#[derive(Drop)]
+#[derive(Clone, Copy)]
 struct ReasonWords {
     case: u32,
     number: u32,

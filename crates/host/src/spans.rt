@@ -13,7 +13,7 @@ use sizes::answers::DONE;
 use span::TileSpan;
 
 // The number of the answer, how many runs are found, and their tile numbers.
-#[derive(Drop)]
+#[derive(Clone, Copy)]
 struct Found {
     number: u32,
     count: usize,

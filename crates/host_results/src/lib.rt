@@ -1,4 +1,6 @@
 // What a host's call leaves in its result words, whose number is fixed: a refused call leaves them as they were.
+#![tactic(auto)]
+
 ghost use Rattle.std.specs.Prelude.{◌≡◌, [], ◌∷◌, length};
 ghost use Rattle.rules.specs.Answers.{answer};
 ghost use Rattle.rules.specs.Split.{buckets};
@@ -65,14 +67,14 @@ pub fn put_skip(skip: Skip, yes: &mut [u32]) -> u32
 }
 
 // A part of a split span: 1 for a regular piece or 2 for a depth fill, first, end; zeros for none.
-#[derive(Drop)]
+#[derive(Clone, Copy)]
 struct Slot {
     kind: u32,
     first: u32,
     end: u32,
 }
 
-#[derive(Drop)]
+#[derive(Clone, Copy)]
 struct Slots {
     a: Slot,
     b: Slot,

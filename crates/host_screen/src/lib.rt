@@ -1,6 +1,8 @@
 // A screen's numbers as 17 lent words: the viewport's four, the clip box's four, C, D, next id, the counts of paint attributes, layer
 // attributes, filter paints and open layers, 1 if painting has begun, else 0, and a bucket's width: 0 for 128 pixels, 1 for 64, 2 for 256.
 // So words that are all 0 are a screen's. And what a host asks a screen to be, as words.
+#![tactic(auto)]
+
 ghost use Rattle.std.specs.Prelude.{◌≡◌, length};
 ghost use Rattle.sizes.specs.Sizes.{state-size};
 ghost use Rattle.rect.specs.Rects.{mode_of};
@@ -14,7 +16,7 @@ use sizes::answers::{BAD_RECORD, BAD_VIEWPORT, DONE};
 use sizes::width::{ReadWidth, Width, read_width};
 
 // What a host's words stand for.
-#[derive(Drop)]
+#[derive(Clone, Copy)]
 pub enum Held {
     Nothing,
     Good(Screen),
@@ -23,7 +25,7 @@ pub enum Held {
 // What a screen is asked to be, as a host gives it: room for C render commands and D depth fills in each row; the mode is 0 exact, 1 snapping;
 // the width of a bucket is 64, 128 or 256 pixels.
 #[repr(C)]
-#[derive(Drop)]
+#[derive(Clone, Copy)]
 pub struct SetupWords {
     pub c: u32,
     pub d: u32,
@@ -32,7 +34,7 @@ pub struct SetupWords {
 }
 
 // What such words ask for.
-#[derive(Drop)]
+#[derive(Clone, Copy)]
 pub enum AskedSetup {
     Bad,
     Good(Setup),

@@ -1,4 +1,6 @@
 // Painting one row, over its own words. Parts: where a function asks something, its callers have judged it.
+#![tactic(auto)]
+
 pub mod fills;
 pub mod row;
 

@@ -1,5 +1,7 @@
 // What a painting step leaves: pieces in the list, one step more, and its answer. Parts: where a function asks something, its
 // callers have judged it.
+#![tactic(auto)]
+
 ghost use Rattle.std.specs.Prelude.{◌≡◌, [], ◌∷◌, map, ℕ, ◌+◌, ◌*◌, ◌-◌, ◌≤◌, ◌<◌, length};
 ghost use Rattle.sizes.specs.Sizes.{piece-size};
 ghost use Rattle.rules.specs.Spans.{Span, span};
@@ -14,7 +16,7 @@ use sizes::answers::DONE;
 use span::Alpha;
 
 // number: document 01's answer. finished: no step was left. pieces: how many stand in the list.
-#[derive(Drop)]
+#[derive(Clone, Copy)]
 pub struct Painted {
     pub number: u32,
     pub finished: bool,
@@ -46,7 +48,7 @@ pub fn advance(painting: &mut [u32], nesting: u32, pieces: usize) -> Painted
 }
 
 // What the pieces of one step have in common. `first` is the tile that the alpha index belongs to.
-#[derive(Drop)]
+#[derive(Clone, Copy)]
 pub struct Brush {
     pub layer: bool,
     pub attrs_idx: u32,

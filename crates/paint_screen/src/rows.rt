@@ -16,7 +16,7 @@ use sizes::answers::{BAD_RECORD, DONE};
 use span::{BucketRange, TileSpan};
 
 // The runs that a writing run listed, and the screen afterwards.
-#[derive(Drop)]
+#[derive(Clone, Copy)]
 pub struct Written {
     pub runs: Runs,
     pub screen: Screen,

@@ -1,7 +1,7 @@
 // What a painting step gives.
 
 // finished: no step was left. pieces: how many stand in the list.
-#[derive(Drop)]
+#[derive(Clone, Copy)]
 pub struct Stepped {
     pub number: u32,
     pub finished: bool,

@@ -1,5 +1,7 @@
 // A row painted from where it stands: one step, or all of them. `paint_step` and `paint_row` are public calls: they have no `requires`. The
 // others are their parts.
+#![tactic(auto)]
+
 ghost use Rattle.std.specs.Prelude.{◌≡◌, ◌≤◌};
 ghost use Rattle.sizes.specs.Widths.{bucket-tiles};
 ghost use Rattle.paint_command.specs.Painting.{attrs-at, lent, out};

@@ -28,7 +28,7 @@ fn taken(id: u32) -> u32
 }
 
 // What is read of a fill's attribute: its id, 0 if the attribute is not there or its id or panel is not good; its panel.
-#[derive(Drop)]
+#[derive(Clone, Copy)]
 struct Mark {
     id: u32,
     panel: u32,
@@ -128,7 +128,7 @@ fn hidden_end(depth: &[u32], a: usize, e: usize, id: u32) -> usize
 
 // What one look shows of a fill. kind: 0 nothing; all of it is shown, 1, or nothing, 2; of one with this id that it is shown up to
 // bucket `stop`, which hides it, 5, or hidden up to bucket `stop`, which shows it, 6.
-#[derive(Drop)]
+#[derive(Clone, Copy)]
 struct FillLook {
     kind: u32,
     stop: usize,
@@ -136,7 +136,7 @@ struct FillLook {
 }
 
 // .. of a command: 3 nesting up, 4 nesting down; a fill's attribute has this panel.
-#[derive(Drop)]
+#[derive(Clone, Copy)]
 struct Look {
     kind: u32,
     stop: usize,
@@ -334,7 +334,7 @@ fn sure_kind(
 }
 
 // Where a run of commands ended: the place of the next command, the pieces listed, the nesting, what the look showed of that command.
-#[derive(Drop)]
+#[derive(Clone, Copy)]
 struct Reached {
     at: usize,
     pieces: usize,
@@ -534,7 +534,7 @@ fn run_commands(
 }
 
 // How far a run went: the steps done, the pieces listed.
-#[derive(Drop)]
+#[derive(Clone, Copy)]
 pub struct Gone {
     pub steps: usize,
     pub pieces: usize,

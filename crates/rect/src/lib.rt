@@ -1,4 +1,6 @@
 // Boxes in pixels (vello_common's RectU16). Parts: `is_..` judge any numbers, the others are exact on any.
+#![tactic(auto)]
+
 ghost use Rattle.std.specs.Prelude.{◌≡◌, ◌-◌, ◌≤◌};
 ghost use Rattle.rules.specs.Boxes.{width, height, empty-box, meet, to-local, bounded, good-dest, good-box, good-viewport, whole, span_of, box};
 ghost use Rattle.rules.specs.Setups.{snapped, viewport-in};
@@ -9,7 +11,7 @@ use sizes::{MOST_HEIGHT, MOST_WIDTH};
 use span::{TileSpan, larger, smaller};
 
 // From a left and a top edge to a right and a bottom edge, in pixels.
-#[derive(Drop)]
+#[derive(Clone, Copy)]
 pub struct Rect {
     pub x0: u32,
     pub y0: u32,
@@ -18,14 +20,14 @@ pub struct Rect {
 }
 
 // How a viewport is read: as it is, or carried outward to tile edges.
-#[derive(Drop)]
+#[derive(Clone, Copy)]
 pub enum Mode {
     Exact,
     Snapping,
 }
 
 // What a box gives as a screen's viewport: answer 2, or the box that the screen holds.
-#[derive(Drop)]
+#[derive(Clone, Copy)]
 pub enum Viewport {
     Bad,
     Good(Rect),

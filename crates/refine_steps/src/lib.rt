@@ -1,1 +1,3 @@
 // Proofs only: each building step at the words is the rules' step.
+#![tactic(auto)]
+

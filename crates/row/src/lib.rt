@@ -1,5 +1,7 @@
 // One row over its own words (bucketer.rs, RowState). These are parts: each has a `requires`, which its callers have judged. They know
 // one row and not its place on the screen; all take the row's three slices: state, render commands, depth fills.
+#![tactic(auto)]
+
 ghost use Rattle.std.specs.Prelude.{◌≡◌, ◌+◌, ◌*◌, ◌≤◌, ◌<◌, length, get_or, set};
 ghost use Rattle.sizes.specs.Sizes.{tile-end, most-layers, most-room, row-size, renders-at, levels-at};
 ghost use Rattle.rules.specs.Spans.{span};

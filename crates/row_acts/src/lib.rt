@@ -1,5 +1,7 @@
 // What a step does to one row (bucketer.rs). These are parts: each has a `requires`, which its callers have judged. `n` is the number of
 // open layers. A pop's PopBuf is row::pop_buf.
+#![tactic(auto)]
+
 ghost use Rattle.std.specs.Prelude.{◌≡◌, ◌≤◌};
 ghost use Rattle.sizes.specs.Sizes.{most-layers};
 ghost use Rattle.rules.specs.Commands.{paint-fill, layer-fill};

@@ -1,1 +1,3 @@
 // What judging a step needs of a row, three numbers: definitions and laws. No code.
+#![tactic(auto)]
+

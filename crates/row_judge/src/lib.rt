@@ -1,4 +1,6 @@
 // What the building steps share. Parts: the steps judge what these ask.
+#![tactic(auto)]
+
 ghost use Rattle.std.specs.Prelude.{◌≡◌, ◌≤◌, length};
 ghost use Rattle.sizes.specs.Sizes.{most-layers, row-size};
 ghost use Rattle.row_judge.specs.Building.{good-union, good-row};

@@ -1,5 +1,7 @@
 // The one judge of room (answers 4, 10 and 11): a running count of what a step adds to rows, before anything is done. The judges of fills,
 // of runs of rows and of pops are loops over it. Parts: each has a `requires`, which the steps have judged.
+#![tactic(auto)]
+
 ghost use Rattle.std.specs.Prelude.{◌≡◌, ◌+◌, ◌*◌, ◌≤◌, ltb, length, get_or};
 ghost use Rattle.sizes.specs.Sizes.{most-layers, most-room, row-size, levels-at};
 ghost use Rattle.row_room.specs.Room.{record-at, loaded, turned-to, noted, added-to, Low};
@@ -10,7 +12,7 @@ use sizes::answers::{BAD_ORDER, BAD_RECORD, DONE, FULL_DEPTH, FULL_ROW};
 use sizes::{DEPTHS, LEVELS, RENDERS, ROW, TILE_END, wide};
 
 // What a row has room for: c commands and d depth fills. What it gets beside what is added: the open layers that it lacks, and `once` commands.
-#[derive(Drop)]
+#[derive(Clone, Copy)]
 pub struct Limits {
     pub c: u32,
     pub d: u32,
@@ -19,7 +21,7 @@ pub struct Limits {
 }
 
 // Commands and depth fills.
-#[derive(Drop)]
+#[derive(Clone, Copy)]
 pub struct Counts {
     pub renders: usize,
     pub depths: usize,
@@ -31,7 +33,7 @@ pub const ONE_COMMAND: Counts = Counts {
 };
 
 // The row at hand with its counts so far, and the number of what was found so far: 4, 5, 10, 11 or 0.
-#[derive(Drop)]
+#[derive(Clone, Copy)]
 pub struct Hand {
     pub renders: usize,
     pub depths: usize,

@@ -1,4 +1,6 @@
 // A screen's lent words as a list of rows, and back; and the one way to row r: where its words stand in the three slices.
+#![tactic(auto)]
+
 ghost use Rattle.std.specs.Prelude.{◌≡◌, ◌+◌, ◌*◌, ◌≤◌, ◌<◌, length, take, drop};
 ghost use Rattle.sizes.specs.Sizes.{most-room, most-rows};
 ghost use Rattle.row_screen.specs.Arena.{Stands};
@@ -6,7 +8,7 @@ ghost use Rattle.row_screen.specs.Arena.{Stands};
 use sizes::ROW;
 
 // Where row r's words start and end: x in the records, y in the render commands, z in the depth fills.
-#[derive(Drop)]
+#[derive(Clone, Copy)]
 pub struct Place {
     pub x0: usize,
     pub x1: usize,

@@ -1,6 +1,8 @@
 // Prints what `rowlist` prints of each recording of a stream on standard input, and the attributes and painted pieces of those that are not
 // refused, with panels where they are asked for. Each recording stands after its length in bytes, a little-endian u32; a length past the
 // stream's end takes what is left. A read or a write that fails is told on standard error, and so is the usage; nothing else goes there.
+#![tactic(auto)]
+
 ghost use Rattle.std.specs.Prelude.{◌≡◌, ◌≤◌, length};
 ghost use Rattle.screen.specs.Screens.{setup-of};
 ghost use Rattle.text_file.specs.Files.{Usual};

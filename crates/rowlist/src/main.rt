@@ -1,5 +1,7 @@
 // Prints the rows of the recording on standard input, or the number of its refusal (document 01, "The recording file"). A read or a write
 // that fails is told on standard error, and so is the usage; nothing else goes there.
+#![tactic(auto)]
+
 ghost use Rattle.std.specs.Prelude.{◌≡◌, ◌≤◌, length};
 ghost use Rattle.screen.specs.Screens.{setup-of};
 ghost use Rattle.text_file.specs.Files.{Usual};

@@ -1,4 +1,6 @@
 // A screen: its numbers by value, its words lent (rule 1). `reset` is a public call; the others are parts of the building steps.
+#![tactic(auto)]
+
 ghost use Rattle.std.specs.Prelude.{true, ◌≡◌, ◌≤◌, pos};
 ghost use Rattle.sizes.specs.Sizes.{most-rows};
 ghost use Rattle.sizes.specs.Widths.{bucket-tiles};
@@ -18,7 +20,7 @@ use sizes::{
     OPEN_TABLE, PAINT_TABLE, ROW,
 };
 
-#[derive(Drop)]
+#[derive(Clone, Copy)]
 pub struct Screen {
     pub viewport: Rect,
     pub clip_bbox: Rect,
@@ -35,7 +37,7 @@ pub struct Screen {
 
 // What a screen is asked to be, besides its viewport: room for C render commands and D depth fills in each row, how the viewport is read,
 // and how wide a depth bucket is.
-#[derive(Drop)]
+#[derive(Clone, Copy)]
 pub struct Setup {
     pub c: u32,
     pub d: u32,
@@ -44,14 +46,14 @@ pub struct Setup {
 }
 
 // What a call gives: its number, and the screen afterwards.
-#[derive(Drop)]
+#[derive(Clone, Copy)]
 pub struct Built {
     pub number: u32,
     pub screen: Screen,
 }
 
 // How many words are lent.
-#[derive(Drop)]
+#[derive(Clone, Copy)]
 pub struct Lengths {
     pub render: usize,
     pub fills: usize,

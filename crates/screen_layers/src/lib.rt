@@ -1,5 +1,7 @@
 // The table of open layers, OPEN_LAYER words a layer: mix, compose, mask, clip flag, clip box, segment start and end, thread, the layer's own
 // box, NaN pattern, panel. Zeros for an absent clip. An opacity stands apart, as an f32. Parts: callers have judged what a `requires` asks.
+#![tactic(auto)]
+
 ghost use Rattle.std.specs.Prelude.{◌≡◌, ◌*◌, ◌<◌, length};
 ghost use Rattle.sizes.specs.Sizes.{most-layers, open-layer-size, open-layer-table};
 ghost use Rattle.rules.specs.Inputs.{all-good};
@@ -13,7 +15,7 @@ use rect::{NOWHERE, Rect};
 use sizes::{HANDLE_END, OPEN_LAYER, PANEL_END, THREAD_END};
 
 // The box, the range of its segments, the thread.
-#[derive(Drop)]
+#[derive(Clone, Copy)]
 pub struct Clip {
     pub bbox: Rect,
     pub start: u32,
@@ -21,14 +23,14 @@ pub struct Clip {
     pub thread: u32,
 }
 
-#[derive(Drop)]
+#[derive(Clone, Copy)]
 pub enum LayerClip {
     Absent,
     Present(Clip),
 }
 
 // nan: the pattern of a NaN opacity, else 0.
-#[derive(Drop)]
+#[derive(Clone, Copy)]
 pub struct LayerProps {
     pub blend: Blend,
     pub opacity: f32,
@@ -39,7 +41,7 @@ pub struct LayerProps {
 }
 
 // What a pop reads of an open layer: flag 1 with a clip, 0 without.
-#[derive(Drop)]
+#[derive(Clone, Copy)]
 pub struct OpenLayer {
     pub blend: Blend,
     pub mask: u32,
@@ -53,7 +55,7 @@ pub struct OpenLayer {
 }
 
 // A clip as it stands in the table.
-#[derive(Drop)]
+#[derive(Clone, Copy)]
 struct FlatClip {
     flag: u32,
     bbox: Rect,

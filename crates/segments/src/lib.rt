@@ -1,5 +1,7 @@
 // Segment lists: judging them (answers 4 and 5), and cutting their segments to the clip box (rule 4). Parts: a list is lent as words, five
 // a segment.
+#![tactic(auto)]
+
 ghost use Rattle.std.specs.Prelude.{◌≡◌, true, false, ◌+◌, ◌-◌, ◌*◌, ◌≤◌, length};
 ghost use Rattle.rules.specs.Segments.{good-segment, follows, judge-segments, alpha-of, cut_in};
 ghost use Rattle.span.specs.Spans.{alpha};
@@ -12,7 +14,7 @@ use sizes::{TILE_ALPHAS, TILE_END};
 use span::{Alpha, Cut, Stretch, TileSpan};
 
 // Kind 0 is solid, 1 has an alpha index, that of its first tile.
-#[derive(Drop)]
+#[derive(Clone, Copy)]
 pub struct Segment {
     pub kind: u32,
     pub row: u32,
@@ -121,7 +123,7 @@ pub fn judge_segments(list: &[u32], start: usize, end: usize) -> u32
 }
 
 // The viewport's origin in pixels, and the clip box in scene tiles.
-#[derive(Drop)]
+#[derive(Clone, Copy)]
 pub struct Scene {
     pub x: u32,
     pub y: u32,
@@ -149,7 +151,7 @@ pub fn scene_of(viewport: Rect, clip: Rect) -> Scene
 }
 
 // What is left of a segment, on a row of the screen.
-#[derive(Drop)]
+#[derive(Clone, Copy)]
 pub enum Placed {
     Nothing,
     On(u32, Stretch),

@@ -1,4 +1,6 @@
 // Every size, limit, table length and place of a field, once, for code; `specs/Sizes` has the same for contracts, and `tied` ties the two. `answers` has the answer numbers, `width` a bucket's widths.
+#![tactic(auto)]
+
 pub mod answers;
 pub mod width;
 

@@ -4,7 +4,7 @@ ghost use Rattle.sizes.specs.Sizes.{tile-end};
 ghost use Rattle.sizes.specs.Widths.{bucket-tiles, width_of, width_read};
 
 // 64, 128 or 256 pixels, which are 16, 32 or 64 tiles.
-#[derive(Drop)]
+#[derive(Clone, Copy)]
 pub enum Width {
     W64,
     W128,
@@ -12,7 +12,7 @@ pub enum Width {
 }
 
 // What a number of pixels asks for.
-#[derive(Drop)]
+#[derive(Clone, Copy)]
 pub enum ReadWidth {
     Bad,
     Good(Width),

@@ -1,4 +1,6 @@
 // Spans of tiles (span.rs). Parts: where a function asks for tile numbers, its callers have judged them.
+#![tactic(auto)]
+
 ghost use Rattle.std.specs.Prelude.{◌≡◌, ◌+◌, ◌-◌, ◌*◌, ◌/◌, ◌≤◌, min, max};
 ghost use Rattle.rules.specs.Spans.{span, hull, meeting, moved, cut-to};
 ghost use Rattle.rules.specs.Depth.{tiles-of};
@@ -12,42 +14,42 @@ use sizes::width::Width;
 
 // From a first tile to an end tile, which is not among them. Laid out as in C: a host lends slices of it.
 #[repr(C)]
-#[derive(Drop)]
+#[derive(Clone, Copy)]
 pub struct TileSpan {
     pub first: u32,
     pub end: u32,
 }
 
 // The same of depth buckets.
-#[derive(Drop)]
+#[derive(Clone, Copy)]
 pub struct BucketRange {
     pub first: u32,
     pub end: u32,
 }
 
 // What two spans have in common.
-#[derive(Drop)]
+#[derive(Clone, Copy)]
 pub enum Meeting {
     Nothing,
     Tiles(TileSpan),
 }
 
 // A solid fill has no alpha index; another has that of its first tile.
-#[derive(Drop)]
+#[derive(Clone, Copy)]
 pub enum Alpha {
     Solid,
     At(u32),
 }
 
 // Tiles of one row, with the alpha index of the first of them.
-#[derive(Drop)]
+#[derive(Clone, Copy)]
 pub struct Stretch {
     pub tiles: TileSpan,
     pub alpha: Alpha,
 }
 
 // What is left of a stretch inside some bounds.
-#[derive(Drop)]
+#[derive(Clone, Copy)]
 pub enum Cut {
     Nothing,
     Left(Stretch),

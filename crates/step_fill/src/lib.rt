@@ -1,4 +1,6 @@
 // A fill (rules 3 to 7): judged, then done. `fill` is a public call.
+#![tactic(auto)]
+
 ghost use Rattle.std.specs.Prelude.{◌≡◌, ◌+◌, ◌/◌, ◌≤◌, ◌<◌, eqb, length};
 ghost use Rattle.sizes.specs.Sizes.{most-attrs, last-id};
 ghost use Rattle.rules.specs.Answers.{answer};
@@ -19,7 +21,7 @@ use step_fill_judge::judge_list;
 use step_fill_rows::{Job, fill_rows};
 
 // Segments start to end of a list, painted with the paint at a place of a paint list.
-#[derive(Drop)]
+#[derive(Clone, Copy)]
 pub struct Draw {
     pub thread: u32,
     pub start: usize,

@@ -1,5 +1,7 @@
 // Judging a fill's segments and the rows that they come to (answers 4, 5, 10 and 11), in one pass, before anything is done: by a sure look,
 // and exactly where that look is not sure. Parts.
+#![tactic(auto)]
+
 ghost use Rattle.std.specs.Prelude.{◌≡◌, true, false, ◌-◌, ◌*◌, ◌≤◌, ◌<◌, length};
 ghost use Rattle.sizes.specs.Sizes.{tile-end, most-layers, most-room, row-size};
 ghost use Rattle.rules.specs.Segments.{cut_in, good-segment, judge-segments};

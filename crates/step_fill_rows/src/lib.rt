@@ -1,4 +1,6 @@
 // The doing half of a fill (rules 3 to 7), over a whole screen's words. Parts: each has a `requires`, which `fill` has judged.
+#![tactic(auto)]
+
 ghost use Rattle.std.specs.Prelude.{◌≡◌, true, ◌+◌, ◌*◌, ◌-◌, ◌≤◌, ◌<◌, length, get_or};
 ghost use Rattle.sizes.specs.Sizes.{most-layers};
 ghost use Rattle.rules.specs.Lists.{change};
@@ -22,7 +24,7 @@ use span::{Alpha, Stretch, TileSpan};
 
 // What stays the same over all the segments of a fill: the scene, room for commands and depth fills in a row, open layers, whether
 // solid segments are eligible, attribute and id, and the width of a depth bucket.
-#[derive(Drop)]
+#[derive(Clone, Copy)]
 pub struct Job {
     pub scene: Scene,
     pub c: u32,

@@ -1,4 +1,6 @@
 // A filter fill (rule 11). `filter_fill` is a public call; the others are parts of it.
+#![tactic(auto)]
+
 ghost use Rattle.std.specs.Prelude.{◌≡◌, ◌||◌, ◌≤◌, ◌+◌};
 ghost use Rattle.std.proofs.Math.Option.{get_or};
 ghost use Rattle.std.proofs.Math.IntN.{sub_ℕ};
@@ -21,14 +23,14 @@ use sizes::{FILTER_TABLE, HANDLE_END, MOST_ATTRS, MOST_FILTERS, PAINT_TABLE, PAN
 use step_rows::{judge_rows, paint_rows};
 
 // The picture that a filter layer draws, by its handle, counted from 0; or none.
-#[derive(Drop)]
+#[derive(Clone, Copy)]
 pub enum Pixmap {
     Absent,
     Present(u32),
 }
 
 // Where a filter layer is drawn, and from where in its picture.
-#[derive(Drop)]
+#[derive(Clone, Copy)]
 pub struct Placement {
     pub dest: Rect,
     pub source_x: u32,

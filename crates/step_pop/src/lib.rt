@@ -1,4 +1,6 @@
 // A pop's two halves, judged and done (bucketer.rs, pop_layer; rules 9 and 10). Parts: where a function asks something, its callers have judged it.
+#![tactic(auto)]
+
 ghost use Rattle.std.specs.Prelude.{◌≡◌, true, false, ◌&&◌, ◌||◌, cond, [], map, ◌++◌, ◌+◌, ◌-◌, ◌*◌, ◌/◌, ◌≤◌, ◌<◌, length, eqb};
 ghost use Rattle.std.proofs.Math.Option.{none};
 ghost use Rattle.sizes.specs.Sizes.{most-layers, most-attrs, open-layer-table, opacity-count, layer-attr-table};

@@ -1,4 +1,6 @@
 // A pop as a call (bucketer.rs, pop_layer): judged, then done, or refused with nothing changed.
+#![tactic(auto)]
+
 ghost use Rattle.std.specs.Prelude.{◌≡◌};
 ghost use Rattle.row.specs.Words.{words};
 ghost use Rattle.step_pop.specs.Pop.{lent, out, popped};

@@ -1,5 +1,7 @@
 // The rows of a closing layer (bucketer.rs, pop_layer; rules 9 and 10): judging them, the closing LayerFills, the PopBufs. These are parts:
 // each has a `requires`, which its callers have judged. The layer that closes is the innermost of `screen.layers`; a to b are its box's rows.
+#![tactic(auto)]
+
 ghost use Rattle.std.specs.Prelude.{◌≡◌, true, cond, [], ◌∷◌, map, ◌+◌, ◌-◌, ◌*◌, ◌≤◌, ◌<◌, length};
 ghost use Rattle.std.proofs.Math.Option.{none};
 ghost use Rattle.sizes.specs.Sizes.{most-layers, most-rows, row-size};

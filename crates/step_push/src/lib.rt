@@ -1,4 +1,6 @@
 // A push (rule 8). `push_layer` is a public call; the others are parts of it.
+#![tactic(auto)]
+
 ghost use Rattle.std.specs.Prelude.{◌≡◌, ◌≤◌};
 ghost use Rattle.sizes.specs.Sizes.{most-layers};
 ghost use Rattle.rules.specs.Answers.{answer};
@@ -15,7 +17,7 @@ use sizes::{MOST_LAYERS, OPACITIES, OPEN_TABLE};
 use step_rows::{judge_rows, touch_rows};
 
 // Rows a to b.
-#[derive(Drop)]
+#[derive(Clone, Copy)]
 struct Run {
     a: usize,
     b: usize,

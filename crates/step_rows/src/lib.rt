@@ -1,4 +1,6 @@
 // A run of rows, a to b: judged, and the same act done on each. Parts: each has a `requires`, which the steps have judged.
+#![tactic(auto)]
+
 ghost use Rattle.std.specs.Prelude.{◌≡◌, ◌≤◌, ◌*◌, length};
 ghost use Rattle.std.proofs.Math.Option.{none};
 ghost use Rattle.sizes.specs.Sizes.{most-layers, most-room, most-rows, row-size};
@@ -49,7 +51,7 @@ pub fn judge_rows(screen: Screen, rows: &[u32], a: usize, b: usize) -> u32
 }
 
 // What is done on each row of a run, with n layers open.
-#[derive(Drop)]
+#[derive(Clone, Copy)]
 pub enum Act {
     // Rule 5 alone.
     Touch,

@@ -1,4 +1,6 @@
 // The building calls of a sequence: a call's words become what the step takes.
+#![tactic(auto)]
+
 ghost use Rattle.std.specs.Prelude.{◌≡◌, ◌≤◌, length};
 
 use cmd::blend::Blend;
@@ -31,7 +33,7 @@ fn draw_of(call: &[u32]) -> Draw {
 }
 
 // So many words after the number at place at, as far as the call has them.
-#[derive(Drop)]
+#[derive(Clone, Copy)]
 struct Part {
     first: usize,
     end: usize,

@@ -1,4 +1,6 @@
 // What no call does: a word of the screen's numbers, arenas or tables set to anything, and a sum of all that is there.
+#![tactic(auto)]
+
 ghost use Rattle.std.specs.Prelude.{◌≡◌, ◌≤◌, length};
 
 use rect::Rect;

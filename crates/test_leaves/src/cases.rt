@@ -11,14 +11,14 @@ use sizes::width::{ReadWidth, Width, read_width};
 use span::{BucketRange, TileSpan};
 
 // How many cases agree, of how many.
-#[derive(Drop)]
+#[derive(Clone, Copy)]
 pub struct Tally {
     pub agree: usize,
     pub of: usize,
 }
 
 // Where the next case stands, and whether this one agrees. What is no case has 0 as its next.
-#[derive(Drop)]
+#[derive(Clone, Copy)]
 pub struct Seen {
     pub next: usize,
     pub agrees: bool,

@@ -1,4 +1,6 @@
 // Replays the original's stored answers through the leaves, and prints how many cases of each kind agree.
+#![tactic(auto)]
+
 mod cases;
 mod words;
 

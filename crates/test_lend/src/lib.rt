@@ -1,4 +1,6 @@
 // One building, painting or showing call of a sequence, on the parts of the arenas and tables that it is lent.
+#![tactic(auto)]
+
 ghost use Rattle.std.specs.Prelude.{◌≡◌, ◌≤◌, length};
 
 use screen::Screen;

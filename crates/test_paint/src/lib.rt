@@ -1,4 +1,6 @@
 // The painting calls of a sequence. A call that lists something is lent so many words of the list, full of marks; they follow its answer.
+#![tactic(auto)]
+
 ghost use Rattle.std.specs.Prelude.{◌≡◌, ◌≤◌, length};
 
 use depth::{Runs, Skip};

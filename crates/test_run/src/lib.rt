@@ -1,5 +1,7 @@
 // A sequence of calls on one screen, run one after another: their words in, the words of their answers out. oracle/README.md has both.
 // A harness for runs against the original: what a call promises is in its own contract.
+#![tactic(auto)]
+
 ghost use Rattle.std.specs.Prelude.{◌≡◌, ◌≤◌, length};
 
 use rect::NOWHERE;
@@ -37,7 +39,7 @@ fn size_of(rest: &[u32]) -> usize
 }
 
 // Where a sequence stands. short: the table that calls are lent one word less of, 0 for none.
-#[derive(Drop)]
+#[derive(Clone, Copy)]
 pub struct Stand {
     pub screen: Screen,
     pub short: u32,

@@ -1,5 +1,7 @@
 // Everything that stands on a screen, as words: its numbers; each row's counts, summary, levels, commands, depth fills, depth words and
 // painting; the attributes and filter paints.
+#![tactic(auto)]
+
 ghost use Rattle.std.specs.Prelude.{◌≡◌, ◌≤◌, ◌<◌, length};
 
 use screen::Screen;

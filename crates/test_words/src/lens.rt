@@ -9,7 +9,7 @@ use sizes::width::{ReadWidth, Width, read_width};
 use sizes::{MOST_ROOM, ROW};
 
 // How many words of each arena and table a call is lent; the rows, and a row's own words.
-#[derive(Drop)]
+#[derive(Clone, Copy)]
 pub struct Lens {
     pub count: usize,
     pub rows: usize,
@@ -90,7 +90,7 @@ fn lens_for(
 }
 
 // What a reset asks of the screen.
-#[derive(Drop)]
+#[derive(Clone, Copy)]
 pub enum Asked {
     Bad,
     Good(Setup),

@@ -1,4 +1,6 @@
 // Words of a sequence of calls and of its answers. Readers and writers are total: past the end a word is 0, and nothing is written.
+#![tactic(auto)]
+
 pub mod lens;
 
 ghost use Rattle.std.specs.Prelude.{◌≡◌, ◌≤◌, ◌<◌, length};
@@ -10,7 +12,7 @@ use screen::Screen;
 pub const MARK: u32 = 2779096485;
 
 // The screen after a call, and the place after its answer.
-#[derive(Drop)]
+#[derive(Clone, Copy)]
 pub struct Turn {
     pub screen: Screen,
     pub place: usize,

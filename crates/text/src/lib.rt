@@ -1,5 +1,7 @@
 // Text into a lent list of bytes: each function writes at a place, as far as the bytes go, and gives the place after what it wrote. On no
 // bytes it measures. Parts: where a function asks for a place that is not far, its callers have seen to it.
+#![tactic(auto)]
+
 ghost use Rattle.std.specs.Prelude.{◌≡◌, [], ◌∷◌, ◌+◌, ◌≤◌, ◌%◌, length, nat_abs};
 ghost use Rattle.rules.specs.Lines.{digits, number, dash};
 ghost use Rattle.text.specs.Texts.{sign, signed, text, far, Wrote};

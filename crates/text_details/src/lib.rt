@@ -1,5 +1,7 @@
 // What `rowdump` prints after the lines of `rowlist`: attributes, filter paints, pieces. Parts: each asks for a place that is
 // not far, and its callers have seen to it. `panels`: whether a line with a panel shows it.
+#![tactic(auto)]
+
 ghost use Rattle.std.specs.Prelude.{◌≡◌, false, [], ◌∷◌, ◌++◌, ◌+◌, ◌*◌, ◌≤◌, length};
 ghost use Rattle.sizes.specs.Sizes.{most-layers, paint-attr-size, layer-attr-size, filter-paint-size};
 ghost use Rattle.rules.specs.Lines.{number};

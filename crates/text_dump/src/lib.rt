@@ -1,5 +1,7 @@
 // What `rowdump` prints of a recording, from its number and its file's bytes to the text. Parts: where a function asks something, its callers
 // have seen to it. `panels`: whether a line with a panel shows it.
+#![tactic(auto)]
+
 ghost use Rattle.std.specs.Prelude.{◌≡◌, [], ◌∷◌, ◌-◌, ◌≤◌, length};
 ghost use Rattle.screen.specs.Screens.{setup-of};
 ghost use Rattle.screen.specs.Tables.{tables as screen-tables};

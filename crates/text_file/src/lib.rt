@@ -1,4 +1,6 @@
 // The text that `rowlist` prints of a recording file.
+#![tactic(auto)]
+
 ghost use Rattle.std.specs.Prelude.{◌≡◌, ◌≤◌, length};
 ghost use Rattle.sizes.specs.Sizes.{program-rows, program-buckets};
 ghost use Rattle.screen.specs.Screens.{setup-of};
@@ -20,7 +22,7 @@ use sizes::{
 use text_screen::{list_screen, refusal_line};
 
 // number: document 01's answer. bytes: how many are written, at the start of the lent ones. screen: the screen afterwards.
-#[derive(Drop)]
+#[derive(Clone, Copy)]
 pub struct FileText {
     pub number: u32,
     pub bytes: usize,
@@ -28,7 +30,7 @@ pub struct FileText {
 }
 
 // The rows and the buckets in each that a file asks for, or the number of its refusal.
-#[derive(Drop)]
+#[derive(Clone, Copy)]
 pub struct Size {
     pub number: u32,
     pub rows: usize,

@@ -1,4 +1,6 @@
 // The lines that `rowlist` prints, one function for each kind. Parts: each asks for a place that is not far, and its callers have seen to it.
+#![tactic(auto)]
+
 ghost use Rattle.std.specs.Prelude.{◌≡◌, [], ◌∷◌, ◌+◌, ◌≤◌};
 ghost use Rattle.rules.specs.Lines.{header, row, refused, depth-line, command-line, fill-bytes, alpha-bytes, span-bytes, line-text, line-bytes};
 ghost use Rattle.span.specs.Spans.{tiles, alpha};

@@ -1,5 +1,7 @@
 // What the programs have in common: their options, their tables, the text of a file's bytes, reading to the end, streams. Parts: where a function
 // asks something, the programs have seen to it.
+#![tactic(auto)]
+
 ghost use Rattle.std.specs.Prelude.{◌≡◌, ◌≤◌, length};
 ghost use Rattle.screen.specs.Screens.{setup-of};
 ghost use Rattle.text_file.specs.Files.{Usual};
@@ -76,7 +78,7 @@ pub fn no_width_text(file: &[u8], out: &mut [u8]) -> usize
 }
 
 // failed: a read failed. count: how many bytes were read before that, or before the end.
-#[derive(Drop)]
+#[derive(Clone, Copy)]
 pub struct Input {
     pub failed: bool,
     pub count: usize,

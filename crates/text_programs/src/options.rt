@@ -14,7 +14,7 @@ use sizes::width::{ReadWidth, Width, read_width};
 
 // What the options want of a screen, and of its text. no_width: the number typed for the width is none, and every file is refused. panels: lines
 // with a panel show it.
-#[derive(Drop)]
+#[derive(Clone, Copy)]
 pub struct Want {
     pub setup: Setup,
     pub no_width: bool,
@@ -22,7 +22,7 @@ pub struct Want {
 }
 
 // next: the first argument that is no option. others: how many there are from there on.
-#[derive(Drop)]
+#[derive(Clone, Copy)]
 pub struct Options {
     pub want: Want,
     pub next: usize,
@@ -121,7 +121,7 @@ pub fn read_options(known: bool) -> Options
 }
 
 // An argument that is a number: decimal digits, at most 4,294,967,295.
-#[derive(Drop)]
+#[derive(Clone, Copy)]
 pub enum Number {
     Bad,
     Good(u32),

@@ -1,5 +1,7 @@
 // What `rowdump` prints of a screen after the lines of `rowlist`. `attrs_text` and `row_text` are public calls; the others are their parts.
 // `panels`: whether a line with a panel shows it.
+#![tactic(auto)]
+
 ghost use Rattle.std.specs.Prelude.{◌≡◌, true, false, ◌&&◌, [], ◌∷◌, ◌+◌, ◌*◌, ◌≤◌, length, ltb};
 ghost use Rattle.sizes.specs.Sizes.{most-attrs, most-filters, piece-size};
 ghost use Rattle.rules.specs.Lines.{alpha-bytes};

@@ -1,5 +1,7 @@
 // The lines of a screen's words, as text (document 01, "The recording file"). `list_screen` and `refusal_line` are public calls; the others
 // are their parts.
+#![tactic(auto)]
+
 ghost use Rattle.std.specs.Prelude.{◌≡◌, ℕ, ◌+◌, ◌*◌, ◌≤◌, ◌<◌, ◌&&◌, length, get_or, ltb};
 ghost use Rattle.sizes.specs.Sizes.{most-room, most-rows, row-size};
 ghost use Rattle.rules.specs.Lines.{depth-line, command-line};
@@ -20,7 +22,7 @@ use sizes::{DEPTHS, RENDERS, ROW, wide};
 use text_lines::{LINE, put_command_line, put_depth_line, put_header, put_refused, put_row_line};
 
 // number: document 01's answer. bytes: how many are written, at the start of the lent ones.
-#[derive(Drop)]
+#[derive(Clone, Copy)]
 pub struct Listing {
     pub number: u32,
     pub bytes: usize,

@@ -1,4 +1,6 @@
 // What `why` prints: the reasons of a tile's attributes, in words. Parts: where a function asks something, its callers have seen to it.
+#![tactic(auto)]
+
 ghost use Rattle.std.specs.Prelude.{◌≡◌, ◌+◌, ◌*◌, ◌≤◌, length, take};
 ghost use Rattle.sizes.specs.Sizes.{most-attrs, file-bytes};
 ghost use Rattle.rules.specs.Lines.{rowlist-screen};
@@ -26,7 +28,7 @@ use tile_reason::{Asked, Reason, reason_of};
 use tile_steps::Tale;
 
 // One attribute, or every attribute.
-#[derive(Drop)]
+#[derive(Clone, Copy)]
 pub enum Question {
     Every,
     One(Asked),

@@ -1,4 +1,6 @@
 // Why a tile of a recording shows what it shows (T-01). `why` is a public call; the others are parts of it.
+#![tactic(auto)]
+
 ghost use Rattle.std.specs.Prelude.{◌≡◌, true, false, [], length};
 ghost use Rattle.sizes.specs.Widths.{bucket-tiles};
 ghost use Rattle.rules.specs.Boxes.{good-viewport};
@@ -30,7 +32,7 @@ use tile_steps::{Spot, Tale, Told, Within};
 use tile_walk::tell_nodes;
 
 // number: document 01's answer. screen: the screen afterwards. reason: with a refusal it says nothing.
-#[derive(Drop)]
+#[derive(Clone, Copy)]
 pub struct Explained {
     pub number: u32,
     pub screen: Screen,

@@ -1,4 +1,6 @@
 // Why a tile shows what it shows: a reason, read off the lines that were told of the tile. Parts.
+#![tactic(auto)]
+
 ghost use Rattle.std.specs.Prelude.{◌≡◌, ◌&&◌, cond, ◌+◌, ◌*◌, ◌≤◌, ◌<◌, length, eqb};
 ghost use Rattle.sizes.specs.Sizes.{most-attrs};
 ghost use Rattle.sizes.specs.Sizes.{line-size, line-table};
@@ -9,7 +11,7 @@ use sizes::LINE;
 use tile_steps::lines::{CUT_AWAY, HIDES, LINE_PANEL, NO_SEGMENT, TOLD, UNTOUCHED};
 
 // By the newest depth fill, of this attribute and this panel; `panel`: the asked attribute's.
-#[derive(Drop)]
+#[derive(Clone, Copy)]
 pub struct Hidden {
     pub attribute: u32,
     pub hider_panel: u32,
@@ -17,14 +19,14 @@ pub struct Hidden {
 }
 
 // At this place in the tile's list.
-#[derive(Drop)]
+#[derive(Clone, Copy)]
 pub struct Shown {
     pub place: u32,
     pub panel: u32,
 }
 
 // The first that holds, in this order; with the asked attribute's panel, where there is such an attribute.
-#[derive(Drop)]
+#[derive(Clone, Copy)]
 pub enum Reason {
     UnknownAttribute,
     NoSegment(u32),
@@ -35,14 +37,14 @@ pub enum Reason {
 }
 
 // A layer attribute, or a draw's.
-#[derive(Drop)]
+#[derive(Clone, Copy)]
 pub struct Asked {
     pub layer: bool,
     pub attribute: u32,
 }
 
 // What a reason goes by of a line.
-#[derive(Drop)]
+#[derive(Clone, Copy)]
 struct Mark {
     layer: u32,
     attribute: u32,
@@ -65,7 +67,7 @@ fn mark_at(lines: &[u32], i: usize) -> Mark
 
 // What is known of the asked attribute after some lines. found: its line was there, with this standing, this panel and, where it was told, this place
 // in the tile's list; hidden: what hides it came later. count: how long the tile's list is so far; hider: the attribute of the newest that hides.
-#[derive(Drop)]
+#[derive(Clone, Copy)]
 struct Search {
     found: bool,
     standing: u32,

@@ -1,5 +1,7 @@
 // What each building step says of one tile, in plain draw order: a line for each attribute that it adds, and no row. Parts: callers have judged
 // the records and chosen a tile of the screen. `lines` holds the lines of all attributes.
+#![tactic(auto)]
+
 ghost use Rattle.std.specs.Prelude.{◌≡◌, true, ◌&&◌, not, List, ◌∷◌, ℕ, ◌+◌, ◌-◌, ◌*◌, ◌≤◌, length, ltb};
 ghost use Rattle.sizes.specs.Sizes.{last-id};
 ghost use Rattle.rules.specs.Lists.{every, is_none};
@@ -33,7 +35,7 @@ pub mod lines;
 pub mod looks;
 
 // A row and a tile of the viewport's screen, at so many tiles a bucket.
-#[derive(Drop)]
+#[derive(Clone, Copy)]
 pub struct Spot {
     pub viewport: Rect,
     pub row: u32,
@@ -42,14 +44,14 @@ pub struct Spot {
 }
 
 // The clip box in force, and how many layers are open.
-#[derive(Drop)]
+#[derive(Clone, Copy)]
 pub struct Within {
     pub clip: Rect,
     pub open: u32,
 }
 
 // The next id, the attributes and filter paints so far, and for how many of the open layers, from the outermost, the row is touched.
-#[derive(Drop)]
+#[derive(Clone, Copy)]
 pub struct Tale {
     pub next: u32,
     pub paints: u32,
@@ -58,7 +60,7 @@ pub struct Tale {
     pub levels: u32,
 }
 
-#[derive(Drop)]
+#[derive(Clone, Copy)]
 pub struct Told {
     pub number: u32,
     pub tale: Tale,
@@ -141,7 +143,7 @@ pub fn tell_fill(
 }
 
 // A push, and what holds within the layer.
-#[derive(Drop)]
+#[derive(Clone, Copy)]
 pub struct Pushed {
     pub number: u32,
     pub tale: Tale,

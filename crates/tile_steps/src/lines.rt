@@ -23,7 +23,7 @@ pub const TOLD: u32 = 3;
 // Told, and it hides what came before.
 pub const HIDES: u32 = 4;
 
-#[derive(Drop)]
+#[derive(Clone, Copy)]
 pub struct Line {
     pub layer: bool,
     pub attribute: u32,
@@ -59,7 +59,7 @@ fn bit(b: bool) -> u32
 }
 
 // 1 and the index, or 0 and 0.
-#[derive(Drop)]
+#[derive(Clone, Copy)]
 struct Index {
     flag: u32,
     index: u32,

@@ -18,7 +18,7 @@ use span::{Alpha, Stretch, TileSpan};
 
 // covered: a segment covers the tile before the cut; reached: one is left in its row; kept: one that is left covers it, with the tile's own alpha
 // index, and whether it covers the tile's whole bucket.
-#[derive(Drop)]
+#[derive(Clone, Copy)]
 pub struct Look {
     pub covered: bool,
     pub reached: bool,

@@ -1,5 +1,7 @@
 // The walk over a recording that tells the story of one tile (rule 2), in plain draw order: the node-run walk and the layer walk, which call each
 // other. Parts: callers have read the form, judged the records and chosen a tile of the screen.
+#![tactic(auto)]
+
 ghost use Rattle.std.specs.Prelude.{◌≡◌, true, not, List, [], ◌+◌, ◌-◌, ◌*◌, ◌≤◌, ◌<◌, eqb, length, get_or};
 ghost use Rattle.rules.specs.Lists.{slice};
 ghost use Rattle.rules.specs.Inputs.{Draw as RuleDraw};

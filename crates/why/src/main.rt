@@ -1,5 +1,7 @@
 // Prints why a tile of the recording on standard input shows what it shows: for one attribute, for every attribute, or for each question of a
 // stream. A read or a write that fails is told on standard error, and so is the usage; nothing else goes there.
+#![tactic(auto)]
+
 ghost use Rattle.std.specs.Prelude.{◌≡◌, ◌≤◌, ◌<◌, length, take};
 ghost use Rattle.rules_reason.specs.Answers.{why-text, question-line};
 ghost use Rattle.screen.specs.Screens.{setup-of};

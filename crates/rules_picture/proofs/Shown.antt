@@ -1,7 +1,7 @@
 -- The other half of demand 3, on one tile: of entries with rising ids, two passes show what plain draw order leaves:
 -- first the newest entry that hides, then, in order, each that does not hide and is not older than it.
 use Prim.Native.Nat.{ℕ, zero, suc, ◌≤◌, ◌<◌}
-use mathlib.Core.Path.{◌≡◌, refl, sym, ap, ◌∙◌}
+use mathlib.Core.Path.{◌≡◌, refl, sym, ap, subst, ◌∙◌}
 use mathlib.Core.Bool.{Bool, true, false, ◌&&◌, ◌||◌, not, cond, true≢false, false≢true}
 use mathlib.Core.List.{List, [], ◌∷◌, ◌++◌}
 use native.Mathlib.Omega.{arith}
@@ -94,5 +94,8 @@ two-passes-show {n} (told-next {t = t} {ts = ts} h r) = go (some_of hides-of ts)
     go : (b : Bool) → some_of hides-of ts ≡ b → two-passes ts ≡ shown ts → cond b (hider ts) (keep t.hides t []) ++ such (passes (newest-hide (t ∷ ts))) (t ∷ ts) ≡ cond b (shown ts) (t ∷ ts)
     go true q ih =
         let k = above r q in
-        rw (write-past (cond t.hides t.id 0) (newest-hide ts) (omega arith), old-fails (newest-hide ts) t k) ih
-    go false q ih = rw (no-newest ts q) (alone q t.hides refl)
+        let newest : newest-hide (t ∷ ts) ≡ newest-hide ts = write-past (cond t.hides t.id 0) (newest-hide ts) (omega arith) in
+        subst (λ (n : ℕ). hider ts ++ such (passes n) (t ∷ ts) ≡ shown ts) (sym newest) (rw (old-fails (newest-hide ts) t k) ih)
+    go false q ih =
+        let newest : newest-hide (t ∷ ts) ≡ cond t.hides t.id 0 = ap (write (cond t.hides t.id 0)) (no-newest ts q) in
+        subst (λ (n : ℕ). keep t.hides t [] ++ such (passes n) (t ∷ ts) ≡ t ∷ ts) (sym newest) (alone q t.hides refl)

@@ -20,7 +20,7 @@ use Rattle.rules.specs.Recording.{Recording, LayerRec, Node, layer-rec}
 use Rattle.rules.specs.Walk.{◌then◌, when, each, props-of, walk-filter, walk-node, walk-nodes, walk-layer, walk-all}
 use Rattle.rules.proofs.Logged.{Logged, logged-call}
 use Rattle.rules.proofs.All.{All, nil, cons, never}
-use Rattle.rules_picture.specs.Built.{Built, no_step, then}
+use Rattle.rules_picture.specs.Built.{Built, no_step, then as then_step}
 use Rattle.rules_picture.proofs.Cases.{by}
 use Rattle.rules_picture.proofs.Stepped.{call-done}
 
@@ -144,7 +144,7 @@ pub record Walks (A B : List Layer → Type 0) (g : Logged Row → Answer (Logge
 
 pub built-append : {xs ys : List Step} {s u v : Screen Row} → Built xs s u → Built ys u v → Built (xs ++ ys) s v
 built-append no_step b = b
-built-append ((then) e a) b = (then) e (built-append a b)
+built-append (then_step e a) b = then_step e (built-append a b)
 
 joined : {B C : List Layer → Type 0} {a c : Answer (Logged Row)} {b d : Answer (Screen Row)} {l : Logged Row}
     → Walked B a b l → a.number ≡ Done → Walked C c d a.value → Walked C c d l
@@ -220,7 +220,7 @@ step-walks x k = record {
     screen = refl;
     steps = x ∷ [];
     log = refl;
-    built = λ z. (then) z no_step;
+    built = λ z. then_step z no_step;
     late = call-late x l.screen;
     layers = λ z. k l.screen h z;
   };

@@ -1,0 +1,6 @@
+use mathlib.Core.Path.{◌∙◌}
+use Rattle.depth.proofs.Answering.{unset-same}
+use Rattle.depth.proofs.runs.unset_runs.Goals as goal
+
+pub returns : goal.returns
+returns c = c.visible_runs.ensures ∙ rw unset-same

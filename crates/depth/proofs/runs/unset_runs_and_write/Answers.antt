@@ -1,0 +1,20 @@
+-- Each refusal is the rules' answer, in the order of the tests; past them the list has room for the runs, and one pass lists and writes them.
+use mathlib.Core.Path.{sym, ◌∙◌}
+use Rattle.depth.proofs.Answering.{write-backward, write-past, write-no-id, write-short, write_done}
+use Rattle.depth.proofs.runs.unset_runs_and_write.Goals as goal
+
+pub returns-then-hi-lo : goal.returns-then-hi-lo
+returns-then-hi-lo c = write-backward _ _ _ _ c.if-hi-lo.true
+
+pub returns-then-depth-hi : goal.returns-then-depth-hi
+returns-then-depth-hi c = write-past _ _ _ _ c.if-depth-hi.true
+
+pub returns-then-draw_id-eq0 : goal.returns-then-draw_id-eq0
+returns-then-draw_id-eq0 c = write-no-id _ _ _ _ c.if-draw_id-eq0.true
+
+pub returns-then-is_short : goal.returns-then-is_short
+returns-then-is_short c = write-short _ _ _ _ c.if-hi-lo.false c.if-depth-hi.false c.if-draw_id-eq0.false (sym c.if-is_short.true ∙ c.is_short.ensures)
+
+pub returns : goal.returns
+returns c = write_done _ _ _ _ c.if-hi-lo.false c.if-depth-hi.false c.if-draw_id-eq0.false _ _ _ (sym c.if-is_short.false ∙
+    c.is_short.ensures) c.mark_runs-listed.ensures.list_after c.mark_runs-listed.ensures.depth_after

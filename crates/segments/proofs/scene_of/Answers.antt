@@ -1,0 +1,7 @@
+use mathlib.Core.Path.{refl}
+use Rattle.rules.specs.Boxes.{scene-tiles}
+use Rattle.segments.proofs.scene_of.Goals as goal
+
+pub returns : goal.returns
+unfolding scene-tiles
+returns c = record { corner = refl; area = refl }

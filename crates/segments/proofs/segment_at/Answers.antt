@@ -1,0 +1,7 @@
+use mathlib.Core.Path.{refl}
+use Rattle.segments.specs.Segs.{seg-at}
+use Rattle.segments.proofs.segment_at.Goals as goal
+
+pub returns : goal.returns
+unfolding seg-at
+returns c = refl

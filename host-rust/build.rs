@@ -1,9 +1,9 @@
-//! Links the archive that `rt staticlib host` writes; `COARSE_LIB_DIR` names another folder.
+//! Links the archive that `rt lib` writes in crates/host; `COARSE_LIB_DIR` names another folder.
 use std::env;
 use std::path::PathBuf;
 
 fn main() {
-    let beside = PathBuf::from(env::var("CARGO_MANIFEST_DIR").unwrap()).join("../target/staticlib");
+    let beside = PathBuf::from(env::var("CARGO_MANIFEST_DIR").unwrap()).join("../crates/host/out");
     let folder = env::var("COARSE_LIB_DIR").map_or(beside, PathBuf::from);
     println!("cargo:rerun-if-env-changed=COARSE_LIB_DIR");
     println!(

@@ -1,4 +1,4 @@
-/* The coarse stage of a renderer, proved. Link target/staticlib/libhost.a (x86-64).
+/* The coarse stage of a renderer, proved. Link crates/host/out/libhost.a (x86-64).
  *
  * Every slice is a pointer and a length in elements: that many elements stand there, aligned, and no slice of a call overlaps one
  * that the call writes. With length 0 the pointer may be null. Nothing is allocated, and no call keeps a pointer. Every call takes

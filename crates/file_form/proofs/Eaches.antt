@@ -4,11 +4,11 @@ use native.Mathlib.Nat.{add-zero, mul-zero, mul-suc, add_assoc, add_comm}
 use native.Mathlib.Numerals.{add-one}
 use native.Mathlib.Omega.{arith}
 use mathlib.Core.Path.{◌≡◌, refl, sym, ap, ◌∙◌}
-use mathlib.Core.Bool.{Bool, true, false, ◌&&◌}
+use mathlib.Core.Bool.{Bool, true, false}
 use mathlib.Core.List.{List, [], ◌∷◌, ◌++◌, map}
 use lib.ListN.{length, get_or, take, drop}
-use lib.Seq.{get_or-take, get_or-drop, drop-drop}
-use Rattle.rules.specs.Lists.{every, slice}
+use lib.Seq.{drop-drop}
+use Rattle.rules.specs.Lists.{every}
 use Rattle.rules.specs.Recording.{records}
 use Rattle.rules.proofs.All.{both}
 use Rattle.file_form.specs.Each.{each}

@@ -1,5 +1,5 @@
 -- The sections that the rules find are those of the layout; and what the code has found so far.
-use Prim.Native.Nat.{ℕ, zero, suc, ◌+◌, ◌-◌, ◌*◌, ◌≤◌, ◌<◌}
+use Prim.Native.Nat.{ℕ, ◌+◌, ◌-◌, ◌*◌, ◌≤◌, ◌<◌}
 use native.Mathlib.Nat.{mul-le-mul}
 use native.Mathlib.Numerals.{add-one}
 use native.Mathlib.Omega.{arith}
@@ -7,20 +7,17 @@ use mathlib.Core.Path.{◌≡◌, refl, sym, ap, ◌∙◌}
 use mathlib.Core.Bool.{Bool, true, false, ◌&&◌, cond}
 use mathlib.Core.List.{List, [], ◌∷◌, ◌++◌, append_assoc, append-nil}
 use mathlib.Core.Option.{Option, none, some, map}
-use mathlib.Core.Logic.{⊎_elim}
 use lib.ListN.{length, get_or, drop, length-drop}
 use lib.Seq.{drop-cons, drop-length, drop-drop}
 use lib.Dec.{leb, ltb, eqb}
-use borrow.Author.Tests.{lt-ltb, le-ltb, le-leb, lt-leb, eq-eqb, ne_eqb, ltb-true, ltb-false, leb-true, eqb-true, leb-false}
+use borrow.Author.Tests.{lt-ltb, eq-eqb, ne_eqb, ltb-true, ltb-false, leb-true, eqb-true}
 use Rattle.rules.specs.Recording.{shape, good-count, records, sections}
 use Rattle.file_form.specs.declared.Section.{Section}
 use Rattle.file_form.specs.declared.Layout.{Layout}
-use Rattle.file_form.specs.declared.Form.{Form}
 use Rattle.file_form.specs.declared.Form.TheVariants as form
-use Rattle.file_form.specs.declared.Found.{Found}
 use Rattle.file_form.specs.declared.Found.TheVariants as found
 use Rattle.rules.proofs.All.{both}
-use Rattle.file_form.specs.Layouts.{section-from, past, stands, found-if, section-at, laid, layout_of, layout, formed, form_of, cut, viewport, sections-at, Within, Fits}
+use Rattle.file_form.specs.Layouts.{section-from, past, stands, found-if, section-at, laid, layout_of, layout, formed, form_of, cut, sections-at, Within, Fits}
 
 -- every section stands, and the words end there
 unfoldable pub fits : List (ℕ × Bool) → List ℕ → ℕ → Bool

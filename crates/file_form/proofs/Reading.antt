@@ -2,22 +2,21 @@
 use Prim.Native.Nat.{ℕ, zero, suc, ◌+◌, ◌-◌, ◌*◌, ◌≤◌, ◌<◌}
 use native.Mathlib.Nat.{add-zero, add_assoc, mul-zero, mul-suc}
 use native.Mathlib.Omega.{arith}
-use mathlib.Core.Path.{◌≡◌, refl, sym, ap, ◌∙◌}
-use mathlib.Core.Bool.{Bool, true, false, ◌&&◌}
-use mathlib.Core.List.{List, [], ◌∷◌, ◌++◌, map}
-use mathlib.Core.Option.{Option, none, some}
+use mathlib.Core.Path.{◌≡◌, sym, ap, ◌∙◌}
+use mathlib.Core.Bool.{true}
+use mathlib.Core.List.{List, []}
 use lib.ListN.{length, get_or, take, drop, length-take, length-drop}
 use lib.Seq.{get_or-take, get_or-drop, drop-drop}
 use lib.Dec.{ltb}
 use borrow.Author.Tests.{ltb-true}
-use Rattle.rules.specs.Recording.{shape, sections, records, recording, Recording, paint-rec, segment-rec, draw-rec, layer-rec, node-rec, LayerRec, Node}
+use Rattle.rules.specs.Recording.{records, recording, Recording, paint-rec, segment-rec, draw-rec, layer-rec, node-rec, LayerRec, Node}
 use Rattle.rules.specs.Boxes.{box}
 use Rattle.rules.specs.Inputs.{Paint, Draw}
 use Rattle.file_form.specs.declared.Section.{Section}
 use Rattle.file_form.specs.declared.Layout.{Layout}
 use Rattle.file_form.specs.Each.{each}
-use Rattle.file_form.specs.Layouts.{Within, Fits, cut, viewport, sections-at}
-use Rattle.file_form.specs.Places.{word, paint-from, segment-from, draw-from, clip-from, filter-from, layer-from, node-from, recorded}
+use Rattle.file_form.specs.Layouts.{Fits, cut, sections-at}
+use Rattle.file_form.specs.Places.{paint-from, segment-from, draw-from, clip-from, filter-from, layer-from, node-from, recorded}
 use Rattle.file_form.proofs.Eaches.{each-length, each_at, each-record, each_part}
 
 -- word i of a record of k words that stands at place p

@@ -232,7 +232,8 @@ pub room-first : {u v w : Words} → Grown v w → Room u w → Room u v
 room-first g r = record { state = r.state; render = r.render; fills = r.fills; levels = r.levels; commands = omega arith; depths = omega arith }
 
 pub room-rest : {u v w : Words} → Grown u v → word 5 v ≤ 16 → Room u w → Room v w
-room-rest g k r = record { state = g.state ∙ r.state; render = omega (arith, g.render); fills = omega (arith, g.fills); levels = k; commands = omega (arith, g.render); depths = omega (arith, g.fills) }
+room-rest g k r =
+    record { state = g.state ∙ r.state; render = omega (arith, g.render); fills = omega (arith, g.fills); levels = k; commands = omega (arith, g.render); depths = omega (arith, g.fills) }
 
 module _ {w : Words} where
   pub cmd-room : (c : Command) → Room w (put-command c w) → 4 * word 0 w + 4 ≤ length w.render

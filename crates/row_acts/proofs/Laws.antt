@@ -103,7 +103,8 @@ module _ {n k : ℕ} {s t w : Words} (v : Layering n t s k w) where
 
     pub layers-room : Room w (put-buf w)
     layers-room =
-        let g : Sound (put-buf w) (times (n - (k + 1)) put-buf (put-buf w)) = layers-sound (n - (k + 1)) (put-buf w) (state-long own v.room.state) (omega (arith, buf-levels w v.room.state (omega (arith, v.level)), v.level)) in
+        let g : Sound (put-buf w) (times (n - (k + 1)) put-buf (put-buf w)) =
+        layers-sound (n - (k + 1)) (put-buf w) (state-long own v.room.state) (omega (arith, buf-levels w v.room.state (omega (arith, v.level)), v.level)) in
         room-first (rw next at g.grown) v.room
 
     pub layers-again : {u : Words} → u ≡ put-buf w → Layering n t s (k + 1) u
@@ -212,7 +213,8 @@ module _ (width : Width) (i id : ℕ) (s : Span) (h : Short s) (w : Words) (o : 
     abbrev mid : Words
     mid = put-depth (bucket-tiles width) (deep (bucket-span b) i) id (edged a i w)
 
-    folded : (x y : Edge) → foldl (put-part Words word-ops (bucket-tiles width) i id) w (beside x (buckets (bucket-span b) ∷ beside y [])) ≡ edged y i (put-depth (bucket-tiles width) (deep (bucket-span b) i) id (edged x i w))
+    folded : (x y : Edge) → foldl (put-part Words word-ops (bucket-tiles width) i id) w (beside x (buckets (bucket-span b) ∷ beside y []))
+        ≡ edged y i (put-depth (bucket-tiles width) (deep (bucket-span b) i) id (edged x i w))
     folded Absent Absent = refl
     folded Absent (Tiles v) = refl
     folded (Tiles u) Absent = refl

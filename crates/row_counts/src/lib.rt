@@ -1,3 +1,2 @@
 // What judging a step needs of a row, three numbers: definitions and laws. No code.
 #![tactic(auto)]
-

@@ -10,14 +10,13 @@ use borrow.Author.Tests.{leb-true, ltb-false, eqb-true, eq-eqb, ne_eqb, le-leb}
 use Rattle.sizes.specs.declared.width.Width.{Width}
 use Rattle.sizes.specs.Widths.{bucket-tiles}
 use Rattle.rules.specs.Lists.{is-empty}
-use Rattle.rules.specs.Boxes.{Box, width, height, by_4, bounded, whole, rows_of, buckets-of, good-box, good-viewport}
+use Rattle.rules.specs.Boxes.{Box, width, height, by_4, whole, rows_of, buckets-of, good-viewport}
 use Rattle.rules.specs.Attributes.{attrs-full, no-paint, no-layer}
 use Rattle.rules.specs.Plans as plans
 use Rattle.rules.specs.Plans.{Frame, Plan, clip-box}
 use Rattle.rules.specs.Steps.{reset-state}
 use Rattle.rules.specs.Walk.{good-room}
 use Rattle.rules.proofs.laws.Widths.{each}
-use Rattle.rect.specs.declared.Rect.{Rect}
 use Rattle.rect.specs.Rects.{box_of, same-box}
 use Rattle.rect.proofs.Boxes.{View, view}
 use Rattle.screen.specs.declared.Screen.{Screen}

@@ -29,7 +29,6 @@ use Rattle.row_judge.specs.Building.{rows_at, screen-at, good-rows, step-number}
 use Rattle.rect.specs.Rects.{box_of}
 use Rattle.screen.specs.declared.Screen.{Screen}
 use Rattle.screen.specs.Screens.{frame-of, state-of, screen-after, counted}
-use Rattle.screen.specs.Judging.{judged}
 use Rattle.screen.proofs.Laws.{few-rows, same-layers, paint-count, layer-attr-count, filter-count}
 use Rattle.segments.specs.Segs as segs
 use Rattle.segments.specs.Segs.{segs-of}

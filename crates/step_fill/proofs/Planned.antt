@@ -9,7 +9,6 @@ use lib.ListN.{length, length-append}
 use borrow.Author.Tests.{lt-ltb, le-ltb}
 use Rattle.rules.specs.Lists.{join, every, is-empty}
 use Rattle.rules.specs.Answers.{Done, BadRecord, BadOrder}
-use Rattle.rules.specs.Boxes.{rows_of}
 use Rattle.rules.specs.Segments.{Segment, good-segment, ordered, judge-segments, cut_in, cuts}
 use Rattle.rules.specs.Inputs.{good-fill, draw-segments}
 use Rattle.rules.specs.Attributes.{Attrs, attrs-full}

@@ -1,5 +1,5 @@
 -- What a number 0 gives the doing half, and what it leaves. Assumes nothing.
-use mathlib.Core.Path.{◌≡◌, refl, sym, ap, ◌∙◌}
+use mathlib.Core.Path.{◌≡◌, refl, sym, ap, ◌∙◌, subst}
 use mathlib.Core.Bool.{Bool, true, false, ◌&&◌, ◌||◌, not, cond}
 use mathlib.Core.List.{List, [], ◌∷◌, ◌++◌, map}
 use mathlib.Core.Option.{Option, none, some}
@@ -200,7 +200,7 @@ module _ {s : code.Screen} {t ws : List ℕ} {w : Words} (j : Judged s t ws w) w
       pub plain-requires : Whole (frame-of s) w × (b ≤ rows_of (box_of s.viewport)) × Short (tiles p)
           × Each (Fillable (tiles p) none s.layer_attrs) (rows_at (frame-of s) w) (touched-in s.layers (rows_at (frame-of s) w) (range a b))
       plain-requires =
-          (seen.whole, b-bottom, rw span-is short-span, rw (a-is, b-is) (ready-fill ready.rows ready.room (tiles p) none s.layer_attrs))
+          (seen.whole, b-bottom, subst Short (sym span-is) short-span, rw (a-is, b-is) (ready-fill ready.rows ready.room (tiles p) none s.layer_attrs))
 
       pub plain_done : {rs : List Words} → rs ≡ done-puts (bucket-tiles s.width) (s.layers - 1) (map (on (close (tiles p) none s.layer_attrs)) (touched-in s.layers (rows_at (frame-of s) w) (range a b))) (rows_at (frame-of s) w)
           → rs ≡ done-puts (bucket-tiles s.width) (s.layers - 1) (closing-puts s t ws w) (rows_at (frame-of s) w)

@@ -1,0 +1,12 @@
+use native.Mathlib.Omega.{arith}
+use Rattle.file_form.proofs.Bytes.{put_next}
+use mathlib.Core.Path.{refl}
+use Rattle.file_form.specs.Each.{each}
+use Rattle.file_form.proofs.words_of_bytes.Goals as goal
+
+pub loop-i-init : goal.loop-i-init
+unfolding each
+loop-i-init c = (omega arith, refl)
+
+pub loop-i-preserved : goal.loop-i-preserved
+loop-i-preserved c = (omega arith, put_next _ _ _ _ c.loop-i.invariant.1 _ (omega arith) c.word_at.ensures)

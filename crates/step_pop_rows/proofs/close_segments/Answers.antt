@@ -1,0 +1,22 @@
+use native.Mathlib.Omega.{arith}
+use borrow.Author.Rules.{rules}
+use Rattle.step_pop_rows.proofs.Clipping.{clipping-done, good-here, room-here, clipping-on}
+use Rattle.step_pop_rows.proofs.Rooms.{long_after}
+use Rattle.step_pop_rows.proofs.close_segments.Goals as goal
+
+pub close_segment-requires : goal.close_segment-requires
+close_segment-requires c = (
+  c.loop-i.invariant.rest.whole,
+  c.loop-i.invariant.rest.bottom,
+  omega arith,
+  good-here c.loop-i.invariant c.loop-i-test.true,
+  c.loop-i.invariant.rest.starts,
+  room-here c.loop-i.invariant c.loop-i-test.true,
+)
+
+pub loop-i-preserved : goal.loop-i-preserved
+loop-i-preserved c = clipping-on c.loop-i.invariant c.loop-i-test.true _ (long_after _ _ _ c.loop-i.invariant.rest.whole (search rules) (search rules)
+    (search rules)) c.close_segment.ensures
+
+pub returns : goal.returns
+returns c = clipping-done c.loop-i.invariant c.loop-i-test.false

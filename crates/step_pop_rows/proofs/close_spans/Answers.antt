@@ -1,0 +1,22 @@
+use native.Mathlib.Omega.{arith}
+use borrow.Author.Rules.{rules}
+use Rattle.step_pop_rows.proofs.Going.{going_done, going-here, going_on}
+use Rattle.step_pop_rows.proofs.Rooms.{long_after}
+use Rattle.step_pop_rows.proofs.close_spans.Goals as goal
+
+pub close_span-requires : goal.close_span-requires
+close_span-requires c = (
+  c.loop-r.invariant.0,
+  omega arith,
+  c.requires.2,
+  going-here c.loop-r.invariant.1 c.loop-r-test.true,
+)
+
+pub loop-r-preserved : goal.loop-r-preserved
+loop-r-preserved c = (
+  long_after _ _ _ c.loop-r.invariant.0 (search rules) (search rules) (search rules),
+  going_on c.loop-r.invariant.1 c.loop-r-test.true c.close_span.ensures,
+)
+
+pub returns : goal.returns
+returns c = going_done c.loop-r.invariant.1 c.loop-r-test.false

@@ -1,0 +1,23 @@
+use native.Mathlib.Omega.{arith}
+use Rattle.step_pop_rows.proofs.Clipping.{counting-done, counting-good, counting-full, counting-on}
+use Rattle.step_pop_rows.proofs.is_full_clip.Goals as goal
+
+pub count_segment-hand-requires : goal.count_segment-hand-requires
+count_segment-hand-requires c = (
+  c.requires.0,
+  c.requires.1,
+  omega arith,
+  counting-good c.loop-i.invariant c.loop-i-test.true,
+  c.requires.5,
+  c.requires.6,
+  c.loop-i.invariant.clean,
+)
+
+pub returns-then-hand-ne-DONE : goal.returns-then-hand-ne-DONE
+returns-then-hand-ne-DONE c = counting-full c.loop-i.invariant c.loop-i-test.true c.count_segment-hand.ensures c.if-hand-ne-DONE.true
+
+pub loop-i-preserved : goal.loop-i-preserved
+loop-i-preserved c = counting-on c.loop-i.invariant c.loop-i-test.true c.count_segment-hand.ensures c.if-hand-ne-DONE.false
+
+pub returns : goal.returns
+returns c = counting-done c.loop-i.invariant c.loop-i-test.false

@@ -1,5 +1,5 @@
 -- Open layers read back from their words. Assumes nothing.
-use mathlib.Core.Path.{◌≡◌, refl, ap, ◌∙◌}
+use mathlib.Core.Path.{◌≡◌, refl, sym, ap, subst, ◌∙◌}
 use mathlib.Core.Bool.{Bool, true, ◌&&◌}
 use mathlib.Core.List.{List, [], ◌∷◌, ◌++◌, map, append_assoc}
 use mathlib.Core.Option.{Option, none, some}
@@ -75,7 +75,10 @@ pub layers-read : (ls : List Layer) (rest : List ℕ) → layers-in (layers-word
 unfolding layers-in layers-words
 layers-read [] rest = refl
 layers-read (l ∷ ls) rest =
-    rw (append_assoc (layers-words ls) (open-words l) rest, layer-there (layers-words ls) (open-words l ++ rest) (length ls) (layers-length ls), layer-read l (pattern-of l.props.opacity) rest, layers-read ls (open-words l ++ rest))
+    let split : layers-words (l ∷ ls) ++ rest ≡ layers-words ls ++ (open-words l ++ rest) =
+    append_assoc (layers-words ls) (open-words l) rest in
+    subst (λ (ws : List ℕ). layers-in ws (length (l ∷ ls)) ≡ map bare (l ∷ ls)) (sym split)
+    (rw (layer-there (layers-words ls) (open-words l ++ rest) (length ls) (layers-length ls), layer-read l (pattern-of l.props.opacity) rest, layers-read ls (open-words l ++ rest)))
 
 own-good : (v b : Box) → screens.Clip v b → good-own-box v b ≡ true
 unfolding good-own-box

@@ -1,3 +1,2 @@
 // Proofs only: each building step at the words is the rules' step.
 #![tactic(auto)]
-

@@ -7,7 +7,7 @@ use Rattle.tile_reason.specs.Reasons.{asked_of, search-of}
 use Rattle.tile_reason.proofs.reason_of.Given as goal
 
 abbrev pub invariant-loop-i : goal.invariant-loop-i
-invariant-loop-i l =     (l.i ≤ l.n)
+invariant-loop-i l = (l.i ≤ l.n)
     × (l.search.count ≤ l.i)
     × (read_all (asked_of l.asked) (search-of l.search) (marks l.lines l.i (l.n - l.i)) ≡ read_all (asked_of l.asked) no-search (marks l.lines 0 l.n))
 

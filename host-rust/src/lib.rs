@@ -9,7 +9,7 @@ mod sys;
 use std::fmt;
 use std::mem::size_of_val;
 
-/// Why a call was refused: document 01's numbers.
+/// Why a call was refused, by number.
 #[derive(Debug, Clone, Copy, PartialEq, Eq)]
 pub enum Answer {
     BadArena,

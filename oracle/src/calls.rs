@@ -459,7 +459,7 @@ impl Sequence {
         self.painters = (0..self.screen.rows()).map(blank).collect();
     }
 
-    /// A building step: judged by document 01, done by the Rust, undone if a limit is passed. The own accounts of rows and panels must agree.
+    /// A building step: judged by the rules, done by the Rust, undone if a limit is passed. The own accounts of rows and panels must agree.
     fn build(&mut self, call: &Call) -> u32 {
         let inputs = self.judge(call);
         if inputs != 0 {

@@ -1,4 +1,4 @@
-//! The recording file of document 01: its form, its records, and whether they are good.
+//! The recording file: its form, its records, and whether they are good.
 
 use crate::limits::{
     BAD_FORM, BAD_ORDER, BAD_RECORD, BAD_VIEWPORT, HANDLES, LAST_PIXEL, LAST_TILE, MOST_BYTES,

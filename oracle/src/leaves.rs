@@ -313,7 +313,7 @@ fn spans(w: u32, b: u32) -> Vec<Range> {
 fn run_edges(width: Width, all: &mut Vec<Question>) {
     let unset = |words: &[u32], range| Question::Unset(width, words.to_vec(), range);
     let visible = |words: &[u32], id, range| Question::Visible(width, words.to_vec(), id, range);
-    // Document 01's known points, at 128.
+    // The rules' known points, at 128.
     let known = [0, 7, 0, 0];
     all.push(unset(&known, (10, 100)));
     all.extend([6, 7].map(|id| visible(&known, id, (10, 100))));
@@ -537,7 +537,7 @@ mod tests {
         }
     }
 
-    /// Document 01's known points, and the same at the other widths.
+    /// The rules' known points, and the same at the other widths.
     #[test]
     fn known_points() {
         let (regular, buckets) = (

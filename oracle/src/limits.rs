@@ -1,4 +1,4 @@
-//! Answer numbers and limits of document 01, and which limit a screen passes.
+//! Answer numbers and limits, and which limit a screen passes.
 
 use crate::screen::Screen;
 

@@ -1,4 +1,4 @@
-//! The panels of what stands on a screen (request T-07), written from the text. The original knows no panel: this account stands beside it and
+//! The panels of what stands on a screen, written from the rules in words (docs/RULES.md). The original knows no panel: this account stands beside it and
 //! must have as many attributes and open layers.
 
 use crate::limits::PANELS;

@@ -1,4 +1,4 @@
-//! What `rowlist` prints of document 01, and the detail that `rowdump` adds.
+//! What `rowlist` prints, and the detail that `rowdump` adds.
 
 use crate::painting::{pieces, Piece};
 use crate::panels::Panels;

@@ -1,4 +1,4 @@
-//! The rules of document 01 that know how wide a depth bucket is, over a number of tiles and written from the text. The original answers beside them
+//! The rules that know how wide a depth bucket is, over a number of tiles and written from the rules in words (docs/RULES.md). The original answers beside them
 //! at each width, and in every run the two must agree.
 
 use crate::painting::Piece;

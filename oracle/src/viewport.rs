@@ -1,4 +1,4 @@
-//! How a viewport is read: exactly, as document 01 has it, or carried outward to tile edges first (request T-02). Written from the text.
+//! How a viewport is read: exactly as it is given, or carried outward to tile edges first. Written from the rules in words (docs/RULES.md).
 
 use crate::limits::{HIGHEST, LAST_PIXEL, WIDEST};
 use crate::screen::Screen;

@@ -1,4 +1,4 @@
-//! A recording's steps in draw order, and a screen on which the Rust's own calls take them, with document 01's limits looked at after each step.
+//! A recording's steps in draw order, and a screen on which the Rust's own calls take them, with the limits looked at after each step.
 
 use crate::file;
 use crate::limits::{within, ROOM};

@@ -1,4 +1,4 @@
-//! Why a tile shows what it shows (request T-01), written from the text: one walk in draw order that looks at the asked tile alone.
+//! Why a tile shows what it shows, written from the rules in words (docs/RULES.md): one walk in draw order that looks at the asked tile alone.
 //! No row commands, bucket words or depth fills are made or read.
 
 use crate::limits::BAD_RUN;

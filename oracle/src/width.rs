@@ -1,4 +1,4 @@
-//! The width of a depth bucket, which a screen chooses (request T-06), and the original at that width with the oracle's own account beside it.
+//! The width of a depth bucket, which a screen chooses, and the original at that width with the oracle's own account beside it.
 
 use crate::rules::{self, Summary};
 use crate::screen::{Buffer, Part, Range, Screen, Stage};

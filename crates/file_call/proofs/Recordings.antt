@@ -18,7 +18,7 @@ use Rattle.rect.specs.Rects.{box_of}
 use Rattle.screen.specs.declared.Screen.{Screen}
 use Rattle.screen.specs.Screens.{fresh-screen}
 use Rattle.screen.specs.Judging.{judged-reset}
-use Rattle.screen.specs.Tables.{zeros, Tables, tables, lengths, zeroed, ScreenLent, lent, reset-to}
+use Rattle.screen.specs.Tables.{zeros, Tables, lengths, zeroed, ScreenLent, lent, reset-to}
 use Rattle.file_form.specs.declared.Layout.{Layout}
 use Rattle.file_form.specs.Layouts.{Fits, sections-at}
 use Rattle.file_form.specs.Places as file

@@ -21,7 +21,7 @@ use sizes::wide;
 use step_push::push_layer;
 
 // Nodes a to b, each its draws and then its layer, up to the first step that is refused. Layers in them may be nested `depth` deep.
-#[cycle(walk_layer_walk_nodes)]
+#[cycle(walk)]
 pub fn walk_nodes(
     depth: u32,
     screen: Screen,
@@ -84,7 +84,7 @@ pub fn walk_nodes(
 
 // The layer that a node names by its number + 1; 0 names none. A regular layer is pushed, its nodes walked, popped. With no depth left 16 layers
 // are open, and the push is refused.
-#[cycle(walk_layer_walk_nodes)]
+#[cycle(walk)]
 pub fn walk_layer(
     depth: u32,
     screen: Screen,

@@ -9,7 +9,6 @@ use lib.Seq.{get_or-drop}
 use Rattle.rules.specs.Lists.{join}
 use Rattle.rules.specs.Inputs.{Paint, Draw}
 use Rattle.rules.specs.Segments.{Segment}
-use Rattle.rules.specs.Recording.{recording}
 use Rattle.rules.proofs.Words.{paint-words, segment-words}
 use Rattle.segments.specs.Segs.{seg-at, segs, segs-of}
 use Rattle.file_form.specs.declared.Layout.{Layout}

@@ -199,11 +199,9 @@ fn summed(s: &[u8], at: usize, k: usize) -> DepthState
     requires k_bound { k < 2 ^ 32 }
 {
     let mut state = DepthState::new();
-    let mut i = 0;
-    while i < k {
+    for i in 0..k {
         let place = at + 3 * i;
         state = state.include_span(tiles_at(s, place), word(s, place + 2));
-        i += 1;
     }
     state
 }

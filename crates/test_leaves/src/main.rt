@@ -4,50 +4,66 @@
 mod cases;
 mod words;
 
-ghost use Rattle.std.specs.Prelude.{◌≡◌, length};
+ghost use Rattle.std.specs.Prelude.{◌<◌, vec_len, IfOk, IfSome};
 
 use cases::replay;
-use libc::STDOUT_FILENO;
+use std::fs::File;
+use std::io;
+use std::io::Read;
+use std::process::ExitCode;
+use std::rt::Files;
 
-// Replays the cases of one kind, and writes a line `NAME agree N of M`.
-fn run(s: &[u8], name: &[u8], kind: u32) {
-    let tally = replay(s, kind);
-    io::write_all(STDOUT_FILENO, name);
-    io::write_all(STDOUT_FILENO, b" agree ");
-    io::print_decimal(STDOUT_FILENO, tally.agree as u64);
-    io::write_all(STDOUT_FILENO, b" of ");
-    io::print_decimal(STDOUT_FILENO, tally.of as u64);
-    io::write_all(STDOUT_FILENO, b"\n");
-}
-
-fn run_all(s: &[u8]) {
-    run(s, b"split", 1);
-    run(s, b"unset runs", 2);
-    run(s, b"visible runs", 3);
-    run(s, b"writing runs", 4);
-    run(s, b"can_skip", 5);
-}
+const PATH: &str = "leaves.words";
 
 // Room for the stored file. A file that fills it may be longer, and is not replayed.
-fn buffer() -> [u8; 524288]
-    ensures { 524288 ≡ length result }
-{
-    [0; 524288]
+const ROOM: usize = 524288;
+
+// Replays the cases of one kind, and writes a line `NAME agree N of M`.
+fn run(rt: &impl Print, s: &[u8], name: &str, kind: u32) -> io::Result<()> {
+    let tally = replay(s, kind);
+    println!(rt; "{name} agree {} of {}", tally.agree, tally.of)
 }
 
-fn main() {
-    let path = b"leaves.words";
-    let file = os::open_read(path);
-    if file < 0 {
-        os::fail(path);
-        return;
+fn run_all(rt: &impl Print, s: &[u8]) -> io::Result<()> {
+    run(rt, s, "split", 1)?;
+    run(rt, s, "unset runs", 2)?;
+    run(rt, s, "visible runs", 3)?;
+    run(rt, s, "writing runs", 4)?;
+    run(rt, s, "can_skip", 5)
+}
+
+// The stored file's bytes, unless they fill the room.
+fn stored_bytes(rt: &(impl AllocGlobal + Files)) -> io::Result<Option<Vec<u8>>>
+    ensures { IfOk result (λ read. IfSome read (λ bytes. vec_len bytes < ROOM)) }
+{
+    let mut bytes = Vec::with_capacity(rt.alloc(), ROOM)?;
+    File::open(rt, PATH)?
+        .take(ROOM as u64)
+        .read_to_end(&mut bytes)?;
+    if bytes.len() < ROOM {
+        Ok(Some(bytes))
+    } else {
+        Ok(None)
     }
-    let mut bytes = buffer();
-    let n = io::read_full(file, &mut bytes);
-    libc::close(file);
-    if bytes.len() <= n {
-        io::write_all(STDOUT_FILENO, b"longer than the buffer\n");
-        return;
+}
+
+// Says on standard error what could not be read, and why in the system's words, without the number that std adds to them.
+fn complain(rt: &(impl AllocGlobal + Eprint), error: &io::Error) -> io::Result<()> {
+    let text = error.to_string(rt.alloc())?;
+    match text.as_str().split_once(" (os error ") {
+        Some((words, _)) => eprintln!(rt; "{PATH}: {words}"),
+        None => eprintln!(rt; "{PATH}: {text}"),
     }
-    run_all(&bytes[..n]);
+}
+
+fn main(rt: HostRuntime) -> io::Result<ExitCode> {
+    match stored_bytes(&rt) {
+        Ok(Some(bytes)) => run_all(&rt, &bytes)?,
+        Ok(None) => println!(rt; "longer than the buffer")?,
+        Err(error) => {
+            complain(&rt, &error)?;
+            return Ok(ExitCode::FAILURE);
+        }
+    }
+    Ok(ExitCode::SUCCESS)
 }

@@ -31,10 +31,8 @@ pub fn marks() -> [u32; 40]
 pub fn load(s: &[u8], at: usize, list: &mut [u32])
     requires { at ≤ 2 ^ 63 }
 {
-    let mut i = 0;
-    while i < list.len() {
-        list[i] = word(s, at + i);
-        i += 1;
+    for (i, x) in list.iter_mut().enumerate() {
+        *x = word(s, at + i);
     }
 }
 
@@ -45,13 +43,11 @@ pub fn holds(s: &[u8], at: usize, k: usize, list: &[u32]) -> bool
     if list.len() < k {
         return false;
     }
-    let mut i = 0;
-    while i < list.len() {
+    for (i, x) in list.iter().enumerate() {
         let due = if i < k { word(s, at + i) } else { MARK };
-        if list[i] != due {
+        if *x != due {
             return false;
         }
-        i += 1;
     }
     true
 }

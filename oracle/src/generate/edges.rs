@@ -9,7 +9,7 @@ use super::Made;
 #[derive(Clone)]
 pub(crate) struct Edge {
     pub(super) made: Made,
-    /// Document 01's number, 0 for done.
+    /// The answer's number, 0 for done.
     pub(super) answer: u32,
 }
 
@@ -63,7 +63,7 @@ pub(crate) fn ids() -> Vec<Edge> {
     ]
 }
 
-/// Document 01's worked example.
+/// The worked example.
 pub(super) fn worked() -> Draft {
     let mut draft = Draft::new(256, 8);
     let first = draft.segments(&[solid(0, 10, 64)]);

@@ -1,4 +1,4 @@
-//! Sequences that end in a call on a forged screen. No Rust answers these: document 01 and the calls' definitions do.
+//! Sequences that end in a call on a forged screen. No Rust answers these: the rules and the calls' definitions do.
 
 use super::calls::{alpha, fill, filter, panelled, push, reset, ONE_PIECE};
 use super::draft::solid;

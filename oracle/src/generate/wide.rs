@@ -321,7 +321,7 @@ mod tests {
         }
     }
 
-    /// The worked example of document 01 at the other widths.
+    /// The worked example at the other widths.
     #[test]
     fn the_worked_example() {
         let bytes = crate::generate::edges::worked().bytes();

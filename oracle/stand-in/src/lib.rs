@@ -1,7 +1,7 @@
-//! A small stand-in for the crate vello_common, written from document 01: only what the unchanged
+//! A small stand-in for the crate vello_common, written from the rules in words (docs/RULES.md): only what the unchanged
 //! files of the coarse stage name. Handles stand for pixmaps, masks and images.
 
-/// Blends and sampling, by the numbers of document 01.
+/// Blends and sampling, by their numbers in the rules.
 pub mod peniko {
     /// A blend: mix 0 to 15, compose 0 to 13, in the order of peniko.
     #[derive(Debug, Clone, Copy, PartialEq, Eq)]
@@ -419,7 +419,7 @@ pub mod util {
             }
         }
 
-        /// Starts lowered and ends raised to multiples of the tile's size, as request T-02 says it. The function itself was not to be had. What
+        /// Starts lowered and ends raised to multiples of the tile's size, as the rules say it. The function itself was not to be had. What
         /// bucketer.rs tells of it: `new` and `reset` take their viewport through it before anything else, and afterwards hold the
         /// viewport's start, width and height to be multiples of the tile's size. An end past 65,532 has no multiple to be raised to, and none is given.
         fn snap_to_tile_coordinates(self) -> Self {

@@ -14,7 +14,7 @@ use Rattle.row_screen.proofs.Laws.{within, small}
 use Rattle.screen.specs.declared.Screen.{Screen}
 use Rattle.screen.specs.Screens.{good-screen}
 use Rattle.rules.proofs.All.{and_left, and_right}
-use Rattle.paint_command.specs.Painting.{RowLent, StepOut, out, refused}
+use Rattle.paint_command.specs.Painting.{RowLent, StepOut, out}
 use Rattle.paint_screen.specs.Judging.{count, wide, runs_number, skip-number}
 use Rattle.paint_screen.specs.Stepping.{part, with_part, Within, Attributes, number, StepReady, row_step, stepped}
 use Rattle.paint_screen.proofs.Judged.{step-there, runs-there, skip-there}

@@ -3,12 +3,15 @@
 // that takes a command, the three runs, `can_skip`, a step that takes a layer's closing fill. `!` marks a refused call that changed a word.
 #![tactic(auto)]
 
-ghost use Rattle.std.specs.Prelude.{◌≡◌, ◌+◌, ◌*◌, ◌≤◌, ◌<◌, length};
+ghost use Rattle.std.specs.Prelude.{◌≡◌, ◌≤◌, ◌<◌, length};
 
 use file_form::words_of_bytes;
-use libc::STDOUT_FILENO;
 use sizes::answers::DONE;
 use sizes::{FILTER_TABLE, LAYER_TABLE, OPACITIES, OPEN_TABLE, PAINT_TABLE};
+use std::process::ExitCode;
+use std::{fs, io};
+
+const PATH: &str = "forged.words";
 
 // The last call of a line, counted from 0.
 const LAST: u32 = 11;
@@ -38,29 +41,22 @@ fn after(a: usize, n: usize, end: usize) -> usize
 }
 
 // The number of the forged call at place p of the answers; the sums before it and at the end say whether a word changed.
-fn report(out: &[u32], p: usize, m: usize) {
+fn report(rt: &impl Print, out: &[u32], p: usize, m: usize) -> io::Result<()> {
     let number = word(out, p);
-    io::write_all(STDOUT_FILENO, b" ");
-    io::print_decimal(STDOUT_FILENO, number as u64);
-    if number == DONE {
-        return;
+    print!(rt; " {number}")?;
+    if number != DONE && 1 <= p && 1 <= m && word(out, p - 1) != word(out, m - 1) {
+        print!(rt; "!")?;
     }
-    if 1 <= p {
-        if 1 <= m {
-            if word(out, p - 1) != word(out, m - 1) {
-                io::write_all(STDOUT_FILENO, b"!");
-            }
-        }
-    }
+    Ok(())
 }
 
 // A line ends after its last call.
-fn next_column(column: u32) -> u32 {
+fn next_column(rt: &impl Print, column: u32) -> io::Result<u32> {
     if column < LAST {
-        return column + 1;
+        return Ok(column + 1);
     }
-    io::write_all(STDOUT_FILENO, b"\n");
-    0
+    println!(rt)?;
+    Ok(0)
 }
 
 // The sequence that stands from one place of the words to another: how many words its answers have.
@@ -101,7 +97,7 @@ fn answer(
 }
 
 // Each sequence stands after the place of its forged answer and its length.
-fn answer_all(words: &[u32]) {
+fn answer_all(rt: &impl Print, words: &[u32]) -> io::Result<()> {
     let mut out: [u32; 256] = [0; 256];
     let mut render: [u32; 1024] = [0; 1024];
     let mut fills: [u32; 512] = [0; 512];
@@ -137,31 +133,35 @@ fn answer_all(words: &[u32]) {
             &mut filter_paints,
             &mut list,
         );
-        report(&out, wide(word(words, at)), m);
-        column = next_column(column);
+        report(rt, &out, wide(word(words, at)), m)?;
+        column = next_column(rt, column)?;
         at = end;
     }
+    Ok(())
 }
 
-fn answer_bytes(bytes: &[u8], words: &mut [u32], n: usize) {
-    if words.len() < bytes.len() / 4 {
-        return;
-    }
-    words_of_bytes(bytes, words);
-    let m = after(0, n / 4, words.len());
-    answer_all(&words[..m]);
+fn answer_bytes(rt: &(impl AllocGlobal + Print), bytes: &[u8]) -> io::Result<()> {
+    let mut words = vec![in rt.alloc(); 0; bytes.len() / 4]?;
+    words_of_bytes(bytes, &mut words);
+    answer_all(rt, &words)
 }
 
-fn main() {
-    let path = b"forged.words";
-    let file = os::open_read(path);
-    if file < 0 {
-        os::fail(path);
-        return;
+// Says on standard error what could not be read, and why in the system's words, without the number that std adds to them.
+fn complain(rt: &(impl AllocGlobal + Eprint), error: &io::Error) -> io::Result<()> {
+    let text = error.to_string(rt.alloc())?;
+    match text.as_str().split_once(" (os error ") {
+        Some((words, _)) => eprintln!(rt; "{PATH}: {words}"),
+        None => eprintln!(rt; "{PATH}: {text}"),
     }
-    let mut bytes: [u8; 524288] = [0; 524288];
-    let mut words: [u32; 131072] = [0; 131072];
-    let n = io::read_full(file, &mut bytes);
-    libc::close(file);
-    answer_bytes(&bytes, &mut words, n);
+}
+
+fn main(rt: HostRuntime) -> io::Result<ExitCode> {
+    match fs::read(&rt, PATH) {
+        Ok(bytes) => answer_bytes(&rt, &bytes)?,
+        Err(error) => {
+            complain(&rt, &error)?;
+            return Ok(ExitCode::FAILURE);
+        }
+    }
+    Ok(ExitCode::SUCCESS)
 }

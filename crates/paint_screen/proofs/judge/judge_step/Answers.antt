@@ -1,3 +1,4 @@
+-- Three tests in the order of the numbers.
 use Rattle.std.proofs.Common.{rules}
 use Rattle.paint_screen.specs.Judging.{step-number}
 use Rattle.paint_screen.proofs.judge.judge_step.Goals as goal

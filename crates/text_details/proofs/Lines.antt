@@ -59,8 +59,10 @@ module _ (v : Bool) (q : ℕ) where
 -- a line of an attribute, and of a filter paint
 module _ (v : Bool) {t u x y z : Text} where
   pub paint-attr-written : {e : Text} (ws : List ℕ) (i : ℕ) → Wrote (65 ∷ []) 1 t u
-      → Wrote (number (word ws (paint-attr-size * i)) ++ (number (word ws (paint-attr-size * i + 1)) ++ (number (word ws (paint-attr-size * i + 2)) ++ number (word ws (paint-attr-size * i + 3))))) 44 u x
-      → Wrote (number (word ws (paint-attr-size * i + paint-id-at)) ++ (number (word ws (paint-attr-size * i + 5)) ++ (number (word ws (paint-attr-size * i + 6)) ++ number (word ws (paint-attr-size * i + 7))))) 44 x y
+      → Wrote (number (word ws (paint-attr-size * i))
+      ++ (number (word ws (paint-attr-size * i + 1)) ++ (number (word ws (paint-attr-size * i + 2)) ++ number (word ws (paint-attr-size * i + 3))))) 44 u x
+      → Wrote (number (word ws (paint-attr-size * i + paint-id-at))
+      ++ (number (word ws (paint-attr-size * i + 5)) ++ (number (word ws (paint-attr-size * i + 6)) ++ number (word ws (paint-attr-size * i + 7))))) 44 x y
       → Wrote (panel-bytes v (word ws (paint-attr-size * i + paint-panel-at))) 11 y z
       → Wrote (10 ∷ []) 1 z e → Wrote (detail-bytes v (paint-attr-line (paint-attr-at ws i))) detail-room t e
   unfolding detail-bytes paint-attr-at
@@ -111,7 +113,8 @@ back_is ws i h = same (record { sfits = h })
 
 module _ (ws : List ℤ) (i : ℕ) (f : mag (signed_word ws (filter-paint-size * i)) < 2 ^ hbits w32) (g : mag (signed_word ws (filter-paint-size * i + 1)) < 2 ^ hbits w32)
     (h : mag (signed_word ws (filter-paint-size * i + 2)) < 2 ^ hbits w32) (j : mag (signed_word ws (filter-paint-size * i + 3)) < 2 ^ hbits w32) where
-  pub filter-written : (r : Bool) {a b : ℕ} {t u v x y z q : Text} → a ≡ nat_abs (read_back ws (filter-paint-size * i)) → b ≡ nat_abs (read_back ws (filter-paint-size * i + 1)) → Wrote (70 ∷ []) 1 t u
+  pub filter-written : (r : Bool) {a b : ℕ} {t u v x y z q : Text}
+      → a ≡ nat_abs (read_back ws (filter-paint-size * i)) → b ≡ nat_abs (read_back ws (filter-paint-size * i + 1)) → Wrote (70 ∷ []) 1 t u
       → Wrote (number a) 11 u v → Wrote (number b) 11 v x → Wrote (signed (read_back ws (filter-paint-size * i + 2))) 12 x y
       → Wrote (signed (read_back ws (filter-paint-size * i + 3))) 12 y z → Wrote (10 ∷ []) 1 z q → Wrote (detail-bytes r (filter-at ws i)) detail-room t q
   unfolding detail-bytes filter-at

@@ -26,7 +26,8 @@ use Rattle.text_screen.specs.declared.Listing.{Listing}
 use Rattle.text_screen.specs.Listed.{TextOut, left, listed, refused-listed}
 use Rattle.text_file.specs.declared.FileText.{FileText}
 use Rattle.text_file.specs.declared.Size.{Size}
-use Rattle.text_file.specs.Files.{nothing, Showed, showed, file-text, refusing, showing, file-out, FileOut, recording-text, frame_at, size, size_of, cut-to, over, in-front, front-text, is-roomy, words-text}
+use Rattle.text_file.specs.Files.{nothing, Showed, showed, file-text, refusing, showing, file-out, FileOut, recording-text}
+use Rattle.text_file.specs.Files.{frame_at, size, size_of, cut-to, over, in-front, front-text, is-roomy, words-text}
 
 module _ (n : ℕ) (s : Screen) (bs : List ℕ) {r : Listing} {cs : List ℕ} where
   pub refused_as : left r cs ≡ refused-listed n bs → showed (file-text n r.bytes s) cs ≡ refusing n s bs

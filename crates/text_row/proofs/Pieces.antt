@@ -21,7 +21,8 @@ use Rattle.text_row.specs.Pieces.{word, alpha-of, letter-of, piece-at, row-lines
 module _ (d : Bool) (ws : List ℕ) (k : ℕ) where
   pub piece-written : {b : ℕ} {x : Option ℕ} {t u v y : Text} → b ≡ letter-of (word ws (piece-size * k)) → x ≡ alpha-of (word ws (piece-size * k)) (word ws (piece-size * k + 4))
       → Wrote (b ∷ []) 1 t u
-      → Wrote (piece_bytes (word ws (piece-size * k + 1)) (word ws (piece-size * k + 2)) (word ws (piece-size * k + 3)) (alpha-bytes x) (word ws (piece-size * k + 5)) (panel-bytes d (word ws (piece-size * k + 6)))) 66 u v
+      → Wrote (piece_bytes (word ws (piece-size * k + 1)) (word ws (piece-size * k + 2)) (word ws (piece-size * k + 3))
+      (alpha-bytes x) (word ws (piece-size * k + 5)) (panel-bytes d (word ws (piece-size * k + 6)))) 66 u v
       → Wrote (10 ∷ []) 1 v y → Wrote (detail-bytes d (piece-at ws k)) piece-room t y
   unfolding detail-bytes piece-at
   piece-written {b} {x} {t} {u} {v} {y} i j f g h = go (leb (word ws (piece-size * k)) 2) refl

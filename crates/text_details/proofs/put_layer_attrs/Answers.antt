@@ -1,0 +1,17 @@
+use Rattle.text_details.proofs.Lines.{layer-lines-written}
+use Prim.Native.Nat.{ℕ, ◌*◌}
+use native.Mathlib.Omega.{arith}
+use Rattle.text_screen.proofs.Joins.{one_of, places-none, places-more, places-all}
+use Rattle.text_details.specs.Bytes.{detail-room, detail-bytes}
+use Rattle.text_details.proofs.put_layer_attrs.Goals as goal
+
+pub loop-i-init : goal.loop-i-init
+loop-i-init c = (omega arith, places-none _ _ _)
+
+pub loop-i-preserved : goal.loop-i-preserved
+loop-i-preserved c = (omega arith, places-more (detail-bytes _) _ _ (omega arith) c.loop-i.invariant.1 (one_of (detail-bytes _) _ c.put_layer_attr-place.ensures))
+
+pub returns : goal.returns
+returns c =
+    layer-lines-written _ _ c.args.table.now c.args.opacities.now c.put_heading-place.ensures
+    (places-all (detail-bytes _) _ (λ (k : ℕ). detail-room * k) _ _ (omega arith) c.loop-i.invariant.0 c.loop-i.invariant.1)

@@ -1,0 +1,14 @@
+use mathlib.Core.Path.{ap}
+use mathlib.Core.Bool.{not}
+use native.Mathlib.Omega.{arith}
+use Rattle.text_screen.proofs.Runs.{rest-bad, rest-on, rest_end}
+use Rattle.text_screen.proofs.are_commands.Goals as goal
+
+pub returns-then-not-is_command : goal.returns-then-not-is_command
+returns-then-not-is_command c = rest-bad _ _ c.loop-left.invariant c.loop-left-test.true c.is_command.ensures (ap not c.if-not-is_command.true)
+
+pub loop-left-preserved : goal.loop-left-preserved
+loop-left-preserved c = rest-on _ _ c.loop-left.invariant c.loop-left-test.true c.is_command.ensures (ap not c.if-not-is_command.false)
+
+pub returns : goal.returns
+returns c = rest_end _ _ _ c.loop-left.invariant (omega arith)

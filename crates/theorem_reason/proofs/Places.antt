@@ -45,6 +45,7 @@ place-append {n = n} [] p = (n, p)
 place-append (y ∷ ys) p = let (m, q) = place-append ys p in (suc m, later q)
 
 pub place-all : {A : Type 0} {P : A → Type 0} {n : ℕ} {x : A} {xs : List A} → All P xs → Place n xs x → P x
+place-all nil x = elim x [ ]
 place-all (cons p a) first = p
 place-all (cons p a) (later q) = place-all a q
 
@@ -62,6 +63,7 @@ pub record From (n : ℕ) (ts : List Told) (e : Entry) : Type 0 where
   pub is : told.entry ≡ e
 
 pub place-told : {n : ℕ} {e : Entry} (ts : List Told) → Place n (map entry_in ts) e → From n ts e
+place-told [] x = elim x [ ]
 place-told (t ∷ ts) first = record { told = t; at = first; is = refl }
 place-told (t ∷ ts) (later p) = let r = place-told ts p in record { told = r.told; at = later r.at; is = r.is }
 
@@ -166,6 +168,7 @@ module _ (a : Asked) where
 
   pub place-lone : (n : ℕ) {p : ℕ} {t : Told} {ts : List Told} → Lone ts → Place p ts t → names a t ≡ true → place_of a n ts ≡ some (n + p)
   unfolding place_of
+  place-lone n all-lone x e = elim x [ ]
   place-lone n (lone f l) first e = rw (e, add-zero n)
   place-lone n (lone {t = u} f l) (later {n = p} q) e =
       let m : suc n + p ≡ n + suc p = omega arith in
@@ -232,6 +235,7 @@ module _ (a : Asked) where
 
   pub account-lone : {ks : List Account} {n : ℕ} {k : Account} → Once a ks → Place n ks k → asks a k ≡ true → account-of a ks ≡ some k
   unfolding account-of
+  account-lone none_left x e = elim x [ ]
   account-lone (once g o) first e = rw e
   account-lone (once {k = j} g o) (later p) e = by (asks a j)
       (λ y. never (sym e ∙ place-all (g y) p))
@@ -302,6 +306,7 @@ module _ (a : Asked) where
   below_more {p} {l} (a-layer e i n) h = below_more n (more-layers a.layer a.attribute p l h)
 
   pub numbered_below : {p l p' l' : ℕ} {ks : List Account} {n : ℕ} {k : Account} → Numbered p l ks p' l' → Place n ks k → asks a k ≡ true → a.attribute < of-kind a p' l'
+  numbered_below all-numbered x y = elim x [ ]
   numbered_below {p} {l} (a-paint e i m) first y =
       let z : (beq false a.layer && eqb p a.attribute) ≡ true = rw (e, i) at y in below_more m (is-paint a.layer a.attribute p l z)
   numbered_below {p} {l} (a-layer e i m) first y =

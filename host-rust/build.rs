@@ -1,4 +1,4 @@
-//! Links the archive that `rt lib` writes in crates/host; `COARSE_LIB_DIR` names another folder.
+//! Links the archive that `tools/archive` writes into crates/host; `COARSE_LIB_DIR` names another folder.
 use std::env;
 use std::path::PathBuf;
 

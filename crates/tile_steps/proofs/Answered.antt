@@ -100,7 +100,8 @@ module _ (w : ℕ) (v : Box) (row tile : ℕ) where
         → b ≡ layer-box v c o
         → d ≡ (destructive m.compose && not (empty-box b) && in_row b row)
         → l ≡ cond d (n + 1) t.levels
-        → Says (tell-push w v row tile p t) 0 (record { next = t.next; paints = t.paints; layers = t.layers; filters = t.filters; levels = l; opened = record { props = p; bounds = b } ∷ t.opened; lines = t.lines })
+        → Says (tell-push w v row tile p t) 0
+        (record { next = t.next; paints = t.paints; layers = t.layers; filters = t.filters; levels = l; opened = record { props = p; bounds = b } ∷ t.opened; lines = t.lines })
     unfolding tell-push
     push-done h hc pb pc bq dq lq =
         rw (lq, dq, bq, ← pb, ← pc, ← hc, hn, lt-leb 16 n h) (record { number = refl; value = λ x. refl })

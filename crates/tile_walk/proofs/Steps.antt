@@ -55,7 +55,8 @@ module _ (s : Spot) (l : Layout) (ws : List ℕ) (g : WalkReady ws l) (i : ℕ) 
 
 -- the other steps; a pop is lent the recording's segments
 module _ (s : Spot) {n : ℕ} {t : Telling} where
-  pub filter-told : (k : ℕ) (f : Filter) {p q : ℕ} → q ≡ p → (x : Telling) → Says (tell-filter s.width (box_of s.viewport) s.row s.tile f p x) n t → Says (told s (a-filter k f q) x) n t
+  pub filter-told : (k : ℕ) (f : Filter) {p q : ℕ} → q ≡ p → (x : Telling)
+      → Says (tell-filter s.width (box_of s.viewport) s.row s.tile f p x) n t → Says (told s (a-filter k f q) x) n t
   unfolding tell-at
   filter-told k f z x e = rw z e
 

@@ -165,7 +165,7 @@ fn tell_filter_layer(
 }
 
 // Nodes a to b, each its draws and then its layer, up to the first step that is refused. Layers in them may be nested `depth` deep.
-#[cycle(tell_layer_tell_nodes)]
+#[cycle(tell)]
 pub fn tell_nodes(
     depth: u32,
     spot: Spot,
@@ -209,7 +209,7 @@ pub fn tell_nodes(
 
 // The layer that a node names by its number + 1; 0 names none. A regular layer is pushed, its nodes walked, popped. With no depth left 16 layers
 // are open, and the push is refused.
-#[cycle(tell_layer_tell_nodes)]
+#[cycle(tell)]
 fn tell_layer(
     depth: u32,
     spot: Spot,

@@ -1,0 +1,19 @@
+-- So far the draws before this one are told as the rules' steps, none of them refused.
+use Prim.Native.Nat.{◌-◌, ◌≤◌}
+use mathlib.Core.List.{List}
+use Rattle.rules.specs.Plans.{Layer}
+use Rattle.rect.specs.Rects.{box_of}
+use Rattle.tile_steps.specs.Places.{Low, telling}
+use Rattle.tile_walk.proofs.Said.{Left}
+use Rattle.tile_walk.proofs.Nodes.{draws}
+use Rattle.tile_walk.proofs.tell_draws.Given as goal
+
+abbrev pub invariant-loop-i : goal.invariant-loop-i
+invariant-loop-i l =
+    (l.i ≤ l.b)
+    × Low l.current
+    × Left (draws l.spot l.l l.w l.b) (box_of l.spot.viewport) l.within
+    l.a (λ (ls : List Layer). telling l.fn.tale ls l.initial.lines) l.i (λ (ls : List Layer). telling l.current ls l.lines)
+
+abbrev pub decreases-loop-i : goal.decreases-loop-i
+decreases-loop-i l = l.b - l.i

@@ -3,25 +3,22 @@ use mathlib.Core.Path.{◌≡◌, refl, sym, ap, ◌∙◌}
 use mathlib.Core.Bool.{Bool, true, false, ◌&&◌, ◌||◌, not, cond}
 use mathlib.Core.List.{List, [], ◌∷◌}
 use mathlib.Core.Option.{Option, none, some}
-use Prim.Native.Nat.{ℕ, zero, suc, ◌+◌, ◌/◌, ◌<◌}
+use Prim.Native.Nat.{ℕ, suc, ◌/◌}
 use native.Mathlib.Omega.{arith}
 use lib.ListN.{length}
-use lib.Dec.{leb, ltb, eqb}
-use lib.Ieee.{Float}
-use lib.IntN.{ℤ}
-use borrow.Author.Tests.{eqb-true, eqb-false, lt-ltb, le-ltb}
+use lib.Dec.{ltb, eqb}
+use borrow.Author.Tests.{eqb-true, le-ltb}
 use Rattle.sizes.specs.Sizes.{piece-size, open-layer-table, opacity-count, paint-attr-table, filter-paint-table}
 use Rattle.sizes.specs.Widths.{bucket-tiles}
-use Rattle.rules.specs.Answers.{Answer, answer, first_of, Done, BadRecord, BadOrder, BadRun, Open, NoRoom}
+use Rattle.rules.specs.Answers.{Answer, answer, first_of, Done, BadRecord, BadOrder, BadRun, NoRoom}
 use Rattle.rules.specs.Spans.{Span, bad-range}
 use Rattle.rules.specs.Depth.{listed, unset-runs, visible-runs, write-runs, unset-answer, visible-answer, write-answer, can-skip-answer}
-use Rattle.rules.specs.Rows.{Row, fresh-row, row-ops}
+use Rattle.rules.specs.Rows.{fresh-row}
 use Rattle.rules.specs.Plans.{Frame, a-fill, a-push, a-pop, a-filter, Plan, plan}
-use Rattle.rules.specs.Steps.{done, reset, call, refusal}
+use Rattle.rules.specs.Steps.{done, reset}
 use Rattle.rules.specs.Steps as rule
 use Rattle.rules.specs.Recording.{Recording, shape, sections, recording, good-records, good-order}
-use Rattle.rules.specs.Walk.{go_on, ◌then◌, walk-all}
-use Rattle.rules.proofs.Logged.{Logged, logged-call}
+use Rattle.rules.specs.Walk.{◌then◌, walk-all}
 use Rattle.rules.specs.Painting as rules
 use Rattle.rules.proofs.All.{nil, cons}
 use Rattle.rules.proofs.laws.Answers.{settle-number}
@@ -37,7 +34,7 @@ use Rattle.screen.specs.declared.Screen.{Screen}
 use Rattle.screen.specs.declared.Lengths.{Lengths}
 use Rattle.screen.specs.Judging as judging
 use Rattle.screen.specs.Judging.{judged, good-tables, judged-reset}
-use Rattle.screen.specs.Tables.{Tables, lengths, ScreenLent, lent, reset-to}
+use Rattle.screen.specs.Tables.{lengths, ScreenLent, reset-to}
 use Rattle.step_fill.specs.declared.Draw.{Draw}
 use Rattle.step_fill.specs.Fills as fills
 use Rattle.step_fill.specs.Fills.{filled}
@@ -55,14 +52,13 @@ use Rattle.file_call.specs.Recorded.{or-fresh, played, recorded-in, of-sections,
 use Rattle.refine_steps.proofs.Refined.{reset-refines}
 use Rattle.refine_steps.proofs.Walks.{walk-refines}
 use Rattle.paint_command.specs.Painting as paint
-use Rattle.paint_screen.specs.Judging as painter
 use Rattle.paint_screen.specs.Judging.{wide, begin-number, runs_number, skip-number}
-use Rattle.paint_screen.specs.Beginning.{Canvas, canvas, beginning}
+use Rattle.paint_screen.specs.Beginning.{Canvas, beginning}
 use Rattle.paint_screen.specs.Stepping.{Attributes, part, own, number, row_step, stepped}
 use Rattle.paint_screen.specs.Rows.{Wrote, or-runs, write-in-place, record-skip, unset-of, visible-of, write-of, skip-of-row}
-use Rattle.paint_whole.specs.Running.{goes_on, ended, one_more, run, standing, call_step, row-painted}
+use Rattle.paint_whole.specs.Running.{goes_on, one_more, run, standing, call_step, row-painted}
 use Rattle.depth.specs.Listing.{listing, writing}
-use Rattle.paint_runs.specs.Summaries.{good-summary, summary-at}
+use Rattle.paint_runs.specs.Summaries.{good-summary}
 use Rattle.host_screen.specs.State.{before-4}
 use Rattle.host.specs.Border.{arenas-number, in-sections, file-number}
 use Rattle.host.proofs.Kept.{on-done, gone-on}

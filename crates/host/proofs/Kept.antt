@@ -1,5 +1,5 @@
 -- Refused painting calls: the lent words and the result words are as they were.
-use mathlib.Core.Path.{◌≡◌, refl, sym, ap, ◌∙◌}
+use mathlib.Core.Path.{◌≡◌, refl, ap}
 use mathlib.Core.Bool.{Bool, true, false, cond, not, ◌||◌}
 use mathlib.Core.List.{List, [], ◌∷◌}
 use mathlib.Core.Option.{Option, none, some}
@@ -12,14 +12,14 @@ use borrow.Rule.Slice.PartMut.{put_same}
 use Rattle.sizes.specs.Sizes.{piece-size}
 use Rattle.sizes.specs.declared.width.Width.{Width}
 use Rattle.sizes.specs.Widths.{bucket-tiles, width_of}
-use Rattle.rules.specs.Answers.{Answer, answer, first_of, settle, Done, BadRun, NoRoom}
+use Rattle.rules.specs.Answers.{Answer, answer, first_of, Done, BadRun, NoRoom}
 use Rattle.rules.specs.Spans.{Span, bad-range}
 use Rattle.rules.specs.Split.{split-answer}
 use Rattle.rules.specs.Painting as rules
 use Rattle.rules.specs.Depth.{listed, unset-runs, visible-runs, write-runs, unset-answer, visible-answer, write-answer, write-after, written}
 use Rattle.rules.proofs.All.{and_left}
 use Rattle.screen.specs.declared.Screen.{Screen}
-use Rattle.depth.specs.Listing.{numbers, listing, writing}
+use Rattle.depth.specs.Listing.{numbers, listing}
 use Rattle.paint_command.specs.Painting as paint
 use Rattle.paint_screen.specs.Judging.{wide, runs_number}
 use Rattle.paint_screen.specs.Stepping.{Attributes, part, own, in_place, number, row_step, stepped}
@@ -27,7 +27,7 @@ use Rattle.paint_whole.specs.Running.{goes_on, ended, one_more, run, most, stand
 use Rattle.paint_screen.specs.Rows.{Wrote, or-runs, unset-of, visible-of, write-of, write-in-place, skip-of-row}
 use Rattle.host_screen.specs.declared.Held.{Held}
 use Rattle.host_screen.specs.declared.Held.TheVariants as held
-use Rattle.host_screen.specs.State.{screen-words, screen-of, at_held, on}
+use Rattle.host_screen.specs.State.{screen-of, at_held, on}
 use Rattle.host_screen.proofs.Words.{written_back}
 use Rattle.host_results.specs.Results.{skip-left, split-left}
 use Rattle.host.specs.Painting.{with-room, step_left, step_call, row-call, runs-left, unset-call, visible-call, write-left, write-call, skip-call, split_at, split-call}

@@ -1,11 +1,11 @@
 -- At the words that hold the rules' screen of an accepted file the parts write the text of the rules' details: the attributes, then each row in its order. Assumes nothing.
-use mathlib.Core.Path.{◌≡◌, refl, sym, ap, ◌∙◌}
-use mathlib.Core.Bool.{Bool, true, false, ◌||◌}
-use mathlib.Core.List.{List, [], ◌∷◌, ◌++◌}
+use mathlib.Core.Path.{◌≡◌, refl, ap, ◌∙◌}
+use mathlib.Core.Bool.{Bool, true, ◌||◌}
+use mathlib.Core.List.{List, [], ◌++◌}
 use Prim.Native.Nat.{ℕ, zero, suc, ◌+◌, ◌-◌, ◌*◌, ◌≤◌, ◌<◌}
 use native.Mathlib.Omega.{arith}
 use lib.Dec.{ltb}
-use lib.ListN.{length, get_or, take, drop, length-append}
+use lib.ListN.{length, get_or, drop, length-append}
 use lib.Seq.{drop-length, drop-cons}
 use borrow.Author.Tests.{le-leb, le-ltb, eq-eqb, ltb-false}
 use Rattle.sizes.specs.Sizes.{opacity-count, paint-attr-table, layer-attr-table, filter-paint-table}
@@ -23,7 +23,7 @@ use Rattle.text_screen.specs.Listed.{written, begun-with}
 use Rattle.text_details.specs.Details.{painted-lines, attr-lines, detail-lines}
 use Rattle.text_details.specs.Bytes.{details-text}
 use Rattle.text_row.specs.Pieces.{piece-list}
-use Rattle.text_row.specs.Dumped.{tables, good-tables, attrs-text, attrs-dumped}
+use Rattle.text_row.specs.Dumped.{tables, good-tables, attrs-dumped}
 use Rattle.text_row.specs.Dumped as dumped
 use Rattle.refine_steps.specs.Sound.{Fitting}
 use Rattle.refine_steps.specs.Lent.{lent_of}
@@ -38,8 +38,8 @@ use Rattle.theorem_text.proofs.Begun.{all-wait}
 use Rattle.refine_paint.proofs.Painters.{all-taken}
 use Rattle.theorem_text.proofs.Full.{row-long, theirs-text, row_written, rows-text-few}
 use Rattle.text_programs.specs.Programs.{first}
-use Rattle.text_dump.specs.Dumped.{details-room, Part, rows-dumped, details-dumped}
-use Rattle.text_dump.proofs.First.{Says, after-says, room-left, first-dropped}
+use Rattle.text_dump.specs.Dumped.{details-room, rows-dumped, details-dumped}
+use Rattle.text_dump.proofs.First.{Says, after-says, room-left}
 
 -- the words of a row's call
 abbrev pub at_words : ScreenLent → List ℕ → paint.RowLent

@@ -1,11 +1,11 @@
 -- A file's bytes: where its call refuses them there are no details, and where it does not the tables hold the rules' screen, so that the details are the rules'. Assumes nothing.
 use mathlib.Core.Path.{◌≡◌, refl, sym, ap, ◌∙◌}
 use mathlib.Core.Bool.{Bool, true, false, ◌&&◌, cond}
-use mathlib.Core.List.{List, [], ◌∷◌, ◌++◌, append-nil}
+use mathlib.Core.List.{List, [], ◌++◌, append-nil}
 use mathlib.Core.Option.{Option, none, some}
 use Prim.Native.Nat.{ℕ, ◌+◌, ◌-◌, ◌*◌, ◌%◌, ◌≤◌, ◌<◌}
 use native.Mathlib.Omega.{arith}
-use lib.Dec.{leb, ltb, eqb}
+use lib.Dec.{leb, eqb}
 use lib.ListN.{length, get_or, take, drop, length-append, length-drop}
 use lib.Seq.{take_at}
 use borrow.Rule.Slice.PartMut.{put_mid}
@@ -19,7 +19,6 @@ use Rattle.rules.specs.Setups.{Setup}
 use Rattle.rules.specs.Steps.{Screen, reset}
 use Rattle.rules.specs.Lines.{rowlist-screen, rowlist-place, words_of}
 use Rattle.rules.specs.Lines as rules
-use Rattle.rules.proofs.All.{never}
 use Rattle.rect.specs.Rects.{box_of}
 use Rattle.screen.specs.declared.Screen as declared
 use Rattle.screen.specs.Screens.{frame-of}
@@ -29,7 +28,7 @@ use Rattle.file_form.specs.Words.{words-in}
 use Rattle.file_form.proofs.Bytes.{rules-words}
 use Rattle.paint_command.specs.Painting as paint
 use Rattle.text.specs.Texts.{Text, text, put, Wrote}
-use Rattle.text_details.specs.Details.{Detail, detail-lines, rowdump-words}
+use Rattle.text_details.specs.Details.{detail-lines, rowdump-words}
 use Rattle.text_details.specs.Bytes.{details-text}
 use Rattle.text_row.specs.Pieces.{piece-list}
 use Rattle.text_row.specs.Dumped as dumped
@@ -98,8 +97,8 @@ module _ (d : Bool) (s : Screen Row) (t u : Tables) (ht : Long t) (hu : Long u) 
   pub view : box_of x.viewport ≡ v
   view = ap (λ (f : Frame). f.viewport) own-frame
 
-  wide-as : x.width ≡ l.width
-  wide-as = ap (λ (f : Frame). f.width) own-frame
+  down : rows_of (box_of x.viewport) ≡ n
+  down = ap rows_of view
 
   across : buckets-of (bucket-tiles x.width) (box_of x.viewport) ≡ b
   across = ap (λ (f : Frame). buckets-across f) own-frame
@@ -111,8 +110,8 @@ module _ (d : Bool) (s : Screen Row) (t u : Tables) (ht : Long t) (hu : Long u) 
   pub wide : Wide x u.rows u.render u.fills u.depth u.painting
   wide =
       record {
-        few = rw view l.few;
-        narrow = rw (view, wide-as) narrow;
+        few = rw down l.few;
+        narrow = rw across narrow;
         rows_long = omega (arith, hu.rows);
         render-long = omega (arith, hu.render);
         fills-long = omega (arith, hu.fills);
@@ -171,7 +170,7 @@ module _ (d : Bool) (s : Screen Row) (t u : Tables) (ht : Long t) (hu : Long u) 
   -- What `screen_text` writes of them is the text of the rules' details.
   module _ (list : List ℕ) (long : piece-list ≤ length list) (bs : List ℕ) (room : details-room ≤ length bs) where
     same-details : details-dumped d x (rows_of (box_of x.viewport)) attrs (words-before x (given list)) bs ≡ details-dumped d m.screen (length s.rows) (attrs-of m) (at_words m list) bs
-    same-details = rw (across, view, same-attrs, rows_back, render-back, fills-back, depth-back, painting-back, screen-there, rows-there)
+    same-details = rw (across, down, same-attrs, rows_back, render-back, fills-back, depth-back, painting-back, screen-there, rows-there)
 
     details : Says (details-text d (detail-lines s)) bs (details-dumped d m.screen (length s.rows) (attrs-of m) (at_words m list) bs)
     details =

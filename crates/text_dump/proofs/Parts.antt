@@ -1,5 +1,5 @@
 -- The parts of a recording's text, each put where the last one ended. Assumes nothing.
-use mathlib.Core.Path.{◌≡◌, refl, sym, ap, ◌∙◌}
+use mathlib.Core.Path.{◌≡◌, refl, ap, ◌∙◌}
 use mathlib.Core.Bool.{Bool, true, false, cond}
 use mathlib.Core.List.{List, [], ◌++◌, append-nil}
 use Prim.Native.Nat.{ℕ, suc, ◌+◌, ◌-◌, ◌*◌, ◌≤◌, ◌<◌}
@@ -7,7 +7,7 @@ use native.Mathlib.Numerals.{add-one}
 use native.Mathlib.Nat.{mul-le-mul}
 use native.Mathlib.Omega.{arith}
 use lib.Dec.{ltb, eqb}
-use lib.ListN.{length, take, drop, length-take, length-drop}
+use lib.ListN.{length, take, drop, length-drop}
 use lib.Seq.{take_all, drop-length}
 use borrow.Rule.Slice.PartMut.{put_mid}
 use borrow.Author.Tests.{ltb-false}
@@ -26,8 +26,8 @@ use Rattle.text_screen.specs.Listed as list
 use Rattle.text_screen.specs.Listed.{listing, written, begun-with}
 use Rattle.text_details.specs.Bytes.{details-text}
 use Rattle.text_row.specs.Pieces.{row-lines}
-use Rattle.text_row.specs.Dumped.{AttrTables, RowOut, row_out, pieces-written, stopped, row-stopped, with-text, row-dumped, good-tables, attrs-text, attrs-dumped}
-use Rattle.text_dump.specs.Dumped.{Part, part, after, rows-dumped, details-dumped, in-front, screen-dumped}
+use Rattle.text_row.specs.Dumped.{AttrTables, row_out, pieces-written, stopped, row-stopped, with-text, row-dumped, good-tables, attrs-text, attrs-dumped}
+use Rattle.text_dump.specs.Dumped.{part, after, rows-dumped, details-dumped, in-front, screen-dumped}
 
 -- a text is no longer than the bytes that it was put into
 written-few : (ts bs : List ℕ) → (written ts bs).answer.bytes ≤ length bs

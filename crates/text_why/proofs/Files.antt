@@ -13,7 +13,7 @@ use Rattle.rules.specs.Answers.{Answer, Done, BadForm}
 use Rattle.rules.specs.Rows.{Row}
 use Rattle.rules.specs.Setups.{Setup}
 use Rattle.rules.specs.Steps.{Screen}
-use Rattle.rules.specs.Lines.{Line, refused, screen-lines, answer-lines, rowlist-screen, rowlist-words, words_of, rowlist, line-bytes}
+use Rattle.rules.specs.Lines.{refused, screen-lines, rowlist-screen, rowlist-words, words_of, rowlist, line-bytes}
 use Rattle.rules_reason.specs.Answers.{Question, refused-bytes, answer-in, why-words, why-text}
 use Rattle.rules.specs.Recording.{shape, sections}
 use Rattle.file_form.specs.Words.{words-in, Filled, filled, filled-with}

@@ -1,0 +1,18 @@
+-- The attributes' text stands first, the rows' after it.
+use native.Mathlib.Omega.{arith}
+use Rattle.text_dump.proofs.Parts.{attrs-few, details-more}
+use Rattle.text_dump.proofs.details_text.Goals as goal
+
+pub slice_bounds-rows_text-count : goal.slice_bounds-rows_text-count
+slice_bounds-rows_text-count c = grind (arith, attrs-few)
+
+pub slice_bounds-rows_text-start : goal.slice_bounds-rows_text-start
+slice_bounds-rows_text-start c = grind (arith, attrs-few)
+
+pub returns-clause-out_after : goal.returns-clause-out_after
+returns-clause-out_after c =
+    details-more _ _ _ _ _ _ c.attrs_text-text.ensures c.begin_painting-begun.ensures
+    c.rows_text-more.ensures.out_after (omega arith)
+
+pub returns-clause-upper_bound : goal.returns-clause-upper_bound
+returns-clause-upper_bound c = grind (arith, attrs-few)

@@ -1,24 +1,32 @@
-// Prints the rows of the recording on standard input, or the number of its refusal (document 01, "The recording file"). A read or a write
-// that fails is told on standard error, and so is the usage; nothing else goes there.
+// Prints the rows of the recording on standard input, or the number of its refusal. What fails is told on standard error, and so is the usage; nothing
+// else goes there.
 #![tactic(auto)]
 
-ghost use Rattle.std.specs.Prelude.{◌≡◌, ◌≤◌, length};
+ghost use Rattle.std.specs.Prelude.{◌≡◌, ◌≢◌, ◌≤◌, ◌↔◌, false, [], length, map, string_bytes, IfSome, IfErr, OnOk, IsOkUnless, IsErrOf};
+ghost use Rattle.std.specs.Io.KnownBytes.{Appends};
 ghost use Rattle.screen.specs.Screens.{setup-of};
 ghost use Rattle.text_file.specs.Files.{Usual};
 ghost use Rattle.text_programs.specs.Programs.{rowlist-text, by_width, first};
+ghost use Rattle.text_programs.specs.Arguments.{read_arguments};
+ghost use Rattle.rowlist.specs.Printed.{printed};
 
-use libc::{STDERR_FILENO, STDIN_FILENO, STDOUT_FILENO};
-use text_programs::options::{Want, read_options};
+use std::io;
+use std::io::{Input, Print, Read, Write};
+use std::process::ExitCode;
+use std::rt::Env;
+use text_programs::failure::Failure;
+use text_programs::options::{Want, arguments, read_options};
 use text_programs::tables::{file_buffer, text_buffer};
-use text_programs::{no_width_text, read_all, rowlist_text};
+use text_programs::{no_width_text, read_all, rowlist_text, write_text};
 
 // Writes what is wanted of a file: no other bytes can be handed to it.
-fn print(file: &[u8], want: Want, text: &[u8])
+fn print<W: Write>(output: &mut W, file: &[u8], want: Want, text: &[u8]) -> Result<(), Failure>
     requires { text.now ≡ by_width want.no_width file.now (rowlist-text (setup-of want.setup) file.now) }
+    ensures ok { OnOk result (Appends (W.contents output.old) (W.contents output.new)
+        (by_width want.no_width file.now (rowlist-text (setup-of want.setup) file.now))) }
+    ensures err { IsOkUnless result Failure.CannotWrite }
 {
-    if !io::write_all(STDOUT_FILENO, text) {
-        io::write_all(STDERR_FILENO, b"rowlist: cannot write\n");
-    }
+    write_text(output, text)
 }
 
 // What is wanted, put first; how long it is.
@@ -34,30 +42,51 @@ fn wanted_text(file: &[u8], want: Want, out: &mut [u8]) -> usize
     rowlist_text(file, setup, out)
 }
 
-fn list(file: &[u8], want: Want)
+fn list<W: Write>(output: &mut W, file: &[u8], want: Want) -> Result<(), Failure>
     requires { Usual (setup-of want.setup) }
+    ensures ok { OnOk result (Appends (W.contents output.old) (W.contents output.new)
+        (by_width want.no_width file.now (rowlist-text (setup-of want.setup) file.now))) }
+    ensures err { IsOkUnless result Failure.CannotWrite }
 {
     let mut out = text_buffer();
     let n = wanted_text(file, want, &mut out);
-    print(file, want, &out[..n]);
+    print(output, file, want, &out[..n])
 }
 
-fn main() {
-    let options = read_options(false);
-    if options.others != 0 {
-        io::write_all(
-            STDERR_FILENO,
-            b"usage: rowlist [--snap] [--width N] < FILE\n",
-        );
-        return;
-    }
-    let want = options.want;
+// Lists the recording on the input.
+fn list_input<R: Read, W: Write>(input: &mut R, output: &mut W, want: Want) -> Result<(), Failure>
+    requires { Usual (setup-of want.setup) }
+    ensures ok { OnOk result (IfSome (R.remaining input.old) (λ file. Appends (W.contents output.old) (W.contents output.new)
+        (by_width want.no_width file (rowlist-text (setup-of want.setup) file)))) }
+    ensures err { IfErr result (λ e. e ≢ Failure.Usage) }
+{
     let mut bytes = file_buffer();
-    let input = read_all(STDIN_FILENO, &mut bytes);
-    let n = input.count;
-    if input.failed {
-        io::write_all(STDERR_FILENO, b"rowlist: cannot read\n");
-    } else {
-        list(&bytes[..n], want);
+    let n = read_all(input, &mut bytes)?;
+    list(output, &bytes[..n], want)
+}
+
+// What the program does with its arguments, from its input to its output.
+fn run<R: Read, W: Write>(args: &[String], input: &mut R, output: &mut W) -> Result<(), Failure>
+    ensures usage { IsErrOf result Failure.Usage ↔ ((read_arguments false (map string_bytes args.now)).others ≢ []) }
+    ensures untouched { IsErrOf result Failure.Usage → (input.new ≡ input.old) × (output.new ≡ output.old) }
+    ensures printed { OnOk result (IfSome (R.remaining input.old) (λ file.
+        Appends (W.contents output.old) (W.contents output.new) (printed (map string_bytes args.now) file))) }
+{
+    let options = read_options(args, false);
+    if !options.others.is_empty() {
+        return Err(Failure::Usage);
+    }
+    list_input(input, output, options.want)
+}
+
+fn start<E: Env + AllocGlobal + Input + Print>(rt: &E) -> Result<(), Failure> {
+    let args = arguments(rt)?;
+    run(args.as_slice(), &mut rt.reader(), &mut io::writer(rt))
+}
+
+fn main(rt: HostRuntime) -> ExitCode {
+    match start(&rt) {
+        Ok(()) => ExitCode::SUCCESS,
+        Err(failure) => failure.tell(&rt, "rowlist", "rowlist [--snap] [--width N] < FILE"),
     }
 }

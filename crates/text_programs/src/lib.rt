@@ -1,16 +1,21 @@
-// What the programs have in common: their options, their tables, the text of a file's bytes, reading to the end, streams. Parts: where a function
-// asks something, the programs have seen to it.
+// What the programs have in common: their options, their tables, the text of a file's bytes, reading to the end, streams, how they fail. Parts: where
+// a function asks something, the programs have seen to it.
 #![tactic(auto)]
 
-ghost use Rattle.std.specs.Prelude.{◌≡◌, ◌≤◌, length};
+ghost use Rattle.std.specs.Prelude.{◌≡◌, ◌≤◌, length, take, IfOk, OnOk, IsOkUnless};
+ghost use Rattle.std.specs.Io.KnownBytes.{Appends};
 ghost use Rattle.screen.specs.Screens.{setup-of};
 ghost use Rattle.text_file.specs.Files.{Usual};
 ghost use Rattle.text_programs.specs.Programs.{rowlist-number, rowlist-text, no-width-text, first};
+ghost use Rattle.text_programs.specs.Streams.{Takes};
 
+use crate::failure::Failure;
 use screen::Setup;
+use std::io::{Read, Write};
 use text_file::{file_text, no_width_number};
 use text_screen::{Listing, refusal_line};
 
+pub mod failure;
 pub mod options;
 pub mod stream;
 pub mod tables;
@@ -77,37 +82,29 @@ pub fn no_width_text(file: &[u8], out: &mut [u8]) -> usize
     line.bytes
 }
 
-// failed: a read failed. count: how many bytes were read before that, or before the end.
-#[derive(Clone, Copy)]
-pub struct Input {
-    pub failed: bool,
-    pub count: usize,
-}
-
-// Reads until the bytes are full, the input ends or a read fails.
-pub fn read_all(fd: i32, buf: &mut [u8]) -> Input
-    ensures { result.count ≤ length buf.new }
+// Reads until the bytes are full or the input ends; how many were read.
+pub fn read_all<R: Read>(input: &mut R, buf: &mut [u8]) -> Result<usize, Failure>
+    ensures count { IfOk result (λ n. n ≤ length buf.new) }
+    ensures bytes { IfOk result (λ n. Takes (length buf.old) (R.remaining input.old) (R.remaining input.new) (take n buf.new)) }
+    ensures err { IsOkUnless result Failure.CannotRead }
 {
     let mut done = 0;
     while done < buf.len() {
-        let got = libc::read(fd, &mut buf[done..]);
-        if got < 0 {
-            return Input {
-                failed: true,
-                count: done,
-            };
-        }
-        let n = io::count(got, &buf[done..]);
+        let Ok(n) = input.read(&mut buf[done..]) else {
+            return Err(Failure::CannotRead);
+        };
         if n == 0 {
-            return Input {
-                failed: false,
-                count: done,
-            };
+            return Ok(done);
         }
         done += n;
     }
-    Input {
-        failed: false,
-        count: done,
-    }
+    Ok(done)
+}
+
+// Writes all of a text.
+pub fn write_text<W: Write>(output: &mut W, text: &[u8]) -> Result<(), Failure>
+    ensures ok { OnOk result (Appends (W.contents output.old) (W.contents output.new) text.now) }
+    ensures err { IsOkUnless result Failure.CannotWrite }
+{
+    output.write_all(text).map_err(|_| Failure::CannotWrite)
 }

@@ -1,63 +1,60 @@
-// Streams on standard input: files one after the other, each after a head of little-endian u32s, its length in bytes first.
-ghost use Rattle.std.specs.Prelude.{◌≤◌, ◌<◌, length};
+// Streams: files one after the other, each after a head of little-endian u32s, its length in bytes first.
+ghost use Rattle.std.specs.Prelude.{◌≡◌, ◌+◌, ◌-◌, ◌≤◌, length, take, min, IfOk, OnOk, IsOkUnless};
+ghost use Rattle.sizes.specs.Sizes.{file-bytes};
+ghost use Rattle.text_programs.specs.Streams.{Takes, Skips, word_at};
 
-use crate::{Input, read_all};
-use libc::STDIN_FILENO;
+use crate::failure::Failure;
+use crate::read_all;
 use sizes::FILE_BYTES;
+use std::io::Read;
 
-// Reads up to k bytes to the start of the buffer.
-pub fn read(buf: &mut [u8], k: usize) -> Input
-    ensures { result.count ≤ length buf.new }
+// Reads up to k bytes to the start of the buffer; how many were read.
+pub fn read<R: Read>(input: &mut R, buf: &mut [u8], k: usize) -> Result<usize, Failure>
+    ensures count { IfOk result (λ n. n ≤ length buf.new) }
+    ensures at_most { IfOk result (λ n. n ≤ k) }
+    ensures bytes { IfOk result (λ n. Takes (min k (length buf.old)) (R.remaining input.old) (R.remaining input.new) (take n buf.new)) }
+    ensures err { IsOkUnless result Failure.CannotRead }
 {
     if k <= buf.len() {
-        return read_all(STDIN_FILENO, &mut buf[..k]);
+        return read_all(input, &mut buf[..k]);
     }
-    read_all(STDIN_FILENO, buf)
-}
-
-fn byte(x: u8) -> u32
-    ensures { result < 256 }
-{
-    x as u32
+    read_all(input, buf)
 }
 
 // The u32 at a place of a head, 0 if there are not four bytes.
-pub fn word(head: &[u8], at: usize) -> u32 {
+pub fn word(head: &[u8], at: usize) -> u32
+    ensures { result ≡ word_at head.now at }
+{
     if head.len() < 4 {
         return 0;
     }
     if head.len() - 4 < at {
         return 0;
     }
-    byte(head[at])
-        + 256 * (byte(head[at + 1]) + 256 * (byte(head[at + 2]) + 256 * byte(head[at + 3])))
+    u32::from_le_bytes([head[at], head[at + 1], head[at + 2], head[at + 3]])
 }
 
-// Reads on over n bytes; whether no read failed.
-fn skip(n: usize) -> bool {
+// Reads on over n bytes, or to the end.
+fn skip<R: Read>(input: &mut R, n: usize) -> Result<(), Failure>
+    ensures ok { OnOk result (Skips n (R.remaining input.old) (R.remaining input.new)) }
+    ensures err { IsOkUnless result Failure.CannotRead }
+{
+    let mut buf = [0u8; 4096];
     let mut left = n;
     while 0 < left {
-        let mut buf = io::buffer();
-        let got = read(&mut buf, left);
-        if got.failed {
-            return false;
+        let got = read(input, &mut buf, left)?;
+        if got == 0 {
+            return Ok(());
         }
-        if got.count == 0 {
-            return true;
-        }
-        if left <= got.count {
-            return true;
-        }
-        left -= got.count;
+        left -= got;
     }
-    true
+    Ok(())
 }
 
-// A file of so many bytes was read into the programs' buffer. One that is longer has filled it, which is too long, and the rest is passed
-// over; whether no read failed.
-pub fn skip_rest(size: usize) -> bool {
-    if FILE_BYTES + 1 < size {
-        return skip(size - (FILE_BYTES + 1));
-    }
-    true
+// A file of so many bytes was read into the programs' buffer. One that is longer has filled it, which is too long, and the rest is passed over.
+pub fn skip_rest<R: Read>(input: &mut R, size: usize) -> Result<(), Failure>
+    ensures ok { OnOk result (Skips (size - (file-bytes + 1)) (R.remaining input.old) (R.remaining input.new)) }
+    ensures err { IsOkUnless result Failure.CannotRead }
+{
+    skip(input, size.saturating_sub(FILE_BYTES + 1))
 }

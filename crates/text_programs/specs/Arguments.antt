@@ -1,0 +1,66 @@
+-- What a program's arguments say, each a text: the options stand first, in any order, and of a repeated one the last counts.
+use Rattle.std.specs.Prelude.{ℕ, ◌^◌, Bool, true, false, ◌&&◌, if◌then◌else◌, List, [], ◌∷◌, length, codes, Option, Some, None, nat_lt, bytes_eq, option_map}
+use Rattle.std.specs.Str.{all_ascii_digits}
+use Rattle.std.specs.Str.Parse.{digits_value}
+use Rattle.sizes.specs.Widths.{width_of}
+use Rattle.rules.specs.Setups.{Mode, exact, snapping}
+use Rattle.screen.specs.Screens.{setup-of}
+use Rattle.text_programs.specs.declared.options.Want.{Want}
+use Rattle.text_programs.specs.Programs.{Wanted, wanted, want-of}
+
+-- a number: decimal digits alone, at most 4,294,967,295
+abbrev pub is_number : List ℕ → Bool
+is_number ds = nat_lt 0 (length ds) && (all_ascii_digits ds && nat_lt (digits_value 10 ds) (2 ^ 32))
+
+abbrev pub number_of : List ℕ → Option ℕ
+number_of ds = if is_number ds then Some (digits_value 10 ds) else None
+
+-- what options choose
+pub record Choice : Type 0 where
+  pub mode : Mode
+  pub pixels : ℕ
+  pub panels : Bool
+
+abbrev pub choice : Mode → ℕ → Bool → Choice
+choice m n v = record { mode = m; pixels = n; panels = v }
+
+abbrev pub no_options : Choice
+no_options = choice exact 128 false
+
+-- an option of one word, after the choice c; known: `--panels` is an option
+abbrev pub with_word : Bool → Choice → List ℕ → Option Choice
+with_word known c w =
+    if bytes_eq w (codes "--snap") then Some (record c { mode = snapping })
+    else (if known && bytes_eq w (codes "--panels") then Some (record c { panels = true }) else None)
+
+-- `--width` and its number
+abbrev pub with_width : Choice → List ℕ → List ℕ → Option Choice
+with_width c w n = if bytes_eq w (codes "--width") then option_map (λ p. record c { pixels = p }) (number_of n) else None
+
+-- what the options choose, and the arguments from the first on that is none
+pub record Arguments : Type 0 where
+  pub choice : Choice
+  pub others : List (List ℕ)
+
+abbrev pub arguments : Choice → List (List ℕ) → Arguments
+arguments c ws = record { choice = c; others = ws }
+
+abbrev pub arguments_after : Bool → Choice → List (List ℕ) → Arguments
+arguments_after known c [] = arguments c []
+arguments_after known c (w ∷ []) = elim (with_word known c w) [ Some d ↦ arguments d [] | None ↦ arguments c (w ∷ []) ]
+arguments_after known c (w ∷ n ∷ ws) =
+    elim (with_word known c w) [
+      | Some d ↦ arguments_after known d (n ∷ ws)
+      | None ↦ elim (with_width c w n) [ Some d ↦ arguments_after known d ws | None ↦ arguments c (w ∷ n ∷ ws) ]
+    ]
+
+abbrev pub read_arguments : Bool → List (List ℕ) → Arguments
+read_arguments known ws = arguments_after known no_options ws
+
+-- what they want of a screen
+abbrev pub wanted_by : Choice → Wanted
+wanted_by c = want-of c.mode (width_of c.pixels) c.panels
+
+-- .. as the code has it
+abbrev pub wanted_of : Want → Wanted
+wanted_of w = wanted (setup-of w.setup) w.no_width w.panels

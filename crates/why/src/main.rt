@@ -1,218 +1,277 @@
 // Prints why a tile of the recording on standard input shows what it shows: for one attribute, for every attribute, or for each question of a
-// stream. A read or a write that fails is told on standard error, and so is the usage; nothing else goes there.
+// stream. What fails is told on standard error, and so is the usage; nothing else goes there.
 #![tactic(auto)]
 
-ghost use Rattle.std.specs.Prelude.{◌≡◌, ◌≤◌, ◌<◌, length, take};
-ghost use Rattle.rules_reason.specs.Answers.{why-text, question-line};
+ghost use Rattle.std.specs.Prelude.{◌≡◌, ◌≢◌, ◌≤◌, ◌<◌, ◌↔◌, ◌++◌, false, length, map, take, drop, string_bytes, Some, None, IfSome, IfOk, IfErr, OnOk, IsOkUnless, IsErrOf, MatchBool};
+ghost use Rattle.std.specs.Io.KnownBytes.{Appends};
+ghost use Rattle.rules_reason.specs.Answers.{question-line};
 ghost use Rattle.screen.specs.Screens.{setup-of};
 ghost use Rattle.text_file.specs.Files.{Usual};
-ghost use Rattle.text_programs.specs.Programs.{by_width};
-ghost use Rattle.text_why.specs.Questions.{question-of};
+ghost use Rattle.text_programs.specs.Arguments.{read_arguments, wanted_of};
+ghost use Rattle.text_programs.specs.Streams.{first_item, after_item};
+ghost use Rattle.why.specs.Requests.{question_of, query_of, request_of};
+ghost use Rattle.why.specs.Printed.{answer, item_answer, stream_answers, reply, printed};
 
-use libc::{STDERR_FILENO, STDIN_FILENO, STDOUT_FILENO};
 use sizes::wide;
-use text_programs::options::{Number, Want, is_word, number_at, read_options};
+use std::io;
+use std::io::{Input, Print, Read, Write};
+use std::process::ExitCode;
+use std::rt::Env;
+use text_programs::failure::Failure;
+use text_programs::options::{Want, arguments, number, read_options};
 use text_programs::stream::{read, skip_rest, word};
 use text_programs::tables::{file_buffer, text_buffer};
-use text_programs::{no_width_text, read_all};
+use text_programs::{no_width_text, read_all, write_text};
 use text_why::{Question, question_text, why_text};
 use tile_reason::Asked;
 
-// Writes what is wanted of a question about a file's bytes: no other bytes can be handed to it. Whether that could be done.
-fn print(file: &[u8], want: Want, row: u32, tile: u32, question: Question, text: &[u8]) -> bool
-    requires { text.now ≡ by_width want.no_width file.now (why-text (setup-of want.setup) file.now row tile (question-of question)) }
-{
-    io::write_all(STDOUT_FILENO, text)
-}
-
-// Writes the line before question i's answer in a stream, and no other bytes.
-fn print_line(i: u64, line: &[u8]) -> bool
-    requires { line.now ≡ question-line i }
-{
-    io::write_all(STDOUT_FILENO, line)
-}
-
-// What is wanted, put first; how long it is.
-fn wanted_text(
-    file: &[u8],
-    want: Want,
+// A question at a tile.
+#[derive(Clone, Copy)]
+struct Query {
     row: u32,
     tile: u32,
     question: Question,
-    out: &mut [u8],
-) -> usize
+}
+
+// What is asked: of each file of a stream, or of one file.
+#[derive(Clone, Copy)]
+enum Request {
+    Stream,
+    File(Query),
+}
+
+// A question about one attribute.
+fn read_question(kind: &str, attribute: &str) -> Option<Question>
+    ensures { result ≡ question_of kind.now attribute.now }
+{
+    let layer = match kind {
+        "draw" => false,
+        "layer" => true,
+        _ => return None,
+    };
+    let attribute = number(attribute)?;
+    Some(Question::One(Asked { layer, attribute }))
+}
+
+fn read_query(row: &str, tile: &str, question: Question) -> Option<Query>
+    ensures { result ≡ query_of row.now tile.now question }
+{
+    let row = number(row)?;
+    let tile = number(tile)?;
+    Some(Query {
+        row,
+        tile,
+        question,
+    })
+}
+
+// What the arguments after the options ask; none where they ask for nothing.
+fn read_request(others: &[String]) -> Option<Request>
+    ensures { result ≡ request_of (map string_bytes others.now) }
+{
+    match others {
+        [word] if word.as_str() == "--stream" => Some(Request::Stream),
+        [row, tile] => {
+            let query = read_query(row.as_str(), tile.as_str(), Question::Every)?;
+            Some(Request::File(query))
+        }
+        [row, tile, kind, attribute] => {
+            let question = read_question(kind.as_str(), attribute.as_str())?;
+            let query = read_query(row.as_str(), tile.as_str(), question)?;
+            Some(Request::File(query))
+        }
+        _ => None,
+    }
+}
+
+// Writes what is wanted of a question about a file's bytes: no other bytes can be handed to it.
+fn print<W: Write>(
+    output: &mut W,
+    file: &[u8],
+    want: Want,
+    query: Query,
+    text: &[u8],
+) -> Result<(), Failure>
+    requires { text.now ≡ answer (wanted_of want) query file.now }
+    ensures ok { OnOk result (Appends (W.contents output.old) (W.contents output.new) (answer (wanted_of want) query file.now)) }
+    ensures err { IsOkUnless result Failure.CannotWrite }
+{
+    write_text(output, text)
+}
+
+// Writes the line before question i's answer in a stream, and no other bytes.
+fn print_line<W: Write>(output: &mut W, i: u64, line: &[u8]) -> Result<(), Failure>
+    requires { line.now ≡ question-line i }
+    ensures ok { OnOk result (Appends (W.contents output.old) (W.contents output.new) (question-line i)) }
+    ensures err { IsOkUnless result Failure.CannotWrite }
+{
+    write_text(output, line)
+}
+
+// What is wanted, put first; how long it is.
+fn wanted_text(file: &[u8], want: Want, query: Query, out: &mut [u8]) -> usize
     requires { Usual (setup-of want.setup) × (264256 ≤ length out.old) }
-    ensures value { result ≡ length (by_width want.no_width file.now (why-text (setup-of want.setup) file.now row tile (question-of question))) }
-    ensures out_after { take result out.new ≡ by_width want.no_width file.now (why-text (setup-of want.setup) file.now row tile (question-of question)) }
+    ensures value { result ≡ length (answer (wanted_of want) query file.now) }
+    ensures out_after { take result out.new ≡ answer (wanted_of want) query file.now }
 {
     if want.no_width {
         return no_width_text(file, out);
     }
     let setup = want.setup;
-    why_text(file, setup, row, tile, question, out)
+    why_text(file, setup, query.row, query.tile, query.question, out)
 }
 
-fn print_answer(file: &[u8], want: Want, row: u32, tile: u32, question: Question) -> bool
+fn print_answer<W: Write>(
+    output: &mut W,
+    file: &[u8],
+    want: Want,
+    query: Query,
+) -> Result<(), Failure>
     requires { Usual (setup-of want.setup) }
+    ensures ok { OnOk result (Appends (W.contents output.old) (W.contents output.new) (answer (wanted_of want) query file.now)) }
+    ensures err { IsOkUnless result Failure.CannotWrite }
 {
     let mut out = text_buffer();
-    let n = wanted_text(file, want, row, tile, question, &mut out);
-    print(file, want, row, tile, question, &out[..n])
+    let n = wanted_text(file, want, query, &mut out);
+    print(output, file, want, query, &out[..n])
 }
 
-fn print_question(i: u64) -> bool {
+fn print_question<W: Write>(output: &mut W, i: u64) -> Result<(), Failure>
+    ensures ok { OnOk result (Appends (W.contents output.old) (W.contents output.new) (question-line i)) }
+    ensures err { IsOkUnless result Failure.CannotWrite }
+{
     let mut out = [0u8; 32];
     let n = question_text(i, &mut out);
-    print_line(i, &out[..n])
+    print_line(output, i, &out[..n])
 }
 
-fn usage() {
-    io::write_all(
-        STDERR_FILENO,
-        b"usage: why [--snap] [--width N] ROW TILE [draw N | layer N] < FILE, or why [--snap] [--width N] --stream < STREAM\n",
-    );
-}
-
-fn no_read() {
-    io::write_all(STDERR_FILENO, b"why: cannot read\n");
-}
-
-fn no_write() {
-    io::write_all(STDERR_FILENO, b"why: cannot write\n");
-}
-
-// One question about the file on standard input.
-fn ask(want: Want, row: u32, tile: u32, question: Question)
+// One question about the file on the input.
+fn answer_file<R: Read, W: Write>(
+    input: &mut R,
+    output: &mut W,
+    want: Want,
+    query: Query,
+) -> Result<(), Failure>
     requires { Usual (setup-of want.setup) }
+    ensures ok { OnOk result (IfSome (R.remaining input.old) (λ file.
+        Appends (W.contents output.old) (W.contents output.new) (answer (wanted_of want) query file))) }
+    ensures err { IfErr result (λ e. e ≢ Failure.Usage) }
 {
     let mut bytes = file_buffer();
-    let got = read_all(STDIN_FILENO, &mut bytes);
-    let n = got.count;
-    if got.failed {
-        no_read();
-        return;
-    }
-    if !print_answer(&bytes[..n], want, row, tile, question) {
-        no_write();
-    }
+    let n = read_all(input, &mut bytes)?;
+    print_answer(output, &bytes[..n], want, query)
 }
 
-// The file of question i, after its head; whether the stream goes on.
-fn next_file(i: u64, size: usize, want: Want, row: u32, tile: u32) -> bool
+// Question i of a stream, about the file of so many bytes after its head.
+fn answer_next<R: Read, W: Write>(
+    input: &mut R,
+    output: &mut W,
+    i: u64,
+    size: usize,
+    want: Want,
+    query: Query,
+) -> Result<(), Failure>
     requires { Usual (setup-of want.setup) }
+    ensures ok { OnOk result (IfSome (R.remaining input.old) (λ bs. (R.remaining input.new ≡ Some (drop size bs))
+        × Appends (W.contents output.old) (W.contents output.new) (question-line i ++ answer (wanted_of want) query (take size bs)))) }
+    ensures err { IfErr result (λ e. e ≢ Failure.Usage) }
 {
     let mut bytes = file_buffer();
-    let got = read(&mut bytes, size);
-    let n = got.count;
-    if got.failed {
-        no_read();
-        return false;
-    }
-    if !print_question(i) {
-        no_write();
-        return false;
-    }
-    if !print_answer(&bytes[..n], want, row, tile, Question::Every) {
-        no_write();
-        return false;
-    }
-    if !skip_rest(size) {
-        no_read();
-        return false;
-    }
-    true
+    let n = read(input, &mut bytes, size)?;
+    print_question(output, i)?;
+    print_answer(output, &bytes[..n], want, query)?;
+    skip_rest(input, size)
 }
 
-// Whether there was another question: the file's length, the row and the tile, then the file.
-fn next(i: u64, want: Want) -> bool
+// Whether there was another question, i: the file's length, the row and the tile, then the file. It is answered.
+fn next<R: Read, W: Write>(
+    input: &mut R,
+    output: &mut W,
+    i: u64,
+    want: Want,
+) -> Result<bool, Failure>
     requires { Usual (setup-of want.setup) }
+    ensures ok { IfOk result (λ more. IfSome (R.remaining input.old) (λ bs. MatchBool more
+        ((12 ≤ length bs) × (R.remaining input.new ≡ Some (after_item 12 bs))
+        × Appends (W.contents output.old) (W.contents output.new) (item_answer (wanted_of want) i (first_item 12 bs)))
+        ((length bs < 12) × (output.new ≡ output.old)))) }
+    ensures err { IfErr result (λ e. e ≢ Failure.Usage) }
 {
     let mut head = [0u8; 12];
-    let got = read_all(STDIN_FILENO, &mut head);
-    if got.failed {
-        no_read();
-        return false;
+    if read_all(input, &mut head)? < head.len() {
+        return Ok(false);
     }
-    if got.count < 12 {
-        return false;
-    }
-    next_file(
-        i,
-        wide(word(&head, 0)),
-        want,
-        word(&head, 4),
-        word(&head, 8),
-    )
+    let query = Query {
+        row: word(&head, 4),
+        tile: word(&head, 8),
+        question: Question::Every,
+    };
+    answer_next(input, output, i, wide(word(&head, 0)), want, query)?;
+    Ok(true)
 }
 
-// A proved loop has to end, and nothing says that a stream does: it counts up to a number that no run reaches.
-fn ask_all(want: Want)
+// Nothing says that a stream ends: the questions are counted up to a number that no run reaches.
+fn answer_stream<R: Read, W: Write>(
+    input: &mut R,
+    output: &mut W,
+    want: Want,
+) -> Result<(), Failure>
     requires { Usual (setup-of want.setup) }
+    ensures ok { OnOk result (IfSome (R.remaining input.old) (λ stream.
+        Appends (W.contents output.old) (W.contents output.new) (stream_answers (wanted_of want) stream))) }
+    ensures err { IfErr result (λ e. e ≢ Failure.Usage) }
 {
-    let mut i: u64 = 0;
-    while i < u64::MAX {
-        if !next(i, want) {
-            return;
+    for i in 0..u64::MAX {
+        if !next(input, output, i, want)? {
+            return Ok(());
         }
-        i += 1;
     }
+    Ok(())
 }
 
-fn ask_of(want: Want, row: u32, tile: u32, layer: bool, attribute: u32)
+fn answer_request<R: Read, W: Write>(
+    input: &mut R,
+    output: &mut W,
+    want: Want,
+    request: Request,
+) -> Result<(), Failure>
     requires { Usual (setup-of want.setup) }
+    ensures ok { OnOk result (IfSome (R.remaining input.old) (λ bytes.
+        Appends (W.contents output.old) (W.contents output.new) (reply (wanted_of want) request bytes))) }
+    ensures err { IfErr result (λ e. e ≢ Failure.Usage) }
 {
-    ask(want, row, tile, Question::One(Asked { layer, attribute }));
+    match request {
+        Request::Stream => answer_stream(input, output, want),
+        Request::File(query) => answer_file(input, output, want, query),
+    }
 }
 
-// A question about one attribute; argument i says of which kind, and the next its number.
-fn ask_one(want: Want, row: u32, tile: u32, i: usize)
-    requires { Usual (setup-of want.setup) × (i < 18446744073709551615) }
+// What the program does with its arguments, from its input to its output.
+fn run<R: Read, W: Write>(args: &[String], input: &mut R, output: &mut W) -> Result<(), Failure>
+    ensures usage { IsErrOf result Failure.Usage ↔ (request_of (read_arguments false (map string_bytes args.now)).others ≡ None) }
+    ensures untouched { IsErrOf result Failure.Usage → (input.new ≡ input.old) × (output.new ≡ output.old) }
+    ensures printed { OnOk result (IfSome (R.remaining input.old) (λ bytes.
+        Appends (W.contents output.old) (W.contents output.new) (printed (map string_bytes args.now) bytes))) }
 {
-    let Number::Good(attribute) = number_at(i + 1) else {
-        usage();
-        return;
+    let options = read_options(args, false);
+    let Some(request) = read_request(options.others) else {
+        return Err(Failure::Usage);
     };
-    if is_word(i, b"draw") {
-        ask_of(want, row, tile, false, attribute);
-        return;
-    }
-    if is_word(i, b"layer") {
-        ask_of(want, row, tile, true, attribute);
-        return;
-    }
-    usage();
+    answer_request(input, output, options.want, request)
 }
 
-fn main() {
-    let options = read_options(false);
-    let want = options.want;
-    let i = options.next;
-    let n = options.others;
-    if n < 2 {
-        if n == 1 {
-            if is_word(i, b"--stream") {
-                ask_all(want);
-                return;
-            }
-        }
-        usage();
-        return;
+fn start<E: Env + AllocGlobal + Input + Print>(rt: &E) -> Result<(), Failure> {
+    let args = arguments(rt)?;
+    run(args.as_slice(), &mut rt.reader(), &mut io::writer(rt))
+}
+
+fn main(rt: HostRuntime) -> ExitCode {
+    match start(&rt) {
+        Ok(()) => ExitCode::SUCCESS,
+        Err(failure) => failure.tell(
+            &rt,
+            "why",
+            "why [--snap] [--width N] ROW TILE [draw N | layer N] < FILE, or why [--snap] [--width N] --stream < STREAM",
+        ),
     }
-    let Number::Good(row) = number_at(i) else {
-        usage();
-        return;
-    };
-    let Number::Good(tile) = number_at(i + 1) else {
-        usage();
-        return;
-    };
-    if n == 2 {
-        ask(want, row, tile, Question::Every);
-        return;
-    }
-    if n == 4 {
-        ask_one(want, row, tile, i + 2);
-        return;
-    }
-    usage();
 }

@@ -1,9 +1,9 @@
 -- What `why` prints.
-use Rattle.std.specs.Prelude.{ℕ, suc, ◌-◌, ◌^◌, false, List, [], ◌∷◌, ◌++◌, Some, None}
+use Rattle.std.specs.Prelude.{ℕ, false, List, [], ◌++◌, Some, None}
 use Rattle.rules_reason.specs.Answers.{why-text, question-line}
 use Rattle.text_programs.specs.Programs.{Wanted, by_width}
 use Rattle.text_programs.specs.Arguments.{Arguments, read_arguments, wanted_by}
-use Rattle.text_programs.specs.Streams.{Item, items, word_at}
+use Rattle.text_programs.specs.Streams.{Item, word_at, stream_printed}
 use Rattle.text_why.specs.declared.Question.TheVariants.{Every}
 use Rattle.text_why.specs.Questions.{question-of}
 use Rattle.why.specs.declared.Query.{Query}
@@ -23,14 +23,9 @@ query_in head = record { row = word_at head 4; tile = word_at head 8; question =
 abbrev pub item_answer : Wanted → ℕ → Item → List ℕ
 item_answer want i x = question-line i ++ answer want (query_in x.head) x.file
 
--- .. of items, from number i on
-abbrev pub answers : Wanted → ℕ → List Item → List ℕ
-answers want i [] = []
-answers want i (x ∷ xs) = item_answer want i x ++ answers want (suc i) xs
-
--- .. of a stream, of which no run reaches the end of what is counted
+-- .. of a stream
 abbrev pub stream_answers : Wanted → List ℕ → List ℕ
-stream_answers want stream = answers want 0 (items 12 (2 ^ 64 - 1) stream)
+stream_answers want stream = stream_printed (item_answer want) 12 stream
 
 -- .. of the bytes on standard input, at a request
 abbrev pub reply : Wanted → Request → List ℕ → List ℕ

@@ -47,10 +47,8 @@ pub fn set_word(table: &mut [u32], i: usize, x: u32) {
 // A sum over words in their order: any one word that differs makes another.
 pub fn sum(from: u32, table: &[u32]) -> u32 {
     let mut sum = wide(from);
-    let mut i = 0;
-    while i < table.len() {
-        sum = (31 * sum + wide(table[i])) % 4294967296;
-        i += 1;
+    for word in table {
+        sum = (31 * sum + wide(*word)) % 4294967296;
     }
     sum as u32
 }

@@ -75,12 +75,9 @@ fn show_rows(
     depth: &[u32],
     painting: &[u32],
 ) -> usize {
-    let n = lens.count;
     let mut place = at;
-    let mut i = 0;
-    while i < n {
+    for i in 0..lens.count {
         place = show_row(out, place, i, lens, rows, render, fills, depth, painting);
-        i += 1;
     }
     place
 }
@@ -109,9 +106,8 @@ fn show_layers(
     requires { n < 4294967296 }
 {
     let mut place = at;
-    let mut i = 0;
     let mut a = 0;
-    while i < n {
+    for i in 0..n {
         let b = after(a, LAYER_ATTR, layer_attrs.len());
         let mut opacity = 0.0;
         if OPACITY_BASE + i < opacities.len() {
@@ -119,7 +115,6 @@ fn show_layers(
         }
         place = show_layer(out, place, &layer_attrs[a..b], opacity);
         a = b;
-        i += 1;
     }
     place
 }
@@ -127,12 +122,9 @@ fn show_layers(
 // Each word as 1 if it is negative and 0 else, and how far it is from 0.
 fn show_signed(out: &mut [u32], at: usize, words: &[i32]) -> usize {
     let mut place = at;
-    let mut i = 0;
-    while i < words.len() {
-        let x = words[i];
-        let below = put(out, place, flag(x < 0));
-        place = put(out, below, magnitude(x));
-        i += 1;
+    for word in words {
+        let below = put(out, place, flag(*word < 0));
+        place = put(out, below, magnitude(*word));
     }
     place
 }

@@ -66,18 +66,14 @@ pub fn put(out: &mut [u32], at: usize, x: u32) -> usize {
 // The words of `from` at place at; the place after them.
 pub fn copy(out: &mut [u32], at: usize, from: &[u32]) -> usize {
     let mut place = at;
-    let mut i = 0;
-    while i < from.len() {
-        place = put(out, place, from[i]);
-        i += 1;
+    for word in from {
+        place = put(out, place, *word);
     }
     place
 }
 
 pub fn mark(list: &mut [u32]) {
-    let mut i = 0;
-    while i < list.len() {
-        list[i] = MARK;
-        i += 1;
+    for word in list.iter_mut() {
+        *word = MARK;
     }
 }

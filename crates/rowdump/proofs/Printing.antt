@@ -1,5 +1,5 @@
 -- What is printed of a stream, recording by recording.
-use Rattle.std.proofs.Common.{◌≡◌, ℕ, suc, ◌+◌, ◌-◌, ◌^◌, ◌<◌, ◌≤◌, min, Bool, true, false, List, [], ◌∷◌, ◌++◌, length, take, drop, Option, None, Some, IfSome, IsSomeAnd, MatchBool, Result, Ok, Err, OnOk, refl, sym, ap, subst, ◌∙◌, arith, add-one, drop-drop}
+use Rattle.std.proofs.Common.{◌≡◌, ℕ, ◌+◌, ◌-◌, ◌<◌, min, Bool, true, false, List, [], ◌++◌, length, take, drop, Option, None, Some, IfSome, Result, Ok, Err, OnOk, sym, ap, subst, ◌∙◌, arith, drop-drop}
 use Rattle.std.specs.Io.KnownBytes.{Appends}
 use borrow.Author.Tests.{lt-ltb}
 use Rattle.std.proofs.Math.Option.{none, some}
@@ -9,8 +9,7 @@ use Rattle.text_programs.specs.Programs.{Wanted}
 use Rattle.text_programs.specs.Streams.{Takes, Skips}
 use Rattle.text_programs.proofs.Cut.{cut, read-cut, rowlist-cut, no-width-cut}
 use Rattle.text_details.specs.Details.{rowdump-words}
-use Rattle.text_details.specs.Bytes.{details-text}
-use Rattle.text_dump.specs.Rowdump.{recording-line, rowdump-lines, rowdump-text, no-width-dump, dump-by-width}
+use Rattle.text_dump.specs.Rowdump.{recording-line, rowdump-lines, rowdump-text, dump-by-width}
 use Rattle.rowdump.specs.Printed.{recording_printed}
 
 long-lines : (q : Setup) (xs : List ℕ) → 65536 < length xs → rowdump-lines q xs ≡ []

@@ -1,5 +1,5 @@
 -- The programs read at most one byte more than the longest file has. A file that is cut there is refused as the whole file is.
-use Rattle.std.proofs.Common.{◌≡◌, ℕ, ◌<◌, ◌≤◌, true, List, length, take, take_all, take-take, min, arith, length-take, leb, refl, sym, ap, ◌∙◌, Bool, false, [], ◌∷◌}
+use Rattle.std.proofs.Common.{◌≡◌, ℕ, ◌<◌, true, List, length, take, take_all, take-take, min, arith, length-take, leb, refl, sym, ap, ◌∙◌, Bool, false, [], ◌∷◌}
 use borrow.Author.Tests.{lt-ltb, leb-true, leb-false}
 use Rattle.std.proofs.Math.Option.{none, some}
 use Rattle.rules.specs.Answers.{BadForm}

@@ -1,11 +1,11 @@
 -- A number that is typed, as it is parsed.
-use Rattle.std.proofs.Common.{◌≡◌, ◌≢◌, ℕ, ◌<◌, ◌^◌, Bool, true, false, List, [], ◌∷◌, length, get_or, Option, Some, None, Result, Ok, Err, arith}
+use Rattle.std.proofs.Common.{◌≡◌, ◌≢◌, ℕ, ◌<◌, ◌^◌, true, List, length, get_or, Result, Ok, Err, arith}
 use Rattle.std.specs.Result.{OkIff, result_ok}
 use Rattle.std.specs.Str.{all_ascii_digits}
 use Rattle.std.specs.Str.Parse.{digits_value, ParsesUnsigned}
 use Rattle.std.proofs.lemmas.Str.Parse.{IsNumeralModel, numerals_by_value, tells_all_ascii_digits, parse_plain}
 use Rattle.std.proofs.lemmas.Bool.Decides.{nat_tests}
-use Rattle.text_programs.specs.Arguments.{is_number, number_of}
+use Rattle.text_programs.specs.Arguments.{number_of}
 
 digits : IsNumeralModel (λ ds. all_ascii_digits ds ≡ true) (digits_value 10)
 digits = numerals_by_value _ tells_all_ascii_digits
@@ -17,7 +17,3 @@ told bs (Err e) h = grind (arith, nat_tests)
 
 pub parsed : {E : Type 0} (bs : List ℕ) (r : Result ℕ E) → get_or bs 0 0 ≢ 43 → ParsesUnsigned 32 10 bs r → result_ok r ≡ number_of bs
 parsed bs r h p = told bs r (parse_plain digits 32 bs r p h)
-
-pub not_plus : (bs : List ℕ) → get_or bs 0 0 ≡ 43 → None ≡ number_of bs
-not_plus [] h = grind arith
-not_plus (b ∷ bs) h = grind arith

@@ -1,5 +1,6 @@
 // Why a program stops before its work is done, and how it says so.
-ghost use Rattle.std.specs.Prelude.{◌≡◌};
+ghost use Rattle.std.specs.Prelude.{◌≡◌, ◌≢◌};
+ghost use Rattle.std.specs.Process.{exit_status};
 ghost use Rattle.text_programs.specs.declared.failure.Failure.TheVariants.{OutOfMemory};
 
 use std::alloc::AllocError;
@@ -36,7 +37,10 @@ impl fmt::Display for Failure {
 
 impl Failure {
     // Tells it on standard error, where nothing else goes; the status that the program ends with.
-    pub fn tell<E: Eprint>(self, rt: &E, name: &str, usage: &str) -> ExitCode {
+    pub fn tell<E: Eprint>(self, rt: &E, name: &str, usage: &str) -> ExitCode
+        ensures usage { self ≡ Failure.Usage → exit_status result ≡ 2 }
+        ensures other { self ≢ Failure.Usage → exit_status result ≡ 1 }
+    {
         let _ = match self {
             Failure::Usage => eprintln!(rt; "usage: {usage}"),
             _ => eprintln!(rt; "{name}: {self}"),

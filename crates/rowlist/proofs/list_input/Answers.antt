@@ -1,4 +1,3 @@
-use Rattle.std.proofs.Common.{rules, sym, ◌∙◌}
 use Rattle.rowlist.proofs.Printing.{whole}
 use Rattle.rowlist.proofs.list_input.Goals as goal
 

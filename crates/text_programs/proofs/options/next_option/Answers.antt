@@ -1,4 +1,4 @@
-use Rattle.std.proofs.Common.{◌≡◌, ◌<◌, length, ap, sym, ◌∙◌, ◌∷◌, map, string_bytes, codes, ◌≢◌, rules, arith}
+use Rattle.std.proofs.Common.{ap, sym, ◌∙◌, ◌∷◌, map, string_bytes, codes, ◌≢◌, rules, arith}
 use Rattle.text_programs.specs.Arguments.{number_of}
 use Rattle.text_programs.proofs.Choices.{snapped, with_panels, widened, unknown, ended}
 use Rattle.text_programs.proofs.options.next_option.Goals as goal

@@ -7,7 +7,7 @@ use Rattle.rules.specs.Setups.{Setup}
 use Rattle.rules.specs.Lines.{words_of}
 use Rattle.text_programs.specs.Programs.{Wanted}
 use Rattle.text_programs.specs.Streams.{Takes, Skips}
-use Rattle.text_programs.proofs.Cut.{cut, read-cut, rowlist-cut, no-width-cut}
+use Rattle.text_programs.proofs.Cut.{cut, read_over, rowlist-cut, no-width-cut}
 use Rattle.text_details.specs.Details.{rowdump-words}
 use Rattle.text_dump.specs.Rowdump.{recording-line, rowdump-lines, rowdump-text, dump-by-width}
 use Rattle.rowdump.specs.Printed.{recording_printed}
@@ -33,7 +33,5 @@ pub recording_read : {E : Type 0} (w : Wanted) (i size m k : ℕ) (r : Result (U
 recording_read w i size m k (Err x) known mid new a b ts e f t p s = tt
 recording_read w i size m k (Ok x) None mid new a b ts e f t p s = tt
 recording_read w i size m k (Ok x) (Some bs) mid new a b ts e f t p s =
-    let skipped : new ≡ Some (drop k (drop m bs)) = subst (λ (o : Option (List ℕ)). Skips k o new) t.1 s in
-    let n : m + k ≡ size = omega (arith, e, f) in
-    let read : ts ≡ take 65537 (take size bs) = t.0 ∙ read-cut m size bs e in
-    (skipped ∙ ap Some (drop-drop k m bs ∙ ap (λ j. drop j bs) n), subst (Appends a b) (ap (recording_printed w i) read ∙ recording-cut w.no-width w.panels w.setup i (take size bs)) p)
+    let over = read_over size m k bs ts mid new e f t s in
+    (over.0, subst (Appends a b) (ap (recording_printed w i) over.1 ∙ recording-cut w.no-width w.panels w.setup i (take size bs)) p)

@@ -1,5 +1,5 @@
 -- The programs read at most one byte more than the longest file has. A file that is cut there is refused as the whole file is.
-use Rattle.std.proofs.Common.{◌≡◌, ℕ, ◌<◌, true, List, length, take, take_all, take-take, min, arith, length-take, leb, refl, sym, ap, ◌∙◌, Bool, false, [], ◌∷◌}
+use Rattle.std.proofs.Common.{◌≡◌, ℕ, ◌+◌, ◌-◌, ◌<◌, true, List, length, take, drop, drop-drop, take_all, take-take, min, arith, length-take, leb, refl, sym, ap, subst, ◌∙◌, Bool, false, [], ◌∷◌, Option, Some}
 use borrow.Author.Tests.{lt-ltb, leb-true, leb-false}
 use Rattle.std.proofs.Math.Option.{none, some}
 use Rattle.rules.specs.Answers.{BadForm}
@@ -7,6 +7,7 @@ use Rattle.rules.specs.Setups.{Setup}
 use Rattle.rules.specs.Lines.{refused, words_of, rowlist-words, rowlist, no-width}
 use Rattle.text_screen.specs.Listed.{text_of}
 use Rattle.text_programs.specs.Programs.{rowlist-text, no-width-text, by_width}
+use Rattle.text_programs.specs.Streams.{Takes, Skips}
 
 -- what is the same of all long files is the same of a file that is cut
 pub cut : {A : Type 0} (f : List ℕ → A) → ((xs ys : List ℕ) → 65536 < length xs → 65536 < length ys → f xs ≡ f ys) → (fs : List ℕ) → f (take 65537 fs) ≡ f fs
@@ -27,6 +28,14 @@ read-cut m size bs e = go (leb size 65537) refl
     go false h =
         let most : m ≡ 65537 = omega (arith, leb-false _ _ h) in
         ap (λ k. take k bs) most ∙ sym (take-take 65537 size bs (omega (arith, leb-false _ _ h)))
+
+-- a file's first bytes were read, and the others passed over: what is left of the stream, and what was read of the file
+pub read_over : (size m k : ℕ) (bs ts : List ℕ) (mid new : Option (List ℕ)) → m ≡ min size 65537 → k ≡ size - 65537 → Takes m (Some bs) mid ts → Skips k mid new
+    → (new ≡ Some (drop size bs)) × (ts ≡ take 65537 (take size bs))
+read_over size m k bs ts mid new e f t s =
+    let skipped : new ≡ Some (drop k (drop m bs)) = subst (λ (o : Option (List ℕ)). Skips k o new) t.1 s in
+    let n : m + k ≡ size = omega (arith, e, f) in
+    (skipped ∙ ap Some (drop-drop k m bs ∙ ap (λ j. drop j bs) n), t.0 ∙ read-cut m size bs e)
 
 long-rowlist : (q : Setup) (xs : List ℕ) → 65536 < length xs → rowlist-text q xs ≡ text_of (refused BadForm ∷ [])
 unfolding rowlist

@@ -10,7 +10,7 @@ use Rattle.rules.specs.Lines.{words_of}
 use Rattle.rules_reason.specs.Answers.{Question, refused-bytes, why-words, why-text, question-line}
 use Rattle.text_programs.specs.Programs.{Wanted, by_width}
 use Rattle.text_programs.specs.Streams.{Takes, Skips}
-use Rattle.text_programs.proofs.Cut.{cut, read-cut, no-width-cut}
+use Rattle.text_programs.proofs.Cut.{cut, read_over, no-width-cut}
 use Rattle.text_why.specs.Questions.{question-of}
 use Rattle.why.specs.declared.Query.{Query}
 use Rattle.why.specs.Printed.{answer}
@@ -49,8 +49,5 @@ pub next_read : {E : Type 0} (w : Wanted) (q : Query) (i size m k : ℕ) (r : Re
 next_read w q i size m k (Err x) known mid new a b c ts e f t l p s = tt
 next_read w q i size m k (Ok x) None mid new a b c ts e f t l p s = tt
 next_read w q i size m k (Ok x) (Some bs) mid new a b c ts e f t l p s =
-    let skipped : new ≡ Some (drop k (drop m bs)) = subst (λ (o : Option (List ℕ)). Skips k o new) t.1 s in
-    let n : m + k ≡ size = omega (arith, e, f) in
-    let read : ts ≡ take 65537 (take size bs) = t.0 ∙ read-cut m size bs e in
-    let answered : Appends b c (answer w q (take size bs)) = subst (Appends b c) (ap (answer w q) read ∙ answer-cut w q (take size bs)) p in
-    (skipped ∙ ap Some (drop-drop k m bs ∙ ap (λ j. drop j bs) n), Appends-trans a b c _ _ l answered)
+    let over = read_over size m k bs ts mid new e f t s in
+    (over.0, Appends-trans a b c _ _ l (subst (Appends b c) (ap (answer w q) over.1 ∙ answer-cut w q (take size bs)) p))
